@@ -18,8 +18,8 @@ pub fn a_package_is_replaced_by_its_own_name_and_version()
         → replaces_names_package x y ≡ replaces_names_package x z }
 {}
 
-/// A package takes over the files of one that it names, unless it is named back; then that with the
-/// greater priority does, and at equal priority that with the later name.
+/// A package takes over the files of one that its `replaces` names. If each names the other, the
+/// one with the greater priority takes over, and at equal priority the one with the later name.
 pub fn of_two_packages_that_name_each_other_one_is_preferred()
     ensures unnamed { (x y : Plain) → replaces_names_package x y ≡ false → takes_over x y ≡ false }
     ensures alone { (x y : Plain) → replaces_names_package x y ≡ true

@@ -21,7 +21,7 @@ pub enum Applet {
     Upgrade,
     /// Reinstall packages as they are.
     Fix,
-    /// Tell of installed packages.
+    /// Print which packages are installed, or what they have.
     Info,
     /// Test containers.
     Verify,
@@ -85,7 +85,7 @@ pub enum Flag {
 pub struct Flags {
     /// `--allow-untrusted`: repositories are read though nobody checks who signed them.
     pub allow_untrusted: bool,
-    /// `--no-scripts`: changes are made though scripts of theirs are not run.
+    /// `--no-scripts`: changes are made, but the scripts of packages are not run.
     pub no_scripts: bool,
     /// `--initdb` of `add`: a root without a package database gets one.
     pub initdb: bool,

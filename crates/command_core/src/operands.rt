@@ -153,7 +153,7 @@ pub struct Operand {
 #[derive(Drop)]
 struct OperandEntry {
     operand: Operand,
-    // Read at once, so that lending it wants no memory.
+    // Read when the operand is added, so that lending it allocates no memory.
     file: Option<Name>,
 }
 

@@ -107,7 +107,7 @@ impl OptionValue {
 #[derive(Drop)]
 struct ValueEntry {
     value: OptionValue,
-    // Read at once, so that lending it wants no memory.
+    // Read when the value is added, so that lending it allocates no memory.
     file: Option<Name>,
 }
 

@@ -8,7 +8,7 @@ use Rattle.std.specs.Prelude.{ℕ, zero, suc, ◌+◌, ◌*◌, ◌/◌, ◌%◌
 abbrev pub digit_zero : ℕ
 digit_zero = 48
 
--- the digit of i at a unit, as 100 for hundreds, in ASCII
+-- the ASCII code of one decimal digit of i: for the unit 100 that of the hundreds
 abbrev pub digit_at : ℕ → ℕ → ℕ
 digit_at unit i = digit_zero + i / unit % 10
 

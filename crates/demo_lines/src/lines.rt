@@ -1,8 +1,8 @@
 //! The command lines that `demo` runs, the number of packages that it makes, and its report. The
 //! rules are in `docs/commands.md`, "`demo N`".
 //!
-//! The number of words before a call that adds some is bounded by round numbers, 16, 32 and
-//! 100,000. A list of words has a limit, 4,294,967,294, which no command of `demo` comes near.
+//! The contracts bound the number of words before a call that adds some by 16, 32 or 100,000. A
+//! list of words holds at most 4,294,967,294, and no command of `demo` comes near this limit.
 
 ghost use Rattle.std.specs.Prelude.{◌≡◌, ◌<◌, ◌++◌, ◌∷◌, [], codes, length, IfOk, OnOk, true, IsTrue, Some};
 ghost use Rattle.demo_lines.specs.Lines.{add_words, demo_name, demo_package, demo_packages, demo_version, depends_words, mkndx_words, mkpkg_words, name_if_not_needed, names_not_needed};
@@ -62,7 +62,7 @@ fn push_option(words: &mut Words, option: &[u8], value: &[u8]) -> Result<(), All
     words.push(value)
 }
 
-// A word with this beginning, which ends with the name of package i.
+// A word: this beginning, followed by the name of package i.
 fn name_word(alloc: Global, front: &[u8], i: u16) -> Result<Vec<u8>, AllocError>
     ensures { IfOk result (λ text. text.items ≡ front.now ++ demo_name i) }
 {

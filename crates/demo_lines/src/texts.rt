@@ -80,7 +80,7 @@ pub(crate) fn push_version(text: &mut Vec<u8>, i: u16) -> Result<(), AllocError>
     Ok(())
 }
 
-// The digit of i at a unit, as 100 for hundreds, in ASCII.
+// The ASCII code of one decimal digit of i: for the unit 100 that of the hundreds.
 fn digit_at(unit: u16, i: u16) -> u8
     requires { 0 < unit }
     ensures { result ≡ digit_at unit i }

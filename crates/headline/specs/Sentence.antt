@@ -32,9 +32,10 @@ pub record HasGoodPast (ignored : List ℕ → Bool) (first : TreeState) (events
   pub good : LeavesNoBadIntent first
   pub seen : ReachesWithoutBadIntent first events v
 
--- From a moment on a root recovers to such files, apart from the ignored names. Each crash then leaves
--- such files. The next run that recovers works on such files, after any crashes, any touches by others,
--- and any runs, ended or stopped, that commit nothing; what others touched is then ignored too.
+-- From the state m on, a root recovers to files with the state *HasState*, apart from the ignored names.
+-- Each crash in m leaves such files. The next run that recovers works on such files, after any crashes,
+-- any touches by others, and any runs, ended or stopped, that commit nothing. What others touched is then
+-- ignored too.
 pub record RootRecoversTo (HasState : (List ℕ → Bool) → Files → Type 0) (ignored : List ℕ → Bool)
     (m : TreeState) : Type 0 where
   pub crash : (image : Files) → IsCrashImage m image → HasState ignored image

@@ -85,7 +85,7 @@ abbrev pub package_lines : List ℕ → MixedUp → Plain → List ℕ
 package_lines name mixed pkg =
     position_line name pkg mixed.expected ++ position_line name pkg mixed.found
 
--- lines, unless a test fails
+-- the lines; none if a test failed with this cause
 abbrev pub lines_unless : Option Cause → List ℕ → List ℕ
 lines_unless None lines = lines
 lines_unless (Some cause) lines = []
@@ -96,7 +96,8 @@ payload_lines name mixed payload =
     lines_unless (payload_fault Package payload)
     (package_lines name mixed (root_value Package payload))
 
--- these lines are by the front that was read of a package; none if there is none, or it is bad
+-- these lines explain the front of a package (its header and first block) that was read; there are none
+-- if the front is absent or bad
 abbrev pub AreLinesOfRead :
     List ℕ → MixedUp → Result (Option Front) FrontFault → List ℕ → Type 0
 AreLinesOfRead name mixed (Ok (Some front)) lines =

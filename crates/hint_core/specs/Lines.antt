@@ -34,7 +34,7 @@ printed_bytes (byte ∷ bytes) = printed_byte byte ++ printed_bytes bytes
 abbrev pub dots_if_cut : List ℕ → List ℕ
 dots_if_cut bytes = if nat_lt most_shown_bytes (length bytes) then codes ".." else []
 
--- bytes as a line shows them, of which there may be many
+-- bytes as a line shows them: at most 64 of them, and two dots if there are more
 abbrev pub printed_text : List ℕ → List ℕ
 printed_text bytes = printed_bytes (take most_shown_bytes bytes) ++ dots_if_cut bytes
 
@@ -79,7 +79,7 @@ repository_hint_line number line path = texts_joined
     ∷ (codes " of etc/apk/repositories; correct the line, or make the index with "
     ∷ (codes "apk mkndx -o INDEX PACKAGES\n" ∷ []))))))))
 
--- the line of a line of a file
+-- the line of the hint on a line of a file
 abbrev pub line_hint_line : HintFile → ℕ → List ℕ → List ℕ
 line_hint_line file line text = texts_joined
     (codes "apk: line " ∷ (decimal line ∷ (codes " of " ∷ (hint_file_name file

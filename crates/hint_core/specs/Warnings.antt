@@ -55,7 +55,7 @@ WarnsIfGiven (Some folder) history lines = IfObservable history (WarnsOfFolder f
 abbrev pub tag_of : List ℕ → Option (List ℕ)
 tag_of text = option_and_then (λ (d : Dependency). d.tag) (dependency_of text)
 
--- whether a tag that there may be is this one
+-- whether there is another tag, and it equals this tag
 abbrev pub is_tag_of : List ℕ → Option (List ℕ) → Bool
 is_tag_of tag None = false
 is_tag_of tag (Some other) = bytes_eq other tag
@@ -80,7 +80,7 @@ tag_warnings repositories [] = []
 tag_warnings repositories (operand ∷ operands) =
     tag_warning repositories (tag_of operand.text) ++ tag_warnings repositories operands
 
--- the same, by the repositories that were read; nothing if they cannot be
+-- the lines of *tag_warnings* for the repositories that were read; nothing if a line of their list is bad
 abbrev pub tag_warnings_if_read : Result (List Repository) ℕ → List Operand → List ℕ
 tag_warnings_if_read (Ok repositories) operands = tag_warnings repositories operands
 tag_warnings_if_read (Err line) operands = []
@@ -95,15 +95,15 @@ abbrev pub WarnsOfTags : List Operand → List ℕ → TreeState → Type 0
 WarnsOfTags operands lines v =
     lines ≡ tag_warnings_if_read (repositories_of (text_of_found (files_of v repositories_name))) operands
 
--- ---- both
+-- ---- all warnings of a command line
 
--- what is printed of a command with this applet
+-- these lines are the warnings of a command with this applet
 abbrev pub WarnsForApplet : Applet → CommandLine → List TreeState → List ℕ → Type 0
 WarnsForApplet Mkpkg command history lines = WarnsIfGiven (folder_to_pack command.values) history lines
 WarnsForApplet Add command history lines = IfObservable history (WarnsOfTags command.operands lines)
 WarnsForApplet applet command history lines = lines ≡ []
 
--- what is printed of the words of a command line
+-- these lines are the warnings of a command line; there are none if its words are no command
 abbrev pub Warns : Result CommandLine ℕ → List TreeState → List ℕ → Type 0
 Warns (Ok command) history lines = WarnsForApplet command.applet command history lines
 Warns (Err place) history lines = lines ≡ []

@@ -7,7 +7,8 @@ ghost use Rattle.hint_core.specs.Hints.{hints_of};
 ghost use Rattle.hint_core.specs.Truths.{IsTrueHint};
 ghost use Rattle.hint_core.specs.Warnings.{tag_line, tag_warning};
 
-/// Both hints of a refusal are so, of the words, and of the file that the refusal is about.
+/// Both hints of a refusal, on its subject and on its cause, are true of the words and of the file
+/// that the refusal is about.
 pub fn hints_are_so()
     ensures subject { (words : List (List ℕ)) (refusal : Refusal) (found : Option (List ℕ))
         → IsTrueHint words refusal found (hints_of words refusal found).subject }

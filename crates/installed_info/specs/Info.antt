@@ -26,7 +26,7 @@ use Rattle.installed_info.specs.declared.telling.Form.TheVariants.{Contents, Dep
 
 -- ---- of one package
 
--- the section on what a package is; an empty line if the package does not say so
+-- the section with the description of a package; its line is empty if the package has none
 abbrev pub description_section_of : Plain → List ℕ
 description_section_of pkg =
     description_section (package_name pkg) (version_text pkg)

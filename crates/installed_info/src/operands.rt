@@ -48,7 +48,7 @@ pub(crate) fn report_operands(
 }
 
 /// The report of `-e` on the operands whose packages are installed, followed by the refusal of the
-/// first of the others.
+/// first operand whose package is not installed.
 pub(crate) fn report_installed(
     alloc: Global,
     form: Form,
@@ -133,7 +133,7 @@ fn place_of_name(db: &Db<'_>, name: &[u8]) -> Option<usize>
     db.find(name)
 }
 
-// The place of the package that lists a path, counted from 0. No package lists what is no name.
+// The place of the package that lists a path, counted from 0. No package lists a path that is no name.
 fn place_of_owner(alloc: Global, db: &Db<'_>, path: &[u8]) -> Result<Option<usize>, AllocError>
     ensures found { IfOk result (λ place. option_and_then (slice_get (packages_of db.now)) place
         ≡ path_owner (packages_of db.now) path.now) }

@@ -62,7 +62,7 @@ fn push_info(
     }
 }
 
-// Adds the section on what a package is.
+// Adds the section with the description of a package.
 fn push_description(report: &mut Vec<u8>, pkg: &PackageView<'_>) -> Result<(), AllocError>
     ensures { OnOk result (report.new.items
         ≡ report.old.items ++ description_section_of (package_value pkg.now)) }

@@ -71,7 +71,7 @@ fn report_form(
 /// The form of an `info`.
 #[derive(Clone, Copy)]
 pub(crate) enum Form {
-    /// What packages are; without operands, which ones are installed.
+    /// The descriptions of packages; without operands, the names of all installed ones.
     Description,
     /// The paths that packages list.
     Contents,

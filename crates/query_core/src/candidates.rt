@@ -25,8 +25,8 @@ pub(crate) enum LineForm {
     Short,
 }
 
-/// The place in the list of candidates that has a number, counted from 0; out of memory if a place
-/// cannot have it, which no list of candidates reaches.
+/// A number, counted from 0, as a place in the list of candidates. If the number is too large for a
+/// place, which no list of candidates reaches, the call fails as if out of memory.
 pub(crate) fn place_of(number: usize) -> Result<CandId, AllocError>
     ensures { IfOk result (λ place. place ≡ number) }
 {

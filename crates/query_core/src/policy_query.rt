@@ -126,7 +126,7 @@ fn put_repositories<O: ReportOut>(
 }
 
 // Puts the line of the repository with a number if the number is greater than the last one, and
-// answers the greater of the two.
+// returns the greater of the two.
 fn put_greater<O: ReportOut>(
     out: &mut O,
     repositories: &Repos,

@@ -45,8 +45,8 @@ pub record IsListedBy (members : List Member) (path name : List ℕ) (l : Listin
   pub by : member_name l.member ≡ name
 
 -- A path is contested: no package takes it over from all others that list it, and it is the first such
--- path. These two list it, and the first does not take over files of the second. If only these two list
--- it, neither takes over the other's.
+-- path. The packages `one` and `other` list it, and `one` does not take over files of `other`. If no
+-- third package lists it, `other` does not take over files of `one` either.
 pub record IsContested (members : List Member) (path one other : List ℕ) : Type 0 where
   pub unowned : owner_of_path members path ≡ None
   pub first : (l : Listing) → IsIn l (member_listings members) → precedes l.path path ≡ true

@@ -44,7 +44,7 @@ pub record IsUnsatisfied (command : CommandLine) (inputs : Inputs) : Type 0 wher
   pub is_pool : pool_of_inputs command inputs ≡ Ok pool
   pub none : (selection : List ℕ) → IsSatisfying pool selection → ⊥
 
--- a refusal is true that follows the reading of the root and precedes the packages' files
+-- a refusal is true that is tested after the root is read and before the packages' files are
 abbrev pub IsFaultOfSelection : CommandLine → Inputs → Refusal → Type 0
 IsFaultOfSelection command inputs (TooMany count) = AreTooManyCandidates inputs count
 IsFaultOfSelection command inputs (NotInstalled place) = IsUnknownOperand command inputs place

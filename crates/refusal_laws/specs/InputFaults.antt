@@ -46,7 +46,7 @@ pub record IsTextRefused (read : Reads) (fault : V2Fault) : Type 0 where
 abbrev pub repositories_found : Reads → List ℕ
 repositories_found read = found_text_or_empty (read repositories_read repositories_name)
 
--- the list names a repository, and reading unsigned ones is not allowed
+-- the list names a repository, and `--allow-untrusted` is not given
 pub record IsUntrusted (command : CommandLine) (read : Reads) : Type 0 where
   pub no_leave : command.flags.allow_untrusted ≡ false
   pub repository : Repository

@@ -33,7 +33,8 @@ HasRepositories read =
 abbrev pub HasDatabaseAndWorld : CommandLine → Reads → Type 0
 HasDatabaseAndWorld command read = HasDatabase command read × HasWorld read
 
--- no line of the list of repositories is bad either, and reading them is allowed
+-- the database, world and the list of repositories were read without a refusal, and
+-- `--allow-untrusted` is given
 abbrev pub AllowsUntrusted : CommandLine → Reads → Type 0
 AllowsUntrusted command read =
     HasDatabaseAndWorld command read × HasRepositories read × (command.flags.allow_untrusted ≡ true)

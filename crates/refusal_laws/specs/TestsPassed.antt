@@ -38,7 +38,7 @@ abbrev pub PassesNameTests : FileChange → Files → Type 0
 PassesNameTests change files =
     AreAddedPathsUnreserved change.members × HasNoClash (name_change change files) files
 
--- all three tests of files passed: nor is a path contested
+-- all three tests of files passed: those of *PassesNameTests*, and that each listed path has an owner
 abbrev pub PassesFileTests : FileChange → Files → Type 0
 PassesFileTests change files = PassesNameTests change files × EachListedPathHasOwner change.members
 

@@ -10,7 +10,7 @@ abbrev pub text_between : List ℕ → List ℕ → List ℕ → List ℕ
 text_between before [] after = []
 text_between before (b ∷ bytes) after = before ++ (b ∷ bytes) ++ after
 
--- the mark of a package that is installed
+-- the mark of a package that is installed; nothing for one that is not
 abbrev pub installed_mark : Bool → List ℕ
 installed_mark true = codes " [installed]"
 installed_mark false = []
@@ -29,7 +29,7 @@ search_line name version = report_line (name_dash_version name version)
 
 -- ---- `policy`
 
--- the first line for a name
+-- the first line of `policy` for a package name
 abbrev pub policy_heading : List ℕ → List ℕ
 policy_heading name = report_line (name ++ codes " policy:")
 

@@ -12,7 +12,7 @@ use Rattle.report_core.specs.Numbers.{HASHES_FIELD, TRIGGER_SCRIPT, PRE_INSTALL_
 use Rattle.report_core.specs.declared.refusal.Refusal.{Refusal}
 use Rattle.report_core.specs.declared.refusal.Refusal.TheVariants.{Usage, IntentBad, FileMissing, FileBad, TextBad, VersionBad, InfoBad, NoDatabase, DatabaseBad, WorldBad, RepositoriesBad, Untrusted, IndexMissing, IndexBad, TooMany, NotInstalled, Unsatisfied, PackageMissing, PackageBad, PackageDiffers, ScriptNeeded, Reserved, PathClash, Owned, TriggerNeeded, ResultTooLarge}
 
--- a number of 32 bits, a value's word or a schema, in eight lower-case hexadecimal digits
+-- a 32-bit number, which is an encoded value or a schema, in eight lower-case hexadecimal digits
 abbrev pub hex_number : ℕ → List ℕ
 hex_number number = encode_lower (to_be_bytes w32 number)
 
@@ -131,7 +131,7 @@ error_line text = codes "ERROR: " ++ text ++ codes "\n"
 abbrev pub refusal_line : Refusal → List ℕ
 refusal_line refusal = error_line (refusal_text refusal)
 
--- the error line of a failed tree
+-- the error line of an I/O error of the file tree
 abbrev pub tree_failure_line : List ℕ
 tree_failure_line = error_line (codes "the tree failed")
 

@@ -54,7 +54,7 @@ pub(crate) enum Piece<'a> {
     Bytes(&'a [u8]),
     /// A number, in decimal digits.
     Number(u64),
-    /// A number of 32 bits, a value's word or a schema, in eight hexadecimal digits.
+    /// A 32-bit number, which is an encoded value or a schema, in eight hexadecimal digits.
     HexNumber(u32),
     /// Bytes, in two hexadecimal digits each.
     Hex(&'a [u8]),
@@ -69,7 +69,7 @@ pub(crate) enum Piece<'a> {
 /// The pieces of a text: seven, the most that a refusal has; unused ones are empty.
 pub(crate) type Pieces<'a> = [Piece<'a>; 7];
 
-/// Writes all the pieces, in order. After a fault a front of their text was written.
+/// Writes all the pieces, in order. If the sink fails, a prefix of their text was written.
 pub(crate) fn write_pieces<S: Sink>(pieces: &[Piece<'_>], sink: &mut S) -> Result<(), SinkFault>
     ensures { Writes (pieces_text pieces.now)
         (sink_before_and_after S.bytes S.counts sink.old sink.new) result }
@@ -121,7 +121,7 @@ fn write_hex<S: Sink>(bytes: &[u8], sink: &mut S) -> Result<(), SinkFault>
 {
     for byte in bytes {
         let mut digits = [0; 2];
-        // A byte has two digits, which fit.
+        // A byte has two hexadecimal digits, as many as `digits` has room for.
         let _ = hex::encode_to_slice([*byte], &mut digits);
         write_all(sink, &digits)?;
     }
@@ -163,7 +163,7 @@ impl Report {
         }
     }
 
-    /// Appends bytes. Without memory nothing changes.
+    /// Appends bytes. If memory runs out, nothing changes.
     pub fn push(&mut self, piece: &[u8]) -> Result<(), AllocError>
         ensures ok { OnOk result (self.new ≡ self.old ++ piece.now) }
         ensures err { OnErr result (self.new ≡ self.old) }
@@ -172,7 +172,7 @@ impl Report {
         Ok(())
     }
 
-    /// Appends a number in decimal digits. Without memory nothing changes.
+    /// Appends a number in decimal digits. If memory runs out, nothing changes.
     pub fn number(&mut self, n: u128) -> Result<(), AllocError>
         ensures ok { OnOk result (self.new ≡ self.old ++ decimal n) }
         ensures err { OnErr result (self.new ≡ self.old) }

@@ -34,7 +34,7 @@ pub record Run : Type 0 where
   -- the tree's counts before it and after it
   pub before : Counts
   pub after : Counts
-  -- what the two sinks got
+  -- standard output and standard error, before the run and after it
   pub out : SinkBeforeAndAfter
   pub err : SinkBeforeAndAfter
   pub answer : Answer
@@ -121,13 +121,15 @@ IsPossibleStop run w = (m : TreeState) × IsMomentOf run m × DiffersOnlyInUnsyn
 abbrev pub names_of_others : (List ℕ → Bool) → List ℕ → Bool
 names_of_others theirs q = if bytes_eq q intent_name || is_staged q then false else theirs q
 
--- two maps of names agree, but for the names of others, and each other name leads to the same file
+-- the map `map` of w agrees with the map `was` of v on each name that others may not touch. The file to
+-- which such a name leads is the same in v and w
 abbrev pub IsSameExcept : (List ℕ → Bool) → TreeState → NameMap → TreeState → NameMap → Type 0
 IsSameExcept theirs v was w map =
     (q : List ℕ) → names_of_others theirs q ≡ false
     → (map q ≡ was q) × ((n : ℕ) → was q ≡ Some n → w.files n ≡ v.files n)
 
--- others have changed only files under their names: each map of names is one from before but for these
+-- others have changed only files under their names. Each map of names that a crash in w may leave is,
+-- apart from those names, one that a crash in v may leave
 abbrev pub IsChangeByOthers : (List ℕ → Bool) → TreeState → TreeState → Type 0
 IsChangeByOthers theirs v w =
     (map : NameMap) → IsCrashMap w map → (was : NameMap) × IsCrashMap v was
@@ -138,7 +140,7 @@ abbrev pub IsTransition : TreeState → RootEvent → TreeState → Type 0
 IsTransition v (Ends run) w = IsRunFrom v run × HoldsNow run.now (λ u. u ≡ w)
 IsTransition v (Stops run) w = IsRunFrom v run × IsPossibleStop run w
 IsTransition v Crashes w = IsAfterCrash v w
--- others may lead to any files of the tree, once these are synced
+-- an edit by others may leave any tree in which all files are synced
 IsTransition v Edits w = IsAllSynced w
 IsTransition v (Touches theirs) w = IsChangeByOthers theirs v w
 

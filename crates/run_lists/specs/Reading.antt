@@ -69,7 +69,8 @@ pub record IsTrueAt (test : Option (List ℕ) → Bool) (q : List ℕ) (files : 
   pub read : test (files q) ≡ true
   pub recovered : test (unstaged_files files q) ≡ true
 
--- a name is no draft of the run, and the test holds of what each outcome that commits leaves there
+-- A name is none of the journal or of a new file of the run. The test holds of what each outcome that
+-- commits leaves there.
 pub record LeavesTrueAt (test : Option (List ℕ) → Bool) (q : List ℕ) (v : TreeState)
     (run : Run) : Type 0 where
   pub no_draft : IsNoJournalOrDraftName run q

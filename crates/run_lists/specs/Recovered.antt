@@ -24,7 +24,7 @@ use Rattle.run_lists.specs.Reading.{HasBadIntent}
 abbrev pub LeavesNoBadIntent : TreeState → Type 0
 LeavesNoBadIntent v = (image : Files) → IsCrashImage v image → HasBadIntent image → ⊥
 
--- when others change files, they put no bad intent there
+-- if the event is an edit of files by others, no bad intent is in the files after it
 abbrev pub PutsNoBadIntent : RootEvent → TreeState → Type 0
 PutsNoBadIntent (Ends run) w = Unit {0}
 PutsNoBadIntent (Stops run) w = Unit {0}
@@ -64,7 +64,7 @@ HasStateBeforeOrOutcome ignored v run files =
     × (outcome.commits ≡ true)
     × HasSameState ignored outcome.files files)
 
--- nothing is left to do in files, and they have such a state
+-- files are recovered: there is no intent, the staging area is empty, and the files have this state
 pub record AreRecovered (HasState : Files → Type 0) (files : Files) : Type 0 where
   pub intent : files intent_name ≡ None
   pub stage : IsEmptyStage files

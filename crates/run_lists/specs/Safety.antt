@@ -27,7 +27,8 @@ LeavesOldOrOutcome ignored v run m =
     × (outcome.commits ≡ true)
     × EachCrashLeavesOldOrNew ignored v outcome.files m)
 
--- at a moment of a run a crash leaves a state from before, and the files as read have the old one
+-- At the moment m of a run that began in v, a crash leaves a state from before the run. The files as read
+-- have the state of v.
 pub record KeepsState (ignored : List ℕ → Bool) (v m : TreeState) : Type 0 where
   pub quiet : EachCrashLeavesOld ignored v m
   pub reads : state_of ignored (files_of m) ≡ state_of ignored (files_of v)

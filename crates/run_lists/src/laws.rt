@@ -36,7 +36,7 @@ use apk_front::{
 /// `ignored` are names that are ignored from the start, such as scratch names of outputs; on an
 /// ordinary root there are none.
 pub fn a_run_is_safe_after_any_events()
-    // Behind each list the tree is durable, apart from the names that are ignored then.
+    // After each list the tree is durable, apart from the names that are ignored then.
     ensures is_durable { (ignored : List ℕ → Bool) (first v : TreeState) (events : List RootEvent)
         → ignored intent_name ≡ false → IsDurable (StateDependsOn ignored) first
         → Reaches first events v

@@ -37,7 +37,7 @@ abbrev pub candidate_text : List Repository → Candidate → List ℕ
 candidate_text repositories c =
     name_and_version_text c ++ codes " (" ++ origin_text repositories c.repository ++ codes ")"
 
--- the candidate at a place
+-- the text of the candidate at a place; empty if there is none
 abbrev pub candidate_text_at : SealedPool → List Repository → ℕ → List ℕ
 candidate_text_at pool repositories c =
     option_map_or (candidate_text repositories) (candidate_at pool c) []
@@ -52,7 +52,7 @@ is_named name d = bytes_eq name d.name
 abbrev pub is_same_text : Dependency → Dependency → Bool
 is_same_text d e = bytes_eq (dep_text d) (dep_text e)
 
--- whether an entry of world is one of these: of world as its file lists it
+-- whether an entry of world is also in `listed`, world as its file lists it
 abbrev pub is_entry_of_file : List Dependency → Dependency → Bool
 is_entry_of_file listed d = option_map_or (is_same_text d) (find (is_named d.name) listed) false
 
@@ -65,7 +65,7 @@ entry_origin false = codes "this command"
 abbrev pub entry_origin_text : List Dependency → Dependency → List ℕ
 entry_origin_text listed d = entry_origin (is_entry_of_file listed d)
 
--- who has a dependency
+-- the text that names who has a dependency
 abbrev pub dependency_owner_text :
     SealedPool → List Dependency → List Repository → Owner → Dependency → List ℕ
 dependency_owner_text pool listed repositories World d = entry_origin_text listed d
@@ -79,7 +79,7 @@ needs_text pool listed repositories owner d =
 
 -- ---- what there is of a name
 
--- the conflict of world that a candidate meets
+-- the text of the conflict of world that a candidate meets; empty if it meets none
 abbrev pub world_conflict_text : List Dependency → Option Dependency → List ℕ
 world_conflict_text listed None = []
 world_conflict_text listed (Some d) =
@@ -93,13 +93,14 @@ world_conflict_reason_text listed world c =
     world_conflict_text listed (find (is_conflict_met_by c) world) else
     codes " (tagged @" ++ unwrap_or c.tag [] ++ codes ")"
 
--- a candidate that offers a name: its version, or the package if it has another name
+-- the text of a candidate that offers a name: its version, or the package if it has another name; and
+-- why it may not be selected
 abbrev pub offer_text : List Dependency → List Dependency → List ℕ → Candidate → List ℕ
 offer_text listed world name c =
     (if bytes_eq name c.name then unwrap_or c.version [] else name_and_version_text c)
     ++ world_conflict_reason_text listed world c
 
--- the candidate at a place, which offers a name
+-- the text of the candidate at a place, which offers a name; empty if there is none
 abbrev pub offer_text_at : SealedPool → List Dependency → List ℕ → ℕ → List ℕ
 offer_text_at pool listed name c =
     option_map_or (offer_text listed pool.world name) (candidate_at pool c) []
@@ -128,7 +129,7 @@ abbrev pub dots_if : Bool → List ℕ
 dots_if true = codes ", .."
 dots_if false = []
 
--- no package has or provides a name; another name is similar, if there is one
+-- the text that no package has or provides a name, with a similar name, if there is one
 abbrev pub no_package_text : Option (List ℕ) → List ℕ
 no_package_text None = codes "no package"
 no_package_text (Some similar) = codes "no package" ++ codes "; a similar name is " ++ similar
@@ -161,13 +162,13 @@ need_lines pool listed repositories owner None = []
 need_lines pool listed repositories owner (Some d) =
     needs_text pool listed repositories owner d ∷ missing_lines pool listed d
 
--- what is wanted
+-- the lines of what is wanted: who needs it, and, if nothing meets it, what there is of the name
 abbrev pub want_lines :
     SealedPool → List Dependency → List Repository → Want → List (List ℕ)
 want_lines pool listed repositories want =
     need_lines pool listed repositories want.owner (wanted pool want)
 
--- the only candidate that is left for what is wanted
+-- the line that says which candidate is the only one left for what is wanted
 abbrev pub only_lines :
     SealedPool → List Dependency → List Repository → Owner → ℕ → Option Dependency →
     List (List ℕ)
@@ -175,13 +176,13 @@ only_lines pool listed repositories owner id None = []
 only_lines pool listed repositories owner id (Some d) =
     (needs_text pool listed repositories owner d ++ codes ": only " ++ candidate_text_at pool repositories id) ∷ []
 
--- a candidate has a conflict that another one meets
+-- the text that a candidate has a conflict, which another candidate meets
 abbrev pub conflict_text : SealedPool → List Repository → ℕ → ℕ → Dependency → List ℕ
 conflict_text pool repositories a b d =
     candidate_text_at pool repositories a ++ codes " conflicts with " ++ candidate_text_at pool repositories b
     ++ codes ": " ++ dep_text d
 
--- two candidates both occupy a name
+-- the text that two candidates both occupy a name
 abbrev pub sharing_text : SealedPool → List Repository → ℕ → ℕ → List ℕ → List ℕ
 sharing_text pool repositories a b name =
     candidate_text_at pool repositories a ++ codes " and " ++ candidate_text_at pool repositories b
@@ -199,7 +200,7 @@ exclusion_lines pool repositories a b None None (Some name) =
     sharing_text pool repositories a b name ∷ []
 exclusion_lines pool repositories a b None None None = []
 
--- a step
+-- the lines of a step
 abbrev pub step_lines :
     SealedPool → List Dependency → List Repository → Step → List (List ℕ)
 step_lines pool listed repositories (Broken id index) =
@@ -223,13 +224,13 @@ refutation_lines pool listed repositories r =
     with_texts (with_texts [] (want_lines pool listed repositories r.end))
     (flat_map (step_lines pool listed repositories) (take most_printed_lines r.steps.items))
 
--- an entry of world
+-- the line of an entry of world, if there is one
 abbrev pub world_lines_of : List Dependency → Option Dependency → List (List ℕ)
 world_lines_of listed None = []
 world_lines_of listed (Some d) =
     (entry_origin_text listed d ++ codes " needs " ++ dep_text d) ∷ []
 
--- the entries of world that are no conflicts
+-- the lines of the entries of world that are no conflicts
 abbrev pub world_lines : List Dependency → List Dependency → List (List ℕ)
 world_lines listed world =
     flat_map (λ (d : Dependency). world_lines_of listed (if_positive (Some d))) world

@@ -21,7 +21,7 @@ abbrev pub dependencies_of_owner : SealedPool → Owner → List Dependency
 dependencies_of_owner pool World = pool.world
 dependencies_of_owner pool (Package c) = depends_at pool c
 
--- a dependency that is no conflict
+-- the dependency, if it is no conflict
 abbrev pub if_positive : Option Dependency → Option Dependency
 if_positive None = None
 if_positive (Some d) = if d.conflict then None else Some d
@@ -39,7 +39,7 @@ IsMetOnlyBy pool want ids =
 abbrev pub IsUnmet : SealedPool → Want → Type 0
 IsUnmet pool want = IsMetOnlyBy pool want []
 
--- an entry of world
+-- the want of the entry of world at an index, counted from 0
 abbrev pub want_of_world_entry : ℕ → Want
 want_of_world_entry index = record { owner = World; index = index }
 

@@ -20,7 +20,7 @@ const MOST_LINES: usize = 10;
 
 // ---- steps
 
-// What an owner needs.
+// The text that an owner needs a dependency.
 fn needs(
     alloc: Global,
     sources: &Sources<'_>,
@@ -38,7 +38,8 @@ fn needs(
     Ok(line)
 }
 
-// Adds what there is of the name of a dependency, if no candidate that may be selected meets it.
+// Adds the line of what there is of a dependency's name, if no candidate that may be selected meets
+// the dependency.
 fn add_missing(
     alloc: Global,
     lines: &mut Vec<Text>,
@@ -57,7 +58,7 @@ fn add_missing(
     add_once(lines, line)
 }
 
-// Adds what is wanted.
+// Adds the lines of what is wanted.
 fn add_want(
     alloc: Global,
     lines: &mut Vec<Text>,
@@ -79,7 +80,7 @@ fn add_want(
     }
 }
 
-// Adds the only candidate that is left for what is wanted.
+// Adds the line that says which candidate is the only one left for what is wanted.
 fn add_only(
     alloc: Global,
     lines: &mut Vec<Text>,
@@ -104,7 +105,7 @@ fn add_only(
     }
 }
 
-// A candidate has a conflict that another one meets.
+// The text that a candidate has a conflict, which another candidate meets.
 fn conflict(
     alloc: Global,
     sources: &Sources<'_>,
@@ -124,7 +125,7 @@ fn conflict(
     Ok(Text::from_vec(line))
 }
 
-// Two candidates both occupy a name.
+// The text that two candidates both occupy a name.
 fn sharing(
     alloc: Global,
     sources: &Sources<'_>,
@@ -144,7 +145,7 @@ fn sharing(
     Ok(Text::from_vec(line))
 }
 
-// By what two candidates exclude each other, if they do.
+// The text that says by what two candidates exclude each other, if they do.
 fn exclusion(
     alloc: Global,
     sources: &Sources<'_>,
@@ -167,7 +168,7 @@ fn exclusion(
     }
 }
 
-// Adds by what two candidates exclude each other, if they do.
+// Adds the line that says by what two candidates exclude each other, if they do.
 fn add_exclusion(
     alloc: Global,
     lines: &mut Vec<Text>,

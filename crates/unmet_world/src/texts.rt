@@ -122,7 +122,7 @@ pub(crate) fn add_dep(text: &mut Vec<u8>, dep: &Dep<'_>) -> Result<(), AllocErro
 
 // ---- entries of world
 
-// The entry of world that has a name.
+// The entry of world that has a name, if there is one.
 fn entry_named<'a>(world: &'a World, name: &[u8]) -> Option<Dep<'a>>
     ensures { option_map dependency result ≡ find (is_named name.now) world.now }
 {

@@ -24,7 +24,8 @@ are_help_of [] [] = true
 are_help_of (line ∷ lines) (option ∷ options) = is_help_of line option && are_help_of lines options
 are_help_of lines options = false
 
--- the options that ask, as lines of help spell them; what they say is not looked at
+-- `--help` and `--version`, as lines of help spell them. The flag in each is a placeholder: *is_help_of*
+-- does not look at it
 abbrev pub help_and_version_options : List OptionSpec
 help_and_version_options =
     flag_spec (codes "--help") (codes "-h") AllowUntrusted

@@ -55,24 +55,26 @@ attached_value word =
 
 -- ---- flags
 
--- flags with the meaning of an option; None if it is no flag, or a second kind
+-- flags with the meaning of an option added. None if the option takes a value, or if it selects a kind of
+-- the command other than that of an earlier flag
 abbrev pub flags_with_meaning : Flags → Meaning → Option Flags
 flags_with_meaning flags (Plain flag) = Some (with_flag flag flags)
 flags_with_meaning flags (Kind flag) =
     if has_command_kind_flag flags && not (has_flag flag flags) then None else Some (with_flag flag flags)
 flags_with_meaning flags (Value rule) = None
 
--- flags with an option; None if it is no flag, or a second kind
+-- flags with an option added; None in the cases of *flags_with_meaning*
 abbrev pub flags_with_option : Flags → OptionSpec → Option Flags
 flags_with_option flags option = flags_with_meaning flags option.meaning
 
--- flags with the option that a word is; None if it is none, has a value, or is a second kind
+-- flags with the option that a word spells added; None if it spells no option, or in the cases of
+-- *flags_with_meaning*
 abbrev pub flags_with_option_word : List OptionSpec → Flags → List ℕ → Option Flags
 flags_with_option_word options flags word = option_and_then (flags_with_option flags) (option_of_word options word)
 
 -- ---- up to the applet
 
--- the next result from what was read, or a refusal at this place if nothing was read
+-- the result of `next` on the value, if there is one; otherwise an error at this place
 abbrev pub or_err_at : {A B : Type 0} → ℕ → (A → Result B ℕ) → Option A → Result B ℕ
 or_err_at place next None = Err place
 or_err_at place next (Some x) = next x
@@ -86,7 +88,8 @@ applet_site_from_parts ended place applet = record { applet = applet; ended = en
 unfoldable pub applet_site_at : Bool → ℕ → List ℕ → Result AppletSite ℕ
 applet_site_at ended place word = or_err_at place (λ applet. Ok (applet_site_from_parts ended place applet)) (applet_of word)
 
--- the site of the applet after `--`, which the next word names; this is the place of the next word
+-- the site of the applet that the first of these words names, after `--`; `place` is the place of that
+-- word
 unfoldable pub site_after_end : ℕ → List (List ℕ) → Result AppletSite ℕ
 site_after_end place [] = Err place
 site_after_end place (word ∷ words) = applet_site_at true place word
@@ -114,7 +117,7 @@ abbrev pub start_from_parts : AppletSite → Flags → Start
 start_from_parts site flags =
     record { applet = site.applet; flags = flags; ended = site.ended; read = site.read }
 
--- the start with the flags before the applet, or the place that offends there
+-- the start with the flags before the applet, or the place of the first wrong word among them
 abbrev pub start_with_early_flags : AppletSite → Result Flags ℕ → Result Start ℕ
 start_with_early_flags site (Err place) = Err place
 start_with_early_flags site (Ok flags) = Ok (start_from_parts site flags)
@@ -157,7 +160,7 @@ abbrev pub with_value_option : OptionState → ℕ → Option (List ℕ) → Val
 with_value_option state place held rule =
     if is_single_and_given rule state.values then None else with_value_or_awaited state place rule held
 
--- a state with other flags
+-- a state with these flags in place of its own; None if there are none
 abbrev pub with_flags_if_some : OptionState → Option Flags → Option OptionState
 with_flags_if_some state flags = option_map (λ more. option_state_from_parts more state.values state.awaiting) flags
 
@@ -210,8 +213,8 @@ operands_of place (word ∷ words) = operand_at place word ∷ operands_of (plac
 abbrev pub with_operand : Operand → Reading → Reading
 with_operand operand reading = record reading { operands = operand ∷ reading.operands }
 
--- the next reading, after a word that was read; a word at this place that cannot be read ends the
--- reading
+-- the reading after the word at a place: if the word gives a new state, `next` continues from it;
+-- otherwise the word cannot be read, and the reading ends there
 abbrev pub or_stop_at_unread_word : OptionState → ℕ → (OptionState → Reading) → Option OptionState → Reading
 or_stop_at_unread_word state place next None = words_reading_from_parts state [] (Some place)
 or_stop_at_unread_word state place next (Some more) = next more
@@ -320,7 +323,7 @@ abbrev pub next_word_after_command : (Applet → NextWord) → Option Applet →
 next_word_after_command next None = Nothing
 next_word_after_command next (Some applet) = next applet
 
--- what the word after a word can be, by what the word can be
+-- what the word after this one can be, by what this word itself could be
 abbrev pub next_word : NextWord → List ℕ → NextWord
 next_word OptionOrCommand word =
     if is_double_dash word then CommandAlone else
@@ -335,7 +338,7 @@ next_word (NextValue applet rule) word = OptionOrOperand applet
 next_word (OperandAlone applet) word = OperandAlone applet
 next_word Nothing word = Nothing
 
--- what the word after some words can be, by what the first of them can be
+-- what the word after these words can be, by what the first of these words could be
 abbrev pub next_words : NextWord → List (List ℕ) → NextWord
 next_words next [] = next
 next_words next (word ∷ words) = next_words (next_word next word) words
@@ -374,7 +377,7 @@ abbrev pub help_or_version_command : List (List ℕ) → Applet → CommandLine
 help_or_version_command words applet =
     command_from_parts applet no_flags (operands_of_help_or_version words applet) [] (length words + 1)
 
--- the command that the word at a place asks for, or that the word is wrong there
+-- the command for the applet that the word at a place asks for; an error at the place if it asks for none
 abbrev pub help_or_version_or_err : List (List ℕ) → ℕ → Option Applet → Result CommandLine ℕ
 help_or_version_or_err words place None = Err place
 help_or_version_or_err words place (Some applet) = Ok (help_or_version_command words applet)

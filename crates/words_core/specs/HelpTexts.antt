@@ -50,10 +50,11 @@ abbrev pub section_text : List ℕ → ℕ → List HelpLine → List ℕ
 section_text heading column [] = []
 section_text heading column lines = heading ++ lines_text column lines
 
--- the columns of the explanations of commands, and of options and operands
+-- the column at which the explanations of commands begin
 abbrev pub command_column : ℕ
 command_column = 10
 
+-- the column at which the explanations of options and operands begin
 abbrev pub option_column : ℕ
 option_column = 26
 
@@ -106,12 +107,15 @@ purpose ProgramVersion = []
 
 -- ---- options
 
+-- the help line of `--initdb`
 abbrev pub initdb_help : HelpLine
 initdb_help = help_line (codes "    --initdb") (codes "begin a package database if there is none")
 
+-- the help line of `--simulate`
 abbrev pub simulate_help : HelpLine
 simulate_help = help_line (codes "-s, --simulate") (codes "print the changes, and make none")
 
+-- the help line of `--compression`
 abbrev pub compression_help : HelpLine
 compression_help = help_line (codes "-c, --compression none") (codes "no other compression is known")
 
@@ -157,12 +161,15 @@ common_help =
 
 -- ---- operands
 
+-- the help line of an operand NAME
 abbrev pub name_help : HelpLine
 name_help = help_line (codes "NAME") (codes "the name of a package")
 
+-- the help line of an operand FILE
 abbrev pub file_help : HelpLine
 file_help = help_line (codes "FILE") (codes "the path of a container below this folder")
 
+-- the help line of an operand PATTERN
 abbrev pub pattern_help : HelpLine
 pattern_help = help_line (codes "PATTERN") (codes "a name, in which each * stands for any text")
 
@@ -198,12 +205,12 @@ operand_help applet = []
 
 -- a line with the usage of a command, after a prefix
 abbrev pub usage_line : List ℕ → List ℕ → List ℕ
-usage_line front line = front ++ line ++ codes "\n"
+usage_line prefix line = prefix ++ line ++ codes "\n"
 
--- how a command is called, a line each: the first after `usage: `, the others below it
+-- how a command is called, a line each: the first one after this prefix, the others after seven spaces
 abbrev pub usage_lines_after : List ℕ → List (List ℕ) → List ℕ
-usage_lines_after front [] = []
-usage_lines_after front (line ∷ lines) = usage_line front line ++ usage_lines_after (codes "       ")
+usage_lines_after prefix [] = []
+usage_lines_after prefix (line ∷ lines) = usage_line prefix line ++ usage_lines_after (codes "       ")
     lines
 
 -- the help of a command

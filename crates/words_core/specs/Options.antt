@@ -18,15 +18,15 @@ pub record OptionSpec : Type 0 where
   pub short : List ℕ
   pub meaning : Meaning
 
--- the option without a value of these words, which gives this flag
+-- the option that these words spell, which takes no value and sets this flag
 abbrev pub flag_spec : List ℕ → List ℕ → Flag → OptionSpec
 flag_spec long short flag = record { long = long; short = short; meaning = Plain flag }
 
--- the option of these words whose flag selects the kind of the command
+-- the option that these words spell, whose flag selects the kind of the command
 abbrev pub kind_spec : List ℕ → List ℕ → Flag → OptionSpec
 kind_spec long short flag = record { long = long; short = short; meaning = Kind flag }
 
--- the option with values of these words, which has this rule
+-- the option that these words spell, which takes values by this rule
 abbrev pub value_spec : List ℕ → List ℕ → ValueRule → OptionSpec
 value_spec long short rule = record { long = long; short = short; meaning = Value rule }
 

@@ -38,7 +38,7 @@ IsAfterLastWord words place = place ≡ length words + 1
 abbrev pub HasApplet : List (List ℕ) → (Applet → Type 0) → Type 0
 HasApplet words P = (site : AppletSite) × (applet_site 1 words ≡ Ok site) × P site.applet
 
--- P holds of the start that was found, and of what was read behind it
+-- P holds of the start that was found, and of what was read after it
 abbrev pub HasReading : List (List ℕ) → (Start → Reading → Type 0) → Type 0
 HasReading words P =
     (start : Start) × (start_of_command_line words ≡ Ok start) × P start (reading_after_applet start words)
@@ -70,7 +70,7 @@ HasOperandRule words start P =
 
 -- ---- the reasons
 
--- a reason that words are a usage error at a place is so
+-- the reason why words are a usage error at a place is true
 abbrev pub IsUsageReason : UsageReason → List (List ℕ) → ℕ → Type 0
 IsUsageReason CommandMissing words place =
     IsAfterLastWord words place × IsTrue (not (is_ok (applet_site 1 words)))

@@ -92,12 +92,13 @@ command_reason next None = CommandMissing
 command_reason OptionOrCommand (Some word) = if is_option word then OptionEarly else CommandUnknown
 command_reason next (Some word) = CommandUnknown
 
--- why a place before the command is wrong: no command is found, or the option there is none of it
+-- why a place before the command is wrong: no command is found, or the option there is none of the
+-- command's
 abbrev pub early_reason : Result AppletSite ℕ → NextWord → Option (List ℕ) → UsageReason
 early_reason (Err place) next word = command_reason next word
 early_reason (Ok site) next word = OptionUnknown
 
--- the operands of the command that was found, under all flags that are read
+-- which operands the command that was found takes, under all flags that are read
 abbrev pub operand_rule_of_words : List (List ℕ) → Start → Option OperandRule
 operand_rule_of_words words start = operand_rule start.applet (reading_after_applet start words).state.flags
 
@@ -114,9 +115,9 @@ usage_reason_after_start words place (Ok start) =
 unfoldable pub usage_reason : List (List ℕ) → ℕ → UsageReason
 usage_reason words place = usage_reason_after_start words place (start_of_command_line words)
 
--- ---- its text
+-- ---- the text of a reason
 
--- what a value of an option is
+-- how the line describes a value of an option of this kind
 abbrev pub value_kind_description : ValueKind → List ℕ
 value_kind_description AnyText = codes "a text"
 value_kind_description Nonempty = codes "a text that is not empty"
@@ -125,7 +126,7 @@ value_kind_description Output = codes "a path of at most 1016 bytes below this f
 value_kind_description Uncompressed = codes "none"
 value_kind_description Script = codes "TYPE:FILE with the type of a script"
 
--- what an operand is
+-- how the line describes an operand of this kind
 abbrev pub operand_kind_description : OperandKind → List ℕ
 operand_kind_description File = codes "a path below this folder"
 operand_kind_description Any = codes "a text"
@@ -172,7 +173,7 @@ texts_joined (text ∷ texts) = text ++ texts_joined texts
 abbrev pub most_shown_bytes : ℕ
 most_shown_bytes = 64
 
--- a hexadecimal digit, in lower case
+-- the hexadecimal digit of a number below 16, in lower case, as an ASCII code
 abbrev pub hex_digit : ℕ → ℕ
 hex_digit n = if nat_lt n 10 then 48 + n else 87 + n
 
@@ -205,11 +206,12 @@ shown_word_with_place place None = []
 shown_word_with_place place (Some word) =
     text_before_shown_word place ++ shown_bytes (take most_shown_bytes word) ++ text_after_shown_word word
 
--- the word of the command whose help is named, after a space; nothing if none was found
+-- the space before the word of the command whose help is named; nothing if no command was found
 abbrev pub space_before_help_topic : Result AppletSite ℕ → List ℕ
 space_before_help_topic (Err place) = []
 space_before_help_topic (Ok site) = codes " "
 
+-- the word of the command whose help is named; nothing if no command was found
 abbrev pub help_topic_word : Result AppletSite ℕ → List ℕ
 help_topic_word (Err place) = []
 help_topic_word (Ok site) = applet_word site.applet

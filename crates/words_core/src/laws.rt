@@ -75,7 +75,7 @@ pub fn letters_are_those_of_short_words()
     ensures { (applet : Applet) → IsTrue (list_all has_letter_of_short_word (own_options applet)) }
 {}
 
-/// The reason that the line after a usage error gives is so, of the word at the place or of the
+/// The reason that the line after a usage error gives is true, of the word at the place or of the
 /// words before it.
 pub fn a_reason_is_so()
     ensures { (words : List (List ℕ)) (place : ℕ) → command_of words ≡ Err place →

@@ -28,7 +28,7 @@ pub(crate) enum NextWord {
 }
 
 impl NextWord {
-    // What the word after a word can be.
+    // What the word after this one can be, if `self` is what this word could be.
     fn after(self, word: &[u8]) -> NextWord
         ensures { result ≡ next_word self word.now }
     {
@@ -56,7 +56,8 @@ impl NextWord {
     }
 }
 
-// What the word after a word can be, if that is an option before the command, `--`, or the command.
+// What the word after this one can be, if this one is an option before the command, `--`, or the
+// command.
 fn after_start(word: &[u8]) -> NextWord
     ensures { result ≡ next_word OptionOrCommand word.now }
 {
@@ -72,7 +73,8 @@ fn after_start(word: &[u8]) -> NextWord
     }
 }
 
-// What the word after a word can be, if that is an option of the command, `--`, or an operand.
+// What the word after this one can be, if this one is an option of the command, `--`, or an
+// operand.
 fn after_applet(applet: Applet, word: &[u8]) -> NextWord
     ensures { result ≡ next_word (OptionOrOperand applet) word.now }
 {
@@ -102,7 +104,7 @@ fn awaited_rule(applet: Applet, word: &[u8]) -> Option<ValueRule>
     }
 }
 
-/// What the word after the first words of a command line can be, this many of them.
+/// What the word after the first `count` words of a command line can be.
 pub(crate) fn next_after(words: &Words, count: usize) -> NextWord
     requires { count ≤ length words.now }
     ensures { result ≡ next_after (take count words.now) }

@@ -21,7 +21,7 @@ pub enum WordsFault {
     /// The place of the first wrong word, counted from 1, or the place after the last one if a word
     /// is missing.
     Usage { place: u32 },
-    /// There was no memory.
+    /// Out of memory.
     Memory,
 }
 
@@ -31,7 +31,7 @@ impl From<AllocError> for WordsFault {
 
     ghost from_gives = { λ _ fault. fault ≡ Memory };
 
-    /// Without memory there is no command.
+    /// Out of memory, as the reason that there is no command.
     fn from(_: AllocError) -> WordsFault {
         WordsFault::Memory
     }

@@ -79,7 +79,7 @@ pub(crate) fn find_applet(words: &Words) -> Result<AppletSite, u32>
     Err(place_after_word(words.len()))
 }
 
-// The applet that the first word after `--` names, if this many words are read.
+// The applet that the first word after `--` names. The first `before` words, up to `--`, are read.
 #[tactic(auto, unfolding(crate::specs::Grammar::site_after_end), using(crate::proofs::OneMore::left_at))]
 fn applet_after_end(words: &Words, before: usize) -> Result<AppletSite, u32>
     requires { before ≤ length words.now }
@@ -91,7 +91,7 @@ fn applet_after_end(words: &Words, before: usize) -> Result<AppletSite, u32>
     applet_at(words.word(before), true, before)
 }
 
-// The applet that a word names, if this many words precede it.
+// The applet that a word names, which `before` words precede.
 #[tactic(auto, unfolding(crate::specs::Grammar::applet_site_at))]
 fn applet_at(word: &[u8], ended: bool, before: usize) -> Result<AppletSite, u32>
     requires { before < MOST_PLACES }
@@ -356,7 +356,7 @@ fn read_options(alloc: Global, words: &Words, start: &Start) -> Result<Reading, 
     Ok(Reading::ended(place_after_word(words.len()), state, operands))
 }
 
-// Adds each word after the first ones, this many of them, as an operand.
+// Adds each word after the first `before` words as an operand.
 fn add_operands(operands: &mut Operands, words: &Words, before: usize) -> Result<(), AllocError>
     requires { before ≤ length words.now }
     ensures { OnOk result (operands.new ≡ operands.old

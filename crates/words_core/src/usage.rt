@@ -169,7 +169,7 @@ fn word_reason(rule: Option<OperandRule>, word: &[u8], next: NextWord) -> UsageR
     }
 }
 
-// Why a word after the command is wrong that is an option or an operand.
+// Why a word after the command is wrong, if the word could be an option or an operand.
 fn free_reason(applet: Applet, rule: Option<OperandRule>, word: &[u8]) -> UsageReason
     ensures { result ≡ word_reason rule word.now (OptionOrOperand applet) }
 {
@@ -234,7 +234,7 @@ fn operand_reason(word: &[u8], rule: Option<OperandRule>) -> UsageReason
 
 // ---- the operands of the command
 
-// The operands of the command that was found, under all flags that are read.
+// Which operands the command that was found takes, under all flags that are read.
 fn operand_rule_of_words(words: &Words, start: &Start) -> Option<OperandRule>
     requires { start_of_command_line words.now ≡ Ok start.now }
     ensures { result ≡ operand_rule_of_words words.now start.now }
@@ -245,7 +245,7 @@ fn operand_rule_of_words(words: &Words, start: &Start) -> Option<OperandRule>
     start.applet.operands(Flags::none())
 }
 
-// Whether the operands of an applet are others under other flags.
+// Whether the flags decide which operands an applet takes.
 fn operands_depend_on_flags(applet: Applet) -> bool
     ensures { result ≡ operands_depend_on_flags applet }
 {
@@ -290,8 +290,8 @@ fn flags_behind(words: &Words, start: &Start) -> Flags
     flags
 }
 
-// Flags with the option that a word is. None: it is none of the command, has a value, or is a
-// second kind.
+// Flags with the option that a word spells added. None if it spells no flag of the command, holds a
+// value, or selects a kind of the command other than that of an earlier flag.
 fn flags_with_held_meaning(applet: Applet, flags: Flags, word: &[u8]) -> Option<Flags>
     requires { IsTrue (is_option word.now) }
     ensures { result ≡ flags_with_spelled_option (options_of applet) flags word.now }

@@ -83,7 +83,7 @@ IsToUpgrade Upgrade (o ∷ operands) name =
     (named : Operand) × IsIn named (o ∷ operands) × (named.text ≡ name)
 IsToUpgrade applet operands name = ⊥
 
--- ---- both
+-- ---- what a command chooses from
 
 -- a command chooses from its candidates, which are not too many, under the new world
 pub record IsCommandPool (command : CommandLine) (read : Reads) (pool : SealedPool) : Type 0 where
