@@ -79,7 +79,7 @@ pub(crate) fn find_applet(words: &Words) -> Result<AppletSite, u32>
     Err(place_after_word(words.len()))
 }
 
-// The applet that the first word after `--` names. The first `before` words, up to `--`, are read.
+// The applet that the first word after `--` names. The first `before` words end with `--`.
 #[tactic(auto, unfolding(crate::specs::Grammar::site_after_end), using(crate::proofs::OneMore::left_at))]
 fn applet_after_end(words: &Words, before: usize) -> Result<AppletSite, u32>
     requires { before ≤ length words.now }
