@@ -42,7 +42,7 @@ impl From<Disk> for TreeFault {
 impl From<AllocError> for TreeFault {
     ghost from_gives = { λ _ fault. fault ≡ Memory };
 
-    // Out of memory as the error of such a call.
+    // Out of memory as the error of a call that reads the tree into memory.
     fn from(_: AllocError) -> TreeFault {
         TreeFault::Memory
     }

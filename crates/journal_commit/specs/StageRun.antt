@@ -15,12 +15,12 @@ use Rattle.journal_core.specs.Staged.{IsEmptyStage, IsOldUntilCommit, IsStaged, 
 
 -- ---- what is read
 
--- the files as read are these, except for staged files
+-- the files as read are `files`, except for staged files
 abbrev pub HasFilesExceptStaged : Files → TreeState → Type 0
 HasFilesExceptStaged files w = (q : List ℕ) → is_staged q ≡ false → files_of w q ≡ files q
 
--- an intent is read, and recovery yields the new files; each name outside the staging area has its old
--- bytes or its new ones
+-- an intent is under its name, and a recovery leaves the new files; each name outside the staging
+-- area has its old bytes or its new ones
 pub record RecoversByIntent (new old : Files) (w : TreeState) : Type 0 where
   pub intent : IsSome (w.names intent_name)
   pub leads : unstaged_files (files_of w) ≡ new
@@ -70,8 +70,8 @@ pub record IsStagingRun (v : TreeState) (old now : List TreeState) : Type 0 wher
   pub reads : Since (HasFilesExceptStaged (files_of v)) old now
   pub last : ShownNamesAreDurable v → Since ShownNamesAreDurable old now
 
--- a staging run before which nothing was staged; now files with these bytes are staged, and one with
--- the bytes of the file that is begun
+-- a staging run that began with an empty staging area. Now files with the bytes `contents` are
+-- staged, and, if there is a file that is begun, one with its bytes
 pub record IsStaging (stage : Staging) (contents : List (List ℕ)) (begun : Option (List ℕ))
     (v : TreeState) (old now : List TreeState) : Type 0 where
   pub start : HoldsNow old (λ w. w ≡ v)

@@ -23,7 +23,8 @@ pub record ChangesOnlyStagedFiles {T E : Type 0} (stage : Staging) (old now : Li
       → IsStaging stage contents None v first old → AreJournalPathsFree (files_of v)
       → after.misuses ≡ before.misuses
 
--- the same, if a staged file is begun before it; the call needs no free path
+-- how a call changes the tree and its counts, if a staged file is begun before it; the call needs
+-- no free path
 pub record ChangesOnlyBegunFile {T E : Type 0} (stage : Staging) (old now : List TreeState)
     (before after : Counts) (result : Result T E) : Type 0 where
   -- whatever it returns, only staged files have changed at each moment

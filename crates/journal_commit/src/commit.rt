@@ -17,8 +17,8 @@ ghost use Rattle.journal_commit.specs.StageRun.{IsStageRun, IsStageRunComplete, 
 use base_core::{Disk, Tree};
 use journal_core::{Stage, apply_all};
 
-/// Publishes the intent of a stage all of whose files are staged, does all its actions, and
-/// finishes.
+/// Publishes (commits) the intent of a stage all of whose files are staged, does all its actions,
+/// and removes the intent.
 pub fn carry_through<T: Tree>(stage: &mut Stage, tree: &mut T) -> Result<(), Disk>
     requires closed { stage.old.is_open ≡ false }
     requires all { stage.old.staged ≡ length stage.old.intent.writes }

@@ -15,8 +15,8 @@ use Rattle.journal_intent.specs.FreeNames.{HasFreeDistinctNames}
 use Rattle.journal_core.specs.Quiet.{EachCrashLeavesOld}
 use Rattle.journal_core.specs.Staged.{Staging, CommittedBy, IsCommittedFor, IsOldUntilCommit, IsStaged}
 
--- a moment at which a new file is under a name that was absent at the start, and nothing else has
--- changed
+-- the tree `v` differs from `start` only by a file under a name that was absent: the file was made
+-- since
 pub record HasOnlyAddedFile (place : List ℕ) (file : File) (start v : TreeState) : Type 0 where
   pub absent : start.names place ≡ None
   pub number : ℕ
@@ -52,8 +52,9 @@ pub record IsReadyToPublish (intent : Intent) (base : Files) (made : ℕ) (v : T
   pub few : length intent.writes < 2 ^ 63
   pub free : HasFreeDistinctNames intent
 
--- a moment of the publishing, at which the intent may be moved to its name: a crash leaves a state from
--- before, or that of these files if an intent made since is read
+-- a moment of the commit, at which the intent may have been moved to its name: a crash leaves a
+-- state from before, or that of these files. It leaves a state from before unless an intent made
+-- since is under its name
 pub record IsCommitting (ignored : List ℕ → Bool) (files : Files) (number : ℕ)
     (start v : TreeState) : Type 0 where
   pub is_durable : IsDurable (StateDependsOn ignored) v
@@ -61,7 +62,8 @@ pub record IsCommitting (ignored : List ℕ → Bool) (files : Files) (number : 
   pub unpublished : (IsCommittedFor ignored files number v → ⊥) → EachCrashLeavesOld ignored start v
   pub made : start.made ≤ v.made
 
--- a moment after the publishing: the intent is read, and no crash undoes this
+-- a moment after the commit: each crash leaves the state of these files, and the intent is under
+-- its name
 pub record HasCommittedIntent (ignored : List ℕ → Bool) (files : Files) (made : ℕ)
     (v : TreeState) : Type 0 where
   pub settled : EachCrashLeaves ignored files v

@@ -44,13 +44,15 @@ IsIntentFault files cause = (file : List ℕ) × (files intent_name ≡ Some fil
 
 -- ---- staging
 
--- the files with more staged files, which have these bytes, the first of them as number k
+-- the files with one more staged file for each element of `contents`, which is its bytes; the first
+-- of them has the number k
 abbrev pub files_with_staged : ℕ → List (List ℕ) → Files → Files
 files_with_staged k [] files = files
 files_with_staged k (bytes ∷ contents) files =
     files_with_staged (k + 1) contents (put_name files (stage_name k) bytes)
 
--- the files with one more staged file, number k, if there are bytes for it: the file that is begun
+-- the files with the staged file number k that is begun, if there are bytes for it; unchanged
+-- otherwise
 abbrev pub files_with_begun_file : ℕ → Option (List ℕ) → Files → Files
 files_with_begun_file k None files = files
 files_with_begun_file k (Some bytes) files = put_name files (stage_name k) bytes
@@ -91,8 +93,8 @@ pub record IsStaged (stage : Staging) (contents : List (List ℕ)) (begun : Opti
 
 -- ---- the actions
 
--- a name that is still needed when so many actions are done: the intent's, and those of each move that
--- is left
+-- a name that recovery still needs after this many actions of the intent: the intent's, and the two
+-- names of each move that is not done
 abbrev pub IsStillNeeded : Intent → ℕ → List ℕ → Type 0
 IsStillNeeded intent acted q =
     (q ≡ intent_name)
@@ -104,14 +106,16 @@ abbrev pub NeededNamesAreDurable : Intent → ℕ → TreeState → Type 0
 NeededNamesAreDurable intent acted v =
     (map : NameMap) → IsCrashMap v map → (q : List ℕ) → IsStillNeeded intent acted q → map q ≡ v.names q
 
--- the first so many actions are done in these files
+-- in these files the first `acted` actions of the intent are done: the removed names and the moved
+-- staged files are absent
 pub record AreActionsDone (intent : Intent) (acted : ℕ) (files : Files) : Type 0 where
   pub removed : (i : ℕ) (name : List ℕ) → i < acted → slice_get intent.removals i ≡ Some name
       → files name ≡ None
   pub moved : (k : ℕ) → 1 ≤ k → length intent.removals + k ≤ acted → files (stage_name k) ≡ None
 
--- from the publishing on: the intent is read, recovery of the files as read yields these files, and the
--- stage's actions so far are done; a crash undoes the publishing no more
+-- the intent is committed: it is read, recovery of the files as read yields `files`, and the
+-- actions that the stage counts as done are done. No crash undoes a change of a name that is still
+-- needed
 pub record IsCarryingOutActions (stage : Staging) (files : Files) (v : TreeState) : Type 0 where
   pub located : intent_of (files_of v) ≡ Some stage.intent
   pub reads : recovered_files (files_of v) ≡ files
@@ -120,7 +124,7 @@ pub record IsCarryingOutActions (stage : Staging) (files : Files) (v : TreeState
 
 -- ---- recovery
 
--- the files as a recovery leaves them: the intent is done, and nothing is staged
+-- the files after a recovery: the intent is done and removed, and no file is staged
 abbrev pub unstaged_files : Files → Files
 unstaged_files files q = if is_staged q then None else recovered_files files q
 
@@ -130,8 +134,8 @@ IsEmptyStage files = (q : List ℕ) → is_staged q ≡ true → files q ≡ Non
 
 -- ---- moments
 
--- an intent is under its name, its file was made since (its number is `made` or larger), and recovery
--- of the files as read yields the state of these files
+-- the intent's name has a file whose number is `made` or larger, so it was made since then; and
+-- recovery of the files as read yields the state of these files
 abbrev pub IsCommittedFor : (List ℕ → Bool) → Files → ℕ → TreeState → Type 0
 IsCommittedFor ignored files made v =
     (n : ℕ)
@@ -139,15 +143,16 @@ IsCommittedFor ignored files made v =
     × (made ≤ n)
     × (state_of ignored (files_of v) ≡ state_of ignored files)
 
--- at one of these moments an intent was under its name, its file was made since (its number is `made` or
--- larger), and recovery of the files as read would have yielded the state of these files
+-- at one of these moments the intent's name had a file whose number is `made` or larger; and
+-- recovery of the files as read would have yielded the state of these files
 abbrev pub WasCommittedFor : (List ℕ → Bool) → Files → ℕ → List TreeState → Type 0
 WasCommittedFor ignored files made [] = ⊥
 WasCommittedFor ignored files made (v ∷ earlier) =
     IsCommittedFor ignored files made v ⊎ WasCommittedFor ignored files made earlier
 
--- A moment of a run that leads to these files. A crash leaves an old state or theirs. Before an intent
--- that was made since, and yields their state, is under its name, it leaves an old one.
+-- A moment of a run that leads to these files. A crash leaves a state that a crash at the start
+-- might have left, or the state of these files. Until an intent of this run has been under its
+-- name, it leaves one of the former.
 pub record IsOldUntilCommit (ignored : List ℕ → Bool) (files : Files) (start : TreeState)
     (earlier : List TreeState) (v : TreeState) : Type 0 where
   pub is_durable : IsDurable (StateDependsOn ignored) v
@@ -156,8 +161,8 @@ pub record IsOldUntilCommit (ignored : List ℕ → Bool) (files : Files) (start
       → EachCrashLeavesOld ignored start v
   pub made : start.made ≤ v.made
 
--- a run so far that leads to these files: each of its moments is on the way to them, and at one of them
--- an intent of the run that yields their state was under its name
+-- the moments of a run that leads to these files; at one of them an intent of this run, for which
+-- recovery yields their state, was under its name
 pub record CommittedBy (ignored : List ℕ → Bool) (files : Files) (start : TreeState)
     (old new : List TreeState) : Type 0 where
   pub added : List TreeState

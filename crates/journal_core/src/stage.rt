@@ -136,7 +136,7 @@ impl Stage {
         })
     }
 
-    /// Whether an action is left.
+    /// Whether an action is not done yet.
     pub(crate) fn has_more(&self) -> bool
         ensures { result ≡ nat_lt self.now.acted (action_count self.now.intent) }
     {

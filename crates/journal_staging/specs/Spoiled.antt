@@ -23,7 +23,7 @@ pub record IsSpoiledFile (tested file : List ℕ) (cause : Cause) : Type 0 where
   pub digest : cause ≡ HashDiffers wanted found
   pub fault : package_fault file ≡ Some cause
 
--- whatever a file's package was when it was tested, there is a spoiled file for it with this cause
+-- each file that may have been tested as the package of `f` has a spoiled file with this cause
 abbrev pub IsSpoiledForEachTested : PackagedFile → Cause → Type 0
 IsSpoiledForEachTested f cause = (name tested : List ℕ) → IsTestedOf name tested f.package.now
     → (file : List ℕ) × IsSpoiledFile tested file cause

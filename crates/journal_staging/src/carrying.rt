@@ -89,14 +89,15 @@ pub fn carry_out<T: Tree>(
         → EachDenotes (files_of v) writes.now contents
         → IsCarriedTo (files_after_actions stage.old.intent (files_with_staged 1 contents (files_of v)))
         v (T.history tree.old) (T.history tree.new) result) }
-    // Whatever else the tree returns: the result are files with bytes that the sources may denote,
-    // so those of a package have the size and the digest that its value lists.
+    // Whatever the tree returns: once it has returned Ok, the change is complete, with bytes that
+    // the sources may denote. So the files of a package have the size and the digest that its value
+    // lists.
     ensures listed { IfObservable (T.history tree.old) (λ v.
         v.names intent_name ≡ None → IsEmptyStage (files_of v)
         → OnOk result ((contents : List (List ℕ)) × EachMayDenote writes.now contents
         × IsStageRunComplete (files_after_actions stage.old.intent (files_with_staged 1 contents (files_of v)))
         v (T.history tree.new))) }
-    // Nor is it half done after an error: if a package is bad, only staged files have changed.
+    // If a package is bad, the change is not begun: only staged files have changed.
     ensures unpublished { IfObservable (T.history tree.old) (λ v.
         v.names intent_name ≡ None → IsEmptyStage (files_of v)
         → (member : ℕ) (cause : Cause) → IsErrOf result (Bad member cause)

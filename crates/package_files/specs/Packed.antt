@@ -26,7 +26,8 @@ files_size files = sum_by (λ (file : File). size_of_kind file.kind) files
 abbrev pub installed_size_of_folders : List Folder → ℕ
 installed_size_of_folders folders = sum_by (λ (folder : Folder). files_size folder.files.items) folders
 
--- a packed file is that of a file that was read: it has the name, and is what the bytes say
+-- a packed file is the packed form of a source file: it has its name, and the kind that its bytes
+-- say
 pub record IsFileFrom (file : File) (source : Source) : Type 0 where
   pub name : file.name.now ≡ source.name
   pub kind : file.kind ≡ kind_of_file source.bytes
@@ -39,8 +40,8 @@ AreFilesFrom (file ∷ files) [] = ⊥
 AreFilesFrom (file ∷ files) (source ∷ sources) =
     IsFileFrom file source × AreFilesFrom files sources
 
--- a folder that was packed is that of a folder that was read: it has the name, and its files are
--- what their bytes say
+-- a packed folder is the packed form of a source folder: it has its name, and the packed forms of
+-- its files
 pub record IsFolderFrom (folder : Folder) (source : SourceFolder) : Type 0 where
   pub name : folder.name.now ≡ source.name
   pub files : AreFilesFrom folder.files.items source.files

@@ -10,7 +10,7 @@ use Rattle.path_clashes.specs.Clash.{IsClash, NameChange, NamePair, is_name_afte
 abbrev pub is_name_present : (List ℕ → Bool) → Files → List ℕ → Bool
 is_name_present does_release files name = is_some (files name) && not (does_release name)
 
--- the name, if a condition holds
+-- Some of the name if the condition `b` holds, otherwise None
 abbrev pub name_if_holds : Bool → List ℕ → Option (List ℕ)
 name_if_holds b name = if b then Some name else None
 
@@ -30,8 +30,8 @@ pub record IsShortestFolder (change : NameChange) (files : Files) (name : List �
   pub shortest : (other : List ℕ) → IsFolderOf other name → len ≤ length other
       → is_name_after change files other ≡ true → length folder ≤ length other
 
--- the shortest folder of at least `len` bytes above the name that is present after the change is found;
--- if none is found, there is none
+-- the result of a search for the shortest folder above the name that is present after the change
+-- and has at least `len` bytes; None means that there is none
 abbrev pub IsFolderFound : NameChange → Files → List ℕ → ℕ → Option (List ℕ) → Type 0
 IsFolderFound change files name len None =
     (other : List ℕ) → IsFolderOf other name → len ≤ length other
@@ -49,7 +49,8 @@ pub record IsFirstBelow (does_release : List ℕ → Bool) (files : Files) (fold
   pub first : (other : List ℕ) → IsFolderOf folder other
       → is_name_present does_release files other ≡ true → precedes other name ≡ false
 
--- the first such name is found; if none is found, every file below the folder is removed
+-- the result of a search for the first name below a folder whose file is kept: that name; None
+-- means that every file below the folder is removed
 abbrev pub IsNameFound : (List ℕ → Bool) → Files → List ℕ → Option (List ℕ) → Type 0
 IsNameFound does_release files folder None =
     (other : List ℕ) → IsFolderOf folder other → is_name_present does_release files other ≡ true → ⊥
@@ -57,23 +58,23 @@ IsNameFound does_release files folder (Some name) = IsFirstBelow does_release fi
 
 -- ---- pairs with the name
 
--- the earlier of two pairs, if there are two; otherwise the one that there is
+-- the earlier of two optional pairs; if one is absent, the other one
 abbrev pub earlier_pair : Option NamePair → Option NamePair → Option NamePair
 earlier_pair None other = other
 earlier_pair (Some one) None = Some one
 earlier_pair (Some one) (Some other) = if precedes_pair other one then Some other else Some one
 
--- a pair that is found is a clash
+-- if a pair is found, it is a clash
 abbrev pub IsClashIfSome : NameChange → Files → Option NamePair → Type 0
 IsClashIfSome change files None = Unit {0}
 IsClashIfSome change files (Some pair) = IsClash change files pair
 
--- a pair is found, and the other one is not before it
+-- a pair is found, and `other` is not before it
 abbrev pub IsNotBefore : NamePair → Option NamePair → Type 0
 IsNotBefore other None = ⊥
 IsNotBefore other (Some pair) = precedes_pair other pair ≡ false
 
--- if the other pair is a clash, a pair is found, and the other one is not before it
+-- if `other` is a clash, a pair is found, and `other` is not before it
 abbrev pub IsNoEarlierClash : NameChange → Files → Option NamePair → NamePair → Type 0
 IsNoEarlierClash change files found other = IsClash change files other → IsNotBefore other found
 
