@@ -33,5 +33,7 @@ pub record IsDurableInOrder (depends_on : Files → List ℕ → Type 0) (v : Tr
 pub record Since (P : TreeState → Type 0) (old new : List TreeState) : Type 0 where
   -- the states that were added, the newest first
   pub added : List TreeState
+  -- the new history is these states before the old history
   pub is : new ≡ added ++ old
+  -- each added state has the property P
   pub each : All P added

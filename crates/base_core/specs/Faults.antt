@@ -34,6 +34,7 @@ pub record CountsOnlyRise (before now : Counts) : Type 0 where
 -- a failure was counted, and has its reason: an outside fault, a misuse, or the object was out of
 -- memory
 pub record HasCause (before now : Counts) : Type 0 where
+  -- one more fault was counted, unless the count has its largest value
   pub fault : RoseOrIsSaturated before.faults now.faults
   -- an outside fault, which `fallible` allows, a misuse, or the object was out of memory
   pub reason : IsTrue before.fallible ⊎ (RoseOrIsSaturated before.misuses now.misuses

@@ -31,10 +31,14 @@ is_added_path change path = list_any (bytes_eq path) (added_paths change.members
 -- configuration that the user changed: the file under a protected path is neither as an added package
 -- lists it nor as a package listed it before
 pub record IsModifiedConfigFile (change : FileChange) (files : Files) (path bytes : List ℕ) : Type 0 where
+  -- the path is protected: it is below `etc/`
   pub guarded : is_protected_path path ≡ true
+  -- the file exists and has these bytes
   pub present : files path ≡ Some bytes
+  -- if an added package owns the path, its entry does not describe these bytes
   pub unlike_new : (l : Listing) → added_owner_listing change path ≡ Some l
       → is_as_listed l.entry bytes ≡ false
+  -- if a package listed the path before, its entry does not describe these bytes
   pub unlike_old : (entry : Plain) → old_entry change path ≡ Some entry
       → is_as_listed entry bytes ≡ false
 
@@ -46,5 +50,7 @@ DiffersFromOldEntry change path entry =
 -- a write is an element of the plan: a listed file is written under its name
 pub record IsPlannedWrite (change : FileChange) (files : Files) (write : FileWrite) : Type 0 where
   pub listing : Listing
+  -- this listing is written under the name of the write
   pub written : listing_written_under_name change files write.name ≡ Some listing
+  -- the write is that of this listing
   pub shown : write ≡ write_to write.name listing

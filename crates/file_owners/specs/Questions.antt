@@ -34,13 +34,19 @@ with_question questions (Some q) = questions ++ q ∷ []
 -- a question is consistent with the payload and the members: its entry is a sound dependency, with
 -- the name of the member at its place, the version to which its word leads, and its operator
 pub record IsQuestionIn (members : List Member) (payload : List ℕ) (q : Question) : Type 0 where
+  -- the place is one of a member
   pub within : q.place < length members
+  -- the word leads to a value with the shape of a dependency
   pub shaped : is_sound payload (Obj Dep) q.word ≡ true
+  -- the entry is a sound dependency
   pub sound : IsSoundDependency (entry_of_question payload q)
+  -- the entry has the name of that member
   pub name : (m : Member) → slice_get members q.place ≡ Some m
       → text_in (entry_in (entry_of_question payload q) DEP_NAME) ≡ member_name m
+  -- the version word leads to the version of the entry
   pub version : text_in (entry_in (entry_of_question payload q) DEP_VERSION)
       ≡ text_in (value_at payload Text q.version)
+  -- the operator is that of the entry
   pub matching : int_in (entry_in (entry_of_question payload q) DEP_MATCH) ≡ q.matching
 
 -- two questions are the same: they are about one member, and have the same version word and the

@@ -54,10 +54,14 @@ pub record IsStageRun (files : Files) (v : TreeState) (old now : List TreeState)
 -- a change that leads to these files is complete: no intent is read, and no crash restores one, or
 -- undoes a change of a name
 pub record IsStageRunComplete (files : Files) (v : TreeState) (now : List TreeState) : Type 0 where
+  -- the files as read are the new ones, and no intent is read
   pub reads : HoldsNow now (λ w. (files_of w ≡ files) × (w.names intent_name ≡ None))
+  -- if the tree was durable at the start, each crash leaves the state of the new files
   pub settled : (ignored : List ℕ → Bool) → IsDurable (StateDependsOn ignored) v
       → HoldsNow now (EachCrashLeaves ignored files)
+  -- no crash undoes a change of a name outside the journal
   pub last : HoldsNow now ShownNamesAreDurable
+  -- no crash restores the intent
   pub gone : HoldsNow now (IsRestoredByNoCrash intent_name)
 
 -- ---- its first part
@@ -65,9 +69,12 @@ pub record IsStageRunComplete (files : Files) (v : TreeState) (now : List TreeSt
 -- Files are staged, from a state v on. At each moment the tree is durable, the state is unchanged, and
 -- only staged files have changed.
 pub record IsStagingRun (v : TreeState) (old now : List TreeState) : Type 0 where
+  -- from a durable tree on, each moment is durable and has the same state
   pub moments : (ignored : List ℕ → Bool) → IsDurable (StateDependsOn ignored) v
       → Since (StateIsUnchanged ignored v) old now
+  -- at each moment the files as read are the same, except for staged files
   pub reads : Since (HasFilesExceptStaged (files_of v)) old now
+  -- no crash undoes a change of a name outside the journal, if none could at the start
   pub last : ShownNamesAreDurable v → Since ShownNamesAreDurable old now
 
 -- a staging run that began with an empty staging area. Now files with the bytes `contents` are

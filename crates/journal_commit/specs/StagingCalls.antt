@@ -39,6 +39,7 @@ pub record ChangesOnlyBegunFile {T E : Type 0} (stage : Staging) (old now : List
 -- a call that stages one whole file with these bytes, and changes the stage to `next`
 pub record StagesFile {T E : Type 0} (stage next : Staging) (bytes : List ℕ) (old now : List TreeState)
     (before after : Counts) (result : Result T E) : Type 0 where
+  -- how the call changes the tree and its counts
   pub only : ChangesOnlyStagedFiles stage old now before after result
   -- once it has returned Ok, the bytes are staged after the files staged before
   pub staging : (contents : List (List ℕ)) (v : TreeState) (first : List TreeState)

@@ -36,8 +36,10 @@ fully_staged_stage intent = record {
 -- changes if no file is there; after an error the file was moved or not
 pub record MovesIfPresent {T E : Type 0} (place name : List ℕ) (old new : List TreeState)
     (result : Result T E) : Type 0 where
+  -- on Ok nothing changed because no file was there, or the file was moved
   pub ok : OnOk result (IfObservable old (λ v.
       ((v.names place ≡ None) × (new ≡ old)) ⊎ (new ≡ after_rename place name v ∷ old)))
+  -- on an error nothing changed, or the file was moved
   pub err : OnErr result (IfObservable old (λ v.
       (new ≡ old) ⊎ (new ≡ after_rename place name v ∷ old)))
 

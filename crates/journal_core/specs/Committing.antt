@@ -18,12 +18,19 @@ use Rattle.journal_core.specs.Staged.{Staging, CommittedBy, IsCommittedFor, IsOl
 -- the tree `v` differs from `start` only by a file under a name that was absent: the file was made
 -- since
 pub record HasOnlyAddedFile (place : List ℕ) (file : File) (start v : TreeState) : Type 0 where
+  -- the name was absent
   pub absent : start.names place ≡ None
+  -- the number of the new file
   pub number : ℕ
+  -- the file was made since
   pub later : start.made ≤ number
+  -- the name leads to this file
   pub there : v.names place ≡ Some number
+  -- the file has these bytes, and is synced or not as `file` says
   pub holds : v.files number ≡ file
+  -- every other name leads where it led
   pub names : (q : List ℕ) → q ≢ place → v.names q ≡ start.names q
+  -- the file of every other name is unchanged
   pub kept : (q : List ℕ) (n : ℕ) → q ≢ place → v.names q ≡ Some n → v.files n ≡ start.files n
 
 -- a moment before the publishing at which all files are staged: the intent under the name with number
@@ -57,9 +64,13 @@ pub record IsReadyToPublish (intent : Intent) (base : Files) (made : ℕ) (v : T
 -- since is under its name
 pub record IsCommitting (ignored : List ℕ → Bool) (files : Files) (number : ℕ)
     (start v : TreeState) : Type 0 where
+  -- the tree is durable
   pub is_durable : IsDurable (StateDependsOn ignored) v
+  -- each crash leaves a state that a crash at the start might have left, or that of `files`
   pub old_or_new : EachCrashLeavesOldOrNew ignored start files v
+  -- as long as no intent made since leads to these files, each crash leaves a state from before
   pub unpublished : (IsCommittedFor ignored files number v → ⊥) → EachCrashLeavesOld ignored start v
+  -- files may have been made since the start
   pub made : start.made ≤ v.made
 
 -- a moment after the commit: each crash leaves the state of these files, and the intent is under

@@ -15,7 +15,11 @@ EachCrashLeavesOld ignored start v =
 -- the tree `v` is durable, and its state is that of the tree `start`: after each crash, and as
 -- read. Ignored names do not count, and new files may have been made
 pub record StateIsUnchanged (ignored : List ℕ → Bool) (start v : TreeState) : Type 0 where
+  -- the tree is durable
   pub is_durable : IsDurable (StateDependsOn ignored) v
+  -- each crash leaves a state that a crash at the start might have left
   pub quiet : EachCrashLeavesOld ignored start v
+  -- the state of the files as read is that at the start
   pub reads : state_of ignored (files_of v) ≡ state_of ignored (files_of start)
+  -- files may have been made since the start
   pub made : start.made ≤ v.made

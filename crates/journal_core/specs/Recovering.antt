@@ -25,7 +25,9 @@ recover_fault_of_tree NoMemory = Memory
 -- a moment after all actions of an intent: the files as read are those that recovery of the files
 -- at the start yields, and no intent is read
 pub record IsReplayed (start v : TreeState) : Type 0 where
+  -- the files as read are those that recovery yields
   pub reads : files_of v ≡ recovered_files (files_of start)
+  -- no intent is read
   pub absent : v.names intent_name ≡ None
 
 -- a map, or files, without the staged files: no name in the staging area has an entry

@@ -42,7 +42,9 @@ HaveNoRepeats (name ∷ names) = IsNoneOf name names × HaveNoRepeats names
 pub record HasFreeDistinctNames (intent : Intent) : Type 0 where
   pub removals : AreFreeNames intent.removals
   pub writes : AreFreeNames intent.writes
+  -- no name is written twice
   pub once : HaveNoRepeats intent.writes
+  -- no name is both written and removed
   pub apart : (name : List ℕ) → IsOneOf name intent.writes → IsNoneOf name intent.removals
 
 -- the names of this many staged files, from number k on

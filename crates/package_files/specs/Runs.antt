@@ -15,8 +15,11 @@ AreReadsOfTree history read =
 
 -- `P` holds of some reads; if the history of the tree is observable, these are reads of the tree
 pub record IsExplainedBySomeReads (history : List TreeState) (P : Reads → Type 0) : Type 0 where
+  -- the reads
   pub read : Reads
+  -- if the history is observable, they are reads of the tree
   pub observed : AreReadsOfTree history read
+  -- the property P holds of them
   pub is : P read
 
 -- a result denotes the wanted value, or is the wanted fault; an I/O error of the tree and out of memory

@@ -24,9 +24,13 @@ files_with_only_name (Some name) q = if bytes_eq q name then Some [] else None
 -- the shortest folder above the name that is present after the change and has at least `len` bytes
 pub record IsShortestFolder (change : NameChange) (files : Files) (name : List ℕ) (len : ℕ)
     (folder : List ℕ) : Type 0 where
+  -- the folder is above the name
   pub above : IsFolderOf folder name
+  -- the folder has at least `len` bytes
   pub long : len ≤ length folder
+  -- the folder's name is present after the change
   pub after : is_name_after change files folder ≡ true
+  -- no such folder is shorter
   pub shortest : (other : List ℕ) → IsFolderOf other name → len ≤ length other
       → is_name_after change files other ≡ true → length folder ≤ length other
 
@@ -44,8 +48,11 @@ IsFolderFound change files name len (Some folder) =
 -- the first in byte order of the names below a folder whose file is kept
 pub record IsFirstBelow (does_release : List ℕ → Bool) (files : Files) (folder name : List ℕ)
     : Type 0 where
+  -- the name is below the folder
   pub below : IsFolderOf folder name
+  -- the file of the name is kept
   pub present_files : is_name_present does_release files name ≡ true
+  -- no such name is before it
   pub first : (other : List ℕ) → IsFolderOf folder other
       → is_name_present does_release files other ≡ true → precedes other name ≡ false
 
@@ -82,9 +89,12 @@ IsNoEarlierClash change files found other = IsClash change files other → IsNot
 -- name before it, and with the names below it; nothing is required if the name before is the same
 pub record IsClashNear (change : NameChange) (files : Files) (before name : List ℕ)
     (found : Option NamePair) : Type 0 where
+  -- if a pair is found, it is a clash
   pub is_one : IsClashIfSome change files found
+  -- no clash with a folder above the name is earlier, except with folders above the name before
   pub above : (folder : List ℕ) → IsFolderOf folder name → IsFolderOf folder before
       ⊎ IsNoEarlierClash change files found (record { path = folder; other = name })
+  -- no clash with a name below the name is earlier, unless the name before is the same
   pub below : (other : List ℕ) → is_name_present change.does_release files other ≡ true
       → (before ≡ name)
       ⊎ IsNoEarlierClash change files found (record { path = name; other = other })
@@ -95,7 +105,9 @@ pub record IsClashNear (change : NameChange) (files : Files) (before name : List
 -- before
 pub record IsFreshClash (change : NameChange) (before name : List ℕ) (pair : NamePair) : Type 0 where
   pub files : Files
+  -- the pair is a clash over these files
   pub is : IsClash change files pair
+  -- the first name counts as written; or it is not above the name before, and the second is `name`
   pub fresh : (change.counts_as_written pair.path ≡ true)
       ⊎ ((IsFolderOf pair.path before → ⊥) × (pair.other ≡ name))
 
