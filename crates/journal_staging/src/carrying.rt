@@ -52,6 +52,7 @@ fn stage_each<T: Tree>(
     ensures bad { (member : ℕ) (cause : Cause) → IsErrOf result (Bad member cause)
         → HasSpoiledFile member cause writes.now }
     ensures view { OnOk result (stage.new ≡ record stage.old { staged = length writes.now }) }
+    // How the tree's counts explain the result.
     ensures counts { IsFaultExplainedByCounts DiskFault
         (T.counts tree.old) (T.counts tree.new) result }
     ensures proper { (contents : List (List ℕ)) (v : TreeState) (first : List TreeState)
@@ -124,7 +125,9 @@ pub fn carry_out<T: Tree>(
     // How the tree's counts explain the result: no count falls, a fault has its cause, and any
     // other result hides none.
     ensures goes_on { CountsOnlyRise (T.counts tree.old) (T.counts tree.new) }
+    // An I/O error is returned only if a fault was counted.
     ensures disk { IsErrOf result DiskFault → HasCause (T.counts tree.old) (T.counts tree.new) }
+    // Ok is returned only if no fault was counted.
     ensures kept { OnOk result (IsNoFault (T.counts tree.old) (T.counts tree.new)) }
     ensures others { IfErr result (λ fault. (fault ≡ DiskFault → ⊥)
         → IsNoFault (T.counts tree.old) (T.counts tree.new)) }
