@@ -41,4 +41,5 @@ pub record IsCounted {T E : Type 0} (can : TreeState → Type 0) (history : List
   pub allowed : OnOk result (IfObservable history can)
   -- exactly the misuses are counted as such
   pub proper : IfObservable history (λ v. can v → now.misuses ≡ before.misuses)
+  -- if the state does not allow the call, one more misuse is counted
   pub misuse : IfObservable history (λ v. (can v → ⊥) → now.misuses ≡ saturating_increment before.misuses)

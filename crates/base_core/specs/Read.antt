@@ -17,8 +17,11 @@ pub record HasReadAfter (history : List TreeState) (name : List ℕ) (at len : �
     (before now : List ℕ) : Type 0 where
   -- what was read
   pub read : List ℕ
+  -- the read bytes follow those that were there before
   pub behind : now ≡ before ++ read
+  -- as many bytes as asked for were read
   pub long : length read ≡ len
+  -- if the file is observable, the read bytes are those of the file from the offset `at` on
   pub told : IfObservable history
       (λ v. IfSome (files_of v name) (λ file. read ≡ take len (drop at file)))
 

@@ -24,6 +24,7 @@ pub record SinceGivenEarlier (P : List TreeState → TreeState → Type 0)
     (old new : List TreeState) : Type 0 where
   -- the states that were added, the newest first
   pub added : List TreeState
+  -- the new history is these states before the old history
   pub is : new ≡ added ++ old
   pub each : EachMoment P added
 

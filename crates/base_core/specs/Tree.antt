@@ -127,6 +127,7 @@ pub record CanCreate (name : List ℕ) (v : TreeState) : Type 0 where
 -- folder of another
 pub record CanRename (from to : List ℕ) (v : TreeState) : Type 0 where
   pub present : IsSome (v.names from)
+  -- the two names differ
   pub apart : from ≢ to
   -- the test does not depend on the file, so 0 serves as its number
   pub folders : HasNoFileAsFolder (put_name (drop_name v.names from) to 0)

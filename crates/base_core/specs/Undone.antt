@@ -5,15 +5,15 @@ use Rattle.base_core.specs.Files.{Files, NameMap}
 use Rattle.base_core.specs.Tree.{TreeState, files_under_map, files_of}
 use Rattle.base_core.specs.Crash.{IsCrashImageUnderMap}
 
--- two names lead alike: both to the same number, or both to none
+-- whether two entries of maps of names are equal: the same file number, or no number in each
 abbrev pub lead_to_same_file : Option ℕ → Option ℕ → Bool
 lead_to_same_file None None = true
 lead_to_same_file None (Some n) = false
 lead_to_same_file (Some m) None = false
 lead_to_same_file (Some m) (Some n) = m == n
 
--- a map of names with the change from one map to the next newer one: each name at which these differ
--- leads where it does in the newer one
+-- `map` with the change from `old` to `new`, the next newer map: each name at which `old` and `new`
+-- differ leads where it leads in `new`
 abbrev pub with_change_replayed : NameMap → NameMap → NameMap → NameMap
 with_change_replayed old new map q = if lead_to_same_file (old q) (new q) then map q else new q
 

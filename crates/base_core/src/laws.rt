@@ -50,7 +50,8 @@ pub fn a_crash_in_order_keeps_the_files_of_a_durable_tree<D: Durability>()
         → (q : List ℕ) → D.depends_on ignored (files_under_map v map) q → image q ≡ files_under_map v map q }
 {}
 
-/// A tree stays durable, if a crash undoes only the last changes, if fewer files must be.
+/// A tree that is durable if crashes undo only the newest changes of names stays so if fewer files
+/// must be durable.
 pub fn a_tree_stays_durable_in_order_if_fewer_files_must_be<D: Durability>()
     ensures { (more fewer : List ℕ → Bool) (v : TreeState)
         → ((files : Files) (q : List ℕ) → D.depends_on fewer files q → D.depends_on more files q)
@@ -71,8 +72,9 @@ pub fn a_crash_may_undo_any_changes()
         → IsCrashMap (with_names v names) (with_change_replayed v.names names map) }
 {}
 
-/// A crash that undoes only the last changes, in any number, is a case: each map since the last
-/// sync of the names may be left. So what holds of each crash here holds of each crash there.
+/// A crash that undoes only the newest changes of names, in any number, is a special case: each map
+/// since the last sync of the names may be left. So what holds after every crash that may undo any
+/// changes holds after it too.
 pub fn a_crash_may_undo_the_last_changes()
     ensures map { (v : TreeState) (map : NameMap) → IsCurrentOrOlderMap v map → IsCrashMap v map }
     ensures image { (v : TreeState) (image : Files) → IsCrashImageInOrder v image
@@ -168,8 +170,8 @@ pub fn the_files_of_a_well_formed_state_are_named_files()
 
 // ---- calls in a row
 
-/// What holds of the counts over each of two calls in a row holds over both. If there is no call,
-/// no count changes.
+/// What holds of the counts over each of two successive calls holds over the two together. If there
+/// is no call, no count changes.
 pub fn counts_of_consecutive_calls_compose()
     ensures goes_on { (a b c : Counts) → CountsOnlyRise a b → CountsOnlyRise b c
         → CountsOnlyRise a c }

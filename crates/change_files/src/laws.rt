@@ -22,16 +22,16 @@ ghost use Rattle.change_files.specs.Touched.{DiffersFromOldEntry, IsModifiedConf
 
 // ---- what is written
 
-/// An added package that owns a path lists it. So does the owner of everything that is written:
-/// under that path, or beside it.
+/// An added package that owns a path lists it. So does the owner of each file that is written under
+/// that path, or beside it.
 pub fn what_is_written_is_owned_by_an_added_package()
-    // Of the added owner of a path.
+    // The owner of a path, if it is added, lists this path.
     ensures owner { (change : FileChange) (path : List ℕ) (l : Listing)
         → added_owner_listing change path ≡ Some l
         → (l.path ≡ path) × (is_added l.member ≡ true)
         × Contains (member_listings change.members) l
         × (owner_of_path change.members path ≡ Some l.place) }
-    // Of each name under which something is written.
+    // A file that is written is one of an added owner, and is written under its path or beside it.
     ensures written { (change : FileChange) (files : Files) (name : List ℕ) (l : Listing)
         → listing_written_under_name change files name ≡ Some l
         → (added_owner_listing change l.path ≡ Some l)
@@ -46,11 +46,10 @@ pub fn an_added_file_takes_its_path()
         → listing_written_under_name change files path ≡ Some l }
 {}
 
-/// A new file is laid beside one that the user changed exactly if no package listed the path before
-/// or the old entry differs, and no package lists the name beside it. It is written under that
-/// name.
+/// A new file is written beside one that the user changed, under its `.apk-new` name, exactly if no
+/// package lists that name, and no package listed the path before or the old entry differs.
 pub fn what_differs_is_written_beside_the_users_file()
-    // When the new file is laid beside.
+    // When the new file is written beside it.
     ensures beside { (change : FileChange) (files : Files) (path bytes : List ℕ) (l : Listing)
         → added_owner_listing change path ≡ Some l → IsModifiedConfigFile change files path bytes
         → DiffersFromOldEntry change path l.entry
@@ -119,9 +118,9 @@ pub fn what_is_removed_is_not_reserved()
         → is_removed change files path ≡ true → is_reserved path ≡ false }
 {}
 
-/// A path that was listed before is removed, if no package lists it now and nothing is written
-/// there, unless the user changed its file; and each kept file was changed by the user and is not
-/// to be purged.
+/// A path that was listed before is removed if no package lists it after and nothing is written
+/// there, unless the user changed its file. Each file that is kept so was changed by the user and
+/// is not to be purged.
 pub fn what_is_left_over_is_removed_unless_it_is_the_users()
     ensures goes { (change : FileChange) (files : Files) (path : List ℕ)
         → is_no_longer_listed change files path ≡ true
@@ -149,7 +148,7 @@ pub fn the_file_of_a_kept_package_is_not_touched()
 {}
 
 /// Configuration that the user changed keeps its bytes, unless it is to be purged and no package
-/// lists it. A file that was laid beside another is replaced by the one that is laid there now.
+/// lists it. An `.apk-new` file of an earlier change is replaced by the one that is written now.
 pub fn configuration_that_the_user_changed_is_kept()
     ensures { (change : FileChange) (bytes_of : Listing → List ℕ) (records : DatabaseAndWorldAfter)
         (files : Files) (path bytes : List ℕ)
@@ -167,8 +166,8 @@ pub fn what_is_kept_is_unchanged()
         → changed_files change bytes_of records files path ≡ files path }
 {}
 
-/// A name that no package listed before and that no added package lists is unchanged, unless a file
-/// is laid beside another one under it.
+/// A name that no package listed before and that no added package lists is unchanged, unless an
+/// `.apk-new` file is written under it.
 pub fn a_name_that_nobody_lists_is_not_touched()
     ensures { (change : FileChange) (bytes_of : Listing → List ℕ) (records : DatabaseAndWorldAfter)
         (files : Files) (name : List ℕ) → was_listed change name ≡ false
@@ -187,8 +186,8 @@ pub fn the_files_after_a_change_are_under_its_names()
         → is_name_after (name_change change files) files name ≡ true }
 {}
 
-/// A file of before is present after a change that does not let go of its name. If the change lets
-/// go of the name and writes nothing there, the file is absent.
+/// A file from before is present after a change that does not release its name. If the change
+/// releases the name and writes nothing there, the file is absent.
 pub fn the_names_after_a_change_are_those_of_its_files()
     ensures located { (change : FileChange) (bytes_of : Listing → List ℕ) (records : DatabaseAndWorldAfter)
         (files : Files) (name : List ℕ)
@@ -227,7 +226,8 @@ pub fn the_records_of_a_change_are_under_their_names()
 
 // ---- the lists
 
-/// The lists of a plan have exactly the names that are written, removed, kept and laid beside.
+/// The lists of a plan have exactly the names that are written, removed and kept, and the paths
+/// beside which an `.apk-new` file is written.
 pub fn the_lists_of_a_plan_hold_just_its_names()
     // A write is in the list if something is written under its name, with that file.
     ensures writes { (change : FileChange) (files : Files) (write : FileWrite)

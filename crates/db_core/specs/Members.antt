@@ -46,7 +46,7 @@ is_after_members name [] = true
 is_after_members name (m ∷ []) = precedes (member_name m) name
 is_after_members name (m ∷ n ∷ members) = is_after_members name (n ∷ members)
 
--- whether a place is the one that was found, if one was
+-- whether the place `i` is the found one; false if none was found
 abbrev pub is_found_place : ℕ → Option ℕ → Bool
 is_found_place i None = false
 is_found_place i (Some found) = found == i

@@ -19,10 +19,15 @@ have_different_names (d ∷ rest) = not (has_name d.name rest) && have_different
 -- each word is a dependency, no name occurs twice, and the world has exactly these dependencies, in
 -- order of their names
 pub record IsWorldOf (text : List ℕ) (world : List Dependency) : Type 0 where
+  -- the dependencies of the words, in the order of the words
   pub entries : List Dependency
+  -- each word is a dependency
   pub read : map dependency_of (words_in text) ≡ map Some entries
+  -- no name occurs twice
   pub apart : have_different_names entries ≡ true
+  -- the world has the same dependencies
   pub same : IsPermutation entries world
+  -- the world is in order of the names
   pub in_order : IsWorld world
 
 -- this line, counted from 1, is the first that spoils the world: the lines before it are one, and with
@@ -30,7 +35,11 @@ pub record IsWorldOf (text : List ℕ) (world : List Dependency) : Type 0 where
 pub record IsFirstBadLine (text : List ℕ) (line : ℕ) : Type 0 where
   -- how many lines precede it
   pub before : ℕ
+  -- the line is counted from 1
   pub number : line ≡ before + 1
+  -- the text has this line
   pub within : before < length (lines_of text)
+  -- the lines before it are a world
   pub good_before : is_ok (world_with_lines [] 1 (take before (lines_of text))) ≡ true
+  -- together with this line they are not a world
   pub bad_with : is_ok (world_with_lines [] 1 (take (before + 1) (lines_of text))) ≡ false

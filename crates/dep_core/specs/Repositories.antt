@@ -42,7 +42,7 @@ abbrev pub repository_at_path : Option (List ℕ) → List ℕ → Option Reposi
 repository_at_path tag path =
     if is_name (without_slash path) then Some (repository tag (without_slash path)) else None
 
--- the repository of a text after `@`: the tag, blanks, the path
+-- the repository of a line, given the text after the `@` of the line: a tag, blanks, and a path
 unfoldable pub tagged_repository : List ℕ → Option Repository
 tagged_repository text =
     let tag = take_while is_tag_byte text in
@@ -65,7 +65,8 @@ repositories_on_line line =
     if is_blank_or_comment (without_outer_blanks line) then Some []
     else option_map singleton (repository_of (without_outer_blanks line))
 
--- the repositories of a line before those of the lines after it; the number of the line if it is bad
+-- the repositories of a line, followed by those of the later lines (`rest`); if the line is bad
+-- (None), its number
 abbrev pub with_repositories_of_line : ℕ → Option (List Repository) → Result (List Repository) ℕ
     → Result (List Repository) ℕ
 with_repositories_of_line line None rest = Err line

@@ -15,7 +15,8 @@ match_bits_of low =
     if (low == 8) || ((low == 10) || (low == 12)) then Some (low + 1) else
     Some low
 
--- the dependency with a wanted version and its match bits; without match bits it is unchanged
+-- the dependency with this wanted version and these match bits; unchanged if the version is empty
+-- or there are no match bits
 abbrev pub with_wanted_version : Dependency → List ℕ → Option ℕ → Dependency
 with_wanted_version d [] bits = d
 with_wanted_version d (b ∷ rest) None = d

@@ -19,7 +19,7 @@ pub struct Dep<'a> {
     pub version: Option<Version<'a>>,
     /// How a version must compare with the wanted one; `=` if no version is wanted.
     pub op: Op,
-    /// Whether it excludes what meets it.
+    /// Whether the dependency is a conflict: it excludes the packages that meet it.
     pub conflict: bool,
     /// The tag of the repositories that may supply it. Only dependencies in world have one
     /// (apk-world(5)).
@@ -34,8 +34,9 @@ impl<'a> Dep<'a> {
     ghost use Rattle.dep_core.specs.Reading.{dependency_on_any_version, with_constraint, with_tag};
     ghost use Rattle.dep_core.specs.Meets.{dependency, meets};
 
-    /// Whether a name and a version, if there is one, meet it: the names are equal, and it wants no
-    /// version or the given one matches. It does not matter whether it is a conflict.
+    /// Whether a package with this name and this version, if it has one, meets the dependency: the
+    /// names are equal, and any version is accepted, or the given one matches. Whether the
+    /// dependency is a conflict does not matter.
     pub fn met_by(&self, name: &[u8], version: Option<&Version<'_>>) -> bool
         ensures { result ≡ meets (dependency self.now) name.now (option_copied version.entry) }
     {

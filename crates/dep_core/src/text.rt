@@ -195,7 +195,7 @@ pub fn append_dep(text: &mut Vec<u8>, dep: &Dep<'_>) -> Result<(), AllocError>
     Ok(())
 }
 
-/// The length of the longest front whose bytes a name may have.
+/// The length of the longest prefix whose bytes a name may have.
 #[tactic(auto, using(crate::proofs::Prefixes::len_at))]
 pub fn name_len(text: &[u8]) -> usize
     ensures len { result ≡ prefix_len is_name_byte text.now }
@@ -211,7 +211,7 @@ fn name_end(text: &[u8]) -> Option<usize>
     text.iter().position(|byte| !is_name_byte(*byte))
 }
 
-/// The length of the longest front whose bytes a tag may have.
+/// The length of the longest prefix whose bytes a tag may have.
 #[tactic(auto, using(crate::proofs::Prefixes::len_at))]
 pub fn tag_len(text: &[u8]) -> usize
     ensures len { result ≡ prefix_len is_tag_byte text.now }
@@ -227,7 +227,7 @@ fn tag_end(text: &[u8]) -> Option<usize>
     text.iter().position(|byte| !is_tag_byte(*byte))
 }
 
-/// The length of the longest front of operator bytes.
+/// The length of the longest prefix of bytes that occur in operators.
 #[tactic(auto, using(crate::proofs::Prefixes::len_at))]
 pub fn operator_len(text: &[u8]) -> usize
     ensures len { result ≡ prefix_len is_operator_byte text.now }
@@ -236,14 +236,14 @@ pub fn operator_len(text: &[u8]) -> usize
     operator_end(text).unwrap_or(text.len())
 }
 
-/// The index of the first byte that no operator has.
+/// The index of the first byte that occurs in no operator.
 fn operator_end(text: &[u8]) -> Option<usize>
     ensures { result ≡ position (λ b. not (is_operator_byte b)) text.now }
 {
     text.iter().position(|byte| !is_operator_byte(*byte))
 }
 
-/// Whether operators have this byte.
+/// Whether this byte occurs in an operator: `<`, `=`, `>` or `~`.
 fn is_operator_byte(byte: u8) -> bool
     ensures { result ≡ is_operator_byte byte }
 {

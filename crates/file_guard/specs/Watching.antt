@@ -6,8 +6,9 @@ use Rattle.pkg_core.specs.Hashing.{HasHashedMessage}
 use Rattle.file_guard.specs.declared.watch.Watch.{Watch}
 use Rattle.file_guard.specs.declared.watch.Watch.TheVariants.{Never, Exactly, Hashed}
 
--- What a `Watch` knows after these bytes: a test of the whole file fails, requires exactly the expected
--- bytes, or requires the digest of all.
+-- What a `Watch` says of a test of the whole file, after the bytes `so_far` were read: the test
+-- fails, or it requires exactly these remaining bytes, or it requires that all bytes together have
+-- this digest.
 abbrev pub Watches : Watch → (List ℕ → Bool) → List ℕ → Type 0
 Watches Never test so_far = (further : List ℕ) → test (so_far ++ further) ≡ false
 Watches (Exactly first second) test so_far =

@@ -109,8 +109,9 @@ fn is_replaced(dep: &DepView<'_>, name: &[u8], version: &Version<'_>) -> bool
     }
 }
 
-/// Whether an entry of `replaces` names another package: it is no conflict, and that one's name and
-/// version satisfy it. Neither is validated, since both are from sound containers.
+/// Whether an entry of `replaces` names another package: the entry is no conflict, and the name and
+/// the version of that package meet it. Name and version are not validated, since the packages are
+/// from sound containers.
 pub(crate) fn replaces_entry_names(entry: &DepView<'_>, pkg: &PackageView<'_>) -> bool
     requires entry { IsSoundDependency (dependency_value entry.now) }
     requires version { is_version (version_text (package_value pkg.now)) ≡ true }
@@ -122,7 +123,6 @@ pub(crate) fn replaces_entry_names(entry: &DepView<'_>, pkg: &PackageView<'_>) -
 }
 
 /// Whether the first of two packages that name each other is preferred: it has the greater priority
-/// in replacing, or at equal priority the later name.
 /// in replacing, or at equal priority the later name.
 #[tactic(auto, unfolding(crate::specs::Replaces::is_preferred_replacer))]
 pub(crate) fn is_preferred<'a, 'b>(one: &PackageView<'a>, other: &PackageView<'b>) -> bool

@@ -53,7 +53,7 @@ impl Question {
         by_place.then(by_version.then(by_matching))
     }
 
-    /// Whether both ask the same of one member: this compares words, not bytes.
+    /// Whether two questions are the same. Only words are compared, no bytes of texts.
     fn is_same(&self, other: &Question) -> bool
         ensures { result ≡ true → AreSameQuestion self.now other.now }
     {

@@ -57,10 +57,12 @@ impl<'a> NewFile<'a> {
     ) -> Result<NewFile<'a>, TreeFault>
         // The scratch name, which is longer, has to be a name too.
         requires { length name.now ≤ most_replaceable_name_bytes }
+        // The new file is to replace the file of this name.
         ensures name { IfOk result (λ file. file ≡ name.now) }
         // The file is made, and has no bytes.
         ensures begun { OnOk result (IsNewFile (scratch_of name.now) [] (T.history tree.old)
             (T.history tree.new)) }
+        // Whatever it returns, only the file under the scratch name has changed.
         ensures only { OnlyScratchHasChanged (scratch_of name.now) (T.history tree.old)
             (T.history tree.new) }
 
@@ -68,6 +70,7 @@ impl<'a> NewFile<'a> {
         // is renamed to it from the scratch name. Ok is returned only if it does.
         ensures asked { (T.history tree.new ≡ T.history tree.old)
             ⊎ T.accepts (Some (scratch_of name.now)) name.now }
+        // Ok is returned only if the tree accepts the target.
         ensures accepted { OnOk result (T.accepts (Some (scratch_of name.now)) name.now) }
 
         // If there is no memory, no call of the tree was made.
@@ -76,8 +79,10 @@ impl<'a> NewFile<'a> {
         // No count of faults falls; a fault of the tree is returned only if that count rose, and Ok
         // only if it did not.
         ensures goes_on { CountsOnlyRise (T.counts tree.old) (T.counts tree.new) }
+        // An I/O error is returned only if a fault was counted.
         ensures disk { IsErrOf result TreeFault.Disk
             → HasCause (T.counts tree.old) (T.counts tree.new) }
+        // Ok is returned only if no fault was counted.
         ensures kept { OnOk result (IsNoFault (T.counts tree.old) (T.counts tree.new)) }
 
         // If the scratch name may have a file, no call is a misuse.
@@ -97,9 +102,11 @@ impl<'a> NewFile<'a> {
             → IsNewFile (scratch_of self.now) bytes first (T.history tree.old)
             → OnOk result (IsNewFile (scratch_of self.now) (bytes ++ piece.now) first
             (T.history tree.new)) }
+        // Whatever it returns, only the file under the scratch name has changed.
         ensures only { (bytes : List ℕ) (first : List TreeState)
             → IsNewFile (scratch_of self.now) bytes first (T.history tree.old)
             → OnlyScratchHasChanged (scratch_of self.now) first (T.history tree.new) }
+        // How the tree's counts explain the result.
         ensures counts { IsResultExplainedByCounts (T.counts tree.old) (T.counts tree.new) result }
 
         // The call is no misuse.
@@ -119,15 +126,18 @@ impl<'a> NewFile<'a> {
             → IsNewFile (scratch_of self.now) bytes first (T.history tree.old)
             → IfObservable first (λ v. Since (IsReadyToMove (scratch_of self.now) self.now bytes v)
             first (T.history tree.new)) }
+        // Once it has returned Ok, the new file has its name, and no crash undoes this.
         ensures moved { OnOk result ((bytes : List ℕ) (first : List TreeState)
             → IsNewFile (scratch_of self.now) bytes first (T.history tree.old)
             → IfObservable first (λ v. HoldsNow (T.history tree.new)
             (IsDurablyMoved (scratch_of self.now) self.now bytes v))) }
+        // At each moment a crash leaves every other name as it might have left it before.
         ensures others { (bytes : List ℕ) (first : List TreeState)
             → IsNewFile (scratch_of self.now) bytes first (T.history tree.old)
             → IfObservable first (λ v. Since
             (KeepsCrashMapsExcept (self.now ∷ scratch_of self.now ∷ []) v) first
             (T.history tree.new)) }
+        // How the tree's counts explain the result.
         ensures counts { IsResultExplainedByCounts (T.counts tree.old) (T.counts tree.new) result }
 
         // If each of the names may have a file, no call is a misuse.
@@ -157,13 +167,19 @@ fn scratch_name(alloc: Global, name: &Name) -> Result<Name, AllocError>
 /// Asks for the name, and then makes an empty file under the scratch name. The clauses are those of
 /// `begin`, for any scratch name.
 fn begin_scratch<T: Tree>(tree: &mut T, scratch: &Name, name: &Name) -> Result<(), Disk>
+    // Once it has returned Ok, an empty new file is under the name.
     ensures begun { OnOk result (IsNewFile scratch.now [] (T.history tree.old)
         (T.history tree.new)) }
+    // Whatever it returns, only the file under the scratch name has changed.
     ensures only { OnlyScratchHasChanged scratch.now (T.history tree.old) (T.history tree.new) }
+    // Either nothing has happened, or the tree accepts the target.
     ensures asked { (T.history tree.new ≡ T.history tree.old)
         ⊎ T.accepts (Some scratch.now) name.now }
+    // Ok is returned only if the tree accepts the target.
     ensures accepted { OnOk result (T.accepts (Some scratch.now) name.now) }
+    // How the tree's counts explain the result.
     ensures counts { IsResultExplainedByCounts (T.counts tree.old) (T.counts tree.new) result }
+    // If the scratch name may have a file, no call is a misuse.
     ensures proper { IfObservable (T.history tree.old) (λ v. CanAddName scratch.now v
         → (T.counts tree.new).misuses ≡ (T.counts tree.old).misuses) }
 {
@@ -175,10 +191,14 @@ fn begin_scratch<T: Tree>(tree: &mut T, scratch: &Name, name: &Name) -> Result<(
 
 /// Makes an empty file under a name on which no state depends, replacing any file there.
 fn create_anew<T: Tree>(tree: &mut T, name: &Name) -> Result<(), Disk>
+    // Once it has returned Ok, an empty new file is under the name.
     ensures begun { OnOk result (IsNewFile name.now [] (T.history tree.old)
         (T.history tree.new)) }
+    // Whatever it returns, only the file under the scratch name has changed.
     ensures only { OnlyScratchHasChanged name.now (T.history tree.old) (T.history tree.new) }
+    // How the tree's counts explain the result.
     ensures counts { IsResultExplainedByCounts (T.counts tree.old) (T.counts tree.new) result }
+    // If the scratch name may have a file, no call is a misuse.
     ensures proper { IfObservable (T.history tree.old) (λ v. CanAddName name.now v
         → (T.counts tree.new).misuses ≡ (T.counts tree.old).misuses) }
 {
@@ -193,17 +213,21 @@ fn create_anew<T: Tree>(tree: &mut T, name: &Name) -> Result<(), Disk>
 /// one nor the new one. Without the second it could restore the old file after an Ok.
 fn settle<T: Tree>(tree: &mut T, from: &Name, to: &Name) -> Result<(), Disk>
     requires { to.now ≢ intent_name }
+    // From a durable tree on, a crash at any moment leaves an old state, or that of the new files.
     ensures moments { IfObservable (T.history tree.old) (λ v. (bytes : List ℕ) (start : TreeState)
         → HasChangedOnlyByNewFile from.now (synced_file bytes) start v
         → Since (IsReadyToMove from.now to.now bytes start) (T.history tree.old) (T.history
         tree.new)) }
+    // Once it has returned Ok, the new file has its name, and no crash undoes this.
     ensures settled { IfObservable (T.history tree.old) (λ v. (bytes : List ℕ) (start : TreeState)
         → HasChangedOnlyByNewFile from.now (synced_file bytes) start v
         → OnOk result (IfObservable (T.history tree.new) (IsDurablyMoved from.now to.now bytes
         start))) }
+    // At each moment a crash leaves every other name as it might have left it before.
     ensures others { IfObservable (T.history tree.old) (λ v.
         Since (KeepsCrashMapsExcept (to.now ∷ from.now ∷ []) v) (T.history tree.old)
         (T.history tree.new)) }
+    // How the tree's counts explain the result.
     ensures counts { IsResultExplainedByCounts (T.counts tree.old) (T.counts tree.new) result }
 
     // If the file may be moved, no call is a misuse.

@@ -86,8 +86,10 @@ pub fn replace<T: Tree>(
     // No count of faults falls; a fault of the tree is returned only if that count rose, and Ok
     // only if it did not.
     ensures goes_on { CountsOnlyRise (T.counts tree.old) (T.counts tree.new) }
+    // An I/O error is returned only if a fault was counted.
     ensures disk { IsErrOf result TreeFault.Disk
         → HasCause (T.counts tree.old) (T.counts tree.new) }
+    // Ok is returned only if no fault was counted.
     ensures kept { OnOk result (IsNoFault (T.counts tree.old) (T.counts tree.new)) }
 
     // If the paths are free, no call is a misuse.
@@ -120,9 +122,12 @@ fn write_new<T: Tree>(
         ⊎ T.accepts (Some (scratch_of name.now)) name.now }
     ensures accepted { OnOk result (T.accepts (Some (scratch_of name.now)) name.now) }
     ensures memory { IsErrOf result TreeFault.Memory → tree.new ≡ tree.old }
+    // No count falls.
     ensures goes_on { CountsOnlyRise (T.counts tree.old) (T.counts tree.new) }
+    // An I/O error is returned only if a fault was counted.
     ensures disk { IsErrOf result TreeFault.Disk
         → HasCause (T.counts tree.old) (T.counts tree.new) }
+    // Ok is returned only if no fault was counted.
     ensures kept { OnOk result (IsNoFault (T.counts tree.old) (T.counts tree.new)) }
     ensures proper { IfObservable (T.history tree.old) (λ v.
         CanAddBothNames (scratch_of name.now) name.now v

@@ -17,8 +17,8 @@ ghost use Rattle.journal_commit.specs.StageRun.{IsStageRun, IsStageRunComplete, 
 use base_core::{Disk, Tree};
 use journal_core::{Stage, apply_all};
 
-/// Publishes the intent of a stage all of whose files are staged, does all its actions, and
-/// finishes.
+/// Publishes (commits) the intent of a stage all of whose files are staged, does all its actions,
+/// and removes the intent.
 pub fn carry_through<T: Tree>(stage: &mut Stage, tree: &mut T) -> Result<(), Disk>
     requires closed { stage.old.is_open ≡ false }
     requires all { stage.old.staged ≡ length stage.old.intent.writes }
@@ -38,6 +38,7 @@ pub fn carry_through<T: Tree>(stage: &mut Stage, tree: &mut T) -> Result<(), Dis
     // a count of faults rose.
     ensures goes_on { CountsOnlyRise (T.counts tree.old) (T.counts tree.new) }
     ensures cause { OnErr result (HasCause (T.counts tree.old) (T.counts tree.new)) }
+    // Ok is returned only if no fault was counted.
     ensures kept { OnOk result (IsNoFault (T.counts tree.old) (T.counts tree.new)) }
 
     // If the paths of the stage, and those beside the files that it leads to, are free, no call is
@@ -73,6 +74,7 @@ fn enact<T: Tree>(stage: &mut Stage, tree: &mut T) -> Result<(), Disk>
         (λ w. (files_of w ≡ files) × (w.names intent_name ≡ None)))) }
     // No crash restores the intent.
     ensures gone { OnOk result (IfObservable (T.history tree.new) (IsRestoredByNoCrash intent_name)) }
+    // How the tree's counts explain the result.
     ensures counts { IsResultExplainedByCounts (T.counts tree.old) (T.counts tree.new) result }
     ensures proper { IfObservable (T.history tree.old) (λ v. (files : Files)
         → IsCarryingOutActions stage.old files v → AreJournalPathsFree files

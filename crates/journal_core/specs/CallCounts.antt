@@ -11,5 +11,5 @@ pub record IsResultExplainedByCounts {T E : Type 0} (before now : Counts)
   pub goes_on : CountsOnlyRise before now
   -- a fault of the tree is returned only if that count rose
   pub cause : OnErr result (HasCause before now)
-  -- Ok is returned only if it did not
+  -- Ok is returned only if that count did not rise
   pub kept : OnOk result (IsNoFault before now)

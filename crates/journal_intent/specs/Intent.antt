@@ -47,7 +47,7 @@ intent_of_value v = record {
   writes = map text_in (entries_at INTENT_WRITES v);
 }
 
--- the intent of a value, unless a test failed
+-- the intent of a plain value; None if a test of its container failed, for this cause
 abbrev pub intent_unless_fault : Option Cause → Plain → Option Intent
 intent_unless_fault None v = Some (intent_of_value v)
 intent_unless_fault (Some cause) v = None

@@ -89,27 +89,38 @@ pub fn recover<T: Tree>(alloc: Global, tree: &mut T) -> Result<(), RecoverFault>
 /// Does the actions of the intent and removes it, if there is one. The clauses are those of
 /// `recover`, but without an intent the staged files are kept.
 fn replay<T: Tree>(alloc: Global, tree: &mut T) -> Result<(), RecoverFault>
+    // From a durable tree on, each moment is durable, and the state is unchanged.
     ensures moments { IfObservable (T.history tree.old) (λ v. (ignored : List ℕ → Bool)
         → IsDurable (StateDependsOn ignored) v
         → Since (StateIsUnchanged ignored v) (T.history tree.old) (T.history tree.new)) }
+    // At each moment recovery of the files as read yields the same.
     ensures reads { IfObservable (T.history tree.old) (λ v.
         Since (RecoversTo (recovered_files (files_of v)))
         (T.history tree.old) (T.history tree.new)) }
+    // At each moment a name outside the journal has its old bytes, or those that recovery yields.
     ensures bytes { IfObservable (T.history tree.old) (λ v.
         Since (HasOldOrNewBytes (files_of v) (recovered_files (files_of v)))
         (T.history tree.old) (T.history tree.new)) }
+    // Once it has returned Ok, all actions are done, and no intent is read.
     ensures replayed { IfObservable (T.history tree.old) (λ v.
         OnOk result (HoldsNow (T.history tree.new) (IsReplayed v))) }
+    // From a durable tree with an intent: once it has returned Ok, each crash leaves the state that
+    // recovery yields.
     ensures settled { IfObservable (T.history tree.old) (λ v. (ignored : List ℕ → Bool)
         → IsDurable (StateDependsOn ignored) v → IsSome (intent_of (files_of v))
         → OnOk result (HoldsNow (T.history tree.new)
         (EachCrashLeaves ignored (recovered_files (files_of v))))) }
+    // Staged files are only removed, and the intent is removed last.
     ensures journal { RemovesIntentLast (T.history tree.old) (T.history tree.new) }
+    // If an intent was found: once it has returned Ok, no crash restores it.
     ensures gone { IfObservable (T.history tree.old) (λ v. IsSome (v.names intent_name)
         → OnOk result (IfObservable (T.history tree.new) (IsRestoredByNoCrash intent_name))) }
+    // Without an intent nothing changes.
     ensures idle { IfObservable (T.history tree.old) (λ v. v.names intent_name ≡ None
         → T.history tree.new ≡ T.history tree.old) }
+    // The intent is refused exactly if it is no intent container.
     ensures refusal { RefusesOnlyBadIntent (T.history tree.old) (T.history tree.new) result }
+    // How the tree's counts explain the result.
     ensures counts { IsRecoveryExplainedByCounts (T.counts tree.old) (T.counts tree.new) result }
 
     // If an intent that is found has free paths for its actions, no call is a misuse.
@@ -128,30 +139,42 @@ fn replay<T: Tree>(alloc: Global, tree: &mut T) -> Result<(), RecoverFault>
 /// publishing of the intent and keep one of the actions. The clauses are those of `replay`, for the
 /// file under the intent's name.
 fn replay_file<T: Tree>(alloc: Global, tree: &mut T, file: Vec<u8>) -> Result<(), RecoverFault>
+    // From a durable tree on, each moment is durable, and the state is unchanged.
     ensures moments { IfObservable (T.history tree.old) (λ v. (ignored : List ℕ → Bool)
         → IsDurable (StateDependsOn ignored) v → files_of v intent_name ≡ Some file.items
         → Since (StateIsUnchanged ignored v) (T.history tree.old) (T.history tree.new)) }
+    // At each moment recovery of the files as read yields the same.
     ensures reads { IfObservable (T.history tree.old) (λ v. files_of v intent_name
         ≡ Some file.items → Since (RecoversTo (recovered_files (files_of v)))
         (T.history tree.old) (T.history tree.new)) }
+    // At each moment a name outside the journal has its old bytes, or those that recovery yields.
     ensures bytes { IfObservable (T.history tree.old) (λ v. files_of v intent_name
         ≡ Some file.items
         → Since (HasOldOrNewBytes (files_of v) (recovered_files (files_of v)))
         (T.history tree.old) (T.history tree.new)) }
+    // Once it has returned Ok, all actions are done, and no intent is read.
     ensures replayed { IfObservable (T.history tree.old) (λ v. files_of v intent_name
         ≡ Some file.items → OnOk result (HoldsNow (T.history tree.new) (IsReplayed v))) }
+    // From a durable tree with an intent: once it has returned Ok, each crash leaves the state that
+    // recovery yields.
     ensures settled { IfObservable (T.history tree.old) (λ v. (ignored : List ℕ → Bool)
         → IsDurable (StateDependsOn ignored) v → files_of v intent_name ≡ Some file.items
         → OnOk result (HoldsNow (T.history tree.new)
         (EachCrashLeaves ignored (recovered_files (files_of v))))) }
+    // Staged files are only removed, and the intent is removed last.
     ensures journal { RemovesIntentLast (T.history tree.old) (T.history tree.new) }
+    // Once it has returned Ok, no crash restores the intent.
     ensures gone { OnOk result (IfObservable (T.history tree.new) (IsRestoredByNoCrash intent_name)) }
+    // A refused file is no intent container, and nothing has changed.
     ensures bad { (cause : Cause) → IsErrOf result (RecoverFault.IntentBad cause)
         → (T.history tree.new ≡ T.history tree.old)
         × (first_fault IntentTable file.items ≡ Some cause) }
+    // Ok is returned only if the file is an intent container.
     ensures good { OnOk result (first_fault IntentTable file.items ≡ None) }
+    // If the file is no intent container, nothing changes.
     ensures bad_idle { (cause : Cause) → first_fault IntentTable file.items ≡ Some cause
         → T.history tree.new ≡ T.history tree.old }
+    // How the tree's counts explain the result.
     ensures counts { IsRecoveryExplainedByCounts (T.counts tree.old) (T.counts tree.new) result }
 
     // If an intent that is found has free paths for its actions, no call is a misuse.
@@ -169,29 +192,39 @@ fn replay_file<T: Tree>(alloc: Global, tree: &mut T, file: Vec<u8>) -> Result<()
 /// Removes every staged file, once no intent is read: so the state is unchanged, and no other name
 /// changes.
 fn empty_stage<T: Tree>(alloc: Global, tree: &mut T) -> Result<(), TreeFault>
+    // From a durable tree on, each moment is durable, and the state is unchanged.
     ensures moments { IfObservable (T.history tree.old) (λ v. (ignored : List ℕ → Bool)
         → IsDurable (StateDependsOn ignored) v → v.names intent_name ≡ None
         → Since (StateIsUnchanged ignored v) (T.history tree.old) (T.history tree.new)) }
+    // At each moment only staged files have changed.
     ensures shown { IfObservable (T.history tree.old) (λ v.
         Since (KeepsFilesExcept (λ q. is_staged q ≡ true) v)
         (T.history tree.old) (T.history tree.new)) }
+    // Staged files are only removed.
     ensures waiting { IfObservable (T.history tree.old) (λ v.
         Since (JournalOnlyShrinks v) (T.history tree.old) (T.history tree.new)) }
+    // No crash undoes a change of a name outside the journal, if none could at the start.
     ensures last { IfObservable (T.history tree.old) (λ v. ShownNamesAreDurable v
         → Since ShownNamesAreDurable (T.history tree.old) (T.history tree.new)) }
+    // Once it has returned Ok, no file is staged, and no other name has changed.
     ensures emptied { IfObservable (T.history tree.old) (λ v.
         OnOk result (HoldsNow (T.history tree.new) (HasEmptiedStage v))) }
+    // Once it has returned Ok, no crash restores an intent, if none could at the start.
     ensures gone { IfObservable (T.history tree.old) (λ v. OnOk result (IsRestoredByNoCrash intent_name v
         → HoldsNow (T.history tree.new) (IsRestoredByNoCrash intent_name))) }
+    // Without staged files nothing changes.
     ensures idle { IfObservable (T.history tree.old) (λ v. IsEmptyStage v.names
         → T.history tree.new ≡ T.history tree.old) }
 
     // No count of faults falls; a fault of the tree is returned only if that count rose, and Ok
     // only if it did not.
     ensures goes_on { CountsOnlyRise (T.counts tree.old) (T.counts tree.new) }
+    // An I/O error is returned only if a fault was counted.
     ensures disk { IsErrOf result TreeFault.Disk
         → HasCause (T.counts tree.old) (T.counts tree.new) }
+    // Ok is returned only if no fault was counted.
     ensures kept { OnOk result (IsNoFault (T.counts tree.old) (T.counts tree.new)) }
+    // If there is no memory, nothing has changed, and no fault was counted.
     ensures memory { IsErrOf result TreeFault.Memory
         → (T.history tree.new ≡ T.history tree.old)
         × IsNoFault (T.counts tree.old) (T.counts tree.new) }
@@ -210,11 +243,14 @@ fn empty_stage<T: Tree>(alloc: Global, tree: &mut T) -> Result<(), TreeFault>
 /// first, so that no crash restores an intent for which one of these files is staged. The clauses
 /// are those of `empty_stage`.
 fn clear_all<T: Tree>(tree: &mut T, names: &Names) -> Result<(), Disk>
+    // From a durable tree on, each moment is durable, and the state is unchanged.
     ensures moments { IfObservable (T.history tree.old) (λ v. (ignored : List ℕ → Bool)
         → IsDurable (StateDependsOn ignored) v → v.names intent_name ≡ None → AreStagedNames names.now
         → Since (StateIsUnchanged ignored v) (T.history tree.old) (T.history tree.new)) }
+    // The names are removed, if all are in the staging area, and nothing else changes.
     ensures removal { RemovesStagedNames names.now
         (T.history tree.old) (T.history tree.new) result }
+    // How the tree's counts explain the result.
     ensures counts { IsResultExplainedByCounts (T.counts tree.old) (T.counts tree.new) result }
 
     // No call is a misuse.
@@ -231,11 +267,14 @@ fn clear_all<T: Tree>(tree: &mut T, names: &Names) -> Result<(), Disk>
 /// Removes these names, which are all in the staging area, once no crash restores an intent. The
 /// clauses are those of `clear_all`.
 fn remove_all<T: Tree>(tree: &mut T, names: &Names) -> Result<(), Disk>
+    // From a durable tree on, each moment is durable, and the state is unchanged.
     ensures moments { IfObservable (T.history tree.old) (λ v. (ignored : List ℕ → Bool)
         → IsDurable (StateDependsOn ignored) v → IsRestoredByNoCrash intent_name v → AreStagedNames names.now
         → Since (StateIsUnchanged ignored v) (T.history tree.old) (T.history tree.new)) }
+    // The names are removed, if all are in the staging area, and nothing else changes.
     ensures removal { RemovesStagedNames names.now
         (T.history tree.old) (T.history tree.new) result }
+    // How the tree's counts explain the result.
     ensures counts { IsResultExplainedByCounts (T.counts tree.old) (T.counts tree.new) result }
 
     // No call is a misuse.

@@ -16,7 +16,7 @@ pub record IsFaultExplainedByCounts {T F : Type 0} (failed : F) (before now : Co
   pub goes_on : CountsOnlyRise before now
   -- a fault of the tree has its cause
   pub disk : IsErrOf result failed → HasCause before now
-  -- any other result hides none
+  -- with any other result no fault was counted
   pub kept : OnOk result (IsNoFault before now)
   pub others : IfErr result (λ fault. (fault ≡ failed → ⊥) → IsNoFault before now)
 
@@ -33,7 +33,7 @@ pub record StagesSource {T F : Type 0} (stage next : Staging) (Denotes : Files �
   pub staging : (contents : List (List ℕ)) (v : TreeState) (first : List TreeState) (bytes : List ℕ)
       → IsStaging stage contents None v first old → Denotes (files_of v) bytes
       → OnOk result (IsStaging next (contents ++ bytes ∷ []) None v first now)
-  -- and only the tree may fail
+  -- if the source denotes bytes, the only possible error is that of the tree
   pub good : (contents : List (List ℕ)) (v : TreeState) (first : List TreeState) (bytes : List ℕ)
       → IsStaging stage contents None v first old → Denotes (files_of v) bytes
       → IfErr result (λ fault. fault ≡ failed)

@@ -37,7 +37,7 @@ AreListedContentsOf f bytes =
     f.package.now)))
     bytes
 
--- over some files, a source may denote these bytes
+-- there may be files over which the source denotes these bytes
 abbrev pub MayDenote : Source → List ℕ → Type 0
 MayDenote (Bytes own) bytes = bytes ≡ own.now
 MayDenote (Link target) bytes = bytes ≡ link_bytes_to target.now

@@ -52,6 +52,7 @@ fn stage_each<T: Tree>(
     ensures bad { (member : ℕ) (cause : Cause) → IsErrOf result (Bad member cause)
         → HasSpoiledFile member cause writes.now }
     ensures view { OnOk result (stage.new ≡ record stage.old { staged = length writes.now }) }
+    // How the tree's counts explain the result.
     ensures counts { IsFaultExplainedByCounts DiskFault
         (T.counts tree.old) (T.counts tree.new) result }
     ensures proper { (contents : List (List ℕ)) (v : TreeState) (first : List TreeState)
@@ -89,14 +90,15 @@ pub fn carry_out<T: Tree>(
         → EachDenotes (files_of v) writes.now contents
         → IsCarriedTo (files_after_actions stage.old.intent (files_with_staged 1 contents (files_of v)))
         v (T.history tree.old) (T.history tree.new) result) }
-    // Whatever else the tree returns: the result are files with bytes that the sources may denote,
-    // so those of a package have the size and the digest that its value lists.
+    // Whatever the tree returns: once it has returned Ok, the change is complete, with bytes that
+    // the sources may denote. So the files of a package have the size and the digest that its value
+    // lists.
     ensures listed { IfObservable (T.history tree.old) (λ v.
         v.names intent_name ≡ None → IsEmptyStage (files_of v)
         → OnOk result ((contents : List (List ℕ)) × EachMayDenote writes.now contents
         × IsStageRunComplete (files_after_actions stage.old.intent (files_with_staged 1 contents (files_of v)))
         v (T.history tree.new))) }
-    // Nor is it half done after an error: if a package is bad, only staged files have changed.
+    // If a package is bad, the change is not begun: only staged files have changed.
     ensures unpublished { IfObservable (T.history tree.old) (λ v.
         v.names intent_name ≡ None → IsEmptyStage (files_of v)
         → (member : ℕ) (cause : Cause) → IsErrOf result (Bad member cause)
@@ -123,7 +125,9 @@ pub fn carry_out<T: Tree>(
     // How the tree's counts explain the result: no count falls, a fault has its cause, and any
     // other result hides none.
     ensures goes_on { CountsOnlyRise (T.counts tree.old) (T.counts tree.new) }
+    // An I/O error is returned only if a fault was counted.
     ensures disk { IsErrOf result DiskFault → HasCause (T.counts tree.old) (T.counts tree.new) }
+    // Ok is returned only if no fault was counted.
     ensures kept { OnOk result (IsNoFault (T.counts tree.old) (T.counts tree.new)) }
     ensures others { IfErr result (λ fault. (fault ≡ DiskFault → ⊥)
         → IsNoFault (T.counts tree.old) (T.counts tree.new)) }

@@ -41,7 +41,7 @@ pub(crate) struct Entry {
     id: [u8; 32],
     /// The source from which the entry is written.
     source: EntrySource,
-    // The three are those of the entry, and the version is one.
+    // Name, version and id are those of the entry, and the version is valid.
     ghost keyed: { IsEntryWithKeys name.items version.items id (entry_of_source source) },
 }
 

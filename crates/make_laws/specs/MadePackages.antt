@@ -54,15 +54,15 @@ HasJustFoldersAbove dir names pkg =
 
 -- ---- access rights
 
--- the digit of a mode by which the bytes of a file, or the names in a folder, may be read
+-- the octal digit of a mode that allows to read a file, or the names in a folder
 abbrev pub MAY_READ : ℕ
 MAY_READ = 4
 
--- the digit of a mode by which the bytes of a file, or the names in a folder, may be changed
+-- the octal digit of a mode that allows to change a file, or the names in a folder
 abbrev pub MAY_WRITE : ℕ
 MAY_WRITE = 2
 
--- the digit of a mode by which a folder may be entered, or a file be run
+-- the octal digit of a mode that allows to enter a folder, or to run a file
 abbrev pub MAY_ENTER : ℕ
 MAY_ENTER = 1
 

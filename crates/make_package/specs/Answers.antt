@@ -20,7 +20,8 @@ use Rattle.package_files.specs.Sources.{AreNamesBelowFirst, values_of_letter}
 
 -- ---- parts of a run
 
--- the first of some values was found; none if there is no value
+-- the option value, if there is one, is the first element of the list; without one the list is
+-- empty
 abbrev pub IsFirstValue : Option (Bor OptionValue) → List OptionValue → Type 0
 IsFirstValue None values = values ≡ []
 IsFirstValue (Some v) values = (others : List OptionValue) × (values ≡ v.now ∷ others)
@@ -29,7 +30,7 @@ IsFirstValue (Some v) values = (others : List OptionValue) × (values ≡ v.now 
 abbrev pub IsBytes : Vec ℕ Global → List ℕ → Type 0
 IsBytes file bytes = bytes ≡ file.items
 
--- an error is an I/O error of the tree, or out of memory
+-- the result is Ok, an I/O error of the tree, or out of memory
 abbrev pub IsOkOrDiskOrMemory : {A : Type 0} → Result A MakeFault → Type 0
 IsOkOrDiskOrMemory (Ok x) = Unit {0}
 IsOkOrDiskOrMemory (Err Disk) = Unit {0}
@@ -47,7 +48,8 @@ abbrev pub AreNamesBelowFirstOption : List OptionValue → TreeState → List (L
 AreNamesBelowFirstOption [] v names = Unit {0}
 AreNamesBelowFirstOption (dir ∷ dirs) v names = IsListOf (without_dot_slash dir.text) v names
 
--- this holds of a refusal with a fault; an I/O error of the tree and out of memory say nothing
+-- `P` holds of the refusal with this error; of an I/O error of the tree and of out of memory
+-- nothing is required
 abbrev pub UnlessDiskOrMemory : MakeFault → (Result (List ℕ) MakeFault → Type 0) → Type 0
 UnlessDiskOrMemory Disk P = Unit {0}
 UnlessDiskOrMemory Memory P = Unit {0}

@@ -43,8 +43,8 @@ is_link_file bytes =
     bytes_eq (take (length link_mark) bytes) link_mark && not (length bytes == length link_mark)
     && is_utf8 (link_text bytes)
 
--- what the bytes of a file are: a symbolic link with its target, which is the kind 0xa000,
--- little-endian, and the text; or a regular file with its size and its SHA-256
+-- the kind of a file with these bytes. A symbolic link has its target: the kind 0xa000 as two
+-- little-endian bytes, and the text. A regular file has its size and its SHA-256
 unfoldable pub kind_of_file : List ℕ → FileKind
 kind_of_file bytes =
     if is_link_file bytes then Link (0 ∷ 160 ∷ link_text bytes)
@@ -88,7 +88,7 @@ file_fields name kind =
     (more null (more (blob_or_null (hash_of_kind kind))
     (more (blob_or_null (target_of_kind kind)) none)))))
 
--- the entry of a file, given what it is
+-- the entry of a file, given its name and its kind
 abbrev pub value_of_kind : List ℕ → FileKind → Plain
 value_of_kind name kind = obj_value (file_fields name kind)
 
@@ -121,7 +121,7 @@ installed_size folders = sum_by size_of_folder folders
 
 -- ---- scripts
 
--- the bytes of the script for a field, if there is one
+-- the bytes of the script of the type `field`; empty if there is none
 abbrev pub script_in : List Script → List ℕ → List ℕ
 script_in [] field = []
 script_in (script ∷ scripts) field =
@@ -163,20 +163,22 @@ value_of_package info folders scripts triggers priority =
 abbrev pub has_contents : FileKind → Bool
 has_contents kind = nat_lt 0 (size_of_kind kind)
 
--- the contents of the file at these positions, of its folder and of itself in that, if it has a block
+-- the contents of the file with this position in its folder, and with this position of its folder;
+-- no element if the file has no block
 abbrev pub contents_of_file : ℕ → ℕ → List ℕ → List Contents
 contents_of_file folder i bytes =
     if has_contents (kind_of_file bytes) then
     record { folder = folder; file = i; bytes = bytes } ∷ [] else []
 
--- the contents of the files of a folder, from the one with this position on
+-- the contents of the files of the folder with this position; the first of the files has the
+-- position `i`
 abbrev pub contents_of_files : ℕ → ℕ → List Source → List Contents
 contents_of_files folder i [] = []
 contents_of_files folder i (file ∷ files) =
     contents_of_file folder i file.bytes ++ contents_of_files folder (i + 1) files
 
--- the contents of the files of folders, from the one with this position on, in the order of their
--- blocks
+-- the contents of the files of folders, in the order of their blocks; the first of the folders has
+-- the position `i`
 abbrev pub contents_of_folders : ℕ → List SourceFolder → List Contents
 contents_of_folders i [] = []
 contents_of_folders i (folder ∷ folders) =

@@ -22,9 +22,13 @@ pub record NamePair : Type 0 where
 -- a clash: the first name is a folder of the second, both are present after the change, and at least
 -- one of them counts as written
 pub record IsClash (change : NameChange) (files : Files) (pair : NamePair) : Type 0 where
+  -- the first name is a folder of the second
   pub folder : IsFolderOf pair.path pair.other
+  -- the first name is present after the change
   pub path_after : is_name_after change files pair.path ≡ true
+  -- the second name is present after the change
   pub other_after : is_name_after change files pair.other ≡ true
+  -- at least one of the names counts as written
   pub written : (change.counts_as_written pair.path || change.counts_as_written pair.other) ≡ true
 
 -- the order of pairs: by the first name, and at equal ones by the second
@@ -34,7 +38,9 @@ precedes_pair a b =
 
 -- the first clash: no clash is before it
 pub record IsFirstClash (change : NameChange) (files : Files) (pair : NamePair) : Type 0 where
+  -- the pair is a clash
   pub is_one : IsClash change files pair
+  -- no clash is before it
   pub first : (other : NamePair) → IsClash change files other → precedes_pair other pair ≡ true → ⊥
 
 -- no pair of names clashes

@@ -41,7 +41,7 @@ fn comes_before(one: &Clash, other: &Clash) -> bool
     by_path.then(by_other).is_lt()
 }
 
-/// The first of two clashes, if there are two; otherwise the one that there is.
+/// The first of two optional clashes; if one is absent, the other one.
 fn first_of(one: Option<Clash>, other: Option<Clash>) -> Option<Clash>
     ensures { option_map clash_seen result
         ≡ earlier_pair (option_map clash_seen one) (option_map clash_seen other) }
@@ -81,7 +81,8 @@ fn common_len(one: &[u8], other: &[u8]) -> usize
     ensures one { result ≤ length one.now }
     ensures other { result ≤ length other.now }
     ensures same { take result one.now ≡ take result other.now }
-    // A folder above both is shorter than that, since both have the `/` after it.
+    // A folder above both texts is shorter than their common prefix, since both have the `/` after
+    // it.
     ensures folders { (folder : List ℕ) → IsFolderOf folder one.now
         → IsFolderOf folder other.now → length folder < result }
 {

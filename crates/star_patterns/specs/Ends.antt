@@ -7,6 +7,6 @@ use Rattle.star_patterns.specs.Patterns.{is_matched, star, suffixes_of}
 abbrev pub has_star : List ℕ → Bool
 has_star pattern = list_any (λ b. b == star) pattern
 
--- whether a pattern matches some end of a text
+-- whether a pattern matches some suffix of a text
 abbrev pub matches_some_suffix : List ℕ → List ℕ → Bool
 matches_some_suffix pattern text = list_any (is_matched pattern) (suffixes_of text)

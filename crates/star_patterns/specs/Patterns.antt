@@ -7,7 +7,7 @@ use Rattle.std.specs.List.{list_any}
 abbrev pub star : ℕ
 star = 42
 
--- what is left of a text from each place on, the whole and the empty end too
+-- all suffixes of a text, the longest first: the whole text, and so on to the empty one
 abbrev pub suffixes_of : List ℕ → List (List ℕ)
 suffixes_of [] = [] ∷ []
 suffixes_of (b ∷ text) = (b ∷ text) ∷ suffixes_of text
@@ -24,6 +24,6 @@ is_matched (p ∷ pattern) text =
     if p == star then list_any (is_matched pattern) (suffixes_of text)
     else is_byte_then p (is_matched pattern) text
 
--- whether a pattern matches some part of a text
+-- whether a pattern matches some substring of a text
 abbrev pub matches_some_part : List ℕ → List ℕ → Bool
 matches_some_part pattern text = is_matched (star ∷ pattern ++ star ∷ []) text

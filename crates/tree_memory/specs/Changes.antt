@@ -39,7 +39,7 @@ synced_flags files = map (λ file. file.synced) files
 abbrev pub first_bytes_of_file : List (List ℕ) → ℕ → ℕ → List ℕ
 first_bytes_of_file contents file len = take len (slice_index_or contents file [])
 
--- what a change does to a state. Stay adds one more state that is the same
+-- the state after a change; `Stay` leaves the state as it is, and counts as one more state
 abbrev pub step : List (List ℕ) → Change → TreeState → TreeState
 step contents (Put name file len) v = after_put name (first_bytes_of_file contents file len) v
 step contents (Create name) v = after_create name v
@@ -52,7 +52,7 @@ step contents (Remove name) v = after_remove name v
 step contents SyncNames v = after_sync_names v
 step contents Stay v = v
 
--- the state that a record leads to from another
+-- the state after the changes of a record, from the state `v` on
 abbrev pub state_after_changes : List (List ℕ) → TreeState → List Change → TreeState
 state_after_changes contents v [] = v
 state_after_changes contents v (c ∷ cs) = state_after_changes contents (step contents c v) cs

@@ -17,8 +17,8 @@ pub record HoldsState (v : TreeState) (entries : List NameAndFile) (files : List
   pub bytes : (n : ℕ) → (v.files n).bytes ≡ slice_index_or (contents_of files) n []
   pub synced : (n : ℕ) → (v.files n).synced ≡ slice_index_or (synced_flags files) n false
 
--- a state is sound: in each map that a crash may leave no name is a folder of another and each is a
--- name, and each file has the content of one
+-- a state is sound: in each map of names, the current one and the older ones, no name is a folder
+-- of another and each is a name; and each file has bytes that a file may have
 pub record IsSoundState (v : TreeState) : Type 0 where
   pub folders : (map : NameMap) → IsCurrentOrOlderMap v map → HasNoFileAsFolder map
   pub named : (map : NameMap) → IsCurrentOrOlderMap v map → AreNames map

@@ -5,8 +5,8 @@ use Rattle.std.specs.Prelude.{ℕ, zero, suc, ◌-◌, ◌==◌, nat_lt, Bool, f
 use Rattle.std.specs.List.{list_any, filter}
 use Rattle.std.specs.Option.{option_map}
 
--- a plan: the calls with the numbers of a list are to fail, and all after the next so many, if a stop
--- is planned
+-- a plan: each call whose number is in `listed` fails, and, if `stop` is Some n, every call after
+-- the next n
 pub record PlanState : Type 0 where
   pub listed : List ℕ
   pub stop : Option ℕ

@@ -50,20 +50,20 @@ pub record IsBelow (entries : List NameAndFile) (folder : List ℕ) (names : Lis
 
 -- ---- whether a name fits, if one name is left out
 
--- a folder of this name is a name of the table, and not the one left out
+-- some folder of this name is a name of the table other than `but`
 abbrev pub HasFolderOtherThan : List NameAndFile → List ℕ → List ℕ → Type 0
 HasFolderOtherThan entries name but =
     (folder : List ℕ) × IsFolderOf folder name
     × (IsSome (lookup entries folder) × (bytes_eq folder but ≡ false))
 
--- a name of the table, other than the one left out, is below this folder
+-- some name of the table other than `but` is below this folder
 abbrev pub HasNameBelowOtherThan : List NameAndFile → List ℕ → List ℕ → Type 0
 HasNameBelowOtherThan entries folder but =
     (name : List ℕ) × IsFolderOf folder name
     × (IsSome (lookup entries name) × (bytes_eq name but ≡ false))
 
--- no name of the table, other than the one left out, is a folder of this one or below it. Left out is
--- the name that a rename removes, or the name itself
+-- no name of the table other than `but` is a folder of this name or below it. `but` is the name
+-- that a rename removes, or the name itself
 pub record MakesNoFolderOfAnother (entries : List NameAndFile) (name but : List ℕ) : Type 0 where
   pub above : HasFolderOtherThan entries name but → ⊥
   pub below : HasNameBelowOtherThan entries name but → ⊥

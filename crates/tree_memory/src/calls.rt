@@ -59,7 +59,7 @@ impl Plan {
         }
     }
 
-    /// Whether the next call is to fail. Afterwards the plan is one call nearer.
+    /// Whether the next call is to fail. Afterwards the plan counts from the call after it.
     pub fn pass(&mut self) -> bool
         ensures planned { result ≡ is_next_call_to_fail self.old }
         ensures nearer { self.new ≡ plan_after_one_call self.old }

@@ -141,7 +141,9 @@ tokens_of parts =
 -- a text is spelled after the grammar: some parts of a version spell it
 pub record IsSpelledVersion (text : List ℕ) : Type 0 where
   pub parts : Parts
+  -- each part follows the grammar
   pub sound : are_version_parts parts ≡ true
+  -- the parts spell the text
   pub whole : spelling parts ≡ text
 
 -- ---- the bytes of a version

@@ -9,18 +9,18 @@ use Rattle.version_core.specs.declared.token.Class.{Class}
 use Rattle.version_core.specs.declared.token.Class.TheVariants.{Stray, PreRelease, End, Revision, Hash, SuffixNumber, Suffix, Letter, ZeroComponent, Component}
 use Rattle.version_core.specs.Token.{Token, lexeme_at}
 
--- whether a token is the one for bytes outside the grammar
+-- whether a class is that of bytes outside the grammar
 abbrev pub is_stray_class : Class → Bool
 is_stray_class Stray = true
 is_stray_class _ = false
 
--- whether no token follows one of this class, which is the end or stray
+-- whether a token of this class is the last one of a text: it is the end, or stray
 abbrev pub is_last_token_class : Class → Bool
 is_last_token_class End = true
 is_last_token_class class = is_stray_class class
 
--- the tokens of a text after a token of some class (None: at the front of a version), if its first
--- `inside` bytes still belong to that token
+-- the tokens of the rest of a version, after a token of the class `last`; None if the rest is the
+-- whole version. The first `inside` bytes of the rest still belong to the token before
 abbrev pub tokens_after : Option Class → ℕ → List ℕ → List Token
 tokens_after last inside [] = (lexeme_at last []).token ∷ []
 tokens_after last (suc inside) (b ∷ rest) = tokens_after last inside rest

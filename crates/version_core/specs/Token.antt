@@ -35,7 +35,7 @@ text_token class text = record { class = class; number = 0; text = text }
 pub record Lexeme : Type 0 where
   -- the token
   pub token : Token
-  -- how many bytes spell it, its mark counted
+  -- how many bytes spell it, with its mark, such as `.` or `-r`
   pub width : ℕ
 
 -- the lexeme of a token and its width
@@ -108,13 +108,14 @@ suffix_rank word =
 abbrev pub suffix_class : ℕ → Class
 suffix_class rank = if nat_lt rank 4 then PreRelease else Suffix
 
--- the lexeme of a suffix with this rank, which is stray if its word has none
+-- the lexeme of a suffix, given its word and the rank of this word; a word without rank makes it
+-- stray
 abbrev pub suffix_lexeme_of_rank : List ℕ → Option ℕ → Lexeme
 suffix_lexeme_of_rank word None = stray_lexeme
 suffix_lexeme_of_rank word (Some rank) =
     lexeme (number_token (suffix_class rank) rank) (1 + length word)
 
--- the lexeme of a suffix by its word, whose mark is one byte more
+-- the lexeme of a suffix, given the word after its mark `_`
 abbrev pub suffix_lexeme : List ℕ → Lexeme
 suffix_lexeme word = suffix_lexeme_of_rank word (suffix_rank word)
 
@@ -153,7 +154,7 @@ abbrev pub is_before_revision : Class → Bool
 is_before_revision Hash = true
 is_before_revision class = is_before_hash class
 
--- the lexeme at the front of a text that follows a token of class `last`
+-- the first lexeme of a text, given the class `last` of the token before it
 unfoldable pub next_lexeme : Class → List ℕ → Lexeme
 next_lexeme last [] = lexeme (bare_token End) 0
 next_lexeme last (b ∷ rest) =
@@ -166,8 +167,8 @@ next_lexeme last (b ∷ rest) =
     if (b == 45) && is_before_revision last then revision_lexeme rest else
     stray_lexeme
 
--- the lexeme at the front of a text. At the front of a version (None) it is the first component; else
--- the class of the token before it decides
+-- the first lexeme of a text. At the start of a version (None) it is the first component; otherwise
+-- the class `last` of the token before it decides
 abbrev pub lexeme_at : Option Class → List ℕ → Lexeme
 lexeme_at None text = number_lexeme Component 0 (leading_digits text)
 lexeme_at (Some last) text = next_lexeme last text

@@ -1,6 +1,6 @@
-//! The token at the front of a text, and how many bytes its reader skips. The grammar of the tokens
-//! is in `docs/formats.md`, "Versions" ("A version is a number"). In the clauses `plain` says that
-//! a token is no hash, so the reader skips all of its bytes at once. `digits` and `few` say that
+//! The first token of a text, and how many bytes its reader skips. The grammar of the tokens is in
+//! `docs/formats.md`, "Versions" ("A version is a number"). In the clauses `plain` says that a
+//! token is no hash, so the reader skips all of its bytes at once. `digits` and `few` say that
 //! bytes are digits, and few enough for 64 bits.
 
 ghost use Rattle.std.specs.Prelude.{◌≡◌, ◌≤◌, ◌<◌, false, length, drop, position, not};
@@ -64,8 +64,8 @@ fn stray_lexeme<'a>() -> Lexeme<'a>
     lexeme_of_number(Class::Stray, 0, 0)
 }
 
-/// The lexeme at the front of a text. At the front of a version (None) it is the first component;
-/// else the class of the token before it decides.
+/// The first lexeme of a text. At the start of a version (None) it is the first component;
+/// otherwise the class of the token before it decides.
 pub fn lexeme_at<'a>(last: Option<Class>, text: &'a [u8]) -> Lexeme<'a>
     ensures { lexeme_view text.entry.now result ≡ lexeme_at last text.entry.now }
 {
@@ -89,7 +89,7 @@ pub fn first_token(last: Option<Class>, text: &[u8]) -> (Class, usize)
     (class, lexeme.advance)
 }
 
-/// The lexeme at the front of a text that follows a token of class `last`.
+/// The first lexeme of a text, given the class `last` of the token before it.
 #[tactic(auto, unfolding(crate::specs::Token::next_lexeme))]
 fn next_lexeme<'a>(last: Class, text: &'a [u8]) -> Lexeme<'a>
     ensures { lexeme_view text.entry.now result ≡ next_lexeme last text.entry.now }
@@ -144,7 +144,7 @@ fn begins_with_zero(digits: &[u8]) -> bool
     matches!(digits, [b'0', ..])
 }
 
-/// The lexeme of a suffix, by its word.
+/// The lexeme of a suffix, given the word after its mark `_`.
 fn suffix(word: &[u8]) -> Lexeme<'_>
     ensures token { whole_lexeme result ≡ suffix_lexeme word.now }
     ensures plain { is_hash result.token.class ≡ false }

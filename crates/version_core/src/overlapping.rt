@@ -131,7 +131,7 @@ impl<'a> OverlappingVersions<'a> {
         if from.at != place.at || from.class != place.class {
             return None;
         }
-        // It leads nowhere, or past the end.
+        // The leap leads nowhere, or past the end.
         if to.at <= place.at || to.at > end {
             return None;
         }
@@ -220,7 +220,7 @@ fn place_after_lexeme(bytes: &[u8], place: Place, end: usize) -> Option<Place>
     place_after_token(bytes, place, end)
 }
 
-/// How many digits at the front of a text belong to a hash before it.
+/// How many digits at the start of a text belong to a hash before it.
 fn unread_digits(class: Class, text: &[u8]) -> usize
     ensures { result ≡ unread_len (Some class) text.now }
 {

@@ -87,7 +87,7 @@ impl Class {
 }
 
 /// A token of a version: its class, and its value, a number or a text. Only the hexadecimal digits
-/// at the front of the slice `text` are the value; the slice may go on after them. So a hash is not
+/// at the start of the slice `text` are the value; the slice may go on after them. So a hash is not
 /// read to its end before it is compared.
 #[derive(Clone, Copy)]
 pub struct TokenAt<'a> {
@@ -128,12 +128,12 @@ impl TokenAt<'_> {
 pub struct Tokens<'a> {
     // The bytes that are not skipped yet; the digits of a hash that was taken last are among them.
     rest: &'a [u8],
-    // The class of the token that was taken last; None at the front.
+    // The class of the token that was taken last; None before the first one.
     last: Option<Class>,
 }
 
 impl<'a> Tokens<'a> {
-    /// All tokens of a text, from its front on.
+    /// All tokens of a text, from its start on.
     #[tactic(auto, unfolding(crate::specs::Order::tokens))]
     pub fn of(text: &'a [u8]) -> Tokens<'a>
         ensures { tokens_left result ≡ tokens text.entry.now }
