@@ -141,10 +141,11 @@ fn index_line(alloc: Global, count: usize) -> Result<Text, AllocError>
     Text::of(alloc, line.as_bytes())
 }
 
-// Writes the container that was made, or refuses. The clauses are those of `mkpkg`. Its `counts` are
-// `goes_on`, `disk`, `kept` and `memory` here, since an I/O error may also be that of the making.
-// Three more: if a fault stopped the making, nothing is judged (`done`) and nothing is written
-// (`cut`). An I/O error of the tree is not reported as out of memory (`lost`).
+// Writes the container that was made, or refuses. The clauses are those of `mkpkg`; four of them,
+// `goes_on`, `disk`, `kept` and `memory`, replace its `counts`, since the tree may also have failed
+// while the container was made. Three more: if a fault stopped the making, there is no verdict
+// (`done`) and nothing is written (`cut`). An I/O error of the tree is not reported as out of
+// memory (`lost`).
 fn finish<T: Tree>(
     alloc: Global,
     command: &Command,

@@ -93,7 +93,7 @@ abbrev pub IsUnchangedOrCommit :
 IsUnchangedOrCommit wanted v old now result =
     ((now ≡ old) × OnOk result (DoesCommit wanted → ⊥)) ⊎ IsCommit wanted v old now result
 
--- ---- both
+-- ---- the answer and the effect together
 
 -- How a run ends whose change has the result `wanted`, and for which the reads find these packages. It
 -- answers that report or refusal, or that one of these packages has changed, or that the tree failed or
@@ -111,8 +111,8 @@ pub record CarriesOut (packages : Result (List MemberFound) Refusal)
       → (DoesCommit wanted → AreStagingPathsFree (files_of v)) → after.misuses ≡ before.misuses)
 
 -- A run of a command's change: by what reads find, by some files, by what is chosen, and by the first
--- clash of names among some present files. On an observable tree both are the files that it has at the
--- start.
+-- clash of names among some present files. On an observable tree `files` and `present_files` are the
+-- tree's files at the start.
 pub record IsChangeRun (command : CommandLine) (old now : List TreeState) (before after : Counts)
     (result : Result (List ℕ) Refused) : Type 0 where
   pub read : Reads

@@ -44,7 +44,7 @@ IsRootRead history inputs = IfObservable history (λ v. IsRootOfFiles (files_of 
 abbrev pub inputs_of_packages : ReadPackages → Inputs
 inputs_of_packages a = inputs_of_selection a.selection.now
 
--- which packages replace which
+-- the chosen candidates, and the packages before that they replace
 abbrev pub replacement_of_packages : ReadPackages → Replacement
 replacement_of_packages a = replacement_seen a.selection.now
 
@@ -77,7 +77,7 @@ pub record AreFoundBy (history : List TreeState) (a : ReadPackages) (read : Read
   pub is : change_members (inputs_of_packages a) (replacement_of_packages a) (wishes_of_packages a)
       read ≡ Ok found
 
--- the packages after a change have arrived: they were read, and one database can list their members
+-- the packages after a change were read, and `after` are their members
 pub record IsArrived (history : List TreeState) (a : ReadPackages) (after : Members)
     (found : List MemberFound) : Type 0 where
   pub read : HasReadArrivals history a found
@@ -89,7 +89,7 @@ pub record IsArrived (history : List TreeState) (a : ReadPackages) (after : Memb
 abbrev pub inputs_of_plan : Plan → Inputs
 inputs_of_plan p = inputs_of_packages p.packages.now
 
--- which packages replace which, as it is known of a plan
+-- the chosen candidates and the packages before that they replace, as they are known of a plan
 abbrev pub replacement_of_plan : Plan → Replacement
 replacement_of_plan p = replacement_of_packages p.packages.now
 

@@ -21,7 +21,7 @@ use Rattle.report_core.specs.declared.refusal.Refusal.{Refusal}
 use Rattle.engine_core.specs.ChangeRun.{CarriesOut}
 use Rattle.engine_core.specs.Changed.{IsClashOfSelectedAmong, InputsAndReplacement, change_of_selected, found_packages}
 
--- a run by what is selected, or by the refusal instead
+-- a run of a change, given what is selected or the refusal instead
 pub record IsSelectedRun (command : CommandLine) (selected : Result InputsAndReplacement Refusal)
     (old now : List TreeState) (before after : Counts)
     (result : Result (List ℕ) Refused) : Type 0 where
@@ -37,7 +37,7 @@ pub record IsSelectedRun (command : CommandLine) (selected : Result InputsAndRep
       (and_then selected (change_of_selected command read files clash))
       old now before after result
 
--- a run of a change by these packages, if reads find them
+-- a run of a change after which the packages are these, as reads find them
 pub record IsFoundRun (inputs : Inputs) (r : Replacement) (wishes : ChangeWishes)
     (found : List MemberFound) (old now : List TreeState) (before after : Counts)
     (result : Result (List ℕ) Refused) : Type 0 where
