@@ -94,15 +94,20 @@ IsEndBy command files selected (Err refusal) o =
 -- the preferred selection (`trace`, places of candidates) replaces the packages before, and the change
 -- ends with it: carried out, or refused
 pub record TakesFirstSelection (command : CommandLine) (files : Files) (o : Outcome) : Type 0 where
+  -- the candidates of the command
   pub pool : SealedPool
   pub is_pool : pool_of_command command (reads_in files) ≡ Ok pool
+  -- the places of the chosen candidates, in the order chosen
   pub trace : List ℕ
   pub first : IsFirstSelection pool trace
+  -- what is read, and the packages before with the candidates that replace them
   pub selected : InputsAndReplacement
   pub selects : selected_for command (reads_in files) (Some trace) ≡ Ok selected
   pub candidates : selected.replacement.selected ≡ candidates_at pool trace
+  -- the first clash of the names after the change, if there is one
   pub clash : Option NamePair
   pub is_clash : IsClashFor command (reads_in files) files (Some trace) clash
+  -- how the change ends
   pub end : IsEndBy command files selected
       (change_of_selected command (reads_in files) files clash selected) o
 

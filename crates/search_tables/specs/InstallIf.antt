@@ -47,11 +47,15 @@ has_lesser_name pool a b = is_lt (bytes_cmp (name_at pool a) (name_at pool b))
 -- name of each entry of an install-if the rank of its candidate
 pub record AreInstallIfs (pool : SealedPool) (by_name : List ℕ) (waiting : List (List ℕ × List ℕ)) :
     Type 0 where
+  -- each candidate of the list has an install-if that can apply
   pub those : (k : ℕ) → IsIn k by_name → is_usable_at pool k ≡ true
+  -- the list has each candidate whose install-if can apply
   pub each : (k : ℕ) → is_usable_at pool k ≡ true → IsIn k by_name
+  -- no candidate of the list has a lesser name than one before it
   pub rising :
       (i j d : ℕ) → i ≤ j → j < length by_name →
       has_lesser_name pool (get_or by_name j d) (get_or by_name i d) ≡ false
+  -- the table has the rank of each candidate under the name of each entry of its install-if
   pub entries :
       (rank k : ℕ) (d : Dependency) → slice_get by_name rank ≡ Some k →
       IsIn d (install_if_at pool k) → IsIn rank (items_under_name waiting d.name)

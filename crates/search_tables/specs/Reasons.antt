@@ -89,8 +89,11 @@ HasSameMembers xs ys = AreAllMembersOf xs ys × AreAllMembersOf ys xs
 -- the promise of a pool about the options of a need: they are exactly the candidates that may be
 -- selected and meet it, each better than those after it
 pub record HasOptions (pool : SealedPool) (need : Need) : Type 0 where
+  -- each option may be selected, and meets the need
   pub those : (c : ℕ) → IsIn c (options_for pool need) → (is_eligible_at pool c ≡ true)
       × (meets_at pool c need ≡ true)
+  -- each candidate that may be selected and meets the need is an option
   pub each : (c : ℕ) → is_eligible_at pool c ≡ true → meets_at pool c need ≡ true →
       IsIn c (options_for pool need)
+  -- each option is better than those after it
   pub best_first : IsSortedBestFirst (is_better pool need) (options_for pool need)
