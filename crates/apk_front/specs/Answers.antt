@@ -150,7 +150,7 @@ IsOutcomeUnlessMemory words files Leaves OutFault before after out err =
     ⊎ RoseOrIsSaturated err.before.memory_faults err.after.memory_faults
 IsOutcomeUnlessMemory words files Leaves Memory before after out err = Unit {0}
 
--- whether the arguments name an applet after the options that precede it, or are a command without one,
--- which asks for help or for the version
+-- whether the arguments name an applet, perhaps after leading options, or ask for help or for the version
+-- without one
 abbrev pub name_a_command : List (List ℕ) → Bool
 name_a_command words = is_ok (start_of_command_line words) || is_ok (command_of words)

@@ -34,7 +34,7 @@ pub struct RankedVersion<'a> {
     pub version: Option<Version<'a>>,
     /// The place of the source that the version's text is read from, counted from 0.
     pub source: u32,
-    /// The word of the version's text in that source.
+    /// The word (32-bit value) that refers to the version's text in that source.
     pub word: u32,
     /// How many of the ranked versions precede this one; 0 before they are ranked.
     pub rank: usize,
@@ -45,7 +45,7 @@ pub struct RankedVersion<'a> {
 pub(crate) struct VersionPlace {
     /// The place of the source that the text is read from, counted from 0.
     pub source: u32,
-    /// The word of the text in that source.
+    /// The word (32-bit value) that refers to the text in that source.
     pub word: u32,
 }
 

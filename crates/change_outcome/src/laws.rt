@@ -91,8 +91,8 @@ pub fn a_change_that_is_made_passes_each_test()
         → IsChangeMade inputs r wishes read clash files done }
 {}
 
-/// If the paths of a stage are free before a change, they are free after it, for each later change.
-/// And a change adds no intent (journal entry).
+/// If the paths of the journal entry (intent) and of staged files are free before a change, they are
+/// free after it, for each later change. And a change leaves no new journal entry.
 pub fn a_change_keeps_paths_free()
     ensures room { (inputs : Inputs) (r : Replacement) (wishes : ChangeWishes) (read : Reads)
         (clash : Option NamePair) (files : Files) (done : ChangeDone)

@@ -111,13 +111,17 @@ pub record IsPlanOfPackages (history : List TreeState) (a : ReadPackages) (p : P
 pub record IsPlanned (history : List TreeState) (p : Plan) (found : List MemberFound) (files : Files)
     : Type 0 where
   pub arrived : IsArrived history p.packages.now p.members found
+  -- on an observable tree, the files are the tree's
   pub told : IfObservable history (λ v. files ≡ files_of v)
+  -- the plan is that of the change over these files
   pub lists : ArePlanLists (file_change (inputs_of_plan p) (wishes_of_plan p) found) files p.files
   pub names : HasDisjointUnreservedNames p.files
   pub sources : HasSources (members_of p.members) p.files
   pub owners : IsPlanForMembersAlone (members_of p.members) p.files
+  -- no name after the change is a folder of another
   pub no_clash : IfObservable history (λ v.
       HasNoClash (name_change (file_change (inputs_of_plan p) (wishes_of_plan p) found) files) files)
+  -- no path that a package before lists is reserved
   pub unreserved : All (λ l. is_reserved l.path ≡ false)
       (old_listings (file_change (inputs_of_plan p) (wishes_of_plan p) found))
 

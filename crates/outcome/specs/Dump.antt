@@ -65,7 +65,7 @@ dump_with_schema file (Ok schema) =
 unfoldable pub dump_of : List ℕ → Result (List ℕ) Cause
 dump_of file = dump_with_schema file (header_of file)
 
--- the outcome of a text: the text is the report, or the operand at this place is refused
+-- the outcome of a dump text or of a fault: the text is the report, or the operand at this place is refused
 abbrev pub text_outcome : Files → ℕ → Result (List ℕ) Cause → Outcome
 text_outcome files place (Ok text) = just_report files text
 text_outcome files place (Err cause) = just_refusal files (FileBad place cause)
