@@ -19,8 +19,8 @@ use Rattle.added_packages.specs.declared.arrivals.Arrivals.{Arrivals}
 use Rattle.added_packages.specs.declared.arrivals.MemberRead.{MemberRead}
 use Rattle.added_packages.specs.declared.arrivals.MemberRead.TheVariants.{Comes, Stays}
 
--- a package that was read is that of an added file: the file was tested, and if the tree's files are
--- observable it is the one under the package's name
+-- a package that was read is `coming`, the package in a file that was tested; if the tree's files are
+-- observable, the file is the one under the name of the package's file
 pub record IsPackageRead (history : List TreeState) (pkg : TestedPackage)
     (coming : AddedPackage) : Type 0 where
   pub file : List ℕ

@@ -36,7 +36,7 @@ DidNotFail sink = IsNoFault sink.before sink.after
 abbrev pub GetsLineOrPrefix : SinkBeforeAndAfter → List ℕ → Type 0
 GetsLineOrPrefix sink line = (Gets sink line × DidNotFail sink) ⊎ (GetsPrefix sink line × SinkFailed sink)
 
--- a sink failed that had at least one byte to get
+-- a sink failed, and at least one byte was to be printed on it
 pub record FailedWithBytes (sink : SinkBeforeAndAfter) (bytes : List ℕ) : Type 0 where
   pub some : bytes ≢ []
   pub failed : SinkFailed sink
@@ -66,8 +66,9 @@ pub record PrintsOnlyErrorLine (line : List ℕ) (out err : SinkBeforeAndAfter) 
 
 -- ---- the answer
 
--- The answer of one of these outcomes, with its bytes and files; or an I/O error of the tree that has
--- its cause there; or out of memory.
+-- The answer is that of an outcome in `IsOne`: its bytes are printed, and `Leaves` holds of it. A fault
+-- of a sink may replace the answer and cut the bytes short. Or the tree failed (`tree_failed` holds), or
+-- memory ran out: then only that error line is printed.
 abbrev pub IsAnswerOf :
     (Outcome → Type 0) → (Outcome → Type 0) → Type 0 → Answer → SinkBeforeAndAfter → SinkBeforeAndAfter → Type 0
 IsAnswerOf IsOne Leaves tree_failed Ok out err =
@@ -121,8 +122,8 @@ AnswersOutcomeUnlessMemory words files answer =
     × IsOutcome (command_of words) files outcome
     × (answer ≡ answer_of outcome))
 
--- no failure of a tree or a sink is planned, and its count of misuses is below its last value, 2^64 -
--- 1, so that one more misuse would be counted
+-- no failure of a tree or a sink is planned, and its count of misuses is below 2^64 - 1, the greatest
+-- count, so that one more misuse would be counted
 pub record HasNoPlannedFailure (counts : Counts) : Type 0 where
   pub unplanned : counts.fallible ≡ false
   pub below : counts.misuses < 2 ^ 64 - 1
@@ -149,7 +150,7 @@ IsOutcomeUnlessMemory words files Leaves OutFault before after out err =
     ⊎ RoseOrIsSaturated err.before.memory_faults err.after.memory_faults
 IsOutcomeUnlessMemory words files Leaves Memory before after out err = Unit {0}
 
--- whether the arguments name an applet after the options that precede it, or are a command without one,
--- which asks for help or for the version
+-- whether the arguments name an applet, perhaps after leading options, or ask for help or for the version
+-- without one
 abbrev pub name_a_command : List (List ℕ) → Bool
 name_a_command words = is_ok (start_of_command_line words) || is_ok (command_of words)

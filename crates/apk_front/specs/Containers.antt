@@ -37,7 +37,7 @@ first_block_head_or_shape_fault which done = None
 first_block_head_or_shape_fault which (fault c) = Some c
 first_block_head_or_shape_fault which (more b at r) = head_or_shape_fault which b.payload
 
--- a first block with this payload passed its tests, and the reader that was before it is after it
+-- the first block has this payload and passed its tests; `later` are the blocks after it
 abbrev pub IsAfterShapedFirstBlock : Which → List ℕ → Reading → Reading → Type 0
 IsAfterShapedFirstBlock which payload done later = ⊥
 IsAfterShapedFirstBlock which payload (fault c) later = ⊥
@@ -63,7 +63,8 @@ abbrev pub ended_by_disk_or_memory : Result (Vec ℕ Global) MakeFault → Bool
 ended_by_disk_or_memory (Ok file) = false
 ended_by_disk_or_memory (Err why) = is_disk_or_memory why
 
--- what was made, or why not, has this meaning; an I/O error of the tree and out of memory have none
+-- `Means` holds of what was made, or of why nothing was; after an I/O error of the tree and out of memory
+-- nothing is said
 abbrev pub OnMade :
     Result (Vec ℕ Global) MakeFault → (Result (List ℕ) MakeFault → Type 0) → Type 0
 OnMade (Ok file) Means = Means (Ok file.items)

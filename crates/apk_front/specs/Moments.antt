@@ -73,8 +73,8 @@ AreRunPathsFree words files =
 
 -- ---- what is read while the command works
 
--- whether a name is a draft: a command makes a file there that it then moves to its name. It is the
--- scratch name of an output, or any name below the staging area.
+-- whether a name is temporary: a command writes a file under it, and then moves the file to its final
+-- name. It is the scratch name of an output, or any name below the staging area.
 abbrev pub is_draft_name : Effect → Option (List ℕ) → List ℕ → Bool
 is_draft_name Makes (Some name) q = bytes_eq q (scratch_of name)
 is_draft_name Makes None q = false
@@ -83,7 +83,7 @@ is_draft_name Computes output q = false
 is_draft_name OnlyReadsFiles output q = false
 is_draft_name AsksRoot output q = false
 
--- the files as read are these, apart from the draft names
+-- the files as read are these, except under temporary names
 abbrev pub HasFilesExceptDrafts : Effect → Option (List ℕ) → Files → TreeState → Type 0
 HasFilesExceptDrafts effect output files w =
     (q : List ℕ) → is_draft_name effect output q ≡ false → files_of w q ≡ files q
@@ -96,8 +96,8 @@ pub record IsCommittedChange (effect : Effect) (new old : Files) (w : TreeState)
   pub leads : unstaged_files (files_of w) ≡ new
   pub bytes : HasOldOrNewBytes old new w
 
--- the files as read are the old ones, apart from the draft names; or on the way to the new ones by a
--- committed change; or the new ones
+-- the files as read are the old ones, except under temporary names; or a change to the new files is
+-- committed and in progress; or the files as read are the new ones
 abbrev pub IsStateDuringRun : Effect → Option (List ℕ) → Files → Files → TreeState → Type 0
 IsStateDuringRun effect output new old w =
     HasFilesExceptDrafts effect output old w ⊎ (IsCommittedChange effect new old w ⊎ (files_of w ≡ new))
@@ -122,13 +122,14 @@ pub record IsRecovering (v w : TreeState) : Type 0 where
   pub bytes : HasOldOrNewBytes (files_of v) (unstaged_files (files_of v)) w
   pub waiting : JournalOnlyShrinks v w
 
--- at a moment of a run the tree is being recovered, if the command does that; or what is required after
--- recovery holds
+-- in state `w` of a run the tree is being recovered from state `v`, if the command recovers; or `IsNext`,
+-- which is required after recovery, holds of `w`
 abbrev pub IsRecoveringOrNext : Effect → (TreeState → Type 0) → TreeState → TreeState → Type 0
 IsRecoveringOrNext effect IsNext v w = ((does_recover effect ≡ true) × IsRecovering v w) ⊎ IsNext w
 
--- After recovery, the files as read are those that it leaves; or the run has an outcome that commits,
--- and works on them.
+-- Except while the tree is recovered, the files as read are those on which the command works
+-- (*work_files*). Or the run has an outcome that commits, and its states are those of such a run
+-- (*IsStateDuringRun*).
 abbrev pub AreReadDuringRun :
     (Outcome → Type 0) → Effect → Option (List ℕ) → TreeState → List TreeState → List TreeState
     → Type 0
@@ -148,7 +149,7 @@ NamesAreDurableWithoutIntentExcept output w =
 
 -- ---- what a crash leaves
 
--- The moments of a run that leads to these files. At each the tree is durable, and a crash leaves a
+-- The states of a run that leads to these files. In each the tree is durable, and a crash leaves a
 -- state from before or that of the files. It leaves one from before as long as no intent is committed,
 -- unless the run makes one file, for which it needs no intent.
 abbrev pub MomentsLeadTo :
@@ -167,13 +168,14 @@ AreOldOrLeadToOutcome IsOne makes ignored v old now =
     × (outcome.commits ≡ true)
     × MomentsLeadTo makes ignored outcome.files v old now)
 
--- an outcome's files last after the run if it commits, or if each crash left the old ones before
+-- an outcome's files must be durable after the run: the outcome commits, or each crash at the start left
+-- the files as read
 abbrev pub MustOutcomeBeDurableWithoutRecovery : (List ℕ → Bool) → TreeState → Outcome → Type 0
 MustOutcomeBeDurableWithoutRecovery ignored v outcome =
     (outcome.commits ≡ true) ⊎ EachCrashLeaves ignored (files_of v) v
 
--- an outcome's files last after the run, by *MustOutcomeBeDurableWithoutRecovery* or if an intent can be
--- recovered
+-- an outcome's files must be durable after the run: by *MustOutcomeBeDurableWithoutRecovery*, or because an
+-- intent can be recovered
 abbrev pub MustOutcomeBeDurable : Effect → (List ℕ → Bool) → TreeState → Outcome → Type 0
 MustOutcomeBeDurable effect ignored v outcome = MustOutcomeBeDurableWithoutRecovery ignored v outcome
     ⊎ CanRecover effect v
@@ -208,18 +210,18 @@ AnswersOutcome other = ⊥
 abbrev pub HasOutcomeWithoutCommit : (Outcome → Type 0) → Type 0
 HasOutcomeWithoutCommit IsOne = (outcome : Outcome) × IsOne outcome × (outcome.commits ≡ false)
 
--- a run was not carried out, or its outcome commits nothing, whatever was answered instead
+-- the answer is a refusal or out of memory; or one of these outcomes commits nothing, whatever the answer
 abbrev pub CommitsNothing : (Outcome → Type 0) → Answer → Type 0
 CommitsNothing IsOne answer = IsRefusedOrOutOfMemory answer ⊎ HasOutcomeWithoutCommit IsOne
 
--- each crash after a run leaves the outcome's files, if something makes them durable
+-- if an outcome's files must be durable, each crash after the run leaves them
 abbrev pub LeavesDurable :
     Effect → (List ℕ → Bool) → TreeState → List TreeState → Outcome → Type 0
 LeavesDurable effect ignored v now outcome =
     MustOutcomeBeDurable effect ignored v outcome → HoldsNow now (EachCrashLeaves ignored outcome.files)
 
--- Once the outcome is answered, even a refusal, or a sink's fault instead, its files are durable, if
--- something makes them so.
+-- Once an outcome is answered, even a refusal, or a sink's fault instead, its files are durable if they
+-- must be. After other answers nothing is said.
 abbrev pub LeavesDurableOnceAnswered :
     (Outcome → Type 0) → Effect → (List ℕ → Bool) → TreeState → List TreeState → Answer → Type 0
 LeavesDurableOnceAnswered IsOne effect ignored v now Ok =
@@ -236,8 +238,8 @@ LeavesDurableOnceAnswered IsOne effect ignored v now OutFault =
     (outcome : Outcome) × IsOne outcome × LeavesDurable effect ignored v now outcome
 LeavesDurableOnceAnswered IsOne effect ignored v now other = Unit {0}
 
--- the tree is at rest with the files of one of these outcomes, if it commits: the output and its
--- scratch name are no longer ignored
+-- there is one of these outcomes, and if it commits the tree is durable with its files; the output and
+-- its scratch name are no longer ignored
 abbrev pub LeavesDurableState :
     (Outcome → Type 0) → Option (List ℕ) → (List ℕ → Bool) → List TreeState → Type 0
 LeavesDurableState IsOne output ignored now =

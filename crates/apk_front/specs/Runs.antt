@@ -31,8 +31,8 @@ IfNothingStaged history P = IfObservable history (λ v. HasNothingStaged v → P
 
 -- ---- a run
 
--- at each moment of a run that recovers nothing the files as read are the old ones; or the run has an
--- outcome that commits, and works on them
+-- in each state of a run that recovers nothing the files as read are the old ones. Or the run has an
+-- outcome that commits, and its states are those of such a run (*IsStateDuringRun*).
 abbrev pub AreReadDuringWork :
     (Outcome → Type 0) → Effect → Option (List ℕ) → TreeState → List TreeState → List TreeState
     → Type 0
@@ -55,7 +55,7 @@ pub record IsRun (IsOne : Outcome → Type 0) (effect : Effect) (output : Option
   pub is_durable : (ignored : List ℕ → Bool)
       → IsDurable (StateDependsOn ignored) v → IgnoresScratchOf output ignored
       → HoldsNow now (IsDurable (StateDependsOn ignored))
-  -- if an outcome was judged, and something makes its files durable, each crash leaves their state
+  -- if an outcome was judged whose files must be durable, each crash leaves them
   pub settled : (ignored : List ℕ → Bool) (outcome : Outcome)
       → IsDurable (StateDependsOn ignored) v → IgnoresScratchOf output ignored
       → IsOne outcome → MustOutcomeBeDurableWithoutRecovery ignored v outcome

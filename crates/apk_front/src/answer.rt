@@ -20,11 +20,11 @@ pub enum Answer {
     Ok,
     /// The command was refused, for a fault of its arguments or files.
     Refused(Refusal),
-    /// The tree failed.
+    /// A call on the tree failed with an I/O error.
     TreeFault,
     /// A sink failed. The files are those of the answer that could not be printed.
     OutFault,
-    /// There was no memory.
+    /// Memory ran out.
     Memory,
 }
 

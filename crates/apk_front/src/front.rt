@@ -68,7 +68,7 @@ pub fn apk<T: Tree, O: Sink, E: Sink>(
     // On every tree: the answer and the bytes are those of the specification for some listing, some
     // contents at each read, and the first clash of names among some files. Or an added package is
     // no longer what was tested, and is reported as bad, with the cause of some file that has its
-    // identity and other contents. That these are the real ones of a file system is trusted.
+    // identity and other contents. That these are the contents of a real file system is trusted.
     ensures found { IsAnswerOf (IsPossibleOutcome (command_of words.now)) LeavesAnyFiles
         (HasCause (T.counts tree.old) (T.counts tree.new)) result
         (sink_before_and_after O.bytes O.counts out.old out.new)
@@ -100,7 +100,7 @@ pub fn apk<T: Tree, O: Sink, E: Sink>(
         → (T.counts tree.new).misuses ≡ (T.counts tree.old).misuses) }
 
     // If moreover no failure of the tree and the sinks is planned, the run ends as its outcome
-    // says, unless memory ran out: the run's, or the own memory of one of the three.
+    // says, unless memory ran out: the run's, or the own memory of the tree or of a sink.
     ensures unless_memory { IfObservable (T.history tree.old) (λ v.
         AreRunPathsFree words.now (files_of v) → HasNoPlannedFailure (T.counts tree.old)
         → HasNoPlannedFailure (O.counts out.old) → HasNoPlannedFailure (E.counts err.old)
@@ -141,10 +141,10 @@ pub fn apk<T: Tree, O: Sink, E: Sink>(
     // yields of the old ones, and staged files are only removed. After recovery the files as read
     // are those on which the command works, except under the names at which an outcome that commits
     // makes new files; or a change has committed its journal entry (intent), and recovery yields
-    // the outcome's files; or they are the outcome's. So each name except the intent's and those of
-    // drafts has its old bytes, its recovered ones or the outcome's, even if the tree fails: no
-    // file is ever temporarily missing. Not proved: that an unchanged file is never rewritten with
-    // the same bytes.
+    // the outcome's files; or they are the outcome's. So each name except the intent's and
+    // temporary ones has its old bytes, its recovered ones or the outcome's, even if the tree
+    // fails: no file is ever temporarily missing. Not proved: that an unchanged file is never
+    // rewritten with the same bytes.
     ensures reads { IfObservable (T.history tree.old) (λ v.
         AreReadDuringRun (IsOutcome (command_of words.now) (files_of v))
         (effect_of_arguments (command_of words.now)) (output words.now) v (T.history tree.old)

@@ -38,7 +38,8 @@ pub(crate) fn judge<T: Tree>(
         (IsPossibleOutcome (command_of words.now)) (effect_of_arguments (command_of words.now))
         (output words.now)
         (T.history tree.old) (T.history tree.new) (T.counts tree.old) (T.counts tree.new) result }
-    // An outcome that rests on the words alone is judged on every tree, unless memory ran out.
+    // An outcome that depends on the arguments alone is judged on every tree, unless memory ran
+    // out.
     ensures by_arguments { IsTrue (depends_only_on_arguments (command_of words.now))
         → IsRunByArguments (IsOutcome (command_of words.now)) tree.old tree.new result }
     ensures same { IsTrue (reads_only (command_of words.now))
@@ -77,7 +78,7 @@ fn run_command<T: Tree>(
     }
 }
 
-/// Runs an applet other than `demo`. The clauses are those of `judge`, for a command that was read.
+/// Runs an applet other than `demo`. The clauses are those of `judge`, for a parsed command.
 pub(crate) fn run<T: Tree>(
     alloc: Global,
     command: &Command,

@@ -48,14 +48,18 @@ pub(crate) fn mkpkg<T: Tree>(
 ) -> Result<Verdict, TreeFault>
     requires command { IsValidCommand command.now }
     requires applet { command.now.applet ≡ Mkpkg }
+    // On an observable tree the verdict is that of the outcome over its files.
     ensures found { IfOk result (λ verdict. IfObservable (T.history tree.old) (λ v.
         ReportsOneOfOutcomes (IsPackageOutcome command.now (files_of v)) verdict)) }
+    // On every tree it is that of an outcome for some listing and some contents at each read.
     ensures by_reads { IfOk result (λ verdict. (names : List (List ℕ))
         × AreNamesBelowFirst (values_of_letter FILES command.now.values) names
         × (read : Reads) × Reports verdict (mkpkg read no_names command.now names)) }
+    // The effect of the run on the tree.
     ensures run { IsMakingRun (IsPackageOutcome command.now) (output_name command.now)
         (T.history tree.old) (T.history tree.new) result }
     ensures counts { IsVerdictExplainedByCounts (T.counts tree.old) (T.counts tree.new) result }
+    // No call is a misuse if the paths of the output and its scratch name are free.
     ensures proper { IfObservable (T.history tree.old) (λ v.
         ((outcome : Outcome) → IsPackageOutcome command.now (files_of v) outcome
         → outcome.commits ≡ true → CanAddOutputNamesIfAny (output_name command.now) (files_of v))
@@ -141,10 +145,11 @@ fn index_line(alloc: Global, count: usize) -> Result<Text, AllocError>
     Text::of(alloc, line.as_bytes())
 }
 
-// Writes the container that was made, or refuses. The clauses are those of `mkpkg`. Its `counts` are
-// `goes_on`, `disk`, `kept` and `memory` here, since an I/O error may also be that of the making.
-// Three more: if a fault stopped the making, nothing is judged (`done`) and nothing is written
-// (`cut`). An I/O error of the tree is not reported as out of memory (`lost`).
+// Writes the container that was made, or refuses. The clauses are those of `mkpkg`; four of them,
+// `goes_on`, `disk`, `kept` and `memory`, replace its `counts`, since the tree may also have failed
+// while the container was made. Three more: if a fault stopped the making, there is no verdict
+// (`done`) and nothing is written (`cut`). An I/O error of the tree is not reported as out of
+// memory (`lost`).
 fn finish<T: Tree>(
     alloc: Global,
     command: &Command,
@@ -153,7 +158,9 @@ fn finish<T: Tree>(
     tree: &mut T,
 ) -> Result<Verdict, TreeFault>
     requires command { IsValidCommand command.now }
+    // If a container was made, the command has an output.
     requires output { IfOk container (λ file. IsSome (output_name command.now)) }
+    // The verdict is that of the outcome, whatever the files are.
     ensures reported { IfOk result (λ verdict. (files : Files) → Reports verdict
         (make_outcome files (output_name command.now) report (made_file_bytes container))) }
     ensures run { IsMakingRun (λ files outcome. outcome

@@ -84,7 +84,7 @@ candidates_of_index repository tag none = []
 candidates_of_index repository tag (more info infos) =
     candidate_of info (Some repository) tag false ∷ candidates_of_index repository tag infos
 
--- whether two ids are the same: both are nonempty, and the shorter is a front of the longer
+-- whether two ids are the same: both are nonempty, and the shorter is a prefix of the longer
 abbrev pub is_same_id : List ℕ → List ℕ → Bool
 is_same_id a b =
     nat_lt 0 (length a)

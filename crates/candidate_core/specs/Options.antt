@@ -54,7 +54,7 @@ IsSortedBestFirst better [] = Unit {0}
 IsSortedBestFirst better (c ∷ cs) =
     ((d : ℕ) → IsIn d cs → better c d ≡ true) × IsSortedBestFirst better cs
 
--- each place of the list is below those after it
+-- each number of the list is less than those after it
 abbrev pub AreStrictlyIncreasing : List ℕ → Type 0
 AreStrictlyIncreasing [] = Unit {0}
 AreStrictlyIncreasing (c ∷ cs) = ((d : ℕ) → IsIn d cs → c < d) × AreStrictlyIncreasing cs

@@ -128,7 +128,7 @@ is_pinned_at pool place = candidate_at_passes pool (is_pinned pool.world) place
 abbrev pub meets_at : SealedPool → ℕ → Need → Bool
 meets_at pool place need = candidate_at_passes pool (meets_need need) place
 
--- the order of two places for a need, by all eleven keys: the earlier place is the last one
+-- the order of two places for a need, by all eleven keys; key 11 is the place, and the earlier one is first
 unfoldable pub rank_cmp : SealedPool → Need → ℕ → ℕ → Ordering
 rank_cmp pool need =
     then_cmp (on (candidate_at pool) (option_cmp (candidate_cmp pool need))) nat_cmp

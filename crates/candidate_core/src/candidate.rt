@@ -139,7 +139,7 @@ impl<'a> Details<'a> {
         }
     }
 
-    // The id of the package in its index, or in the database: empty, the whole id, or a front of
+    // The id of the package in its index, or in the database: empty, the whole id, or a prefix of
     // it.
     fn id(&self) -> &'a [u8]
         ensures { result.now ≡ self.now.id }

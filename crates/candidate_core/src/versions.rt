@@ -34,7 +34,7 @@ pub struct RankedVersion<'a> {
     pub version: Option<Version<'a>>,
     /// The place of the source that the version's text is read from, counted from 0.
     pub source: u32,
-    /// The word of the version's text in that source.
+    /// The word (32-bit value) that refers to the version's text in that source.
     pub word: u32,
     /// How many of the ranked versions precede this one; 0 before they are ranked.
     pub rank: usize,
@@ -45,7 +45,7 @@ pub struct RankedVersion<'a> {
 pub(crate) struct VersionPlace {
     /// The place of the source that the text is read from, counted from 0.
     pub source: u32,
-    /// The word of the text in that source.
+    /// The word (32-bit value) that refers to the text in that source.
     pub word: u32,
 }
 
@@ -326,7 +326,7 @@ fn own_version_meets(
     known.constraint_accepts(dep, &own_version(source, kept))
 }
 
-// Whether one of its provides meets it.
+// Whether an entry of the package's provides meets the dependency.
 fn any_entry_meets(
     source: &Source<'_>,
     kept: PackageWord,
@@ -351,7 +351,7 @@ fn any_entry_meets(
     Ok(false)
 }
 
-// Whether one of the provides of a package in the source at an index meets it.
+// Whether the entry of provides with a word in the source at an index meets the dependency.
 fn entry_meets<'a>(
     source: &Source<'a>,
     place: u32,
@@ -371,7 +371,7 @@ fn entry_meets<'a>(
     }
 }
 
-// Whether the dependency of such an entry meets it.
+// Whether the entry of provides `found`, which has this word in the source, meets the dependency.
 fn found_entry_meets<'a>(
     source: &Source<'a>,
     place: u32,

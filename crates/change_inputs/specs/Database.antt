@@ -45,13 +45,13 @@ payload_database (Err Memory) = Err NoDatabase
 abbrev pub text_database : List ℕ → Result Database Refusal
 text_database text = payload_database (payload_of_text text)
 
--- the database if there is none: one without packages, if it may be begun
+-- the database of a root that has none: one without packages, if it may be created (`--initdb`)
 abbrev pub empty_database_if_allowed : Bool → Result Database Refusal
 empty_database_if_allowed true = Ok (database_from_parts [] None false)
 empty_database_if_allowed false = Err NoDatabase
 
--- the database of a root, given what is found under its two names, of which the text is used last, and
--- whether one may be begun
+-- the database of a root, given what is found under its two names, and whether one may be created
+-- (`may_begin`); the text database is used only if there is no other
 abbrev pub root_database : Bool → Option (List ℕ) → Option (List ℕ) → Result Database Refusal
 root_database may_begin (Some file) text = container_database file
 root_database may_begin None (Some text) = text_database text

@@ -9,7 +9,7 @@ use Rattle.report_core.specs.declared.refusal.Refusal.{Refusal}
 use Rattle.report_core.specs.declared.refusal.Refusal.TheVariants.{IndexBad, IndexMissing}
 use Rattle.change_inputs.specs.Chains.{and_then, unless_cause}
 
--- the file of the index of repository n, unless it is absent
+-- the index file of repository n, or the refusal of an absent one
 abbrev pub index_file : ℕ → Option (List ℕ) → Result (List ℕ) Refusal
 index_file n None = Err (IndexMissing n)
 index_file n (Some file) = Ok file

@@ -64,8 +64,8 @@ inputs_from_parts root indexes = record { root = root; indexes = indexes }
 abbrev pub database_read : ℕ
 database_read = 0
 
--- the number of the read of the text database; it has one even if there is another database, and does
--- not count then
+-- the number of the read of the text database; what it finds does not matter if there is another
+-- database
 abbrev pub text_database_read : ℕ
 text_database_read = 1
 

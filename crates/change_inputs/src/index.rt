@@ -154,12 +154,12 @@ fn test_index_file(alloc: Global, number: u64, file: &[u8]) -> Result<(), Refuse
 }
 
 /// The repositories of a root, given what was found under the name of their list. They are read
-/// only with leave, since signatures are not checked.
+/// only if `--allow-untrusted` permits it, since signatures are not checked.
 ///
 /// # Errors
 ///
-/// `RepositoriesBad` with the first bad line; `Untrusted` if there is one and no leave. Or
-/// `Memory`.
+/// `RepositoriesBad` with the first bad line; `Untrusted` if there is a repository and no
+/// permission. Or `Memory`.
 pub(crate) fn repositories_of(
     alloc: Global,
     is_allowed: bool,

@@ -80,10 +80,10 @@ pub(crate) fn read_databases<T: Tree>(
     alloc: Global,
     tree: &mut T,
 ) -> Result<(Option<Vec<u8>>, Option<Vec<u8>>), Refused>
-    // If the tree's files are observable, the database is there.
+    // If the tree's files are observable, the database that is found is the file under its name.
     ensures database { IfOk result (λ found.
         IsFileFoundInTree (T.history tree.old) database_name (bytes_in found.0)) }
-    // So does the text database, which counts only if there is no other.
+    // So is the text database, which counts only if there is no other.
     ensures text_database { IfOk result (λ found. bytes_in found.0 ≡ None
         → IsFileFoundInTree (T.history tree.old) text_database_name (bytes_in found.1)) }
     // Nothing is refused here.
@@ -140,7 +140,7 @@ pub(crate) fn read_file<T: Tree>(
     tree: &mut T,
     name: &Name,
 ) -> Result<Option<Vec<u8>>, Refused>
-    // If the tree's files are observable, it is the one there.
+    // If the tree's files are observable, the result is the file under the name.
     ensures found { IfOk result (λ found.
         IsFileFoundInTree (T.history tree.old) name.now (bytes_in found)) }
     // Nothing is refused here.
@@ -156,7 +156,7 @@ pub(crate) fn test_file(alloc: Global, file: &[u8], which: Which) -> Result<(), 
     // A refusal has the first test that the file fails.
     ensures bad { IfErr result (λ fault. IsReadFault fault (first_fault which file.now)) }
     ensures passed { OnOk result (first_fault which file.now ≡ None) }
-    // Then its payload passes the tests of a payload too.
+    // If the file passes, its payload passes the tests of a payload too.
     ensures sound { OnOk result (payload_fault which (payload_in file.now) ≡ None) }
 {
     read_adb(alloc, file, which)?;

@@ -103,7 +103,7 @@ fn add_operands(operands: &Operands, world: &mut World) -> Result<(), AllocError
 }
 
 // Inserts an operand, replacing the entry of its name. Each operand of `add` is a dependency, by
-// the grammar of words.
+// the grammar of the command line.
 fn add_operand(operand: &Operand, world: &mut World) -> Result<(), AllocError>
     ensures { OnOk result (world.new ≡ world_with_operand operand.now world.old) }
 {

@@ -41,7 +41,7 @@ pub record ChangeWishes : Type 0 where
 
 -- ---- the files
 
--- the change of files, given the packages that were found
+-- what a change does with files, given the packages after it that were found
 abbrev pub file_change : Inputs → ChangeWishes → List MemberFound → FileChange
 file_change inputs wishes found = record {
   old = inputs.root.database.packages;
@@ -78,7 +78,7 @@ abbrev pub or_result_too_large : {A : Type 0} → Result A PayloadCounts → Res
 or_result_too_large (Ok a) = Ok a
 or_result_too_large (Err counts) = Err (ResultTooLarge counts.0 counts.1)
 
--- *or_result_too_large* of a value, given only the counts
+-- the value, unless there are counts that exceed a limit of the writer: then they are refused
 abbrev pub unless_overflow : {A : Type 0} → Option PayloadCounts → A → Result A Refusal
 unless_overflow None a = Ok a
 unless_overflow (Some counts) a = Err (ResultTooLarge counts.0 counts.1)
@@ -88,7 +88,7 @@ abbrev pub is_absent_or_different : Option (List ℕ) → List ℕ → Bool
 is_absent_or_different None bytes = true
 is_absent_or_different (Some old) bytes = not (bytes_eq old bytes)
 
--- what the change does to the database and to world
+-- the database and world after a change, given the bytes of the new database
 abbrev pub new_records : Inputs → List ℕ → DatabaseAndWorldAfter
 new_records inputs database = record {
   database = database;
@@ -213,7 +213,7 @@ change_or_refusal inputs r wishes read clash files =
 
 -- The first clash of the names after a change, if the packages after it are found; otherwise there is
 -- none. `files` decide whether configuration is kept or a file is laid beside it; names clash among the
--- `present_files` ones.
+-- `present_files`.
 abbrev pub IsClashFoundAmong :
     Inputs → ChangeWishes → Files → Files → Result (List MemberFound) Refusal → Option NamePair
     → Type 0

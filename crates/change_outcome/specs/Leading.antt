@@ -6,7 +6,7 @@ use Rattle.journal_core.specs.Staged.{IsEmptyStage}
 use Rattle.journal_core.specs.journal_intent.FreeNames.{HasFreeDistinctNames, IsNoneOf, IsOneOf}
 use Rattle.journal_core.specs.journal_intent.IntentValue.{intent_of_lists}
 
--- a change has fewer writes than this, so that their number and the next one have 64 bits
+-- a change has fewer writes than this limit, so that their number plus 1 fits into 64 bits
 abbrev pub write_limit : ℕ
 write_limit = 2 ^ 63
 

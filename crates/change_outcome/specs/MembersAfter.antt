@@ -66,8 +66,8 @@ name_by_selected read repositories no_scripts n name change before None =
 name_by_selected read repositories no_scripts n name change before (Some c) =
     member_of_added_name read repositories no_scripts n name change c
 
--- the result for a name, a member or none, given the change of its package; without a change it is
--- kept. `n` is the number of the read of its file
+-- the result for a name, a member or none, given the change of its package; without a change the package
+-- is kept. `n` is the number of the read of the package's file
 abbrev pub name_by_change :
     Reads → List Repository → Bool → ℕ → List ℕ → Option Change → Option Plain
     → Option Candidate → Result (Option MemberFound) Refusal
@@ -85,8 +85,8 @@ name_after r read repositories no_scripts n name =
     name_by_change read repositories no_scripts n name (change_of_name r name)
     (find (is_package_named name) r.before) (find (is_selected_named name) r.selected)
 
--- the results for names in byte order, or the first refusal; each name has a number for a read, and
--- that of the first of these names is given
+-- the members of names in byte order, or the first refusal; each name has a read of its own, and `n` is
+-- the number of the read of the first name
 abbrev pub names_after :
     Replacement → Reads → List Repository → Bool → ℕ → List (List ℕ)
     → Result (List MemberFound) Refusal

@@ -30,7 +30,7 @@ path_beside_index name version None = None
 path_beside_index name version (Some repository) =
     path_if_name (package_path repository.path name version)
 
--- The name of a candidate's file. Repositories count from 1. A package of none has no file.
+-- The name of a candidate's file. Repositories count from 1. A candidate of no repository has no file.
 abbrev pub package_file_of : List Repository → Candidate → Option (List ℕ)
 package_file_of repositories c = by_number c.repository
   where

@@ -32,9 +32,9 @@ pub fn what_is_read_of_a_root_is_in_the_tree()
 
 // ---- what is done
 
-/// The actions of two lists lead to given files, if these have a file under each name that is
-/// written, none under one that is removed, and otherwise the files before; and if exactly the
-/// bytes that the files have there are staged for each write.
+/// Removing the names of one list and writing those of another leads to given files. These must
+/// have a file under each written name, none under a removed name, and the files before elsewhere.
+/// For each write, exactly the bytes of the given file must be staged.
 pub fn actions_lead_to_given_files()
     ensures { (removals writes : List (List ℕ)) (files after : Files)
         → LeadsTo removals writes files after
@@ -91,8 +91,8 @@ pub fn a_change_that_is_made_passes_each_test()
         → IsChangeMade inputs r wishes read clash files done }
 {}
 
-/// If the paths of a stage are free before a change, they are free after it, for each later change.
-/// And a change adds no intent (journal entry).
+/// If the paths of the journal entry (intent) and of staged files are free before a change, they are
+/// free after it, for each later change. And a change leaves no new journal entry.
 pub fn a_change_keeps_paths_free()
     ensures room { (inputs : Inputs) (r : Replacement) (wishes : ChangeWishes) (read : Reads)
         (clash : Option NamePair) (files : Files) (done : ChangeDone)
@@ -107,12 +107,12 @@ pub fn a_change_keeps_paths_free()
 
 /// A change has one first clash of names, or none, over files under finitely many names.
 pub fn a_change_has_a_first_clash_or_none()
-    // There is no second one.
+    // A change has at most one such result.
     ensures one { (inputs : Inputs) (r : Replacement) (wishes : ChangeWishes) (read : Reads)
         (files : Files) (a b : Option NamePair)
         → IsClashOfChange inputs r wishes read files a
         → IsClashOfChange inputs r wishes read files b → a ≡ b }
-    // There is one, if a property of all names can be decided.
+    // It has one, if all names of the files are among the list `within`.
     ensures exists { (inputs : Inputs) (r : Replacement) (wishes : ChangeWishes) (read : Reads)
         (within : List (List ℕ)) (files : Files) → HasNamesAmong within files
         → (clash : Option NamePair) × IsClashOfChange inputs r wishes read files clash }

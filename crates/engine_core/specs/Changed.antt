@@ -79,14 +79,14 @@ change_of_command command read files chosen clash =
 
 -- ---- the first clash
 
--- what a change is given as its first clash of names; a simulated one does not test for it
+-- the first clash of names that a change finds; a simulated change does not look for one, and has none
 abbrev pub IsClashUnlessSimulatedAmong :
     Bool → ChangeWishes → Reads → Files → Files → InputsAndReplacement → Option NamePair → Type 0
 IsClashUnlessSimulatedAmong true wishes read files present_files s clash = clash ≡ None
 IsClashUnlessSimulatedAmong false wishes read files present_files s clash =
     IsClashOfChangeAmong s.inputs s.replacement wishes read files present_files clash
 
--- what a command is given as its first clash of names; one that is refused earlier does not test for it
+-- the first clash of names that a command finds; one that is refused earlier does not look for it
 abbrev pub IsClashOfSelectedAmong :
     CommandLine → Reads → Files → Files → Result InputsAndReplacement Refusal → Option NamePair → Type 0
 IsClashOfSelectedAmong command read files present_files (Ok s) clash =
@@ -94,27 +94,27 @@ IsClashOfSelectedAmong command read files present_files (Ok s) clash =
     clash
 IsClashOfSelectedAmong command read files present_files (Err refusal) clash = clash ≡ None
 
--- The first clash of the names after a change; none if the command is refused before that test. By
--- `files` configuration is kept or a file is written beside it, and names clash among the
--- `present_files` ones.
+-- The first clash of the names after a change; none if the command is refused before that test. `files`
+-- decide whether a configuration file is kept or a file is written beside it; names clash among
+-- `present_files`.
 abbrev pub IsClashForAmong :
     CommandLine → Reads → Files → Files → Option (List ℕ) → Option NamePair → Type 0
 IsClashForAmong command read files present_files chosen clash =
     IsClashOfSelectedAmong command read files present_files (selected_for command read chosen) clash
 
--- *IsClashUnlessSimulatedAmong* if both are the same files, as on an observable tree
+-- *IsClashUnlessSimulatedAmong*, with the same files as `present_files`, as on an observable tree
 abbrev pub IsClashUnlessSimulated :
     Bool → ChangeWishes → Reads → Files → InputsAndReplacement → Option NamePair → Type 0
 IsClashUnlessSimulated simulate wishes read files s clash =
     IsClashUnlessSimulatedAmong simulate wishes read files files s clash
 
--- *IsClashOfSelectedAmong* if both are the same files
+-- *IsClashOfSelectedAmong*, with the same files as `present_files`
 abbrev pub IsClashOfSelected :
     CommandLine → Reads → Files → Result InputsAndReplacement Refusal → Option NamePair → Type 0
 IsClashOfSelected command read files selected clash =
     IsClashOfSelectedAmong command read files files selected clash
 
--- *IsClashForAmong* if both are the same files
+-- *IsClashForAmong*, with the same files as `present_files`
 abbrev pub IsClashFor :
     CommandLine → Reads → Files → Option (List ℕ) → Option NamePair → Type 0
 IsClashFor command read files chosen clash = IsClashForAmong command read files files chosen clash

@@ -44,7 +44,7 @@ IsRootRead history inputs = IfObservable history (λ v. IsRootOfFiles (files_of 
 abbrev pub inputs_of_packages : ReadPackages → Inputs
 inputs_of_packages a = inputs_of_selection a.selection.now
 
--- which packages replace which
+-- the chosen candidates, and the packages before that they replace
 abbrev pub replacement_of_packages : ReadPackages → Replacement
 replacement_of_packages a = replacement_seen a.selection.now
 
@@ -77,7 +77,7 @@ pub record AreFoundBy (history : List TreeState) (a : ReadPackages) (read : Read
   pub is : change_members (inputs_of_packages a) (replacement_of_packages a) (wishes_of_packages a)
       read ≡ Ok found
 
--- the packages after a change have arrived: they were read, and one database can list their members
+-- the packages after a change were read, and `after` are their members
 pub record IsArrived (history : List TreeState) (a : ReadPackages) (after : Members)
     (found : List MemberFound) : Type 0 where
   pub read : HasReadArrivals history a found
@@ -89,7 +89,7 @@ pub record IsArrived (history : List TreeState) (a : ReadPackages) (after : Memb
 abbrev pub inputs_of_plan : Plan → Inputs
 inputs_of_plan p = inputs_of_packages p.packages.now
 
--- which packages replace which, as it is known of a plan
+-- the chosen candidates and the packages before that they replace, as they are known of a plan
 abbrev pub replacement_of_plan : Plan → Replacement
 replacement_of_plan p = replacement_of_packages p.packages.now
 
@@ -111,13 +111,17 @@ pub record IsPlanOfPackages (history : List TreeState) (a : ReadPackages) (p : P
 pub record IsPlanned (history : List TreeState) (p : Plan) (found : List MemberFound) (files : Files)
     : Type 0 where
   pub arrived : IsArrived history p.packages.now p.members found
+  -- on an observable tree, the files are the tree's
   pub told : IfObservable history (λ v. files ≡ files_of v)
+  -- the plan is that of the change over these files
   pub lists : ArePlanLists (file_change (inputs_of_plan p) (wishes_of_plan p) found) files p.files
   pub names : HasDisjointUnreservedNames p.files
   pub sources : HasSources (members_of p.members) p.files
   pub owners : IsPlanForMembersAlone (members_of p.members) p.files
+  -- no name after the change is a folder of another
   pub no_clash : IfObservable history (λ v.
       HasNoClash (name_change (file_change (inputs_of_plan p) (wishes_of_plan p) found) files) files)
+  -- no path that a package before lists is reserved
   pub unreserved : All (λ l. is_reserved l.path ≡ false)
       (old_listings (file_change (inputs_of_plan p) (wishes_of_plan p) found))
 

@@ -34,7 +34,7 @@ pub(crate) fn make_change<T: Tree>(
     requires root { IsRootRead (T.history tree.old) (inputs_of_selection selection.now) }
     // The change is not only simulated.
     requires real { selection.now.command.now.flags.simulate ≡ false }
-    // The run is one by what is selected.
+    // The run is that of a change with this selection.
     ensures run { IsSelectedRun selection.now.command.now (Ok (selection_seen selection.now))
         (T.history tree.old) (T.history tree.new) (T.counts tree.old) (T.counts tree.new) result }
     ensures counts { IsRunCounted (T.counts tree.old) (T.counts tree.new) result }

@@ -42,12 +42,12 @@ pub(crate) fn read_packages<'r, 'a, T: Tree>(
 ) -> Result<ReadPackages<'r, 'a>, Refused>
     requires database { HasDatabaseOfInputs selection.now }
     requires pool { HasPoolOfInputs selection.now }
-    // They are the packages that reads of the tree find; or one of them is refused, the first.
+    // The packages are those that reads of the tree find; or the first that has a fault is refused.
     ensures found { IsExplainedBySomeReads (T.history tree.old) (λ read.
         DenotesUnlessDisk (AreReadFor (T.history tree.old) selection.entry.now) result
         (change_members (inputs_of_selection selection.entry.now)
         (replacement_seen selection.entry.now) (wishes_of_selection selection.entry.now) read)) }
-    // One database can list them.
+    // One database can list all packages.
     ensures members { IfOk result (λ packages. CanBeMembers
         (packages_of packages.selection.now.db) (arrivals_seen packages.arrivals)) }
     ensures tree { OnlyReads Refused.Disk (T.history tree.old) (T.history tree.new)

@@ -51,7 +51,7 @@ pub(crate) fn plan_change<'r, 's, 'a, T: Tree>(
         (arrivals_seen packages.now.arrivals) }
     // The plan of these packages, over the tree's files if they are observable.
     ensures plan { IfOk result (IsPlanOfPackages (T.history tree.old) packages.entry.now) }
-    // Or the first test of the change that refuses it, whatever reads find these packages.
+    // Or the refusal by the first test that the change fails, whatever reads find these packages.
     ensures refused { IfErr result (λ refused. (read : Reads) (found : List MemberFound)
         → AreFoundBy (T.history tree.old) packages.entry.now read found
         → IsFoundRun (inputs_of_packages packages.entry.now)

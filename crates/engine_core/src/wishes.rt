@@ -17,7 +17,7 @@ use dep_core::World;
 use std::alloc::{AllocError, Global};
 use std::cmp::Ordering;
 
-/// The names to be removed, whether they are or not: those that `del` takes out of world.
+/// The names that `del` takes out of world, whether their packages are then removed or kept.
 ///
 /// # Errors
 ///

@@ -39,7 +39,7 @@ items_of_text given =
 abbrev pub items_of_option : OptionValue → Option (List FieldWithValue)
 items_of_option v = option_and_then items_of_text (field_text_in v.text)
 
--- whether a value is for a single field for which one is given before
+-- whether a value is for a field that is given once, and a value for that field is before it
 abbrev pub gives_single_field_again : List OptionValue → Option FieldText → Bool
 gives_single_field_again before None = false
 gives_single_field_again before (Some given) =
@@ -49,8 +49,8 @@ gives_single_field_again before (Some given) =
 abbrev pub repeats_single_field : List OptionValue → OptionValue → Bool
 repeats_single_field before v = gives_single_field_again before (field_text_in v.text)
 
--- whether a value offends: it is not allowed, it is a second one, or it is the version that makes the
--- output's name too long
+-- whether a value offends: it is not allowed, it is a second one of a field that is given once, or it is
+-- the version while the output's name is too long (`too_long`)
 abbrev pub offends : Bool → List OptionValue → OptionValue → Bool
 offends too_long before v =
     not (is_some (items_of_option v))

@@ -44,15 +44,15 @@ reading_outcome Adbdump command read files = adbdump read files command.operands
 reading_outcome Adbgen command read files = adbgen read files command.operands
 reading_outcome other command read files = just_report files []
 
--- the outcome of an applet that makes a file, by the names that it lists
+-- the outcome of an applet that makes a file, given the names below the folder of `mkpkg -F`
 abbrev pub making_outcome : Applet → CommandLine → List (List ℕ) → Reads → Files → Outcome
 making_outcome Mkpkg command names read files = mkpkg read files command names
 making_outcome Mkndx command names read files = mkndx read files command
 making_outcome other command names read files = just_report files []
 
--- The outcome of a command by its effect and its applet: from the parts that relations specify, from
--- what its reads find, and from the files, which it may change. All commands that only report have one
--- definition, and so have all changes.
+-- The outcome of a command, by its effect and its applet. It depends on `given` (listed names, chosen
+-- candidates, first clash), on what the reads find, and on the files. All commands that only report
+-- share one definition, and so do all changes.
 abbrev pub effect_outcome : Effect → Applet → CommandLine → Given → Reads → Files → Outcome
 effect_outcome Computes applet command given read files = computing_outcome applet command files
 effect_outcome OnlyReadsFiles applet command given read files =
@@ -70,7 +70,7 @@ effect_outcome Changes applet command given read files =
 abbrev pub reads_in : Files → Reads
 reads_in files n name = files name
 
--- the outcome of a command that works on these files
+-- the outcome of a command over these files, which are the recovered ones if the command recovers first
 abbrev pub IsOutcomeAfterRecovery : CommandLine → Files → Outcome → Type 0
 IsOutcomeAfterRecovery command files outcome =
     (given : Given)
@@ -110,8 +110,8 @@ pub record IsRefusedForSpoiledPackage (command : CommandLine) (read : Reads) (gi
       (found_packages command read (selected_for command read given.chosen)) refusal
   pub is : outcome ≡ just_refusal files refusal
 
--- the outcome for some listing, some contents at each read, and some files; and for the first clash of
--- names among some present files
+-- the outcome is one for some listing, some contents at each read, some files, and the first clash of
+-- names among some present files; or an added package is refused as spoiled
 abbrev pub IsPossibleOutcomeAfterRecovery : CommandLine → Outcome → Type 0
 IsPossibleOutcomeAfterRecovery command outcome =
     (given : Given)
@@ -121,7 +121,7 @@ IsPossibleOutcomeAfterRecovery command outcome =
     × ((outcome ≡ effect_outcome (effect_of command.applet) command.applet command given read files)
     ⊎ IsRefusedForSpoiledPackage command read given files outcome)
 
--- some file is no intent container, and that is refused; nothing else is known of the files
+-- some file is no sound journal entry (intent), and is refused as such; nothing is said of the tree's files
 abbrev pub IsPossibleIntentRefusal : Outcome → Type 0
 IsPossibleIntentRefusal outcome =
     (file : List ℕ)
@@ -129,8 +129,8 @@ IsPossibleIntentRefusal outcome =
     × (first_fault IntentTable file ≡ Some cause)
     × (outcome ≡ just_refusal no_names (IntentBad cause))
 
--- the outcome of a command other than `demo` on a tree whose files no contract knows; a bad intent says
--- nothing of files
+-- the outcome of a command other than `demo` on a tree whose files no contract knows: one after recovery,
+-- or the refusal of a corrupt journal entry (intent)
 abbrev pub IsPossibleOutcomeWithoutDemo : CommandLine → Outcome → Type 0
 IsPossibleOutcomeWithoutDemo command outcome =
     IsPossibleOutcomeAfterRecovery command outcome

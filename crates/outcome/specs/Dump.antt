@@ -33,7 +33,7 @@ abbrev pub head_or_shape_fault : Which → List ℕ → Option Cause
 head_or_shape_fault which payload =
     option_or (head_fault payload) (shape_fault payload (shape_of (Obj which)) (root_of payload))
 
--- the first fault of the blocks: of the first block, and then of the framing of the others
+-- the first fault of the blocks: of the first block, and then of the framing of the later blocks
 abbrev pub dump_fault : Which → Reading → Option Cause
 dump_fault which done = None
 dump_fault which (fault c) = Some c
@@ -60,12 +60,12 @@ dump_with_schema file (Err c) = Err c
 dump_with_schema file (Ok schema) =
     dump_with_root schema (block_stream_from (first_block_position schema file)) (table_of_schema schema)
 
--- the text of a file, or the first failed test: its header, its schema, which is one of the four, its
--- first block, and the framing of the others
+-- the text of a file, or the first test that it fails: of its header, of its schema (one of four), of its
+-- first block, and of the framing of the later blocks
 unfoldable pub dump_of : List ℕ → Result (List ℕ) Cause
 dump_of file = dump_with_schema file (header_of file)
 
--- the outcome of a text: the text is the report, or the operand at this place is refused
+-- the outcome of a dump text or of a fault: the text is the report, or the operand at this place is refused
 abbrev pub text_outcome : Files → ℕ → Result (List ℕ) Cause → Outcome
 text_outcome files place (Ok text) = just_report files text
 text_outcome files place (Err cause) = just_refusal files (FileBad place cause)

@@ -19,7 +19,7 @@ use Rattle.outcome.specs.Make.{AreNamesBelowOption}
 
 -- what an outcome depends on besides the command, what reads find, and the files
 pub record Given : Type 0 where
-  -- the names below the folder of `-F` that the command lists
+  -- the names below the folder of `mkpkg -F`
   pub names : List (List ℕ)
   -- the places of the candidates that the command chooses, in the order of the choice; None if none
   -- satisfy the world
@@ -33,7 +33,7 @@ nothing_given = record { names = []; chosen = None; clash = None }
 
 -- ---- the choice
 
--- what a command chooses, by what reads find; only a change chooses
+-- the places of the candidates that a command chooses, given what reads find; only a change chooses
 abbrev pub IsChosenFor : Effect → CommandLine → Reads → Option (List ℕ) → Type 0
 IsChosenFor Changes command read chosen = IsChoiceFrom (pool_of_command command read) chosen
 IsChosenFor other command read chosen = chosen ≡ None

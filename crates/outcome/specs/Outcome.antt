@@ -18,7 +18,7 @@ pub record Outcome : Type 0 where
   -- whether the run writes or removes files
   pub commits : Bool
 
--- the line of a refusal, if there is one
+-- the error line of a refusal; no bytes if there is no refusal
 abbrev pub line_of : Option Refusal → List ℕ
 line_of None = []
 line_of (Some refusal) = refusal_line refusal

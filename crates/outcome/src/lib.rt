@@ -76,7 +76,7 @@ pub fn an_outcome_is_unique()
     a_change_has_a_first_clash_or_none();
 }
 
-/// A command has one outcome over the files on which it works, and no second one.
+/// A command has at most one outcome over the files on which it works.
 pub fn an_outcome_over_files_is_unique()
     ensures { (command : CommandLine) (files : Files) (a b : Outcome)
         → IsOutcomeAfterRecovery command files a → IsOutcomeAfterRecovery command files b → a ≡ b }
@@ -125,7 +125,7 @@ pub fn a_command_that_makes_commits_unless_refused()
         → o.commits ≡ not (is_some o.refusal) }
 {}
 
-/// A refusal commits nothing.
+/// An outcome with a refusal commits nothing.
 pub fn a_refusal_commits_nothing()
     ensures { (words : List (List ℕ)) (files : Files) (o : Outcome)
         → IsOutcome (command_of words) files o → IsSome o.refusal → o.commits ≡ false }
@@ -155,19 +155,19 @@ pub fn a_command_that_commits_nothing_leaves_the_files()
 /// nothing. `verify`, `adbdump`, `adbgen`, `version`, `demo`, `--help` and `--version` leave all
 /// files unchanged.
 pub fn a_command_recovers()
-    // The list of `must_recover` is that of the effects.
+    // `must_recover` lists exactly the applets that recover by their effect.
     ensures recovers { (applet : Applet) → does_recover (effect_of applet) ≡ must_recover applet }
     // A bad intent is refused, and all files are unchanged.
     ensures bad { (words : List (List ℕ)) (command : CommandLine) (files : Files) (o : Outcome)
         (cause : Cause) → command_of words ≡ Ok command → IsTrue (must_recover command.applet)
         → fault_of_intent (files intent_name) ≡ Some cause → IsOutcome (command_of words) files o
         → o ≡ just_refusal files (IntentBad cause) }
-    // Else the command works on the files that a recovery leaves.
+    // Without a bad intent the command works on the files that recovery leaves.
     ensures works { (words : List (List ℕ)) (command : CommandLine) (files : Files) (o : Outcome)
         → command_of words ≡ Ok command → IsTrue (must_recover command.applet)
         → fault_of_intent (files intent_name) ≡ None → IsOutcome (command_of words) files o
         → IsOutcomeAfterRecovery command (unstaged_files files) o }
-    // These files are left if the command commits nothing.
+    // The recovered files are left if the command commits nothing.
     ensures leaves { (words : List (List ℕ)) (command : CommandLine) (files : Files) (o : Outcome)
         → command_of words ≡ Ok command → IsTrue (must_recover command.applet)
         → fault_of_intent (files intent_name) ≡ None → IsOutcome (command_of words) files o
@@ -209,8 +209,8 @@ pub fn a_reporting_command_is_refused_for_its_input()
     info_refuses_only_for_an_operand();
 }
 
-/// A root is refused for having no database only if it has neither file of one, and the command may
-/// not begin one.
+/// A root is refused with `NoDatabase` only if it has neither a database file nor a text database,
+/// and `--initdb` is not given.
 pub fn a_root_without_a_database_file_has_no_database()
     ensures { (command : CommandLine) (files : Files)
         → database_for command (reads_in files) ≡ Err NoDatabase
@@ -219,10 +219,10 @@ pub fn a_root_without_a_database_file_has_no_database()
 {}
 
 /// Each command that changes what is installed ends in one of these ways. A bad intent is refused
-/// before all else. A stated fault of its input is refused. It is refused as unsatisfied exactly if
-/// no selection satisfies the new world. Otherwise the first preferred selection (the preferred
-/// solution) replaces the packages before: this is committed and reported, unless the packages have
-/// a stated fault.
+/// before all else. A stated fault of its input is refused. The change is refused as unsatisfied
+/// exactly if no selection satisfies the new world. Otherwise the first preferred selection (the
+/// preferred solution) replaces the packages before. This is committed and reported, unless the
+/// packages have a stated fault.
 pub fn a_change_takes_the_first_selection_or_is_refused()
     // Of a command over the files on which it works.
     ensures over { (command : CommandLine) (files : Files) (o : Outcome)

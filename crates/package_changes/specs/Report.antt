@@ -23,11 +23,11 @@ abbrev pub needs_candidate : Candidate → Candidate → Bool
 needs_candidate c needed =
     list_any (λ (d : Dependency). not d.conflict && meets_dependency d needed) c.depends
 
--- whether another candidate needs the first one
+-- whether `c` is another candidate than `needed`, and needs it
 abbrev pub is_other_candidate_needing : Candidate → Candidate → Bool
 is_other_candidate_needing needed c = not (bytes_eq c.name needed.name) && needs_candidate c needed
 
--- the names of the other selected candidates that need one, in byte order
+-- the names of the other selected candidates that need the candidate `needed`, in byte order
 abbrev pub names_needing_candidate : List Candidate → Candidate → List (List ℕ)
 names_needing_candidate selected needed =
     sorted_distinct_names (map (λ (c : Candidate). c.name) (filter (is_other_candidate_needing needed) selected))

@@ -10,7 +10,7 @@ ghost use Rattle.std.specs.Prelude.{◌≡◌, ℕ, List};
 /// The places of a name lead to the first package before that has the name, and to the first
 /// selected candidate.
 pub fn places_lead_to_packages_and_candidates()
-    // A name that is placed is the name.
+    // The record of a name has this name.
     ensures name { (p : PlacedReplacement) (name : List ℕ) → (placed_name_of p name).name ≡ name }
     // Its package's change is what *Changes* says.
     ensures change { (p : PlacedReplacement) (name : List ℕ)

@@ -235,7 +235,7 @@ fn push_name_if<'a>(
     Ok(())
 }
 
-/// Whether a candidate is another one and needs the first.
+/// Whether `details` are of another candidate than `needed`, which needs it.
 fn is_other_candidate_needing(needed: &Details<'_>, details: &Details<'_>) -> bool
     ensures { result ≡ is_other_candidate_needing needed.now details.now }
 {

@@ -70,7 +70,7 @@ pub fn a_candidate_is_read_by_field_names()
 {}
 
 /// An installed package is recognized in an index by its name, by the text of its version, and by
-/// its id, of which an index may store only a front. Without an id it is recognized in none.
+/// its id, of which an index may store only a prefix. Without an id it is recognized in none.
 pub fn an_installed_package_is_known_by_text_and_id()
     // The names of the two are the same.
     ensures name { (installed c : Candidate) → is_same_package installed c ≡ true →
@@ -78,13 +78,13 @@ pub fn an_installed_package_is_known_by_text_and_id()
     // The texts of the two versions are the same, or neither is a version.
     ensures text { (installed c : Candidate) → is_same_package installed c ≡ true →
         c.version ≡ installed.version }
-    // One id is a front of the other, and both are there.
+    // One id is a prefix of the other, and neither is empty.
     ensures id { (installed c : Candidate) → is_same_package installed c ≡ true →
         is_same_id c.id installed.id ≡ true }
-    // An installed package without an id is the same as none.
+    // An installed package without an id is the same as no candidate.
     ensures empty { (installed c : Candidate) → installed.id ≡ [] →
         is_same_package installed c ≡ false }
-    // Which of two ids is the front of the other makes no difference.
+    // Which of two ids is the prefix of the other makes no difference.
     ensures either { (a b : List ℕ) → is_same_id a b ≡ is_same_id b a }
     // An id that is not empty is the same as each longer one that begins with it.
     ensures front { (id rest : List ℕ) → 0 < length id → is_same_id id (id ++ rest) ≡ true }

@@ -36,9 +36,10 @@ AreCheckpointsOfLaterChoices pool install_ifs u (c ∷ cs) (b ∷ bs) =
     × AreCheckpointsOfLaterChoices pool install_ifs (u ++ c ∷ []) cs bs
 
 -- the queue is that of the choices. Every dependency before its cursor is met, and no candidate before
--- the cursor of the install-ifs asks. The conflicts of the choices are listed, each at its index, and
--- each choice can be taken back to its checkpoint
+-- the cursor of the install-ifs is triggered. The conflicts of the choices are listed, each at its index,
+-- and each choice can be taken back to its checkpoint
 pub record IsConsistent (chosen : Choices) : Type 0 where
+  -- each choice is a place in the list of candidates
   pub within : (c : ℕ) → IsIn c (choices_of chosen) → c < length (pool_of chosen).candidates
   pub queue : chosen.queue.items ≡ queue_of (pool_of chosen) (choices_of chosen)
   pub met : AreFirstDepsMet (pool_of chosen) (choices_of chosen) chosen.cursor

@@ -33,7 +33,7 @@ conflict_without_index listed = (listed.0, listed.1)
 abbrev pub conflicts_in : List (List ℕ × List ListedConflictValue) → List ℕ → List (ℕ × Dependency)
 conflicts_in table name = map conflict_without_index (items_under_name table name)
 
--- the candidate at this place has these dependencies
+-- if there is a candidate at this place, its dependencies are these
 abbrev pub HasDepends : List Candidate → ℕ → List Dependency → Type 0
 HasDepends candidates by deps =
     (c : Candidate) → slice_get candidates by ≡ Some c → c.depends ≡ deps

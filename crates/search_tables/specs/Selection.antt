@@ -86,8 +86,8 @@ occupied_names c =
 abbrev pub occupied_names_at : SealedPool → ℕ → List (List ℕ)
 occupied_names_at pool c = option_map_or occupied_names (candidate_at pool c) []
 
--- whether both candidates occupy a name: one selection cannot have both, since a name has one place
--- in it
+-- whether both candidates occupy a name: one selection cannot have both, since at most one member may
+-- occupy a name
 abbrev pub share_a_name : SealedPool → ℕ → ℕ → Bool
 share_a_name pool a b =
     list_any (λ name. candidate_at_passes pool (occupies_name name) b) (occupied_names_at pool a)
@@ -140,7 +140,7 @@ IsWalkFrom pool selection chosen (c ∷ rest) =
     (need : Need) × (next_need pool chosen ≡ Some need) × IsBestMember pool selection need c
     × IsWalkFrom pool selection (chosen ++ c ∷ []) rest
 
--- the walk of a selection, from the first need on
+-- the walk of a selection, from the first need on: for each next need, the best member that meets it
 abbrev pub IsWalk : SealedPool → List ℕ → List ℕ → Type 0
 IsWalk pool selection walk = IsWalkFrom pool selection [] walk
 

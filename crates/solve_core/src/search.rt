@@ -317,8 +317,9 @@ impl<'p> Search<'p> {
         self.step_back_for_reason()
     }
 
-    /// Whether propagation finds that no satisfying selection has all the choices. The stored reason
-    /// is then one of choices. After many dead ends only, since most searches have few.
+    /// Whether propagation finds that no satisfying selection has all the choices. All members of
+    /// the stored reason are then choices. It is only tried after many dead ends, since most
+    /// searches have few.
     pub(crate) fn is_dead_ahead(&mut self) -> Result<bool, AllocError>
         requires { self.old.known ≡ pool_of self.old.chosen }
         ensures chosen { self.new.chosen ≡ self.old.chosen }
