@@ -23,7 +23,7 @@ pub record IsHeadPrefix (head : List ℕ) (left : ℕ) : Type 0 where
   pub within : length head ≤ left
   pub whole : head_len head ≤ left → head_len head ≤ length head
 
--- the length of the header and the payload of a framed block in bytes
+-- the length of the header and the payload of a framed block together, in bytes
 abbrev pub raw_size : Frame → ℕ
 raw_size frame = frame.head_len + frame.payload_len
 

@@ -26,8 +26,8 @@ use adb_view::field_indexes::{
 use adb_view::{Adb, Arr, Val, Which, entry_word, values_have_their_shape};
 use std::alloc::AllocError;
 
-/// Copies the information with a word of a payload, with `id` as its hash and `len` as the size of
-/// the package's file. An integer 0 is NULL.
+/// Copies the information of a package, which has this word in its payload. The copy has `id` as
+/// its hash and `len` as the size of the package's file. An integer 0 is NULL.
 pub fn write_info(
     draft: &mut Draft,
     adb: Adb<'_>,

@@ -23,7 +23,7 @@ use adb_view::field_indexes::{
 use adb_view::{Adb, Val, Which, values_have_their_shape};
 use std::alloc::AllocError;
 
-/// Copies the access list with a word of a payload.
+/// Copies the access list that has this word in its payload.
 pub fn write_acl(
     draft: &mut Draft,
     adb: Adb<'_>,
@@ -50,8 +50,8 @@ pub fn write_acl(
     draft.close_object()
 }
 
-/// Copies the file with a word of a payload: its name, access list, size, time, hash and target,
-/// without its contents.
+/// Copies the file that has this word in its payload: its name, access list, size, time, hash and
+/// target, without its contents.
 pub fn write_file(
     draft: &mut Draft,
     adb: Adb<'_>,
@@ -81,7 +81,7 @@ pub fn write_file(
     draft.close_object()
 }
 
-/// Copies the scripts with a word of a payload, in the order of table 6.
+/// Copies the scripts that have this word in their payload, in the order of table 6.
 pub fn write_scripts(
     draft: &mut Draft,
     adb: Adb<'_>,

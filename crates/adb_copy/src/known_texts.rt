@@ -26,7 +26,7 @@ const SHORT: usize = 64;
 /// The long texts of one payload that one draft contains.
 #[derive(Drop)]
 pub struct KnownTexts {
-    /// The word of each of them in the draft, by its word in the payload.
+    /// By the word of a long text in the payload: the word of that text in the draft.
     words: BTreeMap<u32, u32>,
     /// Which of the texts overlap, and the periods of their bytes.
     overlaps: Overlaps,

@@ -95,7 +95,8 @@ fn dump_len(alloc: Global, shaped: &Shaped<'_>) -> Result<usize, AllocError>
     Ok(count.len.bytes)
 }
 
-/// Puts the text of a payload into an out: the line of the schema, and then the lines of the root.
+/// Puts the text of a payload into an output: the line of the schema, and then the lines of the
+/// root.
 fn write_dump<O: BlobOut>(out: &mut O, shaped: &Shaped<'_>) -> Result<(), AllocError>
     requires { is_some (schema_word (table_of shaped.now)) ≡ true }
     ensures { OnOk result (Puts (O.holds (payload_of (adb_of shaped.now))) out.old out.new

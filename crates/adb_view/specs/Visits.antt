@@ -11,7 +11,7 @@ pub record Visit : Type 0 where
   pub shape : Shape
   pub word : ℕ
 
--- the entries below a word that are visited; a word that cannot be read has none
+-- the entries that were read of an array or an object; none if its word cannot be read
 abbrev pub or_empty : Result (List ℕ) Cause → List ℕ
 or_empty (Ok ws) = ws
 or_empty (Err c) = []

@@ -32,8 +32,8 @@ use adb_view::Adb;
 use std::alloc::{AllocError, Global};
 use std::cmp::Ordering;
 
-/// The most locators of a page. In larger pages a new locator would move more of them; smaller ones
-/// would be more numerous.
+/// The most locators of a page. In a larger page a new locator moves more locators; with smaller
+/// pages there are more of them.
 const FULL: usize = 512;
 
 /// How many locators remain in a page that is split; the others are moved to a new one.
@@ -62,7 +62,7 @@ pub(crate) struct WordPages {
     alloc: Global,
     /// The locators of each page.
     pub pages: Vec<Vec<u64>>,
-    /// A copy of the first locator of each page, contiguous in memory.
+    /// The first locator of each page again, contiguous in memory.
     firsts: FirstLocators,
 }
 

@@ -18,7 +18,8 @@ use Rattle.adb_view.specs.Head.{head_fault, root_of}
 use Rattle.container_laws.specs.HeaderFaults.{IsHeaderFault}
 use Rattle.pkg_core.specs.Whole.{fault_of_further_blocks, table_of_schema}
 
--- the fault of tests in their order: one test has it, and no test before that has one
+-- the cause is that of the first failed test: the test at `place`, counted from 0, fails with it, and
+-- no test before fails
 pub record IsFirstFailing (tests : List (Option Cause)) (c : Cause) : Type 0 where
   pub place : ℕ
   pub fails : slice_get tests place ≡ Some (Some c)

@@ -21,8 +21,8 @@ use adb_dump::{Field, FieldName, Kind, Which, fields_of, has_one_line};
 use adb_values::Draft;
 use std::alloc::{AllocError, Global};
 
-/// Reads the root of a text, an object of this table, of all lines that are left; where none is,
-/// the root is Null.
+/// Reads the root of a text, an object of this table, from all lines that are left. If no line is
+/// left, the root is Null.
 pub(crate) fn read_root(
     alloc: Global,
     draft: &mut Draft,
@@ -69,7 +69,7 @@ fn read_block(
     }
 }
 
-/// Reads a block that is one line as a value of the kind.
+/// Reads a block of one line as a value of the kind.
 fn read_only_line(
     draft: &mut Draft,
     cursor: &mut Cursor<'_>,
@@ -93,7 +93,7 @@ fn read_only_line(
     end_block(cursor, depth)
 }
 
-/// Reads what is left of the line as a value of the kind, and goes to the next line.
+/// Reads the rest of the current line as a value of the kind, and goes to the next line.
 fn read_line(
     draft: &mut Draft,
     cursor: &mut Cursor<'_>,
@@ -113,7 +113,7 @@ fn read_line(
     Ok(())
 }
 
-/// Reads a line as a value of the kind; false where it is that of none.
+/// Reads a line as a value of the kind; false if it is the line of no such value.
 fn read_value(
     draft: &mut Draft,
     scratch: &mut Vec<u8>,
@@ -190,7 +190,7 @@ fn read_array(
     Ok(())
 }
 
-/// Reads a block as values of the kind, each behind a dash.
+/// Reads a block as values of the kind, each after a dash.
 #[cycle(block)]
 fn read_entries(
     draft: &mut Draft,
@@ -319,7 +319,7 @@ fn read_fields(
     end_block(cursor, depth)
 }
 
-/// What a line has after the name of a field and a colon, if it begins with these.
+/// The rest of a line after the name of a field and a colon, if the line begins with these.
 fn after_name(line: &[u8], name: FieldName) -> Option<&[u8]>
     ensures { option_copied result
         ≡ strip_prefix (field_name_text name ++ codes ":") line.entry.now }
@@ -330,8 +330,8 @@ fn after_name(line: &[u8], name: FieldName) -> Option<&[u8]>
     }
 }
 
-/// Reads the value of a field, of whose first line this is left after its name: on that line, or
-/// in the block below it.
+/// Reads the value of a field. `value` is the rest of the field's first line after its name and
+/// colon; the value is there, or in the block below.
 #[cycle(block)]
 fn read_named(
     draft: &mut Draft,

@@ -38,12 +38,13 @@ next_read_offset place (Some o) = o.at
 abbrev pub offset_of : PieceReader → ℕ
 offset_of reader = next_read_offset reader.place reader.opened
 
--- the expected files: those whose last piece is still to be read
+-- the files whose last piece is still to be read: the open file, and those that the walk has left
 abbrev pub files_to_read_in : BlockPlace → Option OpenFile → List Expected
 files_to_read_in place None = files_left_in_walk place.walk
 files_to_read_in place (Some o) = expected_of o.file.wanted ∷ files_left_in_walk place.walk
 
--- the expected files, by what is left of a reader: none after the last block, or after a failed test
+-- the files whose last piece is still to be read by a reader in this state: none after the last block,
+-- or after a failed test
 abbrev pub files_to_read_in_state : Due → BlockPlace → Option OpenFile → List Expected
 files_to_read_in_state Files place opened = files_to_read_in place opened
 files_to_read_in_state Nothing place opened = []
@@ -69,8 +70,8 @@ ArePiecesFrom place None pkg pieces = pieces ≡ pieces_at place pkg
 ArePiecesFrom place (Some o) pkg pieces =
     (so_far : List ℕ) × IsOpenFile o so_far pkg (pieces_at place pkg) pieces
 
--- these pieces are left, by what is left of a reader: none after the last block, only the fault after a
--- failed test
+-- these pieces are still to be read by a reader in this state: none after the last block, only the
+-- fault after a failed test
 abbrev pub AreUnreadPieces : Due → BlockPlace → Option OpenFile → List ℕ → PiecesRead → Type 0
 AreUnreadPieces Files place opened pkg pieces = ArePiecesFrom place opened pkg pieces
 AreUnreadPieces Nothing place opened pkg pieces = pieces ≡ no_piece

@@ -15,7 +15,7 @@ use adb_block::BlockKind;
 use base_core::{Cause, Name, Tree};
 use pkg_core::{BlockPlace, Contents, Front, Part, Walk};
 
-/// What is left of a reader.
+/// What a reader still has to read.
 #[derive(Clone, Copy)]
 pub(crate) enum Due {
     /// The pieces of the files that are left.
@@ -34,7 +34,7 @@ pub(crate) enum Due {
 pub struct PieceReader<'a> {
     /// The name of the package.
     pub(crate) name: &'a Name,
-    /// The position of the reader in the blocks: after the one of the open file.
+    /// The position of the reader in the blocks: after the block of the open file.
     pub(crate) place: BlockPlace<'a>,
     /// The file of which some pieces, but not all, were read.
     pub(crate) opened: Option<OpenFile<'a>>,
@@ -97,6 +97,8 @@ impl<'a> PieceReader<'a> {
             place,
             opened: None,
             start: 0,
+            /// What is still to be read: files, nothing after the last block, or nothing after a
+            /// failed test.
             due: Due::Files,
         }
     }

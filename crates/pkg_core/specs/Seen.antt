@@ -44,7 +44,7 @@ pub record ReadsFile {A E : Type 0} (name : List ℕ) (len : ℕ) (disk_fault : 
   pub goes_on : CountsOnlyRise before now
   -- it reports a failure of the tree only if there was one
   pub disk : IsErrOf result disk_fault → HasCause before now
-  -- a result that is no failure of the tree raised neither the count of faults nor that of wants
+  -- a result that is no failure of the tree raised neither the count of faults nor that of memory faults
   pub kept : OnOk result (IsNoFault before now)
   pub others : IfErr result (λ fault. (fault ≡ disk_fault → ⊥) → IsNoFault before now)
   pub proper : IfObservable old (λ v. IsFileOfLength name len v → now.misuses ≡ before.misuses)

@@ -120,7 +120,7 @@ pub fn open_file<'a>(
     positions: &[u8; POSITIONS_LEN],
 ) -> Result<FileCheck<'a>, Cause>
     requires { POSITIONS_LEN ≤ len }
-    // Of each payload of this length that begins with these positions.
+    // For each payload of this length that begins with these positions.
     ensures opened { (payload : List ℕ) (further : List Expected → PiecesRead)
         → length payload ≡ len → take POSITIONS_LEN payload ≡ positions.now
         → IsOpenResult (pieces_of_payload payload further (files_left_in_walk walk.old)) payload
@@ -142,8 +142,8 @@ pub fn open_file<'a>(
     }
 }
 
-/// Why contents are not those of a file, as far as that is known before their bytes: first the
-/// positions are compared, then the size.
+/// Why a block of contents does not belong to a file, before its bytes are read: first the
+/// positions are compared, then the size. None if both agree.
 fn position_or_size_fault(found: (u32, u32), size: u64, wanted: Wanted<'_>) -> Option<Cause>
     ensures exact { (payload : List ℕ) → length (contents_bytes payload) ≡ size
         → contents_positions payload ≡ found

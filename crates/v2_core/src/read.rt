@@ -145,8 +145,8 @@ fn end_record(draft: &mut Draft, text_record: &mut Record<'_>, lines: u64) -> Re
     Ok(())
 }
 
-// Writes the package of a record, with this many lines up to its end; a record without a line is
-// none. The clauses hold for any records that follow.
+// Writes the package of a record, which has this many lines of the text up to its end. A record
+// without a line is no record. The clauses hold for any records that follow.
 fn write_record(draft: &mut Draft, text_record: &Record<'_>, lines: u64) -> Result<(), V2Fault>
     ensures ok { OnOk result ((others : Result (List RecordModel) ℕ)
         → draft_with_records others draft.new
@@ -192,7 +192,7 @@ impl From<AllocError> for V2Fault {
 
     ghost from_gives = { λ _ fault. fault ≡ Memory };
 
-    /// Out of memory as such a fault.
+    /// Out of memory, as the reason why a text has no payload.
     fn from(_: AllocError) -> V2Fault {
         V2Fault::Memory
     }
@@ -204,7 +204,7 @@ impl From<Cause> for V2Fault {
 
     ghost from_gives = { λ cause fault. fault ≡ Bad cause };
 
-    /// A failed test as such a fault.
+    /// A failed test, as the reason why a text has no payload.
     fn from(cause: Cause) -> V2Fault {
         V2Fault::Bad(cause)
     }

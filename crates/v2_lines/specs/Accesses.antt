@@ -19,7 +19,7 @@ pub record Access : Type 0 where
 abbrev pub access_from_parts : List ℕ → List ℕ → ℕ → Access
 access_from_parts user group mode = record { user = user; group = group; mode = mode }
 
--- the access that a value of the program is, with texts in place of slices
+-- the access that a value of the program represents, with texts in place of slices
 abbrev pub access_view : AccessSlices → Access
 access_view a = access_from_parts a.user.now a.group.now a.mode
 
@@ -49,7 +49,8 @@ octal_number digits =
     if is_octal digits && nat_lt (digits_value 8 digits) (2 ^ 64) then Some (digits_value 8 digits)
     else None
 
--- the access that a text `uid:gid:mode` encodes, if it is one; parts after the third are skipped
+-- the access of a text `uid:gid:mode`; None if the text is no access. Parts after the third are
+-- skipped
 abbrev pub access_in : List ℕ → Option Access
 access_in text =
     let user = before_colon text in
