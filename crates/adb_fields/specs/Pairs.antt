@@ -6,7 +6,9 @@ use Rattle.adb_fields.specs.declared.pairs.Pair.{Pair}
 
 -- a name and its position, which counts from 1
 pub record NameWithPosition : Type 0 where
+  -- a name, or a path
   pub name : List ℕ
+  -- its position, counted from 1
   pub position : ℕ
 
 -- whether a pair has priority over another: by the smaller second position, then the smaller first one

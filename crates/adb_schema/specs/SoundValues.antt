@@ -58,12 +58,15 @@ pub record IsSoundFileOf (root : Which) (folder : List ℕ) (v : Plain) : Type 0
 pub record IsSoundFolder (root : Which) (v : Plain) : Type 0 where
   -- the rule of field 501
   pub name : is_folder_name (text_in (entry_in v DIR_NAME)) ≡ true
+  -- each file obeys the rules of fields 401 to 406
   pub files : Each (IsSoundFileOf root (text_in (entry_in v DIR_NAME)))
       (entries_in (entry_in v DIR_FILES))
 
 -- a package obeys its rules: its information and its folders do
 pub record IsSoundPackage (root : Which) (v : Plain) : Type 0 where
+  -- its information obeys its rules
   pub info : IsSoundInformation root (entry_in v PACKAGE_INFO)
+  -- each of its folders obeys its rules
   pub folders : Each (IsSoundFolder root) (entries_in (entry_in v PACKAGE_PATHS))
 
 -- an index obeys its rules: the information of each of its packages does, and so does its pattern of

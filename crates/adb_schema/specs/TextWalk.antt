@@ -16,7 +16,9 @@ bad_text_at (Some place) = Some (BadText place)
 
 -- the entry with index i is the same word as the one before it
 pub record IsSameWordAsPrevious (words : List ℕ) (i : ℕ) : Type 0 where
+  -- it is not the first entry
   pub behind : 0 < i
+  -- it equals the entry before it
   pub same : slice_index words i ≡ slice_index words (i - 1)
 
 -- no text breaks the rule of the field with this number, whatever its surroundings

@@ -8,7 +8,9 @@ use Rattle.base_core.specs.declared.cause.Cause.{Cause}
 
 -- a visit of a walk: a word, and the shape that is demanded of it
 pub record Visit : Type 0 where
+  -- the shape that is demanded of the word
   pub shape : Shape
+  -- the word that is visited
   pub word : ℕ
 
 -- the entries that were read of an array or an object; none if its word cannot be read

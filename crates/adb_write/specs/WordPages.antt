@@ -44,8 +44,11 @@ HaveNoEmptyPage = AllByRecursion (λ page. 0 < length page)
 -- a slot of the old pages is one of the new ones: it is between the same locators
 pub record IsSameSlot (old : List (List ℕ)) (slot : Slot) (new : List (List ℕ))
     (there : Slot) : Type 0 where
+  -- it is a slot of the new pages
   pub inside : IsSlotIn new there.page there.index
+  -- the locators before it are the same as before
   pub before : locators_before_slot new there.page there.index ≡ locators_before_slot old slot.page slot.index
+  -- the locators after it are the same as before
   pub behind : locators_from_slot new there.page there.index ≡ locators_from_slot old slot.page slot.index
 
 -- how many locators remain in a page that is split: half of a full one of 512
@@ -70,9 +73,13 @@ AllCompareToKey order payload key =
 
 -- this is one of the locators, and its item has this key
 pub record IsLocatorWithKey (payload : List ℕ) (words : List ℕ) (key : List ℕ) (word : ℕ) : Type 0 where
+  -- the locators before it
   pub before : List ℕ
+  -- the locators after it
   pub behind : List ℕ
+  -- it is one of the locators
   pub is : words ≡ before ++ word ∷ behind
+  -- its item has this key
   pub equal : slice_cmp nat_cmp key (key_of_locator payload word) ≡ Equal
 
 -- the slot is between the locators of lower keys and those of higher ones, so that none has this key
@@ -88,6 +95,7 @@ pub record IsBetween (payload : List ℕ) (pages : List (List ℕ)) (key : List 
 -- the page at k is the one into which a locator with this key belongs
 pub record IsPageFor (payload : List ℕ) (pages : List (List ℕ)) (key : List ℕ)
     (k : ℕ) : Type 0 where
+  -- there is such a page; or there are no pages, and k is 0
   pub inside : IsSlotIn pages k 0
   -- all pages before it have lower keys
   pub lower : AllCompareToKey Greater payload key (locators_before_slot pages k 0)
@@ -97,8 +105,11 @@ pub record IsPageFor (payload : List ℕ) (pages : List (List ℕ)) (key : List 
 -- the page at k begins at or before this key, and the next one after it, if there is a next one
 pub record IsPageAt (payload : List ℕ) (pages : List (List ℕ)) (key : List ℕ)
     (k : ℕ) : Type 0 where
+  -- there is such a page
   pub inside : k < length pages
+  -- it does not begin above the key
   pub here : page_begins_above_key payload key (page_at pages k) ≡ false
+  -- the next page, if there is one, begins above the key
   pub next : suc k < length pages → page_begins_above_key payload key (page_at pages (suc k)) ≡ true
 
 -- the result of a search of one page: the index of the locator with this key, or the one between the

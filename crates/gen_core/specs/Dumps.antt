@@ -22,7 +22,9 @@ pub record IsRootValue (which : Which) (value : Plain) : Type 0 where
 pub record AreDumpLines (lines : List Line) : Type 0 where
   -- the root
   pub which : Which
+  -- the value of the root
   pub value : Plain
+  -- it is a value that the root may have
   pub is : IsRootValue which value
   -- its dump has these lines
   pub lines_are : dump_lines which value ≡ lines

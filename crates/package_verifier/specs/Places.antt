@@ -19,8 +19,11 @@ use Rattle.package_verifier.specs.declared.places.FilePlace.{FilePlace}
 -- the contents are those of the file with the positions of this place, and begin at its offset in a
 -- package of these bytes
 pub record IsAtPlace (pkg : List ℕ) (place : FilePlace) (contents : Contents) : Type 0 where
+  -- the position of the folder
   pub folder : place.folder ≡ contents.folder
+  -- the position of the file in the folder
   pub file : place.file ≡ contents.file
+  -- the bytes are in the package at the offset of the place
   pub located : HasBytesAtOffset pkg place.at contents.bytes
 
 -- there is a place for each file with contents, in order, and no other

@@ -25,9 +25,13 @@ use Rattle.adb_schema.specs.Texts.{is_with_contents}
 -- a file whose contents are expected: the position of its folder in the package, its position in the
 -- folder (both count from 1), its size in bytes, and its digest
 pub record Expected : Type 0 where
+  -- the position of its folder in the package, counted from 1
   pub folder : ℕ
+  -- its position in the folder, counted from 1
   pub file : ℕ
+  -- its size in bytes
   pub size : ℕ
+  -- its digest
   pub hash : List ℕ
 
 -- the file `file` at the position `i` of a folder, if the file has contents: it has no target, and its
@@ -123,8 +127,11 @@ missing_contents_fault (e ∷ es) = Some (DataOrder (e.folder, e.file) (0, 0))
 -- the contents of a file, with the position of its folder in the package and its position in the
 -- folder, both counted from 1
 pub record Contents : Type 0 where
+  -- the position of the file's folder in the package, counted from 1
   pub folder : ℕ
+  -- the position of the file in the folder, counted from 1
   pub file : ℕ
+  -- the bytes of the file
   pub bytes : List ℕ
 
 -- the files with their contents in order, up to the last or to the first failed test

@@ -78,7 +78,9 @@ files_in_file file = files_after_header file (header_of file)
 
 -- the value of a package, with the contents of its files
 pub record PackageWithContents : Type 0 where
+  -- the plain value of the package
   pub value : Plain
+  -- the contents of its files, in order
   pub contents : List Contents
 
 -- the contents of a package's file: its value, and the contents of its files

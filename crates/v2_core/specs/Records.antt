@@ -12,26 +12,37 @@ use Rattle.v2_lines.specs.declared.field.InfoField.TheVariants as Fields
 
 -- one line of a record on a field of the package, and the values in the line
 pub record InfoLine : Type 0 where
+  -- the field
   pub field : InfoField
+  -- the values that the line gives
   pub values : List FieldValue
 
 -- a file, by the lines of a record
 pub record ListedFile : Type 0 where
+  -- its name: one part of a path
   pub name : List ℕ
+  -- its owner and mode, if a line gave them
   pub access : Option Access
+  -- the SHA-1 of its bytes, if a line gave it
   pub hash : Option (List ℕ)
 
 -- a folder, with its files in the order of their lines
 pub record ListedFolder : Type 0 where
+  -- its path; empty for the root folder
   pub name : List ℕ
+  -- its owner and mode, if a line gave them
   pub access : Option Access
+  -- its files, in the order of their lines
   pub files : List ListedFile
 
 -- a record: whether it has a line, and the meaning of its lines; further lines belong to the last
 -- folder and its last file
 pub record Record : Type 0 where
+  -- whether it has a line
   pub has_line : Bool
+  -- its lines on the package, in their order
   pub info : List InfoLine
+  -- its folders, in the order of their lines
   pub folders : List ListedFolder
 
 -- a record by its parts

@@ -11,8 +11,11 @@ use Rattle.v2_lines.specs.declared.access.TheConstants.{COLON}
 -- an access: the owner of a file or a folder, and its mode; the numbers of the user and of the group
 -- are kept as texts
 pub record Access : Type 0 where
+  -- the number of the user, in decimal digits
   pub user : List ℕ
+  -- the number of the group, in decimal digits
   pub group : List ℕ
+  -- the mode bits
   pub mode : ℕ
 
 -- an access by its parts
