@@ -151,6 +151,7 @@ impl<'a> PieceReader<'a> {
             KeepsFileStart part (length piece.new) self.old self.new)) }
         // A failed test is remembered, and each later call returns it.
         ensures refused { IfErr result (λ fault. RemembersFault fault self.new) }
+        // The name and the length of the package are unchanged.
         ensures name { name_in_tree self.new ≡ name_in_tree self.old }
         ensures len { package_len self.new ≡ package_len self.old }
         // The tree is unchanged. `Disk` is returned only if the tree failed, and no call is a
@@ -193,6 +194,7 @@ impl<'a> PieceReader<'a> {
         ensures start { IfOk result (λ found. IfSome found (λ part.
             KeepsFileStart part (length piece.new) self.old self.new)) }
         ensures refused { IfErr result (λ fault. RemembersFault fault self.new) }
+        // The name and the length of the package are unchanged.
         ensures name { name_in_tree self.new ≡ name_in_tree self.old }
         ensures len { package_len self.new ≡ package_len self.old }
         // The tree is unchanged. `Disk` is returned only if the tree failed, and no call is a
@@ -239,9 +241,11 @@ impl<'a> PieceReader<'a> {
             → offset_of self.old + length piece.new ≤ offset_of self.new)) }
         ensures start { IfOk result (λ found. IfSome found (λ part.
             KeepsFileStart part (length piece.new) self.old self.new)) }
+        // The state of the reader is unchanged.
         ensures due { self.new.due ≡ self.old.due }
         ensures open { IfOk result (λ found. IfSome found (λ part.
             is_none self.new.opened ≡ part.last)) }
+        // The name and the length of the package are unchanged.
         ensures name { name_in_tree self.new ≡ name_in_tree self.old }
         ensures len { package_len self.new ≡ package_len self.old }
         // The tree is unchanged. `Disk` is returned only if the tree failed, and no call is a
@@ -278,7 +282,9 @@ impl<'a> PieceReader<'a> {
         ensures start { IfOk result (λ found. IfSome found (λ file.
             IsStartOf self.old file self.new.start)) }
         ensures opened { self.new.opened ≡ None }
+        // The state of the reader is unchanged.
         ensures due { self.new.due ≡ self.old.due }
+        // The name and the length of the package are unchanged.
         ensures name { name_in_tree self.new ≡ name_in_tree self.old }
         ensures len { package_len self.new ≡ package_len self.old }
         // The tree is unchanged. `Disk` is returned only if the tree failed, and no call is a

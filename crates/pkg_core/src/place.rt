@@ -55,6 +55,7 @@ impl<'a> BlockPlace<'a> {
     ) -> Result<Step<'a>, Cause>
         // The place, and the block there, are within the file.
         requires at { self.old.at ≤ self.old.len }
+        // The block ends within the file.
         requires fits { IfSome framing (λ frame. raw_size frame ≤ self.old.len - self.old.at) }
         // For each file of this length with this block there.
         ensures step { (file : List ℕ) → length file ≡ self.old.len
@@ -104,6 +105,7 @@ impl<'a> BlockPlace<'a> {
         positions: &[u8; POSITIONS_LEN],
     ) -> Result<Step<'a>, Cause>
         requires at { self.old.at ≤ self.old.len }
+        // The block ends within the file.
         requires fits { raw_size frame ≤ self.old.len - self.old.at }
         ensures step { (file : List ℕ) → length file ≡ self.old.len
             → IsFrameOrEndOfStep (Ok (Some frame)) (drop self.old.at file) (block_step_at self.old file)
@@ -129,6 +131,7 @@ impl<'a> BlockPlace<'a> {
     /// Opens the file whose contents are in this block. The clauses are those of `step`.
     fn open(&mut self, frame: Frame, positions: &[u8; POSITIONS_LEN]) -> Result<Step<'a>, Cause>
         requires at { self.old.at ≤ self.old.len }
+        // The block ends within the file.
         requires fits { raw_size frame ≤ self.old.len - self.old.at }
         requires kind { frame.kind ≡ Kinds.Contents }
         ensures step { (file : List ℕ) → length file ≡ self.old.len
@@ -158,6 +161,7 @@ impl<'a> BlockPlace<'a> {
     /// Advances over a block and its padding, as far as the file has it.
     fn pass(&mut self, frame: Frame)
         requires at { self.old.at ≤ self.old.len }
+        // The block ends within the file.
         requires fits { raw_size frame ≤ self.old.len - self.old.at }
         ensures { self.new ≡ place_after self.old frame }
     {
