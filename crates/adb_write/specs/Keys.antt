@@ -64,8 +64,8 @@ low_nibbles b i =
     get_or b i 0 % 16 * 2 ^ 12 + get_or b (i + 1) 0 % 16 * 2 ^ 8
     + get_or b (i + 2) 0 % 16 * 2 ^ 4 + get_or b (i + 3) 0 % 16
 
--- where a blob is among others: the first four bytes, and the four before the last two, so that the
--- neighbours in a sorted list of texts are close together
+-- a number from the first four bytes of a blob, and from the four before the last two. It is close for
+-- neighbours in a sorted list of texts
 abbrev pub neighbourhood : List ℕ → ℕ
 neighbourhood b = low_nibbles b 0 + low_nibbles b (length b - 6)
 

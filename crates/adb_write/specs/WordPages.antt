@@ -30,7 +30,8 @@ locators_from_slot (page ∷ pages) (suc k) index = locators_from_slot pages k i
 abbrev pub page_at : List (List ℕ) → ℕ → List ℕ
 page_at pages k = get_or pages k []
 
--- a place in one of the pages, or after its last locator; without pages only 0 and 0
+-- a slot of these pages: an index of a locator in page k, or just after its last locator; without
+-- pages both numbers are 0
 abbrev pub IsSlotIn : List (List ℕ) → ℕ → ℕ → Type 0
 IsSlotIn [] k index = (k ≡ 0) × (index ≡ 0)
 IsSlotIn (page ∷ pages) zero index = index ≤ length page
@@ -66,7 +67,7 @@ abbrev pub page_begins_above_key : List ℕ → List ℕ → List ℕ → Bool
 page_begins_above_key payload key [] = false
 page_begins_above_key payload key (word ∷ words) = is_lt (slice_cmp nat_cmp key (key_of_locator payload word))
 
--- an item with this key has this order to the item of each of the locators
+-- the key `key` has this order to the key of each of these locators
 abbrev pub AllCompareToKey : Ordering → List ℕ → List ℕ → List ℕ → Type 0
 AllCompareToKey order payload key =
     AllByRecursion (λ word. slice_cmp nat_cmp key (key_of_locator payload word) ≡ order)

@@ -17,8 +17,8 @@ use adb_schema::{DirInfo, FileInfo, List, PackageView, contents_positions};
 use base_core::Cause;
 
 /// A walk over the files of a package that have contents: its position, after this many folders,
-/// and after this many files of the next one. Contracts see the files that are left, by `files_left_in_walk`
-/// of `specs/`.
+/// and after this many files of the next one. Contracts see the files that are left, by
+/// `files_left_in_walk` of `specs/`.
 #[derive(Clone, Copy)]
 pub struct Walk<'a> {
     /// All folders of the package.
