@@ -72,6 +72,7 @@ impl<'a> FileCheck<'a> {
         // Only the last piece ends the file.
         ensures more { IfOk result (λ taken. IfSome taken.1 (λ further.
             0 < file_bytes_left further)) }
+        // The last piece has all bytes that were left.
         ensures all { IfOk result (λ taken. IfNone taken.1
             (length bytes.now ≡ file_bytes_left self.entry)) }
     {
@@ -125,7 +126,9 @@ pub fn open_file<'a>(
         → length payload ≡ len → take POSITIONS_LEN payload ≡ positions.now
         → IsOpenResult (pieces_of_payload payload further (files_left_in_walk walk.old)) payload
         (further (files_left_in_walk walk.new)) result }
+    // All bytes after the positions are still to be taken.
     ensures left { IfOk result (λ file. POSITIONS_LEN + file_bytes_left file ≡ len) }
+    // The walk advances over this file.
     ensures walk { IfOk result (λ file.
         files_left_in_walk walk.old ≡ expected_of file.wanted ∷ files_left_in_walk walk.new) }
 {
