@@ -40,8 +40,8 @@ needs_no_quotes b =
     list_all is_printable b && not (begins_with_byte 0x20 b) && not (ends_with_byte 0x20 b)
     && not (begins_with_byte 0x22 b) && not (bytes_eq b (codes "null"))
 
--- how a byte of a text between quotes is written: a line end, a backslash and a quote by an escape,
--- any other printable byte as it is, and the rest by `\x` and two hexadecimal digits
+-- how a byte of a text between quotes is written. A line end, a backslash and a quote are escapes; any
+-- other printable byte is written as it is. The rest are `\x` and two hexadecimal digits
 abbrev pub escape_of : ℕ → List ℕ
 escape_of c =
     if c == 0x0a then codes "\\n"

@@ -57,15 +57,15 @@ unhex [] = []
 unhex (h ∷ []) = []
 unhex (h ∷ l ∷ cs) = (hex_value h * 16 + hex_value l) ∷ unhex cs
 
--- the bytes of a text from after a `\x` on: the byte of its two digits, and those of the rest, which
--- `f` reads
+-- the bytes of a text from after a `\x` on. First is the byte of the next two digits; `f` reads the
+-- rest
 abbrev pub hex_escape_read : (List ℕ → Option (List ℕ)) → List ℕ → Option (List ℕ)
 hex_escape_read f [] = None
 hex_escape_read f (h ∷ []) = None
 hex_escape_read f (h ∷ l ∷ cs) = option_map (λ b. (hex_value h * 16 + hex_value l) ∷ b) (f cs)
 
--- the bytes of a text from after a backslash on: the byte of the escape (`n`, a backslash, a quote, or
--- `x` and two digits), and those of the rest, which `f` reads
+-- the bytes of a text from after a backslash on. First is the byte of the escape (`n`, a backslash, a
+-- quote, or `x` and two digits); `f` reads the rest
 abbrev pub escape_read : (List ℕ → Option (List ℕ)) → List ℕ → Option (List ℕ)
 escape_read f [] = None
 escape_read f (d ∷ cs) =

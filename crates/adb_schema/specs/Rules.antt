@@ -38,8 +38,8 @@ is_one_part name = is_name name && not (list_any (λ b. b == 47) name)
 abbrev pub is_file_name : List ℕ → List ℕ → Bool
 is_file_name folder name = is_one_part name && nat_le (length (path_of folder name)) 1024
 
--- whether a change may remove or write the path: it is a name, and it is neither the journal nor the
--- staging area, nor below one of them
+-- whether a change may remove or write the path: it is a name, and not the journal, the staging area,
+-- or a name below one of them
 abbrev pub is_changeable_name : List ℕ → Bool
 is_changeable_name path = is_name path && not (is_intent_or_stage_name path)
 

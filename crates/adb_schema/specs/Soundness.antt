@@ -56,8 +56,8 @@ contents_positions payload = (
   from_le_bytes w32 (take 4 (drop 4 payload)),
 )
 
--- the cause for a block of contents that is not allowed: it is too short for its two positions (8
--- bytes), or it has the positions of a file, and no file (0, 0) was expected
+-- the cause for a block of contents that is not allowed. Either it is too short for its two positions
+-- (8 bytes), or it has the positions of a file, while (0, 0) was expected, which is no file
 abbrev pub unexpected_contents_cause : List ℕ → ℕ → Cause
 unexpected_contents_cause payload at = if nat_lt (length payload) 8 then Truncated at
     else DataOrder (0, 0) (contents_positions payload)

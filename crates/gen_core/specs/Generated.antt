@@ -61,7 +61,7 @@ root_read which (Ok v) = Ok (record { which = which; value = v })
 root_read which (Err k) = Err (k + 2)
 
 -- the root that is read from the lines after the first (`ls`), as an object of the table that the
--- first line names; without a table line 1 is bad
+-- first line names. Without a table line 1 is bad
 abbrev pub root_of_table : Option Which → List Line → Result DumpedRoot ℕ
 root_of_table None ls = Err 1
 root_of_table (Some which) ls = root_read which (value_read which ls)

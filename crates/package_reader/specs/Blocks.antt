@@ -22,8 +22,8 @@ abbrev pub head_size : Option Frame → ℕ
 head_size None = 0
 head_size (Some frame) = frame.head_len
 
--- the bytes `seen` of a block's payload were read: its first eight bytes, which are the positions, if
--- it has as many; else no more bytes than it has
+-- the bytes `seen` of a block's payload were read. They are its first eight bytes, the positions, if
+-- it has as many; else they are no more than it has
 abbrev pub SeesPositions : Option Frame → List ℕ → List ℕ → Type 0
 SeesPositions None positions seen = seen ≡ []
 SeesPositions (Some frame) positions seen =

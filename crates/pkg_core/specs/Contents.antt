@@ -22,8 +22,8 @@ use Rattle.adb_schema.specs.Texts.{is_with_contents}
 
 -- ---- the expected files
 
--- a file whose contents are expected: the position of its folder in the package, its position in the
--- folder (both count from 1), its size in bytes, and its digest
+-- a file whose contents are expected: the positions of its folder and of the file in it, its size, and
+-- its digest
 pub record Expected : Type 0 where
   -- the position of its folder in the package, counted from 1
   pub folder : ℕ
@@ -65,8 +65,8 @@ expected_contents pkg = expected_folders 1 (folders_in pkg)
 
 -- ---- one block of contents
 
--- the length in bytes of the two positions at the front of a block of contents: that of the folder and
--- that of the file, four bytes each
+-- how many bytes the two positions have at the front of a block of contents: the position of the
+-- folder and that of the file, four bytes each
 abbrev pub POSITIONS_LEN : ℕ
 POSITIONS_LEN = 8
 

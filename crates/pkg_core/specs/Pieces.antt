@@ -24,7 +24,7 @@ pub data PiecesRead : Type 0 where
 abbrev pub part_of : Expected → Bool → Part
 part_of e last = record { path = e.folder; file = e.file; last = last }
 
--- the last piece of a file, and then further ones; if the digest of all bytes of the file is wrong
+-- the last piece of a file, and then further ones. If the digest of all bytes of the file is wrong
 -- (`Some c`), its fault is in their place
 abbrev pub last_piece : Expected → Option Cause → List ℕ → PiecesRead → PiecesRead
 last_piece e None bytes further = piece (part_of e true) bytes further

@@ -60,8 +60,8 @@ package_fault file = container_fault_of_table Package file
 abbrev pub package_id : List ℕ → List ℕ
 package_id file = sha256 (payload_in file)
 
--- the files that are read from the blocks of a package: the value of the first block lists the
--- expected files, and the blocks after it have their contents
+-- the files that are read from the blocks of a package. The value of the first block lists the
+-- expected files; the blocks after it have their contents
 abbrev pub files_after_first_block : Reading → FilesRead
 files_after_first_block done = no_more
 files_after_first_block (fault c) = refused c

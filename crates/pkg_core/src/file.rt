@@ -113,8 +113,8 @@ fn part_of(wanted: Wanted<'_>, last: bool) -> Part
 ///
 /// # Errors
 ///
-/// First the positions are compared, then the size: `DataOrder`, with (0, 0) if no file is expected,
-/// or `DataSize`.
+/// First the positions are compared, then the size: `DataOrder`, with (0, 0) if no file is
+/// expected, or `DataSize`.
 pub fn open_file<'a>(
     walk: &mut Walk<'a>,
     len: u64,

@@ -164,8 +164,8 @@ fn has_contents(file: &FileInfo<'_>) -> bool
     file.target().is_empty() && file.size() > 0
 }
 
-/// The length in bytes of the two positions at the front of a block of contents: that of the folder
-/// and that of the file, four bytes each.
+/// How many bytes the two positions have at the front of a block of contents: the position of the
+/// folder and that of the file, four bytes each.
 pub const POSITIONS_LEN: usize = 8;
 
 /// The contents of a file, with the positions of its folder (`path`) and of itself in it, which
