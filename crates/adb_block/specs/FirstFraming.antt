@@ -25,7 +25,9 @@ last_kind last (b ∷ bs) = last_kind (Some b.kind) bs
 
 -- first: the bytes have no complete header
 pub record LackHeader (at : ℕ) (bytes : List ℕ) (c : Cause) : Type 0 where
+  -- they have no complete header
   pub head : head_of bytes ≡ None
+  -- the cause is `Truncated`, with the offset of the block
   pub cause : c ≡ Truncated at
 
 -- a kind is not allowed after `last`, or is unknown
@@ -36,9 +38,13 @@ CannotFollow last (Some kind) = may_be_next_kind last kind ≡ false
 -- second: the bytes begin with a complete header, whose kind is not allowed here
 pub record HaveWrongKind (last : Option BlockKind) (at : ℕ) (bytes : List ℕ)
     (c : Cause) : Type 0 where
+  -- the fields of the header
   pub head : HeadFields
+  -- the bytes begin with this header
   pub is : head_of bytes ≡ Some head
+  -- its kind is not allowed here
   pub wrong : CannotFollow last (kind_of_number head.kind)
+  -- the cause is `BlockOrder`, with the offset of the block
   pub cause : c ≡ BlockOrder at
 
 -- the raw size is too small for the header and the least payload of the kind, or exceeds the bytes
@@ -49,12 +55,19 @@ IsWrongSize head kind bytes =
 -- third: the bytes begin with a header whose kind is allowed here, but whose size is wrong
 pub record HaveWrongSize (last : Option BlockKind) (at : ℕ) (bytes : List ℕ)
     (c : Cause) : Type 0 where
+  -- the fields of the header
   pub head : HeadFields
+  -- the bytes begin with this header
   pub is : head_of bytes ≡ Some head
+  -- the kind of the block
   pub kind : BlockKind
+  -- its number is in the header
   pub is_kind : kind_of_number head.kind ≡ Some kind
+  -- this kind is allowed here
   pub order : may_be_next_kind last kind ≡ true
+  -- the raw size is wrong
   pub wrong : IsWrongSize head kind bytes
+  -- the cause is `Truncated`, with the offset of the block
   pub cause : c ≡ Truncated at
 
 -- the next block has this fault: one of its three tests fails, and those before it do not
@@ -75,6 +88,7 @@ pub record IsFirstFramingFault (file : List ℕ) (c : Cause) : Type 0 where
   pub before : BeginWithBlocks None (drop 8 file) blocks rest
   -- the offset of the rest
   pub at : ℕ
+  -- the rest ends with the file
   pub located : at + length rest ≡ length file
   -- the next block has this fault
   pub fault : HaveBlockFault (last_kind None blocks) at rest c

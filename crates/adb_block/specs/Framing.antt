@@ -28,8 +28,8 @@ short_head word = record { kind = word / 2 ^ 30; len = 4; raw = word % 2 ^ 30 }
 abbrev pub long_head : ℕ → ℕ → HeadFields
 long_head word raw = record { kind = word % 2 ^ 30; len = 16; raw = raw }
 
--- the header at the front of the bytes, or None if it is not complete; 3 in the top two bits marks 16
--- bytes
+-- the header at the front of the bytes, or None if it is not complete. The number 3 in the top two
+-- bits of its first four bytes marks a header of 16 bytes
 unfoldable pub head_of : List ℕ → Option HeadFields
 head_of bytes =
     if nat_lt (length bytes) 4 then None
@@ -67,13 +67,13 @@ step_by_order last at bytes head None = failed (BlockOrder at)
 step_by_order last at bytes head (Some kind) =
     if may_be_next_kind last kind then step_by_size at bytes head kind else failed (BlockOrder at)
 
--- the result for a rest that is not empty: first the test that it has a complete header, then the
--- others
+-- the result if bytes are left: a fault if they have no complete header, else the result of the tests
+-- of the kind and the sizes
 abbrev pub step_by_head : Option BlockKind → ℕ → List ℕ → Option HeadFields → Step
 step_by_head last at bytes None = failed (Truncated at)
 step_by_head last at bytes (Some head) = step_by_order last at bytes head (kind_of_number head.kind)
 
--- the result for an empty rest: the end, or a fault if no block precedes
+-- the result if no bytes are left: the end, or a fault if there was no block
 abbrev pub step_at_end : Option BlockKind → ℕ → Step
 step_at_end None at = failed (Truncated at)
 step_at_end (Some kind) at = ended

@@ -15,7 +15,8 @@ pub data Reading : Type 0 where
   fault : Cause → Reading
   more : Piece → ℕ → Reading → Reading
 
--- the reading by the result at one offset: the end or a fault ends it; after a block it goes on
+-- the reading that begins with the result of the tests at the offset `at`. The end or a fault ends it;
+-- after a block `further` continues it
 abbrev pub block_stream_after_step : ℕ → (Piece → ℕ → Reading) → Step → Reading
 block_stream_after_step at further ended = done
 block_stream_after_step at further (failed c) = fault c

@@ -83,6 +83,7 @@ pub(crate) fn block_at(
     at: u64,
     bytes: &[u8],
 ) -> Result<Option<ReadBlock<'_>>, Cause>
+    // The block ends within the bytes, except that its padding may be cut.
     ensures fits { IfOk result (λ found. IfSome found (λ block.
         (0 < length bytes.now) × (block.size ≤ length bytes.now + 7))) }
     ensures exact { IsReadBlock result (next_step last at bytes.now) }
@@ -134,10 +135,13 @@ pub fn frame_of(
         → IsFrameOrEndOfStep result bytes (next_step last at bytes) }
     // A file has at least one block, else it is an error.
     ensures first { last ≡ None → IfOk result (λ found. IsSome found) }
+    // The kind is allowed after `last`.
     ensures order { IfOk result (λ found. IfSome found (λ frame.
         may_be_next_kind last frame.kind ≡ true)) }
+    // The length of the header is that of its first bytes (`head_len`).
     ensures len { IfOk result (λ found. IfSome found (λ frame.
         frame.head_len ≡ head_len head.now)) }
+    // The block ends within the bytes.
     ensures fits { IfOk result (λ found. IfSome found (λ frame.
         (0 < left) × (raw_size frame ≤ left))) }
 {
@@ -159,6 +163,7 @@ pub fn frame_of(
 #[tactic(auto, unfolding(crate::specs::Framing::head_of))]
 fn read_head(bytes: &[u8]) -> Option<BlockHead>
     ensures exact { option_map fields_of result ≡ head_of bytes.now }
+    // The length of the header is that of its first bytes (`head_len`).
     ensures len { IfSome result (λ head. head.len ≡ head_len bytes.now) }
 {
     if bytes.len() < 4 {
@@ -194,8 +199,11 @@ fn frame_by_head(
 ) -> Result<Frame, Cause>
     ensures exact { (bytes : List ℕ) → length bytes ≡ left → IsFrameOfStep result bytes
         (step_by_order last at bytes (fields_of head) (kind_of_number head.kind)) }
+    // The kind is allowed after `last`.
     ensures order { IfOk result (λ frame. may_be_next_kind last frame.kind ≡ true) }
+    // The length of the header is the one that was read.
     ensures len { IfOk result (λ frame. frame.head_len ≡ head.len) }
+    // The block ends within the bytes.
     ensures fits { IfOk result (λ frame. raw_size frame ≤ left) }
 {
     let Some(kind) = kind_of_number(head.kind) else {

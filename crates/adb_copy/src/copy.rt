@@ -26,8 +26,8 @@ use adb_view::field_indexes::{
 use adb_view::{Adb, Arr, Val, Which, entry_word, values_have_their_shape};
 use std::alloc::AllocError;
 
-/// Copies the information with a word of a payload, with `id` as its hash and `len` as the size of
-/// the package's file. An integer 0 is NULL.
+/// Copies the information of a package, which has this word in its payload. The copy has `id` as
+/// its hash and `len` as the size of the package's file. An integer 0 is NULL.
 pub fn write_info(
     draft: &mut Draft,
     adb: Adb<'_>,
@@ -36,10 +36,13 @@ pub fn write_info(
     id: &[u8],
     len: u64,
 ) -> Result<(), AllocError>
+    // The word has a plain value of its kind.
     requires sound { is_sound (payload_of adb) (Kinds.Obj Tables.PkgInfo) info ≡ true }
+    // The remembered texts are blobs of the draft.
     requires known { AreRememberedBlobsOfDraft (payload_of adb) draft.old known.old }
     ensures info { OnOk result (draft.new ≡ draft_with (info_with_id_and_size
         (value_at (payload_of adb.entry) (Kinds.Obj Tables.PkgInfo) info) id.now len) draft.old) }
+    // The remembered texts are blobs of the new draft.
     ensures known { OnOk result (AreRememberedBlobsOfDraft (payload_of adb.entry) draft.new known.new) }
 {
     values_have_their_shape();
@@ -78,10 +81,13 @@ fn write_info_texts(
     info: Val,
     id: &[u8],
 ) -> Result<(), AllocError>
+    // The word has a plain value of its kind.
     requires sound { is_sound (payload_of adb) (Kinds.Obj Tables.PkgInfo) info ≡ true }
+    // The remembered texts are blobs of the draft.
     requires known { AreRememberedBlobsOfDraft (payload_of adb) draft.old known.old }
     ensures texts { OnOk result (draft.new ≡ draft_with_all (text_plains (info_texts
         (value_at (payload_of adb.entry) (Kinds.Obj Tables.PkgInfo) info) id.now)) draft.old) }
+    // The remembered texts are blobs of the new draft.
     ensures known { OnOk result (AreRememberedBlobsOfDraft (payload_of adb.entry) draft.new known.new) }
 {
     known.write_field(draft, adb, Which::PkgInfo, info, INFO_NAME)?;
@@ -124,10 +130,13 @@ pub fn write_text_list<'a>(
     known: &mut KnownTexts,
     texts: Arr<'a>,
 ) -> Result<(), AllocError>
+    // Each word has a plain value of its kind.
     requires sound { are_all_sound (payload_of adb) Kinds.Text (array_entries texts) ≡ true }
+    // The remembered texts are blobs of the draft.
     requires known { AreRememberedBlobsOfDraft (payload_of adb) draft.old known.old }
     ensures texts { OnOk result (draft.new ≡ draft_with (without_zeros
         (array_at (payload_of adb.entry) Kinds.Text (array_entries texts.entry))) draft.old) }
+    // The remembered texts are blobs of the new draft.
     ensures known { OnOk result (AreRememberedBlobsOfDraft (payload_of adb.entry) draft.new known.new) }
 {
     values_have_their_shape();
@@ -146,11 +155,14 @@ fn write_deps(
     info: Val,
     field: usize,
 ) -> Result<(), AllocError>
+    // The word has a plain value of its kind.
     requires sound { is_sound (payload_of adb) (Kinds.Obj Tables.PkgInfo) info ≡ true }
     requires kind { kind_at Tables.PkgInfo field ≡ Some (Kinds.ObjArr Tables.Dep) }
+    // The remembered texts are blobs of the draft.
     requires known { AreRememberedBlobsOfDraft (payload_of adb) draft.old known.old }
     ensures deps { OnOk result (draft.new ≡ draft_with (without_zeros (entry_in
         (value_at (payload_of adb.entry) (Kinds.Obj Tables.PkgInfo) info) field)) draft.old) }
+    // The remembered texts are blobs of the new draft.
     ensures known { OnOk result (AreRememberedBlobsOfDraft (payload_of adb.entry) draft.new known.new) }
 {
     let deps = objects_field(adb, Which::PkgInfo, info, field, Which::Dep);
@@ -164,11 +176,14 @@ fn write_dep_list<'a>(
     known: &mut KnownTexts,
     deps: Arr<'a>,
 ) -> Result<(), AllocError>
+    // Each word has a plain value of its kind.
     requires sound { are_all_sound (payload_of adb) (Kinds.Obj Tables.Dep) (array_entries deps)
         ≡ true }
+    // The remembered texts are blobs of the draft.
     requires known { AreRememberedBlobsOfDraft (payload_of adb) draft.old known.old }
     ensures deps { OnOk result (draft.new ≡ draft_with (without_zeros (array_at
         (payload_of adb.entry) (Kinds.Obj Tables.Dep) (array_entries deps.entry))) draft.old) }
+    // The remembered texts are blobs of the new draft.
     ensures known { OnOk result (AreRememberedBlobsOfDraft (payload_of adb.entry) draft.new known.new) }
 {
     values_have_their_shape();
@@ -186,10 +201,13 @@ fn write_dep(
     known: &mut KnownTexts,
     dep: Val,
 ) -> Result<(), AllocError>
+    // The word has a plain value of its kind.
     requires sound { is_sound (payload_of adb) (Kinds.Obj Tables.Dep) dep ≡ true }
+    // The remembered texts are blobs of the draft.
     requires known { AreRememberedBlobsOfDraft (payload_of adb) draft.old known.old }
     ensures dep { OnOk result (draft.new ≡ draft_with (without_zeros
         (value_at (payload_of adb.entry) (Kinds.Obj Tables.Dep) dep)) draft.old) }
+    // The remembered texts are blobs of the new draft.
     ensures known { OnOk result (AreRememberedBlobsOfDraft (payload_of adb.entry) draft.new known.new) }
 {
     values_have_their_shape();

@@ -40,8 +40,8 @@ needs_no_quotes b =
     list_all is_printable b && not (begins_with_byte 0x20 b) && not (ends_with_byte 0x20 b)
     && not (begins_with_byte 0x22 b) && not (bytes_eq b (codes "null"))
 
--- the form of a byte of a text between quotes: an escape for a line end, a backslash and a quote, any
--- other printable byte as it is, and the rest in hexadecimal digits
+-- how a byte of a text between quotes is written. A line end, a backslash and a quote are escapes; any
+-- other printable byte is written as it is. The rest are `\x` and two hexadecimal digits
 abbrev pub escape_of : ℕ → List ℕ
 escape_of c =
     if c == 0x0a then codes "\\n"
@@ -54,7 +54,7 @@ escape_of c =
 abbrev pub quoted_text : List ℕ → Line
 quoted_text b = codes "\"" ++ flat_map escape_of b ++ codes "\""
 
--- a text in its line: as it is if it may be, else between quotes
+-- a text on its line: as it is if it needs no quotes, else between quotes
 abbrev pub bare_or_quoted_text : List ℕ → Line
 bare_or_quoted_text b = if needs_no_quotes b then b else quoted_text b
 

@@ -15,7 +15,8 @@ use Rattle.adb_dump.specs.Dump.{Line, begins_with_byte, int_line, text_line, has
 abbrev pub ResultOrBadLine : Type 0 → Type 0
 ResultOrBadLine A = Result A ℕ
 
--- the result of reading after this many lines: the number of a bad line counts them too
+-- the result `f x` of reading after `n` other lines; the number of a bad line then counts these lines
+-- too
 abbrev pub after_lines : {A B : Type 0} → ℕ → (A → B) → ResultOrBadLine A → ResultOrBadLine B
 after_lines n f (Ok x) = Ok (f x)
 after_lines n f (Err k) = Err (n + k)
@@ -26,18 +27,20 @@ strip_prefix [] l = Some l
 strip_prefix (p ∷ ps) [] = None
 strip_prefix (p ∷ ps) (c ∷ cs) = if p == c then strip_prefix ps cs else None
 
--- a block and the lines after it, with one line more in front of the block
+-- a block and the lines after it (`r`), with one more line at the front of the block
 abbrev pub with_line_before_block : Line → List Line × List Line → List Line × List Line
 with_line_before_block l r = (l ∷ r.0, r.1)
 
--- a block and the lines after it, with one line more in front. An indented line (`inner` is its text
--- after the spaces) belongs to the block; another one ends it, and is the first after it
+-- the block and the lines after it, from the line `l` on. If `l` is indented, its text after the
+-- spaces (`inner`) is put in front of the block `r.0` of the lines after it. Otherwise the block is
+-- empty, and all lines are after it
 abbrev pub end_block_or_add_line : Line → List Line → Option Line → List Line × List Line
     → List Line × List Line
 end_block_or_add_line l ls None r = ([], l ∷ ls)
 end_block_or_add_line l ls (Some inner) r = with_line_before_block inner r
 
--- the indented lines in front, without their two spaces, which are a block; and the lines after them
+-- the block at the front: the lines that are indented, without their two spaces; and the lines after
+-- the block
 abbrev pub split_block : List Line → List Line × List Line
 split_block [] = ([], [])
 split_block (l ∷ ls) = end_block_or_add_line l ls (strip_prefix (codes "  ") l) (split_block ls)
@@ -54,14 +57,15 @@ unhex [] = []
 unhex (h ∷ []) = []
 unhex (h ∷ l ∷ cs) = (hex_value h * 16 + hex_value l) ∷ unhex cs
 
--- a byte by its two digits after `\x`, and the bytes of the rest of the text (`f`)
+-- the bytes of a text from after a `\x` on. First is the byte of the next two digits; `f` reads the
+-- rest
 abbrev pub hex_escape_read : (List ℕ → Option (List ℕ)) → List ℕ → Option (List ℕ)
 hex_escape_read f [] = None
 hex_escape_read f (h ∷ []) = None
 hex_escape_read f (h ∷ l ∷ cs) = option_map (λ b. (hex_value h * 16 + hex_value l) ∷ b) (f cs)
 
--- the byte of an escape, from after its backslash on (`n`, a backslash, a quote, or `x` and two
--- digits), and the bytes of the rest of the text (`f`)
+-- the bytes of a text from after a backslash on. First is the byte of the escape (`n`, a backslash, a
+-- quote, or `x` and two digits); `f` reads the rest
 abbrev pub escape_read : (List ℕ → Option (List ℕ)) → List ℕ → Option (List ℕ)
 escape_read f [] = None
 escape_read f (d ∷ cs) =
@@ -100,7 +104,8 @@ text_read l =
 abbrev pub hash_read : Line → Option Plain
 hash_read l = blob_read (unhex l)
 
--- the value of a line, if the line is the one form of the value; else the line is bad
+-- the value that was read from a line, if it is printed as exactly this line (`form`); else the line
+-- is bad
 abbrev pub if_line_prints_value : (Plain → Line) → Line → Option Plain → ResultOrBadLine Plain
 if_line_prints_value form l None = Err 0
 if_line_prints_value form l (Some v) = if bytes_eq (form v) l then Ok v else Err 0
@@ -113,21 +118,22 @@ single_line_value f (l ∷ m ∷ ls) = and_then (f l) (λ v. Err 1)
 
 -- ---- lists
 
--- an entry of an array by its lines, of which the first (`l`) is without its dash; `null` is the only
--- line of its entry
+-- an entry of an array by its lines, which `f` reads; its first line is `l`, without the dash. If that
+-- is `null`, the entry is Null, and any further line is bad
 abbrev pub entry_read : (List Line → ResultOrBadLine Plain) → Line → List Line → ResultOrBadLine Plain
 entry_read f l ls =
     if bytes_eq l (codes "null") then single_line_value (λ x. Ok null) (l ∷ ls) else f (l ∷ ls)
 
--- an entry of an array and the entries after it; a line without a dash begins no entry
+-- an entry of an array, which `f` reads, and the entries after it, which `g` reads; `l` is the first
+-- line without its dash. A line without a dash (None) is bad
 abbrev pub entries_after_dash : (List Line → ResultOrBadLine Plain) → (List Line → ResultOrBadLine Plains)
     → List Line × List Line → Option Line → ResultOrBadLine Plains
 entries_after_dash f g r None = Err 0
 entries_after_dash f g r (Some l) =
     and_then (entry_read f l r.0) (λ v. after_lines (1 + length r.0) (more v) (g r.1))
 
--- the entries of an array by their lines. The number `n` bounds the turns; the number of lines is
--- enough
+-- the entries of an array by their lines; `f` reads one entry. The number `n` bounds the recursion;
+-- the number of lines is enough
 abbrev pub entries_read : (List Line → ResultOrBadLine Plain) → ℕ → List Line → ResultOrBadLine Plains
 entries_read f zero ls = Ok none
 entries_read f (suc n) [] = Ok none
@@ -144,14 +150,16 @@ abbrev pub obj_read : Plains → ResultOrBadLine Plain
 obj_read none = Err 0
 obj_read (more v vs) = Ok (obj (more v vs))
 
--- a field whose value follows `name:` on its line, and then the other fields
+-- a field whose value follows `name:` on its line, and then the other fields: `f` reads the value, `g`
+-- the other fields
 abbrev pub field_on_line :
     (Line → ResultOrBadLine Plain) → (List Line → ResultOrBadLine Plains) → List Line
     → Option Line → ResultOrBadLine Plains
 field_on_line f g ls None = Err 0
 field_on_line f g ls (Some l) = and_then (f l) (λ v. after_lines 1 (more v) (g ls))
 
--- a field whose value is below its name, which is alone on its line, and then the other fields
+-- a field whose value is in the block `r.0` below its name, and then the other fields: `f` reads the
+-- block, `g` the lines after it. Nothing may follow `name:` on its line
 abbrev pub field_with_value_below : (List Line → ResultOrBadLine Plain) → (List Line → ResultOrBadLine Plains)
     → List Line × List Line → Line → ResultOrBadLine Plains
 field_with_value_below f g r [] =
@@ -199,14 +207,14 @@ unfoldable mutual
       (after_lines 0 (more null) (fields_read fs (l ∷ ls))) (named_read s (fields_read fs) ls)
       (strip_prefix (name ++ codes ":") l)
 
--- the value of a table by the lines of a text after its first; Null has none
+-- the value of a table by the lines of a text after its first line; without lines it is Null
 abbrev pub value_read : Which → List Line → ResultOrBadLine Plain
 value_read which [] = Ok null
 value_read which (l ∷ ls) = block_read (shape_of (Obj which)) (l ∷ ls)
 
 -- ---- the lines of a text, in which the last one has its line end
 
--- the lines of a text with a byte in front of the first, if there is a first line
+-- the lines of a text with one more byte at the front of the first line; None if there is no line
 abbrev pub add_char : ℕ → Option (List Line) → Option (List Line)
 add_char c None = None
 add_char c (Some []) = None

@@ -193,7 +193,7 @@ pub(crate) struct Count {
     lens: BTreeMap<u32, usize>,
     /// The allocator.
     alloc: Global,
-    /// Up to how many bytes no memory is tried.
+    /// The count in bytes up to which no allocation is tried.
     room: usize,
 }
 

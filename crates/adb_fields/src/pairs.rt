@@ -18,9 +18,9 @@ use std::cmp::Ordering;
 /// Two positions of one name. They count from 1.
 #[derive(Clone, Copy)]
 pub(crate) struct Pair {
-    /// The smaller one.
+    /// The smaller position.
     pub first: u32,
-    /// The greater one.
+    /// The greater position.
     pub second: u32,
 }
 
@@ -46,7 +46,7 @@ impl Pair {
     }
 }
 
-/// The one of two pairs that is reported; None if there is neither.
+/// Of two pairs the one that is reported; None if neither exists.
 pub(crate) fn lesser_pair(one: Option<Pair>, other: Option<Pair>) -> Option<Pair>
     ensures { result ≡ lesser_pair one other }
 {

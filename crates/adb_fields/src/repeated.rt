@@ -197,7 +197,7 @@ fn in_intent(alloc: Global, adb: Adb<'_>, intent: Val) -> Result<Option<Cause>, 
     ))
 }
 
-/// The pair of positions at which a package lists one folder.
+/// The pair of positions at which a package lists one folder twice.
 fn folder_twice_in_package(
     alloc: Global,
     adb: Adb<'_>,
@@ -214,7 +214,7 @@ fn folder_twice_in_package(
     lists.first_repeat(alloc, field_word(adb, Which::Package, pkg, PACKAGE_PATHS))
 }
 
-/// The first pair of positions at which one of a package's folders lists one file.
+/// The first pair of positions at which one of a package's folders lists one file twice.
 #[tactic(auto, using(crate::proofs::FieldReads::entry_sound))]
 fn file_twice_in_package(
     alloc: Global,
@@ -238,7 +238,7 @@ fn file_twice_in_package(
     Ok(first)
 }
 
-/// The pair of positions at which a folder lists one file.
+/// The pair of positions at which a folder lists one file twice.
 fn file_twice_in_folder(
     alloc: Global,
     adb: Adb<'_>,
@@ -255,7 +255,7 @@ fn file_twice_in_folder(
     lists.first_repeat(alloc, field_word(adb, Which::Dir, folder, DIR_FILES))
 }
 
-/// The first pair of positions at which one of the packages lists one folder.
+/// The first pair of positions at which one of the packages lists one folder twice.
 #[tactic(auto, using(crate::proofs::FieldReads::entry_sound))]
 fn folder_twice(alloc: Global, adb: Adb<'_>, packages: Arr<'_>) -> Result<Option<Pair>, AllocError>
     requires { are_all_sound (payload_of adb) (Kinds.Obj Tables.Package) (array_entries packages)
@@ -273,7 +273,7 @@ fn folder_twice(alloc: Global, adb: Adb<'_>, packages: Arr<'_>) -> Result<Option
     Ok(first)
 }
 
-/// The first pair of positions at which a folder of one of the packages lists the same file.
+/// The first pair of positions at which a folder of one of the packages lists one file twice.
 #[tactic(auto, using(crate::proofs::FieldReads::entry_sound))]
 fn file_twice(alloc: Global, adb: Adb<'_>, packages: Arr<'_>) -> Result<Option<Pair>, AllocError>
     requires { are_all_sound (payload_of adb) (Kinds.Obj Tables.Package) (array_entries packages)

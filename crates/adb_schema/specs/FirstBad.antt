@@ -13,8 +13,11 @@ pub record IsFirstBadLeaf (all : List Leaf) (c : Cause) : Type 0 where
   pub i : ℕ
   -- the leaf that breaks its rule
   pub leaf : Leaf
+  -- it is the leaf with the index i
   pub at : slice_get all i ≡ Some leaf
+  -- it breaks the rule of its field
   pub broken : keeps_rule leaf ≡ false
+  -- the cause has the number of its field
   pub cause : c ≡ BadText (number_of_leaf leaf)
   -- each leaf before it obeys its rule
   pub before : (j : ℕ) → (other : Leaf) → j < i → slice_get all j ≡ Some other → keeps_rule other

@@ -30,7 +30,7 @@ pub record Surroundings : Type 0 where
   -- whether the file has contents; false outside of files
   pub has_contents : Bool
 
--- ---- rules that look around
+-- ---- rules that depend on the surroundings
 
 -- whether a package's hash may have this length in bytes, in a container with this table at its root:
 -- in an index each package has its hash
@@ -44,7 +44,8 @@ abbrev pub may_list : Which → List ℕ → Bool
 may_list Idb path = not (is_reserved path)
 may_list root path = true
 
--- whether the container may list a file of this name in the folder around it
+-- whether a file in these surroundings may have this name: in their folder, and in a container with
+-- their root
 abbrev pub is_allowed_file_name : Surroundings → List ℕ → Bool
 is_allowed_file_name around name = is_file_name around.folder name
     && may_list around.root (path_of around.folder name)
@@ -62,12 +63,13 @@ is_file_hash around len = if needs_hash around.root around.has_contents then is_
 
 -- ---- the rule of each field
 
--- whether a number obeys the rule of the field with the number `place`; only the match number of a
--- dependency has one
+-- whether a number obeys the rule of the field with the number `place`, which is 100 times that of its
+-- table plus its own. Only the match number of a dependency has a rule
 abbrev pub number_rule : ℕ → ℕ → Bool
 number_rule place n = if place == field_number Dep DEP_MATCH then is_match_number n else true
 
--- whether a text obeys the rule of the field with the number `place`; the other fields have no rule
+-- whether a text obeys the rule of the field with the number `place` (as in *number_rule*); fields
+-- that are not listed here have no rule
 unfoldable pub text_rule : ℕ → Surroundings → List ℕ → Bool
 text_rule place around bytes =
     if place == field_number Dep DEP_NAME then is_dep_name bytes
@@ -96,7 +98,7 @@ abbrev pub keeps_rule : Leaf → Bool
 keeps_rule (number_leaf field_number n) = number_rule field_number n
 keeps_rule (text_leaf field_number around bytes) = text_rule field_number around bytes
 
--- the number of the field of a number or a text
+-- the number of the field that has this number or text
 abbrev pub number_of_leaf : Leaf → ℕ
 number_of_leaf (number_leaf field_number n) = field_number
 number_of_leaf (text_leaf field_number around bytes) = field_number
@@ -114,13 +116,13 @@ surroundings_of_fields schema around v = record {
   has_contents = if schema == table_number File then is_with_contents v else around.has_contents;
 }
 
--- the numbers and texts of each of the values, in order
+-- the numbers and texts in some values, in order; `f` returns those in one value
 abbrev pub each_leaf : (Plain → List Leaf) → Plains → List Leaf
 each_leaf f none = []
 each_leaf f (more v vs) = f v ++ each_leaf f vs
 
--- the numbers and texts of a value of a shape as a field, depth first. Of an object they are those of
--- each field of its table; a missing field is Null
+-- the numbers and texts in the value of a field, by the value's shape and the field's number, depth first.
+-- An object has those of each field of its table; a missing field is Null
 unfoldable mutual
   pub leaves : Shape → ℕ → Surroundings → Plain → List Leaf
   leaves number field_number around v = number_leaf field_number (int_in v) ∷ []

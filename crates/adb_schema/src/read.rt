@@ -192,8 +192,8 @@ fn check_payload<'a>(
     }
 }
 
-/// Tests the blocks after the first; those of a package `pkg_core` tests, against the files that it
-/// lists.
+/// Tests the blocks after the first. In a package nothing is tested here: `pkg_core` tests them
+/// against the files that the package lists.
 fn check_rest(blocks: &mut Blocks<'_>, which: Which) -> Result<(), Cause>
     ensures { result_err result ≡ fault_after_first_block which (block_stream_from blocks.old) }
 {

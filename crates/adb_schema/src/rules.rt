@@ -164,7 +164,7 @@ pub fn is_reserved_file(folder: &[u8], name: &[u8]) -> bool
         || is_file_at_or_below(b"lib/apk/db", folder, name)
 }
 
-/// Whether the path is this name, or one below it.
+/// Whether `path` is the name `top`, or a name below the folder `top`.
 fn is_at_or_below(top: &[u8], path: &[u8]) -> bool
     ensures { result ≡ is_at_or_below top.now path.now }
 {
@@ -174,8 +174,8 @@ fn is_at_or_below(top: &[u8], path: &[u8]) -> bool
     }
 }
 
-/// Whether the path of this file of this folder is a name, or below it; the two parts are not
-/// joined.
+/// Whether the path of this file of this folder is the name `top`, or a name below it. The folder
+/// and the file name are compared separately, without joining them.
 fn is_file_at_or_below(top: &[u8], folder: &[u8], name: &[u8]) -> bool
     ensures { result ≡ is_at_or_below top.now (path_of folder.now name.now) }
 {

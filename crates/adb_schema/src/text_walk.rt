@@ -195,9 +195,11 @@ fn keeps_rule_of_field(
     word: Val,
     text: &[u8],
 ) -> Result<bool, AllocError>
+    // `text` is the text of the word.
     requires { text.now ≡ text_at (payload_of judged.old.adb) word }
     ensures value { IfOk result (λ kept.
         kept ≡ text_rule field_number (surroundings_of around.now) text.now) }
+    // The payload is unchanged.
     ensures payload { judged.new.adb ≡ judged.old.adb }
 {
     match field_number {
@@ -225,9 +227,11 @@ fn keeps_file_name(
     word: Val,
     text: &[u8],
 ) -> Result<bool, AllocError>
+    // `text` is the text of the word.
     requires { text.now ≡ text_at (payload_of judged.old.adb) word }
     ensures value { IfOk result (λ kept.
         kept ≡ is_allowed_file_name (surroundings_of around.now) text.now) }
+    // The payload is unchanged.
     ensures payload { judged.new.adb ≡ judged.old.adb }
 {
     if !judged.keeps(TextRule::OnePart, word, text)? {
@@ -239,8 +243,10 @@ fn keeps_file_name(
 /// Whether a change may remove or write the text of a word: a path, but none of the journal or of
 /// the staging area.
 fn keeps_change_name(judged: &mut Judged<'_>, word: Val, text: &[u8]) -> Result<bool, AllocError>
+    // `text` is the text of the word.
     requires { text.now ≡ text_at (payload_of judged.old.adb) word }
     ensures value { IfOk result (λ kept. kept ≡ is_changeable_name text.now) }
+    // The payload is unchanged.
     ensures payload { judged.new.adb ≡ judged.old.adb }
 {
     if !judged.keeps(TextRule::Name, word, text)? {
@@ -278,11 +284,15 @@ fn check_value<'a>(
     around: &Surroundings<'a>,
     word: Val,
 ) -> Result<Option<u16>, AllocError>
+    // The word has a plain value of its kind.
     requires sound { is_sound (payload_of adb) kind word ≡ true }
+    // The texts are judged in the payload that is walked.
     requires payload { payload_of judged.old.adb ≡ payload_of adb }
+    // The result is the number of the first field whose number or text breaks its rule.
     ensures place { IfOk result (λ place. bad_text_at place
         ≡ first_bad_leaf (leaves (shape_of kind) field_number (surroundings_of around.now)
         (value_at (payload_of adb.entry) kind word))) }
+    // The payload is unchanged.
     ensures payload { judged.new.adb ≡ judged.old.adb }
 {
     match kind {
@@ -314,11 +324,15 @@ fn check_entries<'a>(
     around: &Surroundings<'a>,
     entries: Arr<'a>,
 ) -> Result<Option<u16>, AllocError>
+    // Each word has a plain value of its kind.
     requires sound { are_all_sound (payload_of adb) kind (array_entries entries) ≡ true }
+    // The texts are judged in the payload that is walked.
     requires payload { payload_of judged.old.adb ≡ payload_of adb }
+    // The result is the number of the first field whose number or text breaks its rule.
     ensures place { IfOk result (λ place. bad_text_at place
         ≡ first_bad_leaf (each_leaf (leaves (shape_of kind) field_number (surroundings_of around.now))
         (values_at (payload_of adb.entry) kind (array_entries entries.entry)))) }
+    // The payload is unchanged.
     ensures payload { judged.new.adb ≡ judged.old.adb }
 {
     for i in 0..entries.len() {
@@ -353,12 +367,16 @@ fn check_fields<'a>(
     around: &Surroundings<'a>,
     object: Val,
 ) -> Result<Option<u16>, AllocError>
+    // The word has a plain value of its kind.
     requires sound { is_sound (payload_of adb) (Kinds.Obj which) object ≡ true }
+    // The texts are judged in the payload that is walked.
     requires payload { payload_of judged.old.adb ≡ payload_of adb }
+    // The result is the number of the first field whose number or text breaks its rule.
     ensures place { IfOk result (λ place. bad_text_at place
         ≡ first_bad_leaf (field_leaves (shapes_of (table which)) (100 * table_number which + 1)
         (surroundings_of around.now)
         (entries_in (value_at (payload_of adb.entry) (Kinds.Obj which) object)))) }
+    // The payload is unchanged.
     ensures payload { judged.new.adb ≡ judged.old.adb }
 {
     let words = object_words(adb, which, object);
@@ -379,6 +397,7 @@ fn check_fields<'a>(
 /// Whether a value of this kind in this field may break a rule: the field, or a field below it, has
 /// one.
 fn has_rule(kind: Kind, field_number: u16) -> bool
+    // False is returned only if no value breaks a rule.
     ensures { result ≡ false → AllowsEachValueOfKind kind field_number }
 {
     match kind {
@@ -393,6 +412,7 @@ fn has_rule(kind: Kind, field_number: u16) -> bool
 
 /// Whether the objects of a table may break a rule.
 fn has_rule_below(which: Which) -> bool
+    // False is returned only if no value breaks a rule.
     ensures { result ≡ false → (field_number : ℕ) → AllowsEachValueOfKind (Kinds.Obj which) field_number }
 {
     match which {
@@ -406,6 +426,7 @@ fn has_rule_below(which: Which) -> bool
 /// Whether there is a rule for the texts of a field.
 #[tactic(auto, unfolding(crate::specs::Texts::text_rule))]
 fn has_text_rule(field_number: u16) -> bool
+    // False is returned only if no value breaks a rule.
     ensures { result ≡ false → AllowsEachText field_number }
 {
     matches!(
@@ -444,9 +465,12 @@ fn check_text(
     word: Val,
     text: &[u8],
 ) -> Result<Option<u16>, AllocError>
+    // `text` is the text of the word.
     requires { text.now ≡ text_at (payload_of judged.old.adb) word }
+    // The result is the number of the first field whose number or text breaks its rule.
     ensures place { IfOk result (λ place. bad_text_at place
         ≡ first_bad_leaf (text_leaf field_number (surroundings_of around.now) text.now ∷ [])) }
+    // The payload is unchanged.
     ensures payload { judged.new.adb ≡ judged.old.adb }
 {
     if keeps_rule_of_field(judged, field_number, around, word, text)? {

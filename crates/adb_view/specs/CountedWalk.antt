@@ -8,7 +8,7 @@ use Rattle.adb_view.specs.Visits.{or_empty}
 use Rattle.adb_view.specs.Walk.{visit_fault}
 use Rattle.base_core.specs.declared.cause.Cause.{Cause}
 
--- Its result is the number of visits after a word and the words below it, or the first fault.
+-- The result of a walk is the number of visits so far, or the first fault.
 
 -- the value, unless there is a fault to report
 abbrev pub ok_unless : {A : Type 0} → A → Option Cause → Result A Cause

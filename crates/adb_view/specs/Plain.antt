@@ -85,16 +85,16 @@ text_plains (t ∷ ts) = more (blob_or_null t) (text_plains ts)
 abbrev pub unless_null : ℕ → Option Plain → Option Plain
 unless_null word v = if word == 0 then Some null else v
 
--- the result of `f` for a reader's value; None if the reader refused the word with a cause
+-- the result of `f` for the value of a reader; None if the reader refused the word
 abbrev pub from_answer : {A B : Type 0} → (A → Option B) → Result A Cause → Option B
 from_answer f (Ok x) = f x
 from_answer f (Err c) = None
 
--- a value with others after it; None if one of them was not found
+-- a value followed by other values; None if the value is None, or the others are
 abbrev pub then_more : Option Plain → Option Plains → Option Plains
 then_more v vs = option_and_then (λ v. option_map (more v) vs) v
 
--- the value of each word in order; None if one of the words has none
+-- the values that `f` returns for some words, in order; None if it returns None for one of them
 abbrev pub each_plain : (ℕ → Option Plain) → List ℕ → Option Plains
 each_plain f [] = Some none
 each_plain f (w ∷ ws) = then_more (f w) (each_plain f ws)

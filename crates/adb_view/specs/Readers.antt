@@ -14,13 +14,13 @@ kind_of word = word / 2 ^ 28
 abbrev pub low_28_bits : ℕ → ℕ
 low_28_bits word = word % 2 ^ 28
 
--- the contents of a word's range, or the cause that it points outside
+-- what was read at the offset of a word; or the cause `Outside`, if nothing could be read there
 abbrev pub or_outside_cause : {A : Type 0} → ℕ → Option A → Result A Cause
 or_outside_cause word (Some x) = Ok x
 or_outside_cause word None = Err (Outside word)
 
--- the integer of a word: in the word, or in 4 or 8 bytes at the offset; NULL is 0. The numbers of kinds
--- here and below are those of the document's table
+-- the integer of a word: in the word, or in 4 or 8 bytes at the offset; NULL is 0. The kinds here and
+-- below are numbered as in the table of `docs/formats.md`, "Values"
 unfoldable pub int_of : List ℕ → ℕ → Result ℕ Cause
 int_of payload word =
     if word == 0 then Ok 0
@@ -29,7 +29,8 @@ int_of payload word =
     else if kind_of word == 3 then or_outside_cause word (number_at w64 payload (low_28_bits word))
     else Err (WrongKind word)
 
--- the bytes of a blob at an offset: a length of this width, and then as many bytes
+-- the bytes of a blob at the offset `at`: first their length, as a number of this width, and then the
+-- bytes
 abbrev pub counted_at : Width → List ℕ → ℕ → Option (List ℕ)
 counted_at w payload at = option_and_then (λ len. range_at payload (at + byte_len w) len)
     (number_at w payload at)
@@ -44,13 +45,13 @@ blob_of payload word =
     else if kind_of word == 10 then or_outside_cause word (counted_at w32 payload (low_28_bits word))
     else Err (WrongKind word)
 
--- the entries of a run at an offset whose first word is this number. The number counts that word too,
--- so 0 is no run
+-- the entries of a run at the offset `at` whose first word is this number: how many words the run has,
+-- the first one included. So 0 is no run
 abbrev pub counted_words : List ℕ → ℕ → ℕ → Option (List ℕ)
 counted_words payload at zero = None
 counted_words payload at (suc n) = option_map (words n) (range_at payload (at + 4) (4 * n))
 
--- the entries of the run at an offset, whose first word counts its words
+-- the entries of the run at the offset `at`; its first word is how many words the run has
 abbrev pub run_at : List ℕ → ℕ → Option (List ℕ)
 run_at payload at = option_and_then (counted_words payload at) (number_at w32 payload at)
 

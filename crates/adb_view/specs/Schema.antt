@@ -23,8 +23,8 @@ table Index = INDEX.fields
 table Idb = IDB.fields
 table Intent = INTENT.fields
 
--- the number of a table; that of a field, by which causes name it, is 100 times it plus the field's
--- own
+-- the number of a table, from 1 to 10. A cause names a field by 100 times the number of its table,
+-- plus the number of the field in the table
 abbrev pub table_number : Which → ℕ
 table_number Dep = DEP.number
 table_number Acl = ACL.number

@@ -8,10 +8,12 @@ use Rattle.base_core.specs.declared.cause.Cause.{Cause}
 
 -- a visit of a walk: a word, and the shape that is demanded of it
 pub record Visit : Type 0 where
+  -- the shape that is demanded of the word
   pub shape : Shape
+  -- the word that is visited
   pub word : ℕ
 
--- the entries below a word that are visited; a word that cannot be read has none
+-- the entries that were read of an array or an object; none if its word cannot be read
 abbrev pub or_empty : Result (List ℕ) Cause → List ℕ
 or_empty (Ok ws) = ws
 or_empty (Err c) = []

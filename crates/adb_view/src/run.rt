@@ -84,7 +84,7 @@ impl<'a> Arr<'a> {
 /// The entries of an object, to be read by the N fields of its table.
 #[derive(Clone, Copy)]
 pub struct Obj<'a, const N: usize> {
-    /// All entries, those past the N fields too.
+    /// All entries, also those past the N fields.
     entries: Arr<'a>,
 }
 
@@ -112,7 +112,7 @@ impl<'a, const N: usize> Obj<'a, N> {
         }
     }
 
-    /// All entries of the object, those past its fields too.
+    /// All entries of the object, also those past its N fields.
     pub fn entries(&self) -> Arr<'a>
         ensures { array_entries result ≡ object_entries self.now }
     {

@@ -83,8 +83,11 @@ pub fn shape(adb: Adb<'_>, which: Which) -> Result<Shaped<'_>, Cause>
 #[cycle(walk)]
 #[tactic(auto, using(crate::proofs::WalkSteps::walk_full, crate::proofs::WalkSteps::int_ok, crate::proofs::WalkSteps::int_err, crate::proofs::WalkSteps::text_ok, crate::proofs::WalkSteps::text_err, crate::proofs::WalkSteps::hash_ok, crate::proofs::WalkSteps::hash_err, crate::proofs::WalkSteps::texts_ok, crate::proofs::WalkSteps::texts_err, crate::proofs::WalkSteps::objects_ok, crate::proofs::WalkSteps::objects_err))]
 fn walk_value(adb: Adb<'_>, kind: Kind, before: u32, word: Val) -> Result<u32, VisitFault>
+    // The visits so far are within their limit.
     requires { before ≤ MOST_VALUES }
+    // The result is that of the walk: the number of visits, or the first fault.
     ensures exact { with_cause result ≡ walk (payload_of adb.entry) (shape_of kind) before word }
+    // The number of visits is within its limit.
     ensures bound { IfOk result (λ n. n ≤ MOST_VALUES) }
 {
     let count = before + 1;
@@ -116,10 +119,13 @@ fn walk_value(adb: Adb<'_>, kind: Kind, before: u32, word: Val) -> Result<u32, V
 #[cycle(walk)]
 #[tactic(auto, using(crate::proofs::WalkSteps::texts_leaf, crate::proofs::WalkSteps::each_more, crate::proofs::WalkSteps::each_stops, crate::proofs::WalkSteps::each_done))]
 fn walk_texts(adb: Adb<'_>, before: u32, texts: Arr<'_>) -> Result<u32, VisitFault>
+    // The visits so far are within their limit.
     requires { before ≤ MOST_VALUES }
+    // The result is that of the walk: the number of visits, or the first fault.
     ensures exact { with_cause result
         ≡ walk_each_word (walk (payload_of adb.entry) (shape_of Kinds.Text)) before
         (array_entries texts.entry) }
+    // The number of visits is within its limit.
     ensures bound { IfOk result (λ n. n ≤ MOST_VALUES) }
 {
     let mut count = before;
@@ -143,10 +149,13 @@ fn walk_objects(
     before: u32,
     objects: Arr<'_>,
 ) -> Result<u32, VisitFault>
+    // The visits so far are within their limit.
     requires { before ≤ MOST_VALUES }
+    // The result is that of the walk: the number of visits, or the first fault.
     ensures exact { with_cause result
         ≡ walk_each_word (walk (payload_of adb.entry) (shape_of (Kinds.Obj which))) before
         (array_entries objects.entry) }
+    // The number of visits is within its limit.
     ensures bound { IfOk result (λ n. n ≤ MOST_VALUES) }
 {
     let mut count = before;
@@ -161,9 +170,12 @@ fn walk_objects(
 #[inline(always)]
 #[tactic(auto, using(crate::proofs::WalkSteps::walk_full, crate::proofs::WalkSteps::object_ok, crate::proofs::WalkSteps::object_err))]
 fn walk_object(adb: Adb<'_>, which: Which, before: u32, word: Val) -> Result<u32, VisitFault>
+    // The visits so far are within their limit.
     requires { before ≤ MOST_VALUES }
+    // The result is that of the walk: the number of visits, or the first fault.
     ensures exact { with_cause result
         ≡ walk (payload_of adb.entry) (shape_of (Kinds.Obj which)) before word }
+    // The number of visits is within its limit.
     ensures bound { IfOk result (λ n. n ≤ MOST_VALUES) }
 {
     let count = before + 1;
@@ -188,10 +200,13 @@ fn walk_each_field(
     before: u32,
     entries: Arr<'_>,
 ) -> Result<u32, VisitFault>
+    // The visits so far are within their limit.
     requires { before ≤ MOST_VALUES }
+    // The result is that of the walk: the number of visits, or the first fault.
     ensures exact { with_cause result
         ≡ fields_walk (payload_of adb.entry) (shapes_of fields.now) before
         (array_entries entries.entry) }
+    // The number of visits is within its limit.
     ensures bound { IfOk result (λ n. n ≤ MOST_VALUES) }
 {
     let leaves = leading_leaves(adb, fields, entries);
@@ -216,11 +231,14 @@ fn walk_fields_from(
     before: u32,
     entries: Arr<'_>,
 ) -> Result<u32, VisitFault>
+    // The visits so far are within their limit.
     requires few { before ≤ MOST_VALUES }
     requires within { from ≤ min (length fields.now) (length (array_entries entries)) }
+    // The result is that of the walk: the number of visits, or the first fault.
     ensures exact { with_cause result
         ≡ fields_walk (payload_of adb.entry) (shapes_of (drop from fields.now)) before
         (drop from (array_entries entries.entry)) }
+    // The number of visits is within its limit.
     ensures bound { IfOk result (λ n. n ≤ MOST_VALUES) }
 {
     let mut count = before;
@@ -265,10 +283,12 @@ pub fn walk_fields(
     before: u32,
     entries: Arr<'_>,
 ) -> Result<u32, Cause>
+    // The visits so far are within their limit.
     requires { before ≤ MOST_VALUES }
     ensures exact { result
         ≡ fields_walk (payload_of adb.entry) (shapes_of fields.now) before
         (array_entries entries.entry) }
+    // The number of visits is within its limit.
     ensures bound { IfOk result (λ n. n ≤ MOST_VALUES) }
 {
     match walk_each_field(adb, fields, before, entries) {

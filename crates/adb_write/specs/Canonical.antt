@@ -11,8 +11,8 @@ pub use Rattle.adb_view.specs.Visits.{MOST_VALUES}
 abbrev pub gap : ℕ → ℕ → ℕ
 gap align n = (align - n % align) % align
 
--- the bytes of one value outside its word: the kind of its word, its alignment, its bytes, and the
--- number of its entries
+-- an item: the bytes of one value that are outside of its word, with the kind of the word, the
+-- alignment, and the number of entries
 pub record Item : Type 0 where
   -- the kind of the words that point to it
   pub kind : ℕ
@@ -23,7 +23,8 @@ pub record Item : Type 0 where
   -- how many entries it has, which count as values
   pub entries : ℕ
 
--- a value as it is written: its word alone, or a word that points to an item
+-- a value as it is written: a word that contains the value (`in_place`), or an item to which a word
+-- points (`apart`)
 pub data Cell : Type 0 where
   in_place : ℕ → Cell
   apart : Item → Cell
@@ -129,18 +130,19 @@ put_new i out = (
   },
 )
 
--- the word of an item, and the layout with it; one that is equal to a written one has that one's word,
--- and only its entries are counted
+-- the word of an item, and the layout with it. If an equal item was written (`there`), its word is
+-- returned, and only the entries are counted
 abbrev pub put_unless_written : Option WrittenItem → Item → Layout → ℕ × Layout
 put_unless_written None i out = put_new i out
 put_unless_written (Some there) i out =
     (word_of_item there, record out { values = out.values + i.entries })
 
--- the word of an item, and the layout with it: it is written unless an equal one was
+-- the word of an item, and the layout with it: the item is written unless an equal one was written
+-- before
 abbrev pub put_item : Item → Layout → ℕ × Layout
 put_item i out = put_unless_written (find (is_equal_item out.body i) out.items) i out
 
--- the word of a value, and the layout with its bytes outside the word
+-- the word of a value, and the layout with the bytes that are outside of the word
 abbrev pub put_cell : Cell → Layout → ℕ × Layout
 put_cell (in_place w) out = (w, out)
 put_cell (apart i) out = put_item i out
@@ -205,7 +207,7 @@ unfoldable mutual
   trace_all none out = []
   trace_all (more v vs) out = counts_after_values v out ++ trace_all vs (write v out).1
 
--- the counts just after the first value that passes a limit; None if none does
+-- the counts just after the first value that brings one of them above its limit; None if none does
 abbrev pub overflow_of : Plain → Option PayloadCounts
 overflow_of v = find exceeds_a_limit (counts_after_values v empty_layout)
 

@@ -24,7 +24,9 @@ unfoldable mutual
 
 -- in a layout the word is one of this value, whatever the root will be
 pub record IsWordOf (out : Layout) (v : Plain) (word : ℕ) : Type 0 where
+  -- the word has 32 bits
   pub small : word < 2 ^ 32
+  -- with any root, the word points to this value in the payload
   pub holds : (root : ℕ) → Holds (payload_with_root root out) v word
 
 -- unless the writer passed a limit, the word represents this value in its payload

@@ -64,8 +64,8 @@ low_nibbles b i =
     get_or b i 0 % 16 * 2 ^ 12 + get_or b (i + 1) 0 % 16 * 2 ^ 8
     + get_or b (i + 2) 0 % 16 * 2 ^ 4 + get_or b (i + 3) 0 % 16
 
--- where a blob is among others: the first four bytes, and the four before the last two, so that the
--- neighbours in a sorted list of texts are close together
+-- a number from the first four bytes of a blob, and from the four before the last two. It is close for
+-- neighbours in a sorted list of texts
 abbrev pub neighbourhood : List ℕ → ℕ
 neighbourhood b = low_nibbles b 0 + low_nibbles b (length b - 6)
 
@@ -75,18 +75,19 @@ unfoldable pub blob_fingerprint : List ℕ → ℕ
 blob_fingerprint b =
     (neighbourhood b * 2 ^ 16 + (blob_hash b + length b) % 2 ^ 22) % 2 ^ 32
 
--- the fingerprint of a list: its last word. Entries are written before their list, so a new list is
--- near the last one
+-- the fingerprint of a list: its last word. The entries of a list are written just before the list, so
+-- the locator of a new list is mostly near the last one
 abbrev pub list_fingerprint : List ℕ → ℕ
 list_fingerprint words = get_or words (length words - 1) 0
 
--- the fingerprint of an item: of an integer its low 32 bits, of a blob and a list as above
+-- the fingerprint of an item: of an integer its low 32 bits, of a blob *blob_fingerprint*, of a list
+-- *list_fingerprint*
 abbrev pub fingerprint_of : Parts → ℕ
 fingerprint_of (Int n) = n % 2 ^ 32
 fingerprint_of (Blob b) = blob_fingerprint b.now
 fingerprint_of (Listed kind ws) = list_fingerprint (low_words ws.now)
 
--- ---- locators: an item's fingerprint, and the word that points to it in the 32 bits below
+-- ---- locators: the fingerprint of an item, and in the low 32 bits the word that points to it
 
 -- the locator of an item by its fingerprint, and the word that points to it
 abbrev pub locator_of : ℕ → ℕ → ℕ

@@ -46,7 +46,9 @@ HasNumbersThatFit (stored_list kind ws) = AllByRecursion (λ w. w < 2 ^ 32) ws �
 
 -- the word points to this item in the payload, after the head of 8 bytes
 pub record IsStoredAt (payload : List ℕ) (what : Stored) (word : ℕ) : Type 0 where
+  -- its numbers fit
   pub small : HasNumbersThatFit what
+  -- the word has the kind of the item
   pub kind : kind_of word ≡ (item_of_stored what).kind
   -- it follows the head
   pub behind_head : 8 ≤ low_28_bits word
@@ -56,8 +58,11 @@ pub record IsStoredAt (payload : List ℕ) (what : Stored) (word : ℕ) : Type 0
 
 -- the locator names an item in the payload
 pub record IsStored (payload : List ℕ) (locator : ℕ) : Type 0 where
+  -- the item
   pub what : Stored
+  -- the locator has its fingerprint
   pub fingerprint : fingerprint_of_locator locator ≡ fingerprint_of_stored what
+  -- the word of the locator points to it
   pub stored : IsStoredAt payload what (word_of_locator locator)
 
 -- each locator names an item in the payload
@@ -92,6 +97,7 @@ items_of_locators (locator ∷ locators) =
 -- payload's own unless a limit was passed
 pub record IsWriterState (payload : List ℕ) (pages : List (List ℕ))
     (bytes values : ℕ) : Type 0 where
+  -- the payload is empty, or begins with its head
   pub head : IsEmptyOrHasHead payload
   -- the count of bytes is the payload's own, unless a limit was passed
   pub agree : exceeds_a_limit (bytes, values) ≡ false → bytes ≡ 8 + length (drop 8 payload)

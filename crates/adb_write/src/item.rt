@@ -279,10 +279,11 @@ fn low_nibbles(bytes: &[u8], i: usize) -> u64
         + byte_at(bytes, i + 3) % 16
 }
 
-/// The fingerprint of a blob: its neighbourhood, and above all a hash. Sorted texts come in runs of
-/// close neighbourhoods, so their locators are inserted near the last ones, which are cached. Six
-/// bytes before the end some hundred numbered texts have the same. The length distinguishes long
-/// blobs with equal ends. With any fingerprint equal items are found.
+/// The fingerprint of a blob: its neighbourhood times 2^16, plus 22 bits of its hash and length,
+/// modulo 2^32. Sorted texts have close neighbourhoods, so their locators are inserted near the
+/// last ones, which are cached. Numbered texts that differ only in the last two bytes have the same
+/// neighbourhood. The length distinguishes long blobs with equal ends. With any fingerprint equal
+/// items are found.
 #[tactic(auto, unfolding(crate::specs::Keys::blob_fingerprint))]
 fn blob_fingerprint(bytes: &[u8]) -> u64
     ensures value { result ≡ blob_fingerprint bytes.now }

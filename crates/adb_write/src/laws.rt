@@ -23,10 +23,10 @@ pub fn a_canonical_payload_is_read_back()
         → value_of (canonical v) shape ≡ Some v }
 {}
 
-/// Between two moments a writer writes a value depth first: nothing for Null, the call of its kind
-/// for an integer or a blob. For a list it writes its values in order, using each word once, and
-/// then makes the call of the list's kind. An empty blob or list, and an object without a value,
-/// are Null.
+/// Between two of its states a writer writes a value depth first: nothing for Null, the call of its
+/// kind for an integer or a blob. For a list it writes the values of the list in order, using each
+/// word once, and then makes the call of the list's kind. An empty blob or list, and an object
+/// without a value, are Null.
 pub fn values_are_written_depth_first()
     ensures null { (w : Writing) → WritesValue w null 0 w }
     ensures int { (n : ℕ) (a : Writing) (x : ℕ) (b : Writing) → (x, b) ≡ int_call n a

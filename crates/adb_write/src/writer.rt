@@ -141,6 +141,7 @@ impl Writer {
         ensures ok { IfOk result (λ word. (word, self.new) ≡ int_call n self.old) }
         ensures written { IfOk result (λ word. WritesValue self.old (int n) word self.new) }
         ensures err { OnErr result (self.new ≡ self.old) }
+        // Only a call that adds bytes can fail.
         ensures wants { OnErr result (Grows self.old (int_call n self.old).1) }
     {
         if n < 1 << 28 {
@@ -158,6 +159,7 @@ impl Writer {
         ensures written { IfOk result
             (λ word. WritesValue self.old (blob_or_null bytes.now) word self.new) }
         ensures err { OnErr result (self.new ≡ self.old) }
+        // Only a call that adds bytes can fail.
         ensures wants { OnErr result (Grows self.old (blob_call bytes.now self.old).1) }
     {
         if bytes.is_empty() {
@@ -173,6 +175,7 @@ impl Writer {
             → WritesValues before vs entries.now self.old
             → WritesValue before (arr_value vs) word self.new) }
         ensures err { OnErr result (self.new ≡ self.old) }
+        // Only a call that adds bytes can fail.
         ensures wants { OnErr result (Grows self.old (arr_call entries.now self.old).1) }
     {
         self.list(ListKind::Array, entries)
@@ -186,6 +189,7 @@ impl Writer {
             → WritesValues before vs fields.now self.old
             → WritesValue before (obj_value vs) word self.new) }
         ensures err { OnErr result (self.new ≡ self.old) }
+        // Only a call that adds bytes can fail.
         ensures wants { OnErr result (Grows self.old (obj_call fields.now self.old).1) }
     {
         self.list(ListKind::Object, trimmed(fields))
@@ -217,6 +221,7 @@ impl Writer {
         ensures ok { IfOk result
             (λ word. (word, self.new) ≡ call (run_cell (list_kind kind) words.now) self.old) }
         ensures err { OnErr result (self.new ≡ self.old) }
+        // Only a call that adds bytes can fail.
         ensures wants { OnErr result
             (Grows self.old (call (run_cell (list_kind kind) words.now) self.old).1) }
     {
@@ -244,6 +249,7 @@ impl Writer {
         ensures ok { IfOk result
             (λ word. (word, self.new) ≡ call (apart (item_of parts.now)) self.old) }
         ensures err { OnErr result (self.new ≡ self.old) }
+        // Only a call that adds bytes can fail.
         ensures wants { OnErr result
             (Grows self.old (call (apart (item_of parts.now)) self.old).1) }
     {

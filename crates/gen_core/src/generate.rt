@@ -14,9 +14,8 @@ use adb_values::{Draft, WriteFault, file_of};
 use std::alloc::{AllocError, Global};
 use thiserror::Error;
 
-/// The container that a dump text is of: the text that `adbdump` prints of it is `text`. It has the
-/// canonical layout, and no contents of files. Rules of texts, such as that of versions, are not
-/// tested.
+/// The container for which `adbdump` prints `text`. It has the canonical layout, and no contents of
+/// files. Rules of texts, such as that of versions, are not tested.
 ///
 /// # Errors
 ///
@@ -44,7 +43,7 @@ fn fault_of_writer(fault: WriteFault) -> GenFault
     }
 }
 
-/// Reads a text: the value of its root is added to the draft, and its table is the answer.
+/// Reads a text: adds the value of its root to the draft, and returns the table of the root.
 fn read_text(alloc: Global, draft: &mut Draft, text: &[u8]) -> Result<Which, GenFault>
     ensures ok { IfOk result (λ which. table_and_draft_of_root (dumped_root text.now) draft.old
         ≡ Ok (which, draft.new)) }

@@ -39,13 +39,19 @@ tested_id pkg = sha256 (tested_payload pkg)
 
 -- a tested package is that of this file, read under this name: no test of the file as a package fails
 pub record IsTestedOf (name file : List ℕ) (pkg : TestedPackage) : Type 0 where
+  -- it was read under this name
   pub named : tested_name pkg ≡ name
+  -- no test of the file fails
   pub sound : package_fault file ≡ None
+  -- it has the value of the file
   pub value : tested_value pkg ≡ root_value Package (payload_in file)
+  -- it has the id of the file
   pub id : tested_id pkg ≡ package_id file
   -- needed to read its files again
   pub long : tested_len pkg ≡ length file
+  -- it has the bytes of the value of the file
   pub payload : tested_payload pkg ≡ payload_in file
+  -- it has the place of the contents of each file
   pub places : AreAtPlaces file pkg.places.items (contents_in (files_in_file file))
 
 -- the result of `read_package` for a file under this name, or for none

@@ -22,15 +22,20 @@ use Rattle.adb_schema.specs.Texts.{is_with_contents}
 
 -- ---- the expected files
 
--- a file whose contents are expected: the positions of its folder and of itself in it, which count from
--- 1, its size, and its digest
+-- a file whose contents are expected: the positions of its folder and of the file in it, its size, and
+-- its digest
 pub record Expected : Type 0 where
+  -- the position of its folder in the package, counted from 1
   pub folder : ℕ
+  -- its position in the folder, counted from 1
   pub file : ℕ
+  -- its size in bytes
   pub size : ℕ
+  -- its digest
   pub hash : List ℕ
 
--- the file at a position of a folder, if it has contents: it has no target and its size is above 0
+-- the file `file` at the position `i` of a folder, if the file has contents: it has no target, and its
+-- size is above 0
 abbrev pub expected_at : ℕ → ℕ → Plain → List Expected
 expected_at folder i file =
     if is_with_contents file
@@ -42,13 +47,13 @@ expected_at folder i file =
     } ∷ []
     else []
 
--- those files of a folder that have contents, the first of the files at position i
+-- the files of a folder that have contents; the first of these files has the position i in the folder
 abbrev pub expected_files : ℕ → ℕ → List Plain → List Expected
 expected_files folder i [] = []
 expected_files folder i (file ∷ files) =
     expected_at folder i file ++ expected_files folder (i + 1) files
 
--- those files of several folders that have contents, the first of the folders at position i
+-- the files of several folders that have contents; the first of these folders has the position i
 abbrev pub expected_folders : ℕ → List Plain → List Expected
 expected_folders i [] = []
 expected_folders i (folder ∷ folders) =
@@ -60,8 +65,8 @@ expected_contents pkg = expected_folders 1 (folders_in pkg)
 
 -- ---- one block of contents
 
--- the length of the positions in front of a file's bytes in its contents: those of its folder and of
--- itself, four bytes each
+-- how many bytes the two positions have at the front of a block of contents: the position of the
+-- folder and that of the file, four bytes each
 abbrev pub POSITIONS_LEN : ℕ
 POSITIONS_LEN = 8
 
@@ -69,7 +74,8 @@ POSITIONS_LEN = 8
 abbrev pub contents_bytes : List ℕ → List ℕ
 contents_bytes payload = drop POSITIONS_LEN payload
 
--- the fault if the digest by some function is not the wanted one; None if the two are equal
+-- the fault if the wanted digest is not the one that was computed (`found`); None if they are equal.
+-- `as_digest` adds the name of the function
 abbrev pub digest_fault : (List ℕ → Digest) → List ℕ → List ℕ → Option Cause
 digest_fault as_digest wanted found =
     if bytes_eq wanted found then None else Some (HashDiffers (as_digest wanted) (as_digest found))
@@ -84,13 +90,13 @@ hash_fault hash bytes =
     else if length hash == 64 then digest_fault Sha512 hash (sha512 bytes)
     else None
 
--- whether contents begin with the positions of the expected file
+-- whether a block of contents with this payload has the positions of the expected file
 abbrev pub has_positions_of : List ℕ → Expected → Bool
 has_positions_of payload e =
     ((contents_positions payload).0 == e.folder) && ((contents_positions payload).1 == e.file)
 
--- the first failed test of contents against an expected file: the positions, then the size, then the
--- digest
+-- the first failed test of a block of contents against an expected file: first the positions are
+-- compared, then the size, then the digest
 abbrev pub expected_fault : List ℕ → Expected → Option Cause
 expected_fault payload e =
     if not (has_positions_of payload e) then Some (DataOrder (e.folder, e.file) (contents_positions payload))
@@ -110,17 +116,22 @@ abbrev pub contents_block_fault : List ℕ → ℕ → List Expected → Option 
 contents_block_fault payload at es =
     if nat_lt (length payload) POSITIONS_LEN then Some (Truncated at) else next_contents_fault payload es
 
--- the fault at the end of the blocks if a file is left: (0, 0) was found in the place of its contents
+-- the fault at the end of the blocks, if a file is still expected: its positions were expected, and
+-- (0, 0) was found
 abbrev pub missing_contents_fault : List Expected → Option Cause
 missing_contents_fault [] = None
 missing_contents_fault (e ∷ es) = Some (DataOrder (e.folder, e.file) (0, 0))
 
--- ---- all of them
+-- ---- all blocks
 
--- the contents of a file, with the positions of its folder and of itself in it, counted from 1
+-- the contents of a file, with the position of its folder in the package and its position in the
+-- folder, both counted from 1
 pub record Contents : Type 0 where
+  -- the position of the file's folder in the package, counted from 1
   pub folder : ℕ
+  -- the position of the file in the folder, counted from 1
   pub file : ℕ
+  -- the bytes of the file
   pub bytes : List ℕ
 
 -- the files with their contents in order, up to the last or to the first failed test
@@ -129,7 +140,7 @@ pub data FilesRead : Type 0 where
   refused : Cause → FilesRead
   given : Contents → FilesRead → FilesRead
 
--- the files, unless a test failed; then its fault in their place
+-- these files, unless a test failed: then its fault is in place of them
 abbrev pub unless_fault : Option Cause → FilesRead → FilesRead
 unless_fault None files = files
 unless_fault (Some c) files = refused c
@@ -138,7 +149,8 @@ unless_fault (Some c) files = refused c
 abbrev pub contents_of_expected : List ℕ → Expected → Contents
 contents_of_expected payload e = record { folder = e.folder; file = e.file; bytes = contents_bytes payload }
 
--- the contents of the file that is expected next, and the further ones
+-- the contents of the next expected file, from a block with this payload, and the files after it
+-- (`further`)
 abbrev pub with_contents_of_next : List ℕ → (List Expected → FilesRead) → List Expected → FilesRead
 with_contents_of_next payload further [] = no_more
 with_contents_of_next payload further (e ∷ es) = given (contents_of_expected payload e) (further es)
@@ -150,7 +162,7 @@ files_at_block Kinds.Contents payload at further es =
     unless_fault (contents_block_fault payload at es) (with_contents_of_next payload further es)
 files_at_block kind payload at further es = further es
 
--- the files of the blocks, against those that are expected
+-- the files that are read from the blocks, each tested against the next expected file
 unfoldable pub files_read_from_blocks : List Expected → Reading → FilesRead
 files_read_from_blocks es done = unless_fault (missing_contents_fault es) no_more
 files_read_from_blocks es (fault c) = refused c

@@ -15,7 +15,7 @@ use Rattle.pkg_core.specs.Contents.{Expected, contents_block_fault, missing_cont
 abbrev pub PlacedPayload : Type 0
 PlacedPayload = List ℕ × ℕ
 
--- the blocks, and this one before them if it is contents
+-- some blocks, with this block in front of them if it is a block of contents
 abbrev pub with_block_if_contents : BlockKind → PlacedPayload → List PlacedPayload → List PlacedPayload
 with_block_if_contents Kinds.Contents block blocks = block ∷ blocks
 with_block_if_contents kind block blocks = blocks
@@ -26,8 +26,8 @@ blocks_of_contents done = []
 blocks_of_contents (fault c) = []
 blocks_of_contents (more b at r) = with_block_if_contents b.kind (b.payload, at) (blocks_of_contents r)
 
--- a test by its block: the block against the files that are still expected; or, if no block is left,
--- the framing after the last one and then that no file is left
+-- the fault of one test. A block is tested against the files that are still expected. If no block is
+-- left, first the framing is tested, then that no file is left
 abbrev pub contents_test_fault : Option Cause → List Expected → Option PlacedPayload → Option Cause
 contents_test_fault framing es (Some block) = contents_block_fault block.0 block.1 es
 contents_test_fault framing es None = option_or framing (missing_contents_fault es)

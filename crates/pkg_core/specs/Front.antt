@@ -21,14 +21,15 @@ front_block_fault done = None
 front_block_fault (fault c) = Some c
 front_block_fault (more b at r) = head_fault b.payload
 
--- the first failed test of a file's front, by its header, which must have this schema
+-- the first failed test of the front of a file with this result for its header; the file must have
+-- this schema
 abbrev pub front_fault_after_header : ℕ → List ℕ → Result ℕ Cause → Option Cause
 front_fault_after_header schema file (Err c) = Some c
 front_fault_after_header schema file (Ok found) =
     if schema == found then front_block_fault (block_stream_from (first_block_position found file))
     else Some (WrongSchema found)
 
--- the first failed test of a file's front
+-- the first failed test of the front of a file, which must have this schema
 unfoldable pub front_fault : ℕ → List ℕ → Option Cause
 front_fault schema file = front_fault_after_header schema file (header_of file)
 
@@ -80,7 +81,7 @@ IsFrontRead schema (Some file) (Err (Bad c)) = front_fault schema file ≡ Some 
 IsFrontRead schema (Some file) (Err Disk) = Unit {0}
 IsFrontRead schema (Some file) (Err Memory) = Unit {0}
 
--- ---- part by part
+-- ---- the front of a file that exists
 
 -- the position of a reader of blocks after the first block of a file, which ends at this offset
 abbrev pub position_after_first_block : ℕ → ℕ → List ℕ → ReaderPosition

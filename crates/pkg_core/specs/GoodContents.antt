@@ -10,9 +10,13 @@ use Rattle.pkg_core.specs.Contents.{Contents, Expected, hash_fault}
 
 -- the contents are those of the file that is expected: its positions, its size and its digest
 pub record IsContentsOf (e : Expected) (contents : Contents) : Type 0 where
+  -- the position of its folder
   pub folder : contents.folder ≡ e.folder
+  -- its position in the folder
   pub file : contents.file ≡ e.file
+  -- its size
   pub size : length contents.bytes ≡ e.size
+  -- its digest: the comparison has no fault
   pub hash : hash_fault e.hash contents.bytes ≡ None
 
 -- there are contents for each expected file, in order, and no others
@@ -30,9 +34,13 @@ IsDigestOf hash bytes = (hash ≡ sha1 bytes) ⊎ ((hash ≡ sha256 bytes) ⊎ (
 
 -- the contents are those of the file's entry
 pub record MatchesExpected (e : Expected) (contents : Contents) : Type 0 where
+  -- the position of its folder
   pub folder : contents.folder ≡ e.folder
+  -- its position in the folder
   pub file : contents.file ≡ e.file
+  -- its size
   pub size : length contents.bytes ≡ e.size
+  -- its digest, by SHA-1, SHA-256 or SHA-512
   pub digest : IsDigestOf e.hash contents.bytes
 
 -- there are contents for each expected file, in order and no others, and each are those of the file's

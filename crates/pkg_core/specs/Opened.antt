@@ -34,8 +34,8 @@ IsNextFile before (Err c) after = (before ≡ refused c) × (after ≡ refused c
 abbrev pub expected_of : Wanted → Expected
 expected_of w = record { folder = w.folder; file = w.file; size = w.size; hash = w.hash.now }
 
--- the files with contents that are left of folders, the first of which has position i, after the first
--- j files of that folder
+-- the files with contents that are left in some folders: the first of these folders has the position
+-- i, and its first j files are passed
 abbrev pub files_left_from : ℕ → ℕ → List Plain → List Expected
 files_left_from i j [] = []
 files_left_from i j (folder ∷ folders) =
@@ -65,7 +65,8 @@ expected_file_at folder file es = find (is_expected_at folder file) es
 
 -- ---- the blocks with it
 
--- the files of a package that are still to be read, ignoring an earlier error
+-- the files that are still to be read from the blocks of a package, whether or not a test failed
+-- before
 abbrev pub files_left : Rest → FilesRead
 files_left rest = files_read_from_blocks (files_left_in_walk rest.walk) (block_stream_from rest.blocks)
 

@@ -24,8 +24,8 @@ pub data PiecesRead : Type 0 where
 abbrev pub part_of : Expected → Bool → Part
 part_of e last = record { path = e.folder; file = e.file; last = last }
 
--- the last piece of a file, and then further ones; if the digest of all bytes is wrong, the fault is in
--- its place
+-- the last piece of a file, and then further ones. If the digest of all bytes of the file is wrong
+-- (`Some c`), its fault is in their place
 abbrev pub last_piece : Expected → Option Cause → List ℕ → PiecesRead → PiecesRead
 last_piece e None bytes further = piece (part_of e true) bytes further
 last_piece e (Some c) bytes further = refusal c
@@ -50,7 +50,8 @@ pieces_of_bytes e bytes further =
 
 -- ---- one block
 
--- the first failed test before a file's first piece: the positions, then the size
+-- the first failed test of a block of contents before its first piece: first the positions are
+-- compared, then the size
 abbrev pub position_or_size_fault : List ℕ → Expected → Option Cause
 position_or_size_fault payload e =
     if not (has_positions_of payload e) then Some (DataOrder (e.folder, e.file) (contents_positions payload))

@@ -19,7 +19,7 @@ use Rattle.pkg_core.specs.declared.place.BlockPlace.{BlockPlace}
 use Rattle.pkg_core.specs.declared.place.Step.{Step}
 use Rattle.pkg_core.specs.declared.place.Step.TheVariants.{End, Passed, Opened}
 
--- ---- of a file
+-- ---- a place in a file
 
 -- the position of a reader of blocks at a place of this file; its schema does not matter there, so it
 -- is 0

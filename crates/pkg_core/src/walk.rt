@@ -17,8 +17,8 @@ use adb_schema::{DirInfo, FileInfo, List, PackageView, contents_positions};
 use base_core::Cause;
 
 /// A walk over the files of a package that have contents: its position, after this many folders,
-/// and after this many files of the next one. Contracts see the files that are left, by `files_left_in_walk`
-/// of `specs/`.
+/// and after this many files of the next one. Contracts see the files that are left, by
+/// `files_left_in_walk` of `specs/`.
 #[derive(Clone, Copy)]
 pub struct Walk<'a> {
     /// All folders of the package.
@@ -164,8 +164,8 @@ fn has_contents(file: &FileInfo<'_>) -> bool
     file.target().is_empty() && file.size() > 0
 }
 
-/// The length of the positions in front of a file's bytes in its contents: those of its folder and
-/// of itself, four bytes each.
+/// How many bytes the two positions have at the front of a block of contents: the position of the
+/// folder and that of the file, four bytes each.
 pub const POSITIONS_LEN: usize = 8;
 
 /// The contents of a file, with the positions of its folder (`path`) and of itself in it, which
@@ -225,7 +225,7 @@ impl<'a> Walk<'a> {
         }
     }
 
-    /// Tests a block of contents against the next file, and returns them.
+    /// Tests a block of contents against the next file, and returns the contents of that file.
     pub(crate) fn give(&mut self, payload: &'a [u8], at: u64) -> Result<FileContents<'a>, Cause>
         ensures { ReturnsNextContents payload.entry.now at (files_left_in_walk self.old) result (files_left_in_walk self.new) }
     {

@@ -13,7 +13,7 @@ use Rattle.v2_core.specs.Database.{value_of_records}
 use Rattle.v2_core.specs.Reading.{records_of}
 use Rattle.v2_core.specs.Records.{Record}
 
--- a payload, unless a test of it failed, whose fault then refuses the text
+-- a payload that was tested: the payload, or the fault of the test that failed
 abbrev pub unless_bad : List ℕ → Option Cause → Result (List ℕ) V2Fault
 unless_bad payload None = Ok payload
 unless_bad payload (Some cause) = Err (Bad cause)
@@ -23,7 +23,7 @@ abbrev pub or_too_large : Result (List ℕ) PayloadCounts → Result (List ℕ) 
 or_too_large (Ok payload) = Ok payload
 or_too_large (Err counts) = Err (TooLarge counts.0 counts.1)
 
--- the payload of the database of a text's records, before it is tested
+-- the payload of the database with these records, before it is tested; or the first bad line
 abbrev pub written_payload : Result (List Record) ℕ → Result (List ℕ) V2Fault
 written_payload (Ok records) = or_too_large (payload_or_overflow (value_of_records records))
 written_payload (Err line) = Err (Bad (TextLine line))

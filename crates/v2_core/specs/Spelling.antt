@@ -60,9 +60,13 @@ AreLines (t ∷ ts) (l ∷ ls) =
 
 -- these lines are those of a record, which has a name and a version and each single field only once
 pub record SpellsRecord (lines : List (List ℕ)) (r : Record) : Type 0 where
+  -- the record has a line
   pub begun : r.has_line ≡ true
+  -- it has a name and a version
   pub complete : lacks_needed_line r.info ≡ false
+  -- it has each single field once at most
   pub once : have_no_repeated_single_field [] r.info ≡ true
+  -- the lines are those of the record
   pub lines_say : AreLines lines (record_lines r)
 
 -- the text of some lines, each with its line end (10), followed by another text

@@ -48,7 +48,7 @@ pub enum Line<'a> {
     FileAccess(Access<'a>),
     /// The SHA-1 of the file's bytes.
     FileHash(Vec<u8>),
-    /// Nothing that is kept.
+    /// A line that has no meaning here, and is skipped.
     Other,
 }
 

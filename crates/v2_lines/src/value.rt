@@ -78,7 +78,7 @@ fn number_value<'a>(digits: &[u8]) -> Option<Value<'a>>
     Some(Value::Number(n))
 }
 
-// A hash as a value: `Q1` and its base64. None: the text is none.
+// A hash as a value: `Q1` and its base64. None: the text is no such hash.
 fn read_bytes<'a>(alloc: Global, text: &[u8]) -> Result<Option<Value<'a>>, AllocError>
     ensures { IfOk result (λ found. option_map line_value_view found
         ≡ option_map single_text_value (sha1_of text.now)) }
@@ -89,7 +89,7 @@ fn read_bytes<'a>(alloc: Global, text: &[u8]) -> Result<Option<Value<'a>>, Alloc
     }
 }
 
-/// The SHA-1 that a text is: `Q1` and its base64 (RFC 4648).
+/// The SHA-1 in a text of the form `Q1` and its base64 (RFC 4648); None for another text.
 pub(crate) fn read_sha1(alloc: Global, text: &[u8]) -> Result<Option<Vec<u8>>, AllocError>
     ensures { IfOk result (λ found. option_map bytes_view found ≡ sha1_of text.now) }
 {
