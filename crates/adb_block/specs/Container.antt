@@ -3,7 +3,7 @@
 use Rattle.std.specs.Prelude.{◌≡◌, ℕ, ◌+◌, ◌*◌, ◌^◌, ◌<◌, ◌≤◌, ◌⊎◌, true, codes, List, [], ◌∷◌, ◌++◌, length, take, drop, Option, Some, None}
 use Rattle.std.specs.Int.{w32, w64, from_le_bytes}
 use Rattle.adb_block.specs.declared.block.BlockKind.{BlockKind}
-use Rattle.adb_block.specs.Piece.{Piece, may_be_next_kind, kind_number, least_payload, padding_of}
+use Rattle.adb_block.specs.Piece.{Piece, may_be_next_kind, kind_number, least_payload_len, padding_of}
 
 -- a header of four bytes: the kind in the top two bits, below it the raw size, which counts the
 -- header's 4 bytes and the `len` of the payload
@@ -55,7 +55,7 @@ pub record MayFollow (last : Option BlockKind) (b : Piece) : Type 0 where
   -- its kind is allowed here
   pub order : may_be_next_kind last b.kind ≡ true
   -- its payload has the bytes that its kind needs
-  pub long : least_payload b.kind ≤ length b.payload
+  pub long : least_payload_len b.kind ≤ length b.payload
 
 -- the file may end here, since at least one block precedes
 abbrev pub HasBlockBefore : Option BlockKind → Type 0

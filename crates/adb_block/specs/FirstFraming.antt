@@ -4,9 +4,9 @@
 use Rattle.std.specs.Prelude.{◌≡◌, ℕ, ◌+◌, ◌<◌, ◌⊎◌, false, true, List, [], ◌∷◌, length, drop, Option, Some, None}
 use Rattle.base_core.specs.declared.Cause.{Cause}
 use Rattle.base_core.specs.declared.Cause.TheVariants.{Truncated, BlockOrder}
-use Rattle.adb_block.specs.Piece.{Piece, may_be_next_kind, least_payload}
+use Rattle.adb_block.specs.Piece.{Piece, may_be_next_kind, least_payload_len}
 use Rattle.adb_block.specs.Container.{IsBlock, MayFollow}
-use Rattle.adb_block.specs.Framing.{HeadFields, head_of, kind_of_number}
+use Rattle.adb_block.specs.Framing.{HeadFields, block_head_fields, kind_of_number}
 use Rattle.adb_block.specs.declared.block.BlockKind.{BlockKind}
 
 -- after a block of the kind `last`, the bytes begin with these blocks and end with the rest
@@ -26,7 +26,7 @@ last_kind last (b ∷ bs) = last_kind (Some b.kind) bs
 -- first: the bytes have no complete header
 pub record LackHeader (at : ℕ) (bytes : List ℕ) (c : Cause) : Type 0 where
   -- they have no complete header
-  pub head : head_of bytes ≡ None
+  pub head : block_head_fields bytes ≡ None
   -- the cause is `Truncated`, with the offset of the block
   pub cause : c ≡ Truncated at
 
@@ -41,7 +41,7 @@ pub record HaveWrongKind (last : Option BlockKind) (at : ℕ) (bytes : List ℕ)
   -- the fields of the header
   pub head : HeadFields
   -- the bytes begin with this header
-  pub is : head_of bytes ≡ Some head
+  pub is : block_head_fields bytes ≡ Some head
   -- its kind is not allowed here
   pub wrong : CannotFollow last (kind_of_number head.kind)
   -- the cause is `BlockOrder`, with the offset of the block
@@ -50,7 +50,7 @@ pub record HaveWrongKind (last : Option BlockKind) (at : ℕ) (bytes : List ℕ)
 -- the raw size is too small for the header and the least payload of the kind, or exceeds the bytes
 abbrev pub IsWrongSize : HeadFields → BlockKind → List ℕ → Type 0
 IsWrongSize head kind bytes =
-    (head.raw < head.len + least_payload kind) ⊎ (length bytes < head.raw)
+    (head.raw < head.len + least_payload_len kind) ⊎ (length bytes < head.raw)
 
 -- third: the bytes begin with a header whose kind is allowed here, but whose size is wrong
 pub record HaveWrongSize (last : Option BlockKind) (at : ℕ) (bytes : List ℕ)
@@ -58,7 +58,7 @@ pub record HaveWrongSize (last : Option BlockKind) (at : ℕ) (bytes : List ℕ)
   -- the fields of the header
   pub head : HeadFields
   -- the bytes begin with this header
-  pub is : head_of bytes ≡ Some head
+  pub is : block_head_fields bytes ≡ Some head
   -- the kind of the block
   pub kind : BlockKind
   -- its number is in the header

@@ -27,7 +27,8 @@ block_stream_after_step at further (block b size) = more b at (further b size)
 unfoldable pub block_stream_from_offset : ℕ → Option BlockKind → ℕ → List ℕ → Reading
 block_stream_from_offset zero last at bytes = fault (Truncated at)
 block_stream_from_offset (suc n) last at bytes =
-    block_stream_after_step at (λ b size. block_stream_from_offset n (Some b.kind) (at + size) (drop size bytes))
+    block_stream_after_step at
+    (λ b size. block_stream_from_offset n (Some b.kind) (at + size) (drop size bytes))
     (next_step last at bytes)
 
 -- the reading of a file from a reader's position on

@@ -8,8 +8,8 @@
 ghost use Rattle.std.specs.Prelude.{◌≡◌, ◌≤◌, ◌<◌, ◌+◌, ◌-◌, ◌^◌, ◌⊎◌, ℕ, List, Option, None, true, IfOk, IfSome, IsSome, length, take};
 ghost use Rattle.std.specs.Option.{option_map};
 ghost use Rattle.adb_block.specs.Container.{IsHead};
-ghost use Rattle.adb_block.specs.Piece.{may_be_next_kind, least_payload, padding_of, kind_number};
-ghost use Rattle.adb_block.specs.Framing.{HeadFields, head_of, kind_of_number, step_by_order, next_step};
+ghost use Rattle.adb_block.specs.Piece.{may_be_next_kind, least_payload_len, padding_of, kind_number};
+ghost use Rattle.adb_block.specs.Framing.{HeadFields, block_head_fields, kind_of_number, step_by_order, next_step};
 ghost use Rattle.adb_block.specs.Frames.{IsHeadPrefix, IsFrameOrEndOfStep, IsFrameOfStep, IsReadBlock, fields_of, head_len, raw_size};
 ghost use Rattle.adb_block.specs.Written.{head_bytes};
 ghost use Rattle.adb_block.specs.Header.{word_at, long_at};
@@ -160,9 +160,9 @@ pub fn frame_of(
 
 /// The header at the front of the bytes, or None if it is not complete. The number 3 in the top two
 /// bits marks a header of 16 bytes.
-#[tactic(auto, unfolding(crate::specs::Framing::head_of))]
+#[tactic(auto, unfolding(crate::specs::Framing::block_head_fields))]
 fn read_head(bytes: &[u8]) -> Option<BlockHead>
-    ensures exact { option_map fields_of result ≡ head_of bytes.now }
+    ensures exact { option_map fields_of result ≡ block_head_fields bytes.now }
     // The length of the header is that of its first bytes (`head_len`).
     ensures len { IfSome result (λ head. head.len ≡ head_len bytes.now) }
 {
@@ -216,7 +216,7 @@ fn frame_by_head(
     if head.raw < head.len || head.raw > left {
         return Err(Cause::Truncated { at });
     }
-    if head.raw - head.len < least_payload(kind) {
+    if head.raw - head.len < least_payload_len(kind) {
         return Err(Cause::Truncated { at });
     }
     Ok(Frame {
@@ -252,8 +252,8 @@ fn may_be_next_kind(last: Option<BlockKind>, kind: BlockKind) -> bool
 }
 
 /// The least length in bytes of the payload of a block of this kind: an ADB block has a head of 8.
-fn least_payload(kind: BlockKind) -> u64
-    ensures { result ≡ least_payload kind }
+fn least_payload_len(kind: BlockKind) -> u64
+    ensures { result ≡ least_payload_len kind }
 {
     match kind {
         BlockKind::Adb => 8,

@@ -44,7 +44,8 @@ pub record IsRememberedTextWord (payload : List ℕ) (words : BTreeMap ℕ ℕ) 
 
 -- the remembered texts are blobs of the draft: each has there the word that is remembered for it; and
 -- the remembered ranges have their periods
-pub record AreRememberedBlobsOfDraft (payload : List ℕ) (draft : DraftState) (texts : KnownTexts) : Type 0 where
+pub record AreRememberedBlobsOfDraft (payload : List ℕ) (draft : DraftState)
+    (texts : KnownTexts) : Type 0 where
   -- each text has in the draft the word that is remembered for it
   pub known : (word known : ℕ) → get nat_cmp texts.words word ≡ Some known
       → HasBlob draft (text_in (value_at payload Text word)) known

@@ -8,11 +8,11 @@ ghost use Rattle.adb_view.specs.declared.tables.Kind.TheVariants as Kinds;
 ghost use Rattle.adb_view.specs.declared.tables.Which.TheVariants as Tables;
 ghost use Rattle.adb_values.specs.Drafts.{draft_with, draft_with_all};
 ghost use Rattle.adb_copy.specs.Zeros.{int_or_null, without_zeros, info_with_id_and_size};
-ghost use Rattle.adb_copy.specs.Fields.{info_texts, int_plains};
+ghost use Rattle.adb_copy.specs.Fields.{info_texts, ints_or_nulls};
 ghost use Rattle.adb_copy.specs.Known.{AreRememberedBlobsOfDraft};
 ghost use Rattle.adb_view.specs.Adb.{payload_of};
 ghost use Rattle.adb_view.specs.Entries.{array_entries};
-ghost use Rattle.adb_view.specs.Plain.{text_plains};
+ghost use Rattle.adb_view.specs.Plain.{plains_of_texts};
 
 use crate::known_texts::KnownTexts;
 use adb_fields::{hash_field, int_field, objects_field, texts_field};
@@ -43,7 +43,8 @@ pub fn write_info(
     ensures info { OnOk result (draft.new ≡ draft_with (info_with_id_and_size
         (value_at (payload_of adb.entry) (Kinds.Obj Tables.PkgInfo) info) id.now len) draft.old) }
     // The remembered texts are blobs of the new draft.
-    ensures known { OnOk result (AreRememberedBlobsOfDraft (payload_of adb.entry) draft.new known.new) }
+    ensures known { OnOk result (AreRememberedBlobsOfDraft
+        (payload_of adb.entry) draft.new known.new) }
 {
     values_have_their_shape();
     draft.open_list()?;
@@ -85,10 +86,11 @@ fn write_info_texts(
     requires sound { is_sound (payload_of adb) (Kinds.Obj Tables.PkgInfo) info ≡ true }
     // The remembered texts are blobs of the draft.
     requires known { AreRememberedBlobsOfDraft (payload_of adb) draft.old known.old }
-    ensures texts { OnOk result (draft.new ≡ draft_with_all (text_plains (info_texts
+    ensures texts { OnOk result (draft.new ≡ draft_with_all (plains_of_texts (info_texts
         (value_at (payload_of adb.entry) (Kinds.Obj Tables.PkgInfo) info) id.now)) draft.old) }
     // The remembered texts are blobs of the new draft.
-    ensures known { OnOk result (AreRememberedBlobsOfDraft (payload_of adb.entry) draft.new known.new) }
+    ensures known { OnOk result (AreRememberedBlobsOfDraft
+        (payload_of adb.entry) draft.new known.new) }
 {
     known.write_field(draft, adb, Which::PkgInfo, info, INFO_NAME)?;
     known.write_field(draft, adb, Which::PkgInfo, info, INFO_VERSION)?;
@@ -104,7 +106,7 @@ fn write_info_texts(
 
 /// Writes integers one after another; 0 is NULL.
 fn write_ints(draft: &mut Draft, ints: &[u64]) -> Result<(), AllocError>
-    ensures { OnOk result (draft.new ≡ draft_with_all (int_plains ints.now) draft.old) }
+    ensures { OnOk result (draft.new ≡ draft_with_all (ints_or_nulls ints.now) draft.old) }
 {
     for n in ints {
         write_int(draft, *n)?;
@@ -137,7 +139,8 @@ pub fn write_text_list<'a>(
     ensures texts { OnOk result (draft.new ≡ draft_with (without_zeros
         (array_at (payload_of adb.entry) Kinds.Text (array_entries texts.entry))) draft.old) }
     // The remembered texts are blobs of the new draft.
-    ensures known { OnOk result (AreRememberedBlobsOfDraft (payload_of adb.entry) draft.new known.new) }
+    ensures known { OnOk result (AreRememberedBlobsOfDraft
+        (payload_of adb.entry) draft.new known.new) }
 {
     values_have_their_shape();
     draft.open_list()?;
@@ -163,7 +166,8 @@ fn write_deps(
     ensures deps { OnOk result (draft.new ≡ draft_with (without_zeros (entry_in
         (value_at (payload_of adb.entry) (Kinds.Obj Tables.PkgInfo) info) field)) draft.old) }
     // The remembered texts are blobs of the new draft.
-    ensures known { OnOk result (AreRememberedBlobsOfDraft (payload_of adb.entry) draft.new known.new) }
+    ensures known { OnOk result (AreRememberedBlobsOfDraft
+        (payload_of adb.entry) draft.new known.new) }
 {
     let deps = objects_field(adb, Which::PkgInfo, info, field, Which::Dep);
     write_dep_list(draft, adb, known, deps)
@@ -184,7 +188,8 @@ fn write_dep_list<'a>(
     ensures deps { OnOk result (draft.new ≡ draft_with (without_zeros (array_at
         (payload_of adb.entry) (Kinds.Obj Tables.Dep) (array_entries deps.entry))) draft.old) }
     // The remembered texts are blobs of the new draft.
-    ensures known { OnOk result (AreRememberedBlobsOfDraft (payload_of adb.entry) draft.new known.new) }
+    ensures known { OnOk result (AreRememberedBlobsOfDraft
+        (payload_of adb.entry) draft.new known.new) }
 {
     values_have_their_shape();
     draft.open_list()?;
@@ -208,7 +213,8 @@ fn write_dep(
     ensures dep { OnOk result (draft.new ≡ draft_with (without_zeros
         (value_at (payload_of adb.entry) (Kinds.Obj Tables.Dep) dep)) draft.old) }
     // The remembered texts are blobs of the new draft.
-    ensures known { OnOk result (AreRememberedBlobsOfDraft (payload_of adb.entry) draft.new known.new) }
+    ensures known { OnOk result (AreRememberedBlobsOfDraft
+        (payload_of adb.entry) draft.new known.new) }
 {
     values_have_their_shape();
     draft.open_list()?;

@@ -39,7 +39,8 @@ impl KnownTexts {
 
     /// No text is known.
     pub fn new(alloc: Global) -> KnownTexts
-        ensures { (payload : List ℕ) (draft : DraftState) → AreRememberedBlobsOfDraft payload draft result }
+        ensures { (payload : List ℕ) (draft : DraftState)
+            → AreRememberedBlobsOfDraft payload draft result }
     {
         KnownTexts {
             words: BTreeMap::new(alloc),
@@ -62,7 +63,8 @@ impl KnownTexts {
         ensures text { OnOk result (draft.new ≡ draft_with
             (blob_or_null (text_in (value_at (payload_of adb.entry) Kinds.Text word))) draft.old) }
         // The remembered texts are blobs of the new draft.
-        ensures known { OnOk result (AreRememberedBlobsOfDraft (payload_of adb.entry) draft.new self.new) }
+        ensures known { OnOk result (AreRememberedBlobsOfDraft
+            (payload_of adb.entry) draft.new self.new) }
     {
         let text = text_word(adb, word);
         if text.len() <= SHORT {
@@ -91,7 +93,8 @@ impl KnownTexts {
         ensures text { OnOk result (draft.new ≡ draft_with (blob_or_null (text_in (entry_in
             (value_at (payload_of adb.entry) (Kinds.Obj which) object) field))) draft.old) }
         // The remembered texts are blobs of the new draft.
-        ensures known { OnOk result (AreRememberedBlobsOfDraft (payload_of adb.entry) draft.new self.new) }
+        ensures known { OnOk result (AreRememberedBlobsOfDraft
+            (payload_of adb.entry) draft.new self.new) }
     {
         self.write(draft, adb, field_word(adb, which, object, field))
     }
@@ -146,7 +149,8 @@ impl KnownTexts {
         ensures text { OnOk result (draft.new ≡ draft_with
             (blob_or_null (text_in (value_at (payload_of adb.entry) Kinds.Text word))) draft.old) }
         // The remembered texts are blobs of the new draft.
-        ensures known { OnOk result (AreRememberedBlobsOfDraft (payload_of adb.entry) draft.new self.new) }
+        ensures known { OnOk result (AreRememberedBlobsOfDraft
+            (payload_of adb.entry) draft.new self.new) }
     {
         match self.word_of_equal(adb, word)? {
             Some(known) => {
@@ -166,7 +170,8 @@ impl KnownTexts {
         ensures text { OnOk result (draft.new ≡ draft_with
             (blob_or_null (text_in (value_at (payload_of adb.entry) Kinds.Text word))) draft.old) }
         // The remembered texts are blobs of the new draft.
-        ensures known { OnOk result (AreRememberedBlobsOfDraft (payload_of adb.entry) draft.new self.new) }
+        ensures known { OnOk result (AreRememberedBlobsOfDraft
+            (payload_of adb.entry) draft.new self.new) }
     {
         let known = draft.blob_word(text_word(adb, word))?;
         self.words.insert(word.word(), known.word())?;

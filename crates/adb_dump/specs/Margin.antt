@@ -17,7 +17,8 @@ margin_unless_begun depth false = margin depth
 -- the bytes of lines at a depth, of which the first may have begun
 abbrev pub indented_lines_text : ℕ → Bool → List Line → List ℕ
 indented_lines_text depth begun [] = []
-indented_lines_text depth begun (l ∷ ls) = margin_unless_begun depth begun ++ (l ++ (codes "\n" ++ indented_lines_text depth false ls))
+indented_lines_text depth begun (l ∷ ls) =
+    margin_unless_begun depth begun ++ (l ++ (codes "\n" ++ indented_lines_text depth false ls))
 
 -- a depth that all lines are below. Tables are nested a few levels deep (`docs/formats.md`, "Schemas"),
 -- so any such number serves; it keeps the depth of a line within 32 bits

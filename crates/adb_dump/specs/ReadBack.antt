@@ -17,9 +17,10 @@ ResultOrBadLine A = Result A ℕ
 
 -- the result `f x` of reading after `n` other lines; the number of a bad line then counts these lines
 -- too
-abbrev pub after_lines : {A B : Type 0} → ℕ → (A → B) → ResultOrBadLine A → ResultOrBadLine B
-after_lines n f (Ok x) = Ok (f x)
-after_lines n f (Err k) = Err (n + k)
+abbrev pub mapped_or_bad_line_shifted_by : {A B : Type 0} → ℕ → (A → B) → ResultOrBadLine A
+    → ResultOrBadLine B
+mapped_or_bad_line_shifted_by n f (Ok x) = Ok (f x)
+mapped_or_bad_line_shifted_by n f (Err k) = Err (n + k)
 
 -- the rest of a line after a prefix, if the line begins with that
 abbrev pub strip_prefix : List ℕ → List ℕ → Option (List ℕ)
@@ -41,38 +42,41 @@ end_block_or_add_line l ls (Some inner) r = with_line_before_block inner r
 
 -- the block at the front: the lines that are indented, without their two spaces; and the lines after
 -- the block
-abbrev pub split_block : List Line → List Line × List Line
-split_block [] = ([], [])
-split_block (l ∷ ls) = end_block_or_add_line l ls (strip_prefix (codes "  ") l) (split_block ls)
+abbrev pub block_and_lines_after : List Line → List Line × List Line
+block_and_lines_after [] = ([], [])
+block_and_lines_after (l ∷ ls) =
+    end_block_or_add_line l ls (strip_prefix (codes "  ") l) (block_and_lines_after ls)
 
 -- ---- a value on one line
 
 -- the number that a lower-case hexadecimal digit represents
-abbrev pub hex_value : ℕ → ℕ
-hex_value c = if nat_lt c 0x3a then c - 0x30 else c - 0x57
+abbrev pub hex_digit_value_unchecked : ℕ → ℕ
+hex_digit_value_unchecked c = if nat_lt c 0x3a then c - 0x30 else c - 0x57
 
 -- the bytes of hexadecimal digits, two for each; a single digit at the end is dropped
-abbrev pub unhex : List ℕ → List ℕ
-unhex [] = []
-unhex (h ∷ []) = []
-unhex (h ∷ l ∷ cs) = (hex_value h * 16 + hex_value l) ∷ unhex cs
+abbrev pub bytes_of_hex_digits : List ℕ → List ℕ
+bytes_of_hex_digits [] = []
+bytes_of_hex_digits (h ∷ []) = []
+bytes_of_hex_digits (h ∷ l ∷ cs) =
+    (hex_digit_value_unchecked h * 16 + hex_digit_value_unchecked l) ∷ bytes_of_hex_digits cs
 
 -- the bytes of a text from after a `\x` on. First is the byte of the next two digits; `f` reads the
 -- rest
-abbrev pub hex_escape_read : (List ℕ → Option (List ℕ)) → List ℕ → Option (List ℕ)
-hex_escape_read f [] = None
-hex_escape_read f (h ∷ []) = None
-hex_escape_read f (h ∷ l ∷ cs) = option_map (λ b. (hex_value h * 16 + hex_value l) ∷ b) (f cs)
+abbrev pub text_read_after_backslash_x : (List ℕ → Option (List ℕ)) → List ℕ → Option (List ℕ)
+text_read_after_backslash_x f [] = None
+text_read_after_backslash_x f (h ∷ []) = None
+text_read_after_backslash_x f (h ∷ l ∷ cs) =
+    option_map (λ b. (hex_digit_value_unchecked h * 16 + hex_digit_value_unchecked l) ∷ b) (f cs)
 
 -- the bytes of a text from after a backslash on. First is the byte of the escape (`n`, a backslash, a
 -- quote, or `x` and two digits); `f` reads the rest
-abbrev pub escape_read : (List ℕ → Option (List ℕ)) → List ℕ → Option (List ℕ)
-escape_read f [] = None
-escape_read f (d ∷ cs) =
+abbrev pub text_read_after_backslash : (List ℕ → Option (List ℕ)) → List ℕ → Option (List ℕ)
+text_read_after_backslash f [] = None
+text_read_after_backslash f (d ∷ cs) =
     if d == 0x6e then option_map (λ b. 0x0a ∷ b) (f cs)
     else if d == 0x5c then option_map (λ b. 0x5c ∷ b) (f cs)
     else if d == 0x22 then option_map (λ b. 0x22 ∷ b) (f cs)
-    else if d == 0x78 then hex_escape_read f cs
+    else if d == 0x78 then text_read_after_backslash_x f cs
     else None
 
 -- the bytes of a text from after its first quote on, up to a quote that ends the line. The number `n`
@@ -82,13 +86,13 @@ quoted_read zero cs = None
 quoted_read (suc n) [] = None
 quoted_read (suc n) (c ∷ cs) =
     if c == 0x22 then (if length cs == 0 then Some [] else None)
-    else if c == 0x5c then escape_read (quoted_read n) cs
+    else if c == 0x5c then text_read_after_backslash (quoted_read n) cs
     else option_map (λ b. c ∷ b) (quoted_read n cs)
 
 -- the value of a text; an empty one has none, since no line represents it
-abbrev pub blob_read : List ℕ → Option Plain
-blob_read [] = None
-blob_read (c ∷ cs) = Some (blob (c ∷ cs))
+abbrev pub blob_unless_empty : List ℕ → Option Plain
+blob_unless_empty [] = None
+blob_unless_empty (c ∷ cs) = Some (blob (c ∷ cs))
 
 -- the value of a number below 2^64 in decimal digits; *if_line_prints_value* tests that the line has nothing else
 abbrev pub int_read : Line → Option Plain
@@ -97,12 +101,12 @@ int_read l = if nat_lt (digits_value 10 l) (2 ^ 64) then Some (int (digits_value
 -- the value of a text, between quotes or as it is
 abbrev pub text_read : Line → Option Plain
 text_read l =
-    if begins_with_byte 0x22 l then option_and_then blob_read (quoted_read (length l) (drop 1 l))
-    else blob_read l
+    if begins_with_byte 0x22 l then option_and_then blob_unless_empty (quoted_read (length l) (drop 1 l))
+    else blob_unless_empty l
 
 -- the value of a hash, by its digits
 abbrev pub hash_read : Line → Option Plain
-hash_read l = blob_read (unhex l)
+hash_read l = blob_unless_empty (bytes_of_hex_digits l)
 
 -- the value that was read from a line, if it is printed as exactly this line (`form`); else the line
 -- is bad
@@ -126,11 +130,12 @@ entry_read f l ls =
 
 -- an entry of an array, which `f` reads, and the entries after it, which `g` reads; `l` is the first
 -- line without its dash. A line without a dash (None) is bad
-abbrev pub entries_after_dash : (List Line → ResultOrBadLine Plain) → (List Line → ResultOrBadLine Plains)
+abbrev pub entries_from_dash_line : (List Line → ResultOrBadLine Plain)
+    → (List Line → ResultOrBadLine Plains)
     → List Line × List Line → Option Line → ResultOrBadLine Plains
-entries_after_dash f g r None = Err 0
-entries_after_dash f g r (Some l) =
-    and_then (entry_read f l r.0) (λ v. after_lines (1 + length r.0) (more v) (g r.1))
+entries_from_dash_line f g r None = Err 0
+entries_from_dash_line f g r (Some l) =
+    and_then (entry_read f l r.0) (λ v. mapped_or_bad_line_shifted_by (1 + length r.0) (more v) (g r.1))
 
 -- the entries of an array by their lines; `f` reads one entry. The number `n` bounds the recursion;
 -- the number of lines is enough
@@ -138,40 +143,43 @@ abbrev pub entries_read : (List Line → ResultOrBadLine Plain) → ℕ → List
 entries_read f zero ls = Ok none
 entries_read f (suc n) [] = Ok none
 entries_read f (suc n) (l ∷ ls) =
-    entries_after_dash f (entries_read f n) (split_block ls) (strip_prefix (codes "- ") l)
+    entries_from_dash_line f (entries_read f n) (block_and_lines_after ls) (strip_prefix (codes "- ") l)
 
 -- the value of an array; one without an entry has no lines, so it cannot be read
-abbrev pub arr_read : Plains → ResultOrBadLine Plain
-arr_read none = Err 0
-arr_read (more v vs) = Ok (arr (more v vs))
+abbrev pub array_unless_empty : Plains → ResultOrBadLine Plain
+array_unless_empty none = Err 0
+array_unless_empty (more v vs) = Ok (arr (more v vs))
 
 -- the value of an object; one without a field has no lines, so it cannot be read
-abbrev pub obj_read : Plains → ResultOrBadLine Plain
-obj_read none = Err 0
-obj_read (more v vs) = Ok (obj (more v vs))
+abbrev pub object_unless_empty : Plains → ResultOrBadLine Plain
+object_unless_empty none = Err 0
+object_unless_empty (more v vs) = Ok (obj (more v vs))
 
 -- a field whose value follows `name:` on its line, and then the other fields: `f` reads the value, `g`
 -- the other fields
-abbrev pub field_on_line :
+abbrev pub fields_read_with_value_on_line :
     (Line → ResultOrBadLine Plain) → (List Line → ResultOrBadLine Plains) → List Line
     → Option Line → ResultOrBadLine Plains
-field_on_line f g ls None = Err 0
-field_on_line f g ls (Some l) = and_then (f l) (λ v. after_lines 1 (more v) (g ls))
+fields_read_with_value_on_line f g ls None = Err 0
+fields_read_with_value_on_line f g ls (Some l) =
+    and_then (f l) (λ v. mapped_or_bad_line_shifted_by 1 (more v) (g ls))
 
 -- a field whose value is in the block `r.0` below its name, and then the other fields: `f` reads the
 -- block, `g` the lines after it. Nothing may follow `name:` on its line
-abbrev pub field_with_value_below : (List Line → ResultOrBadLine Plain) → (List Line → ResultOrBadLine Plains)
+abbrev pub fields_read_with_value_below : (List Line → ResultOrBadLine Plain)
+    → (List Line → ResultOrBadLine Plains)
     → List Line × List Line → Line → ResultOrBadLine Plains
-field_with_value_below f g r [] =
-    and_then (after_lines 1 (λ v. v) (f r.0)) (λ v. after_lines (1 + length r.0) (more v) (g r.1))
-field_with_value_below f g r (c ∷ cs) = Err 0
+fields_read_with_value_below f g r [] =
+    and_then (mapped_or_bad_line_shifted_by 1 (λ v. v) (f r.0))
+    (λ v. mapped_or_bad_line_shifted_by (1 + length r.0) (more v) (g r.1))
+fields_read_with_value_below f g r (c ∷ cs) = Err 0
 
 -- the fields from a line on: if the line does not have the name of this field, those after it
 -- (`other`), else this one (`this`, of the text after `name:`)
-abbrev pub if_named :
+abbrev pub fields_read_by_name_match :
     ResultOrBadLine Plains → (Line → ResultOrBadLine Plains) → Option Line → ResultOrBadLine Plains
-if_named other this None = other
-if_named other this (Some rest) = this rest
+fields_read_by_name_match other this None = other
+fields_read_by_name_match other this (Some rest) = this rest
 
 unfoldable mutual
   -- the value of a shape with exactly these lines
@@ -179,32 +187,38 @@ unfoldable mutual
   block_read number ls = single_line_value (λ l. if_line_prints_value int_line l (int_read l)) ls
   block_read text ls = single_line_value (λ l. if_line_prints_value text_line l (text_read l)) ls
   block_read hash ls = single_line_value (λ l. if_line_prints_value hash_line l (hash_read l)) ls
-  block_read (array s) ls = and_then (entries_read (block_read s) (length ls) ls) arr_read
-  block_read (object schema fs) ls = and_then (fields_read fs ls) obj_read
+  block_read (array s) ls = and_then (entries_read (block_read s) (length ls) ls) array_unless_empty
+  block_read (object schema fs) ls = and_then (fields_read fs ls) object_unless_empty
 
   -- The value of a field, followed by the other fields. `l` is the rest of the line after `name:`, `ls`
   -- has the lines below it, and `g` reads the other fields. The entries of an array or an object are in
   -- the indented block below the line.
   pub named_read :
       Shape → (List Line → ResultOrBadLine Plains) → List Line → Line → ResultOrBadLine Plains
-  named_read number g ls l = field_on_line (λ l. if_line_prints_value int_line l (int_read l)) g ls
+  named_read number g ls l =
+      fields_read_with_value_on_line (λ l. if_line_prints_value int_line l (int_read l)) g ls
       (strip_prefix (codes " ") l)
-  named_read text g ls l = field_on_line (λ l. if_line_prints_value text_line l (text_read l)) g ls
+  named_read text g ls l =
+      fields_read_with_value_on_line (λ l. if_line_prints_value text_line l (text_read l)) g ls
       (strip_prefix (codes " ") l)
-  named_read hash g ls l = field_on_line (λ l. if_line_prints_value hash_line l (hash_read l)) g ls
+  named_read hash g ls l =
+      fields_read_with_value_on_line (λ l. if_line_prints_value hash_line l (hash_read l)) g ls
       (strip_prefix (codes " ") l)
-  named_read (array s) g ls l = field_with_value_below
-      (λ ls. and_then (entries_read (block_read s) (length ls) ls) arr_read) g (split_block ls) l
-  named_read (object schema fs) g ls l = field_with_value_below (λ ls. and_then (fields_read fs ls) obj_read) g
-      (split_block ls) l
+  named_read (array s) g ls l = fields_read_with_value_below
+      (λ ls. and_then (entries_read (block_read s) (length ls) ls) array_unless_empty) g
+      (block_and_lines_after ls) l
+  named_read (object schema fs) g ls l =
+      fields_read_with_value_below (λ ls. and_then (fields_read fs ls) object_unless_empty) g
+      (block_and_lines_after ls) l
 
   -- the fields of an object in order; a field whose name is not next is Null
   pub fields_read : Fields → List Line → ResultOrBadLine Plains
   fields_read no_fields [] = Ok none
   fields_read no_fields (l ∷ ls) = Err 0
   fields_read (field name s fs) [] = Ok none
-  fields_read (field name s fs) (l ∷ ls) = if_named
-      (after_lines 0 (more null) (fields_read fs (l ∷ ls))) (named_read s (fields_read fs) ls)
+  fields_read (field name s fs) (l ∷ ls) = fields_read_by_name_match
+      (mapped_or_bad_line_shifted_by 0 (more null) (fields_read fs (l ∷ ls)))
+      (named_read s (fields_read fs) ls)
       (strip_prefix (name ++ codes ":") l)
 
 -- the value of a table by the lines of a text after its first line; without lines it is Null

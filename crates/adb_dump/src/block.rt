@@ -363,7 +363,7 @@ fn write_text_field<O: BlobOut>(
 
 /// Writes the lines of a field whose value is not Null: after its name, or below it.
 #[cycle(block)]
-#[tactic(auto, using(crate::proofs::Turns::field_after, crate::proofs::Turns::field_with_value_below))]
+#[tactic(auto, using(crate::proofs::Turns::field_after, crate::proofs::Turns::fields_read_with_value_below))]
 #[inline(always)]
 fn write_named<O: BlobOut>(
     out: &mut O,

@@ -33,18 +33,19 @@ abbrev pub repeated_pair_in_one_list : List (List (List ℕ)) → Option Pair
 repeated_pair_in_one_list lists = least_pair (map first_repeat lists)
 
 -- these names, all of them at position n
-abbrev pub all_with_position : ℕ → List (List ℕ) → List NameWithPosition
-all_with_position n names = map (λ name. record { name = name; position = n }) names
+abbrev pub names_all_at_position : ℕ → List (List ℕ) → List NameWithPosition
+names_all_at_position n names = map (λ name. record { name = name; position = n }) names
 
 -- the names of several lists, each at the position of its list; the first list has position n
 abbrev pub names_with_list_positions : ℕ → List (List (List ℕ)) → List NameWithPosition
 names_with_list_positions n [] = []
-names_with_list_positions n (names ∷ lists) = all_with_position n names ++ names_with_list_positions (n + 1) lists
+names_with_list_positions n (names ∷ lists) =
+    names_all_at_position n names ++ names_with_list_positions (n + 1) lists
 
 -- the positions of two lists with a common name, of all such pairs the one that is reported; None if there
 -- is none
-abbrev pub first_name_in_two_lists : List (List (List ℕ)) → Option Pair
-first_name_in_two_lists lists = least_pair_of_equal_names (names_with_list_positions 1 lists)
+abbrev pub repeated_pair_in_two_lists : List (List (List ℕ)) → Option Pair
+repeated_pair_in_two_lists lists = least_pair_of_equal_names (names_with_list_positions 1 lists)
 
 -- ---- the names of a container
 
@@ -78,12 +79,12 @@ abbrev pub files_in : Plain → List Plain
 files_in folder = entries_at DIR_FILES folder
 
 -- the paths of the files of a folder
-abbrev pub paths_under : Plain → List (List ℕ)
-paths_under folder = map (λ file. path_of (name_of folder) (name_of file)) (files_in folder)
+abbrev pub paths_of_folder_files : Plain → List (List ℕ)
+paths_of_folder_files folder = map (λ file. path_of (name_of folder) (name_of file)) (files_in folder)
 
 -- the paths of all files of a package
-abbrev pub paths_in : Plain → List (List ℕ)
-paths_in pkg = flat_map paths_under (folders_in pkg)
+abbrev pub paths_of_package_files : Plain → List (List ℕ)
+paths_of_package_files pkg = flat_map paths_of_folder_files (folders_in pkg)
 
 -- ---- the pairs of each kind of names
 
@@ -102,7 +103,7 @@ package_twice packages = first_repeat (map package_name packages)
 
 -- the pair of positions of two packages that list the same path
 abbrev pub path_of_two_packages : List Plain → Option Pair
-path_of_two_packages packages = first_name_in_two_lists (map paths_in packages)
+path_of_two_packages packages = repeated_pair_in_two_lists (map paths_of_package_files packages)
 
 -- the pair of positions at which a journal entry has one name twice, in its removals followed by its
 -- writes

@@ -94,7 +94,8 @@ fn repeated_cause(number: u16, pair: Option<Pair>) -> Option<Cause>
 fn in_package(alloc: Global, adb: Adb<'_>, pkg: Val) -> Result<Option<Cause>, AllocError>
     requires { is_sound (payload_of adb) (Kinds.Obj Tables.Package) pkg ≡ true }
     ensures { IfOk result (λ cause. cause
-        ≡ repeated_within_package_fault (value_at (payload_of adb.entry) (Kinds.Obj Tables.Package) pkg ∷ [])) }
+        ≡ repeated_within_package_fault (value_at (payload_of adb.entry)
+        (Kinds.Obj Tables.Package) pkg ∷ [])) }
 {
     let mut folders = KnownLists::new(alloc, adb, Which::Dir);
     match repeated_cause(
@@ -118,7 +119,8 @@ fn in_database(alloc: Global, adb: Adb<'_>, packages: Arr<'_>) -> Result<Option<
         ≡ option_or
         (repeated_within_package_fault (plains_at (payload_of adb.entry) (Kinds.Obj Tables.Package)
         (array_entries packages.entry)))
-        (repeated_between_packages_fault (plains_at (payload_of adb.entry) (Kinds.Obj Tables.Package)
+        (repeated_between_packages_fault (plains_at (payload_of adb.entry)
+        (Kinds.Obj Tables.Package)
         (array_entries packages.entry)))) }
 {
     match inside_packages(alloc, adb, packages)? {
@@ -154,7 +156,8 @@ fn between_packages(
     requires { are_all_sound (payload_of adb) (Kinds.Obj Tables.Package) (array_entries packages)
         ≡ true }
     ensures { IfOk result (λ cause. cause
-        ≡ repeated_between_packages_fault (plains_at (payload_of adb.entry) (Kinds.Obj Tables.Package)
+        ≡ repeated_between_packages_fault (plains_at (payload_of adb.entry)
+        (Kinds.Obj Tables.Package)
         (array_entries packages.entry))) }
 {
     let mut names = package_names(alloc, adb, packages)?;

@@ -9,8 +9,8 @@ abbrev pub is_at_or_below : List ℕ → List ℕ → Bool
 is_at_or_below top path = bytes_eq path top || starts_with nat_eq path (top ++ codes "/")
 
 -- whether a path is one of these names, or a name below one of them
-abbrev pub is_below_any : List (List ℕ) → List ℕ → Bool
-is_below_any tops path = list_any (λ top. is_at_or_below top path) tops
+abbrev pub is_at_or_below_any_of : List (List ℕ) → List ℕ → Bool
+is_at_or_below_any_of tops path = list_any (λ top. is_at_or_below top path) tops
 
 -- the names of the journal and of the staging area
 abbrev pub intent_and_stage_names : List (List ℕ)
@@ -23,8 +23,8 @@ reserved_names = codes "etc/apk/world" ∷ codes "lib/apk/intent" ∷ codes "lib
 
 -- whether a path is the name of the journal or of the staging area, or below one of them
 abbrev pub is_intent_or_stage_name : List ℕ → Bool
-is_intent_or_stage_name path = is_below_any intent_and_stage_names path
+is_intent_or_stage_name path = is_at_or_below_any_of intent_and_stage_names path
 
 -- whether a path is one of the reserved names, or a name below one of them
 abbrev pub is_reserved : List ℕ → Bool
-is_reserved path = is_below_any reserved_names path
+is_reserved path = is_at_or_below_any_of reserved_names path

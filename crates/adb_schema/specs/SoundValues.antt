@@ -12,8 +12,8 @@ use Rattle.adb_view.specs.Values.{entries_in, entry_in, int_in, text_in}
 use Rattle.adb_view.specs.declared.tables.Which.{Which}
 use Rattle.adb_view.specs.declared.tables.Which.TheVariants.{Dep, Acl, PkgInfo, File, Dir, Scripts, Package, Index, Idb, Intent}
 use Rattle.adb_fields.specs.Paths.{path_of}
-use Rattle.adb_schema.specs.Rules.{is_changeable_name, is_digest_length, is_digest_length_or_none, is_file_name, is_folder_name, is_name_pattern, is_link_target_or_none}
-use Rattle.adb_schema.specs.Texts.{is_package_hash, is_with_contents, may_list, needs_hash}
+use Rattle.adb_schema.specs.Rules.{is_name_allowed_in_intent, is_digest_length, is_digest_length_or_none, is_file_name_in_folder, is_folder_name, is_pkgname_spec, is_link_target_or_none}
+use Rattle.adb_schema.specs.Texts.{is_package_hash_length, is_file_with_contents, can_root_table_list_path, needs_file_hash}
 
 -- a dependency in a tested container: a name, a version or none, and a match number with an operator
 pub record IsSoundDependency (v : Plain) : Type 0 where
@@ -32,7 +32,7 @@ pub record IsSoundInformation (root : Which) (v : Plain) : Type 0 where
   -- the rule of field 302
   pub version : is_version (text_in (entry_in v INFO_VERSION)) ≡ true
   -- the rule of field 303
-  pub hash : is_package_hash root (length (text_in (entry_in v INFO_HASHES))) ≡ true
+  pub hash : is_package_hash_length root (length (text_in (entry_in v INFO_HASHES))) ≡ true
   -- the rules of fields 315 to 319: lists of dependencies
   pub depends : Each IsSoundDependency (entries_in (entry_in v INFO_DEPENDS))
   pub provides : Each IsSoundDependency (entries_in (entry_in v INFO_PROVIDES))
@@ -44,11 +44,11 @@ pub record IsSoundInformation (root : Which) (v : Plain) : Type 0 where
 -- be missing in a database
 pub record IsSoundFileOf (root : Which) (folder : List ℕ) (v : Plain) : Type 0 where
   -- the rule of field 401
-  pub name : is_file_name folder (text_in (entry_in v FILE_NAME)) ≡ true
+  pub name : is_file_name_in_folder folder (text_in (entry_in v FILE_NAME)) ≡ true
   -- the rule of field 401 for a database
-  pub listed : may_list root (path_of folder (text_in (entry_in v FILE_NAME))) ≡ true
+  pub listed : can_root_table_list_path root (path_of folder (text_in (entry_in v FILE_NAME))) ≡ true
   -- the rule of field 405
-  pub hash : (if needs_hash root (is_with_contents v)
+  pub hash : (if needs_file_hash root (is_file_with_contents v)
       then is_digest_length (length (text_in (entry_in v FILE_HASHES)))
       else is_digest_length_or_none (length (text_in (entry_in v FILE_HASHES)))) ≡ true
   -- the rule of field 406
@@ -75,18 +75,18 @@ pub record IsSoundIndex (v : Plain) : Type 0 where
   -- the rule of field 802: its entries obey the rules of table 3
   pub packages : Each (IsSoundInformation Index) (entries_in (entry_in v INDEX_PACKAGES))
   -- the rule of field 803
-  pub pattern : is_name_pattern (text_in (entry_in v INDEX_PKGNAME_SPEC)) ≡ true
+  pub pattern : is_pkgname_spec (text_in (entry_in v INDEX_PKGNAME_SPEC)) ≡ true
 
 -- the text is a name that a change may remove or write
-abbrev pub IsChangeableName : Plain → Type 0
-IsChangeableName v = is_changeable_name (text_in v) ≡ true
+abbrev pub IsNameAllowedInIntent : Plain → Type 0
+IsNameAllowedInIntent v = is_name_allowed_in_intent (text_in v) ≡ true
 
 -- a journal entry obeys its rules: a change may remove or write each of its names
 pub record IsSoundIntent (v : Plain) : Type 0 where
   -- the rule of field 1001
-  pub removals : Each IsChangeableName (entries_in (entry_in v INTENT_REMOVALS))
+  pub removals : Each IsNameAllowedInIntent (entries_in (entry_in v INTENT_REMOVALS))
   -- the rule of field 1002
-  pub writes : Each IsChangeableName (entries_in (entry_in v INTENT_WRITES))
+  pub writes : Each IsNameAllowedInIntent (entries_in (entry_in v INTENT_WRITES))
 
 -- the value of a payload with this table at its root obeys the rules of its fields
 abbrev pub KeepsRules : Which → Plain → Type 0

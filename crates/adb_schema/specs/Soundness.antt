@@ -11,7 +11,7 @@ use Rattle.adb_block.specs.ReaderPosition.{first_block_position}
 use Rattle.adb_block.specs.Reading.{Reading, done, fault, more, block_stream_from}
 use Rattle.adb_block.specs.declared.block.BlockKind.{BlockKind}
 use Rattle.adb_block.specs.declared.block.BlockKind.TheVariants.{Contents}
-use Rattle.adb_view.specs.Head.{head_fault, root_of}
+use Rattle.adb_view.specs.Head.{payload_head_fault, root_word_of_payload}
 use Rattle.adb_view.specs.Plain.{Plain}
 use Rattle.adb_view.specs.Schema.{shape_of}
 use Rattle.adb_view.specs.Walk.{shape_fault}
@@ -36,13 +36,13 @@ schema_word which = None
 
 -- the plain value of a payload with this table at its root
 abbrev pub root_value : Which → List ℕ → Plain
-root_value which payload = value_at payload (Obj which) (root_of payload)
+root_value which payload = value_at payload (Obj which) (root_word_of_payload payload)
 
 -- the first fault of a payload: of its head, its shape, its texts, or a repeated name
 abbrev pub payload_fault : Which → List ℕ → Option Cause
 payload_fault which payload =
-    option_or (head_fault payload)
-    (option_or (shape_fault payload (shape_of (Obj which)) (root_of payload))
+    option_or (payload_head_fault payload)
+    (option_or (shape_fault payload (shape_of (Obj which)) (root_word_of_payload payload))
     (option_or (text_fault which (root_value which payload))
     (repeated_fault which (root_value which payload))))
 
@@ -73,13 +73,14 @@ further_block_fault kind payload at = None
 unfoldable pub further_blocks_fault : Reading → Option Cause
 further_blocks_fault done = None
 further_blocks_fault (fault c) = Some c
-further_blocks_fault (more b at r) = option_or (further_block_fault b.kind b.payload at) (further_blocks_fault r)
+further_blocks_fault (more b at r) =
+    option_or (further_block_fault b.kind b.payload at) (further_blocks_fault r)
 
 -- the first fault of the blocks after the first; none for a package, whose further blocks `pkg_core`
 -- tests against the list of files
-abbrev pub fault_after_first_block : Which → Reading → Option Cause
-fault_after_first_block Package r = None
-fault_after_first_block which r = further_blocks_fault r
+abbrev pub further_blocks_fault_unless_package : Which → Reading → Option Cause
+further_blocks_fault_unless_package Package r = None
+further_blocks_fault_unless_package which r = further_blocks_fault r
 
 -- ---- all tests in order
 
@@ -116,8 +117,9 @@ file_fault_with_rest_test rest which file = file_fault_after_header rest which f
 
 -- the first failed test of a file as a container of this table; for a package, without the contents
 -- after its first block
-unfoldable pub first_fault : Which → List ℕ → Option Cause
-first_fault which file = file_fault_with_rest_test (λ v r. fault_after_first_block which r) which file
+unfoldable pub container_fault_except_contents : Which → List ℕ → Option Cause
+container_fault_except_contents which file =
+    file_fault_with_rest_test (λ v r. further_blocks_fault_unless_package which r) which file
 
 -- ---- the payload of a file
 
@@ -129,7 +131,8 @@ first_block_payload (more b at r) = b.payload
 
 -- the payload of the first block after a header; empty if the header has a fault
 abbrev pub payload_after_header : List ℕ → Result ℕ Cause → List ℕ
-payload_after_header file (Ok schema) = first_block_payload (block_stream_from (first_block_position schema file))
+payload_after_header file (Ok schema) =
+    first_block_payload (block_stream_from (first_block_position schema file))
 payload_after_header file (Err c) = []
 
 -- the payload of the first block of a file; empty if it has none

@@ -6,7 +6,7 @@ use Rattle.base_core.specs.declared.cause.Cause.TheVariants.{BadText}
 use Rattle.adb_view.specs.Plain.{Plain}
 use Rattle.adb_view.specs.Schema.{shape_of}
 use Rattle.adb_view.specs.declared.tables.Kind.{Kind}
-use Rattle.adb_schema.specs.Texts.{Surroundings, first_bad_leaf, leaves, text_rule}
+use Rattle.adb_schema.specs.Texts.{Surroundings, first_bad_leaf, leaves, is_allowed_text_of_field}
 
 -- the cause that a number or text breaks the rule of the field with this number (`place`), if there is
 -- such a field
@@ -24,7 +24,7 @@ pub record IsSameWordAsPrevious (words : List ℕ) (i : ℕ) : Type 0 where
 -- no text breaks the rule of the field with this number, whatever its surroundings
 abbrev pub AllowsEachText : ℕ → Type 0
 AllowsEachText field_number = (around : Surroundings) (text : List ℕ)
-    → text_rule field_number around text ≡ true
+    → is_allowed_text_of_field field_number around text ≡ true
 
 -- no value of the kind breaks a rule as the field with this number, whatever its surroundings
 abbrev pub AllowsEachValueOfKind : Kind → ℕ → Type 0

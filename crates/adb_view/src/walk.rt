@@ -9,10 +9,10 @@ ghost use Rattle.adb_view.specs.Visits.{field_visits, visits, MOST_VALUES};
 ghost use Rattle.adb_view.specs.Adb.{payload_of};
 ghost use Rattle.adb_view.specs.Entries.{array_entries};
 ghost use Rattle.adb_view.specs.Gives.{Gives};
-ghost use Rattle.adb_view.specs.Readers.{run_of, OBJECT};
-ghost use Rattle.adb_view.specs.Head.{root_of};
+ghost use Rattle.adb_view.specs.Readers.{run_entries_of_word, OBJECT};
+ghost use Rattle.adb_view.specs.Head.{root_word_of_payload};
 ghost use Rattle.adb_view.specs.Schema.{table, shape_of, shapes_of, table_number};
-ghost use Rattle.adb_view.specs.Walk.{first_fault_from, shape_fault};
+ghost use Rattle.adb_view.specs.Walk.{first_fault_of_numbered_visits, shape_fault};
 ghost use Rattle.adb_view.specs.CountedWalk.{fields_walk};
 ghost use Rattle.adb_view.specs.CountedWalk.{walk};
 ghost use Rattle.adb_view.specs.CountedWalk.{walk_each_word};
@@ -36,7 +36,8 @@ use base_core::Cause;
 
 /// The entries of a word that is an object, those past its table's fields too.
 pub fn object_entries<'a>(adb: Adb<'a>, object: Val) -> Result<Arr<'a>, Cause>
-    ensures { Gives array_entries result (run_of OBJECT (payload_of adb.entry) object) }
+    ensures { Gives array_entries result (run_entries_of_word OBJECT
+        (payload_of adb.entry) object) }
 {
     Ok(adb.obj::<0>(object)?.entries())
 }
@@ -66,7 +67,7 @@ const MOST_VALUES: u32 = 4_194_304;
 pub fn shape(adb: Adb<'_>, which: Which) -> Result<Shaped<'_>, Cause>
     ensures exact { result_err result
         ≡ shape_fault (payload_of adb.entry) (shape_of (Kinds.Obj which))
-        (root_of (payload_of adb.entry)) }
+        (root_word_of_payload (payload_of adb.entry)) }
     ensures walked { IfOk result (λ shaped. adb_of shaped ≡ adb.entry) }
     ensures table { IfOk result (λ shaped. table_of shaped ≡ which) }
 {
@@ -302,7 +303,7 @@ pub fn walk_fields(
 pub fn a_walk_of_fields_reports_the_first_faulty_visit()
     ensures fault { (payload : List ℕ) (fields : Fields) (before : ℕ) (words : List ℕ)
         → result_err (fields_walk payload fields before words)
-        ≡ first_fault_from payload (before + 1) (field_visits payload fields words) }
+        ≡ first_fault_of_numbered_visits payload (before + 1) (field_visits payload fields words) }
     ensures count { (payload : List ℕ) (fields : Fields) (before count : ℕ) (words : List ℕ)
         → fields_walk payload fields before words ≡ Ok count → count
         ≡ before + length (field_visits payload fields words) }

@@ -48,7 +48,8 @@ pub record IsSameSlot (old : List (List ℕ)) (slot : Slot) (new : List (List �
   -- it is a slot of the new pages
   pub inside : IsSlotIn new there.page there.index
   -- the locators before it are the same as before
-  pub before : locators_before_slot new there.page there.index ≡ locators_before_slot old slot.page slot.index
+  pub before : locators_before_slot new there.page there.index
+      ≡ locators_before_slot old slot.page slot.index
   -- the locators after it are the same as before
   pub behind : locators_from_slot new there.page there.index ≡ locators_from_slot old slot.page slot.index
 
@@ -65,7 +66,8 @@ with_page_split (page ∷ pages) (suc k) = page ∷ with_page_split pages k
 -- whether a page begins with a locator of a higher key than this one
 abbrev pub page_begins_above_key : List ℕ → List ℕ → List ℕ → Bool
 page_begins_above_key payload key [] = false
-page_begins_above_key payload key (word ∷ words) = is_lt (slice_cmp nat_cmp key (key_of_locator payload word))
+page_begins_above_key payload key (word ∷ words) =
+    is_lt (slice_cmp nat_cmp key (key_of_locator payload word))
 
 -- the key `key` has this order to the key of each of these locators
 abbrev pub AllCompareToKey : Ordering → List ℕ → List ℕ → List ℕ → Type 0

@@ -3,7 +3,7 @@
 use Rattle.std.specs.Prelude.{ℕ, ◌<◌, Bool, List, [], ◌∷◌, length, Result, Ok, Err, if◌then◌else◌}
 use Rattle.adb_view.specs.Plain.{Plain, null, int, blob, arr, obj, Plains, none, more}
 use Rattle.adb_view.specs.Readers.{ARRAY, OBJECT}
-use Rattle.adb_write.specs.Canonical.{WrittenItem, Cell, in_place, apart, int_cell, blob_cell, run_cell, trimmed_words, Layout, put_cell, PayloadCounts, layout_counts, exceeds_a_limit, payload_with_root}
+use Rattle.adb_write.specs.Canonical.{WrittenItem, Cell, in_place, apart, int_cell, blob_cell, run_cell, words_without_last_nulls, Layout, put_cell, PayloadCounts, layout_counts, exceeds_a_limit, payload_with_root}
 
 -- a writer: the payload after its head of 8 bytes, its items, the latest first, and two counts. The
 -- counts are those of the written values, or, past a limit, those just after the value that passed it
@@ -77,7 +77,7 @@ arr_call ws w = call (run_cell ARRAY ws) w
 
 -- the call for an object of these words, without the NULLs at the end
 abbrev pub obj_call : List ℕ → Writing → ℕ × Writing
-obj_call ws w = call (run_cell OBJECT (trimmed_words ws)) w
+obj_call ws w = call (run_cell OBJECT (words_without_last_nulls ws)) w
 
 -- the result of finishing a writer: the payload with this root, or the counts if the writer passed a
 -- limit

@@ -10,7 +10,7 @@ ghost use Rattle.std.specs.Cmp.Lexicographic.{slice_cmp};
 ghost use Rattle.adb_view.specs.Adb.{payload_of};
 ghost use Rattle.adb_view.specs.Entries.{array_entries};
 ghost use Rattle.adb_view.specs.Gives.{Gives};
-ghost use Rattle.adb_view.specs.Readers.{run_of};
+ghost use Rattle.adb_view.specs.Readers.{run_entries_of_word};
 ghost use Rattle.adb_view.specs.Visits.{or_empty};
 ghost use Rattle.adb_write.specs.Items.{width_len, list_kind, content_bytes, item_of};
 ghost use Rattle.adb_write.specs.Keys.{low_words, kind_and_comparison_numbers, kind_and_comparison_numbers_at, blob_fingerprint, blob_hash, fingerprint_of, key_of_locator, key_with_fingerprint, list_fingerprint, low_nibbles};
@@ -326,7 +326,7 @@ fn list_fingerprint(words: &[Val]) -> u64
 #[tactic(auto, using(crate::proofs::Compared::by_none))]
 fn compare_list(adb: &Adb<'_>, list: ListKind, words: &[Val], word: Val) -> Ordering
     ensures { result ≡ slice_cmp nat_cmp (reverse (low_words words.now))
-        (reverse (or_empty (run_of (list_kind list) (payload_of adb.now) word))) }
+        (reverse (or_empty (run_entries_of_word (list_kind list) (payload_of adb.now) word))) }
 {
     match entries(adb, list, word) {
         Ok(found) => compare_words(words, &found),
@@ -336,7 +336,8 @@ fn compare_list(adb: &Adb<'_>, list: ListKind, words: &[Val], word: Val) -> Orde
 
 /// The entries of a written list of this kind.
 fn entries<'a>(adb: &Adb<'a>, list: ListKind, word: Val) -> Result<Arr<'a>, Cause>
-    ensures { Gives array_entries result (run_of (list_kind list) (payload_of adb.now) word) }
+    ensures { Gives array_entries result (run_entries_of_word (list_kind list)
+        (payload_of adb.now) word) }
 {
     match list {
         ListKind::Array => adb.arr(word),

@@ -88,7 +88,8 @@ impl WordPages {
     ) -> Result<u64, Slot>
         requires filled { HaveNoEmptyPage (pages_of self.now) }
         requires rising { HaveRisingKeys (payload_of adb.now) (concat (pages_of self.now)) }
-        ensures { IsSearchResult (payload_of adb.now) (pages_of self.now) (key_with_fingerprint fingerprint parts.now)
+        ensures { IsSearchResult (payload_of adb.now) (pages_of self.now)
+            (key_with_fingerprint fingerprint parts.now)
             result }
     {
         let page = self.page_of(adb, parts, fingerprint);
@@ -246,7 +247,8 @@ fn is_before(adb: &Adb<'_>, parts: &Parts<'_>, fingerprint: u64, locator: u64) -
 
 /// Whether a page begins after an item, in the order of keys.
 fn begins_after(page: &[u64], adb: &Adb<'_>, parts: &Parts<'_>, fingerprint: u64) -> bool
-    ensures { result ≡ page_begins_above_key (payload_of adb.now) (key_with_fingerprint fingerprint parts.now) page.now }
+    ensures { result ≡ page_begins_above_key (payload_of adb.now)
+        (key_with_fingerprint fingerprint parts.now) page.now }
 {
     match page.first() {
         Some(locator) => is_before(adb, parts, fingerprint, *locator),
@@ -258,7 +260,8 @@ fn begins_after(page: &[u64], adb: &Adb<'_>, parts: &Parts<'_>, fingerprint: u64
 /// The search begins near its likely index, so that few bytes of a page are read.
 fn search(page: &[u64], adb: &Adb<'_>, parts: &Parts<'_>, fingerprint: u64) -> Result<usize, usize>
     requires rising { HaveRisingKeys (payload_of adb.now) page.now }
-    ensures { IsPageSearchResult (payload_of adb.now) page.now (key_with_fingerprint fingerprint parts.now) result }
+    ensures { IsPageSearchResult (payload_of adb.now) page.now
+        (key_with_fingerprint fingerprint parts.now) result }
 {
     let likely = likely_index(page, fingerprint);
     let from = lower_end(page, fingerprint, likely);

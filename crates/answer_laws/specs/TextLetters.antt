@@ -111,8 +111,10 @@ LetterValueGivesValues Letters.Origin value said = FieldTextGivesValues Options.
 LetterValueGivesValues Letters.Maintainer value said = FieldTextGivesValues Options.Maintainer value said
 LetterValueGivesValues Letters.InstalledSize value said = SaysNumber value said
 LetterValueGivesValues Letters.BuildTime value said = FieldTextGivesValues Options.BuildTime value said
-LetterValueGivesValues Letters.ProviderPriority value said = FieldTextGivesValues Options.ProviderPriority value said
-LetterValueGivesValues Letters.ReplacesPriority value said = FieldTextGivesValues Options.ReplacesPriority value said
+LetterValueGivesValues Letters.ProviderPriority value said =
+    FieldTextGivesValues Options.ProviderPriority value said
+LetterValueGivesValues Letters.ReplacesPriority value said =
+    FieldTextGivesValues Options.ReplacesPriority value said
 LetterValueGivesValues Letters.RepoCommit value said = SaysCommit value said
 LetterValueGivesValues Letters.Depends value said = FieldTextGivesValues Options.Depends value said
 LetterValueGivesValues Letters.Provides value said = FieldTextGivesValues Options.Provides value said

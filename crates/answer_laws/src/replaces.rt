@@ -7,14 +7,14 @@ ghost use Rattle.change_outcome.specs.adb_fields.Repeated.{package_name};
 ghost use Rattle.adb_view.specs.Plain.{Plain};
 ghost use Rattle.answer_laws.specs.ReplacesEntries.{IsNamedInReplaces};
 ghost use Rattle.base_core.specs.ByteOrder.{bytes_cmp};
-ghost use Rattle.installed_info.specs.file_owners.Replaces.{replaces_names_package, replacing_priority, takes_over, version_text};
+ghost use Rattle.installed_info.specs.file_owners.Replaces.{replaces_names_package, replacing_priority, takes_over, package_version_text};
 
 /// The `replaces` of a package names another exactly by the other's own name and version. What the
 /// other one provides does not count.
 pub fn a_package_is_replaced_by_its_own_name_and_version()
     ensures named { (x y : Plain) → (replaces_names_package x y ≡ true) ↔ IsNamedInReplaces x y }
     ensures own { (x y z : Plain) → package_name y ≡ package_name z
-        → version_text y ≡ version_text z
+        → package_version_text y ≡ package_version_text z
         → replaces_names_package x y ≡ replaces_names_package x z }
 {}
 

@@ -17,14 +17,17 @@ IsCrashImageUnderMap v map image = (q : List ℕ) → CrashMayLeave v.files (map
 
 -- files that a crash may leave if it undoes only the newest changes of names: their names are those
 -- of the current map or of an older one
-abbrev pub IsCrashImageInOrder : TreeState → Files → Type 0
-IsCrashImageInOrder v image = (map : NameMap) × IsCurrentOrOlderMap v map × IsCrashImageUnderMap v map image
+abbrev pub IsCrashImageIfUndoneNewestFirst : TreeState → Files → Type 0
+IsCrashImageIfUndoneNewestFirst v image =
+    (map : NameMap) × IsCurrentOrOlderMap v map × IsCrashImageUnderMap v map image
 
 -- a tree is durable if a crash undoes only the last changes of names: each file that must be durable
 -- is synced, in each map of names. The parameter `depends_on` says which files these are, given the
 -- files of that map: only a crate that can read the journal knows it
-pub record IsDurableInOrder (depends_on : Files → List ℕ → Type 0) (v : TreeState) : Type 0 where
-  pub each : (map : NameMap) → IsCurrentOrOlderMap v map → (q : List ℕ) (n : ℕ) → depends_on (files_under_map v map) q
+pub record IsDurableIfUndoneNewestFirst (depends_on : Files → List ℕ → Type 0)
+    (v : TreeState) : Type 0 where
+  pub each : (map : NameMap) → IsCurrentOrOlderMap v map → (q : List ℕ) (n : ℕ)
+      → depends_on (files_under_map v map) q
       → map q ≡ Some n → (v.files n).synced ≡ true
 
 -- ---- moments, as the states that a history got since it was an older one, the newest first

@@ -33,7 +33,7 @@ pub record CountsOnlyRise (before now : Counts) : Type 0 where
 
 -- a failure was counted, and has its reason: an outside fault, a misuse, or the object was out of
 -- memory
-pub record HasCause (before now : Counts) : Type 0 where
+pub record IsFaultCountedWithCause (before now : Counts) : Type 0 where
   -- one more fault was counted, unless the count has its largest value
   pub fault : RoseOrIsSaturated before.faults now.faults
   -- an outside fault, which `fallible` allows, a misuse, or the object was out of memory
@@ -41,7 +41,7 @@ pub record HasCause (before now : Counts) : Type 0 where
       ⊎ RoseOrIsSaturated before.memory_faults now.memory_faults)
 
 -- between two moments neither a fault nor a lack of memory was counted
-pub record IsNoFault (before now : Counts) : Type 0 where
+pub record CountsNoNewFault (before now : Counts) : Type 0 where
   pub faults : now.faults ≡ before.faults
   pub memory_faults : now.memory_faults ≡ before.memory_faults
 
@@ -50,8 +50,8 @@ pub record FailsWithCause {T E : Type 0} (before now : Counts) (result : Result 
   -- no count falls
   pub goes_on : CountsOnlyRise before now
   -- an error is a counted fault, and has its reason
-  pub cause : OnErr result (HasCause before now)
+  pub cause : OnErr result (IsFaultCountedWithCause before now)
   -- a call that succeeds counts neither a fault nor a lack of memory
-  pub kept : OnOk result (IsNoFault before now)
+  pub kept : OnOk result (CountsNoNewFault before now)
   -- no call of a sink is a misuse
   pub proper : now.misuses ≡ before.misuses

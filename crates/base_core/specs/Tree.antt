@@ -143,12 +143,14 @@ IsCurrentOrOlderMap v map = IsIn map (v.names ∷ v.older)
 -- ^ 64 bytes
 pub record IsWellFormed (v : TreeState) : Type 0 where
   -- finitely many names are present
-  pub finite : (map : NameMap) → IsCurrentOrOlderMap v map → (names : List (List ℕ)) × HasNamesAmong names map
+  pub finite : (map : NameMap) → IsCurrentOrOlderMap v map → (names : List (List ℕ))
+      × HasNamesAmong names map
   -- each is a name
   pub named : (map : NameMap) → IsCurrentOrOlderMap v map → AreNames map
   -- none is a folder of another
   pub folders : (map : NameMap) → IsCurrentOrOlderMap v map → HasNoFileAsFolder map
   -- each leads to a file that was made
-  pub made : (map : NameMap) → IsCurrentOrOlderMap v map → (q : List ℕ) (n : ℕ) → map q ≡ Some n → n < v.made
+  pub made : (map : NameMap) → IsCurrentOrOlderMap v map → (q : List ℕ) (n : ℕ) → map q ≡ Some n
+      → n < v.made
   -- each file has fewer than 2 ^ 64 bytes
   pub bytes : (n : ℕ) → AreFileBytes (v.files n).bytes

@@ -4,10 +4,10 @@
 ghost use Rattle.std.specs.Prelude.{◌≡◌, ℕ, List, Option, Some, length, take, drop, IfOk, OnOk, IfSome, IsErrOf, All};
 ghost use Rattle.std.specs.Option.{option_map, option_copied};
 ghost use Rattle.base_core.specs.Tree.{TreeState, files_of, after_create, after_append, after_failed_append, after_sync, after_rename, after_remove, after_sync_names, unchanged_after_failed_call, IsAlwaysAllowed, HasName, CanRead, CanCreate, CanRename, IsWellFormed};
-ghost use Rattle.base_core.specs.Faults.{Counts, CountsOnlyRise, HasCause, IsNoFault};
+ghost use Rattle.base_core.specs.Faults.{Counts, CountsOnlyRise, IsFaultCountedWithCause, CountsNoNewFault};
 ghost use Rattle.base_core.specs.Calls.{IsCounted, ChangesHistory, IfObservable};
 ghost use Rattle.base_core.specs.Listed.{AreNamesBelow, IsListOf};
-ghost use Rattle.base_core.specs.Read.{HasReadAfter, OnlyReads, bytes_in};
+ghost use Rattle.base_core.specs.Read.{AppendsReadBytes, OnlyReads, bytes_in};
 ghost use Rattle.base_core.specs.declared.tree.TreeFault.TheVariants.{Memory, Disk as DiskFault};
 
 use crate::name::{Name, Names};
@@ -118,7 +118,8 @@ pub trait Tree {
     /// name is a misuse, and a fault.
     fn sync(&mut self, name: &Name) -> Result<(), Disk>
         // Which state is added to the history: on success, and on an error.
-        ensures moves { ChangesHistory (HasName name.now) (after_sync name.now) unchanged_after_failed_call
+        ensures moves { ChangesHistory (HasName name.now)
+            (after_sync name.now) unchanged_after_failed_call
             (history self.old) (history self.new) result }
         // How the counts change, and which states allow the call.
         ensures counts { IsCounted (HasName name.now) (history self.old)
@@ -163,11 +164,13 @@ pub trait Tree {
         // No count falls.
         ensures goes_on { CountsOnlyRise (counts self.old) (counts self.new) }
         // A failed tree has its cause; no other answer adds a fault or a lack of memory.
-        ensures disk { IsErrOf result DiskFault → HasCause (counts self.old) (counts self.new) }
+        ensures disk { IsErrOf result DiskFault
+            → IsFaultCountedWithCause (counts self.old) (counts self.new) }
         // Ok is returned only if no fault was counted.
-        ensures kept { OnOk result (IsNoFault (counts self.old) (counts self.new)) }
+        ensures kept { OnOk result (CountsNoNewFault (counts self.old) (counts self.new)) }
         // Out of memory is no fault of the tree.
-        ensures memory { IsErrOf result Memory → IsNoFault (counts self.old) (counts self.new) }
+        ensures memory { IsErrOf result Memory
+            → CountsNoNewFault (counts self.old) (counts self.new) }
         ensures proper { (counts self.new).misuses ≡ (counts self.old).misuses }
         // What is returned, if the history is observable.
         ensures value { IfOk result (λ names.
@@ -238,7 +241,7 @@ pub fn append_file_to<T: Tree>(
 ) -> Result<(), TreeFault>
     requires { IfObservable (T.history tree.old) (λ v.
         Some size ≡ option_map length (files_of v name.now)) }
-    ensures added { OnOk result (HasReadAfter (T.history tree.old) name.now 0 size
+    ensures added { OnOk result (AppendsReadBytes (T.history tree.old) name.now 0 size
         bytes.old.items bytes.new.items) }
     ensures tree { OnlyReads TreeFault.Disk (T.history tree.old) (T.history tree.new)
         (T.counts tree.old) (T.counts tree.new) result }
@@ -262,7 +265,7 @@ fn read_some<T: Tree>(
     bytes: &mut Vec<u8>,
 ) -> Result<(), TreeFault>
     requires { IfObservable (T.history tree.old) (CanRead name.now at len) }
-    ensures added { OnOk result (HasReadAfter (T.history tree.old) name.now at len
+    ensures added { OnOk result (AppendsReadBytes (T.history tree.old) name.now at len
         bytes.old.items bytes.new.items) }
     ensures tree { OnlyReads TreeFault.Disk (T.history tree.old) (T.history tree.new)
         (T.counts tree.old) (T.counts tree.new) result }

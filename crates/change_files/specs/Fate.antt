@@ -6,7 +6,7 @@ use Rattle.adb_view.specs.Plain.{Plain}
 use Rattle.base_core.specs.Files.{Files}
 use Rattle.file_owners.specs.db_core.Members.{Listing}
 use Rattle.file_guard.specs.AsListed.{do_entries_agree, is_as_listed}
-use Rattle.change_files.specs.FileChange.{FileChange, is_claimed, old_entry}
+use Rattle.change_files.specs.FileChange.{FileChange, is_listed_after_change, old_entry}
 
 -- whether a path is a protected configuration file, which the user may change: it is below `etc/`
 abbrev pub is_protected_path : List ℕ → Bool
@@ -47,10 +47,11 @@ most_name_bytes = 1024
 -- The fate of an added file if the user modified the file under its path. It is written beside that
 -- file, with the ending `.apk-new`, if its entry differs from the old one. The name with this
 -- ending must not be listed by a package, and must not be too long.
-abbrev pub fate_of_protected_file : FileChange → List ℕ → Plain → AddedFileFate
-fate_of_protected_file change path entry =
+abbrev pub fate_if_user_modified_file : FileChange → List ℕ → Plain → AddedFileFate
+fate_if_user_modified_file change path entry =
     if not (agrees_with_old_entry (old_entry change path) entry)
-    && (nat_le (length (apk_new_name path)) most_name_bytes && not (is_claimed change (apk_new_name path)))
+    && (nat_le (length (apk_new_name path)) most_name_bytes
+    && not (is_listed_after_change change (apk_new_name path)))
     then goes_aside else gives_way
 
 -- The fate of an added file, given the file found under its path. The user modified a protected
@@ -58,8 +59,9 @@ fate_of_protected_file change path entry =
 abbrev pub fate_with_file_found : FileChange → List ℕ → Plain → Option (List ℕ) → AddedFileFate
 fate_with_file_found change path entry None = goes_in
 fate_with_file_found change path entry (Some bytes) =
-    if not (is_protected_path path) || (is_as_listed entry bytes || is_as_old_entry_lists (old_entry change path) bytes)
-    then goes_in else fate_of_protected_file change path entry
+    if not (is_protected_path path)
+    || (is_as_listed entry bytes || is_as_old_entry_lists (old_entry change path) bytes)
+    then goes_in else fate_if_user_modified_file change path entry
 
 -- the fate of a listed file whose member is added and owns its path
 unfoldable pub fate_of : FileChange → Files → Listing → AddedFileFate

@@ -31,8 +31,8 @@ was_listed change path = is_some (old_entry change path)
 -- ---- after
 
 -- whether a package after lists the path
-unfoldable pub is_claimed : FileChange → List ℕ → Bool
-is_claimed change path = list_any (λ l. bytes_eq l.path path) (member_listings change.members)
+unfoldable pub is_listed_after_change : FileChange → List ℕ → Bool
+is_listed_after_change change path = list_any (λ l. bytes_eq l.path path) (member_listings change.members)
 
 -- the file by which the member that owns a path lists it
 unfoldable pub owner_listing : FileChange → List ℕ → Option Listing

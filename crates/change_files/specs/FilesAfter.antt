@@ -10,7 +10,7 @@ use Rattle.file_guard.specs.pkg_core.Contents as Packages
 use Rattle.file_guard.specs.AsListed.{has_target, is_as_listed, link_bytes}
 pub use Rattle.root_names.specs.RootNames.{database_name, text_database_name, world_name}
 use Rattle.change_files.specs.Fate.{AddedFileFate, apk_new_ending, fate_of, gives_way, goes_aside, goes_in, is_protected_path}
-use Rattle.change_files.specs.FileChange.{FileChange, added_owner_listing, is_claimed, old_entry, was_listed}
+use Rattle.change_files.specs.FileChange.{FileChange, added_owner_listing, is_listed_after_change, old_entry, was_listed}
 
 -- ---- what is written
 
@@ -34,7 +34,8 @@ listing_written_in_place change files path =
 -- the listed file that is written as `.apk-new` beside the file under this path, if there is one
 abbrev pub apk_new_listing_at : FileChange → Files → List ℕ → Option Listing
 apk_new_listing_at change files path =
-    option_and_then (λ l. if_written_as_apk_new l (fate_of change files l)) (added_owner_listing change path)
+    option_and_then (λ l. if_written_as_apk_new l (fate_of change files l))
+    (added_owner_listing change path)
 
 -- the path of the file beside which a file with this name ending in `.apk-new` is written: the name
 -- without the ending; None without the ending
@@ -72,17 +73,20 @@ is_modified_config_to_keep change path bytes (Some entry) =
 -- whether a path was listed before, and now no package lists it and nothing is written there
 abbrev pub is_no_longer_listed : FileChange → Files → List ℕ → Bool
 is_no_longer_listed change files path =
-    was_listed change path && (not (is_claimed change path) && not (is_written change files path))
+    was_listed change path &&
+    (not (is_listed_after_change change path) && not (is_written change files path))
 
 -- whether the user's file is kept under a path although its package is removed
 unfoldable pub is_modified_file_kept : FileChange → Files → List ℕ → Bool
 is_modified_file_kept change files path =
-    is_no_longer_listed change files path && is_modified_config_to_keep change path (files path) (old_entry change path)
+    is_no_longer_listed change files path
+    && is_modified_config_to_keep change path (files path) (old_entry change path)
 
 -- whether a change removes the file under a path, if there is one
 unfoldable pub is_removed : FileChange → Files → List ℕ → Bool
 is_removed change files path =
-    is_no_longer_listed change files path && not (is_modified_config_to_keep change path (files path) (old_entry change path))
+    is_no_longer_listed change files path
+    && not (is_modified_config_to_keep change path (files path) (old_entry change path))
 
 -- ---- the contents of an added file
 
@@ -117,8 +121,8 @@ pub record DatabaseAndWorldAfter : Type 0 where
 
 -- The files after a change: the new database and world; no converted text database; the added files; no
 -- removed file; and all others as before.
-unfoldable pub changed_files : FileChange → (Listing → List ℕ) → DatabaseAndWorldAfter → Files → Files
-changed_files change bytes_of records files name =
+unfoldable pub files_after_change : FileChange → (Listing → List ℕ) → DatabaseAndWorldAfter → Files → Files
+files_after_change change bytes_of records files name =
     if bytes_eq name database_name then Some records.database
     else if bytes_eq name world_name then world_bytes_after records.world (files name)
     else if records.takes_text_over && bytes_eq name text_database_name then None

@@ -5,7 +5,7 @@ use Rattle.std.specs.List.{filter, list_any}
 use Rattle.base_core.specs.Files.{Files}
 use Rattle.path_clashes.specs.Clash.{NameChange}
 use Rattle.file_owners.specs.db_core.Members.{Member, is_added, member_listings}
-use Rattle.change_files.specs.FileChange.{FileChange, is_claimed, was_listed}
+use Rattle.change_files.specs.FileChange.{FileChange, is_listed_after_change, was_listed}
 use Rattle.change_files.specs.FilesAfter.{database_name, is_modified_file_kept, apk_new_listing_at, path_of_apk_new_name, world_name}
 
 -- the paths that added packages list
@@ -24,7 +24,8 @@ counts_as_written change files name =
 -- modified file is not kept there
 unfoldable pub is_released : FileChange → Files → List ℕ → Bool
 is_released change files name =
-    was_listed change name && not (is_claimed change name || is_modified_file_kept change files name)
+    was_listed change name && not
+    (is_listed_after_change change name || is_modified_file_kept change files name)
 
 -- what the search for the first clash needs of a change: which names count as written, and which it
 -- releases

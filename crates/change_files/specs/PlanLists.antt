@@ -59,7 +59,8 @@ removals_of change files = filter (is_removed change files) (sorted_distinct_nam
 
 -- the paths at which the user's file is kept, in byte order
 unfoldable pub kept_paths_of : FileChange → Files → List (List ℕ)
-kept_paths_of change files = filter (is_modified_file_kept change files) (sorted_distinct_names (old_paths change))
+kept_paths_of change files =
+    filter (is_modified_file_kept change files) (sorted_distinct_names (old_paths change))
 
 -- the paths beside which an `.apk-new` file is written, in byte order
 unfoldable pub paths_with_apk_new_file : FileChange → Files → List (List ℕ)

@@ -3,7 +3,7 @@
 -- tests in `docs/formats.md`, "Tests of a container".
 use Rattle.std.specs.Prelude.{ℕ, Bool, true, false, List, [], Option, Some, None, Result, Ok, Err}
 use Rattle.db_core.specs.adb_fields.Repeated.{entries_at}
-use Rattle.db_core.specs.adb_schema.Soundness.{first_fault, payload_in, root_value}
+use Rattle.db_core.specs.adb_schema.Soundness.{container_fault_except_contents, payload_in, root_value}
 use Rattle.adb_view.specs.FieldIndexes.{IDB_PACKAGES}
 use Rattle.adb_view.specs.declared.tables.Which.TheVariants.{Idb}
 use Rattle.adb_view.specs.Plain.{Plain}
@@ -29,7 +29,7 @@ database_from_parts packages file from_text =
 -- the database in a container, or the first test that the container fails
 abbrev pub container_database : List ℕ → Result Database Refusal
 container_database file =
-    unless_cause DatabaseBad (first_fault Idb file)
+    unless_cause DatabaseBad (container_fault_except_contents Idb file)
     (database_from_parts (entries_at IDB_PACKAGES (root_value Idb (payload_in file))) (Some file) false)
 
 -- the database in the payload of a text database, or why there is none

@@ -4,13 +4,13 @@
 
 ghost use Rattle.base_core.specs.Read.{OnlyReads, bytes_in};
 ghost use Rattle.change_inputs.specs.Answers.{Agrees, IsDiskOrMemoryFailure, IsFileFoundInTree};
-ghost use Rattle.change_inputs.specs.Inputs.{root_found, Inputs, first_index_read, inputs_of};
+ghost use Rattle.change_inputs.specs.Inputs.{root_found, Inputs, first_index_read_number, inputs_of};
 ghost use Rattle.change_inputs.specs.RootFiles.{AreRootFilesInTree};
 ghost use Rattle.change_inputs.specs.Seen.{root_seen};
 ghost use Rattle.root_names.specs.RootNames.{database_name, text_database_name};
 ghost use Rattle.std.specs.Prelude.{◌≡◌, IfErr, IfOk, None, OnOk, ◌<◌, ◌+◌, ℕ, List, Ok, length};
 ghost use Rattle.db_core.specs.adb_schema.ReadFaults.{IsReadFault};
-ghost use Rattle.db_core.specs.adb_schema.Soundness.{first_fault, payload_fault, payload_in};
+ghost use Rattle.db_core.specs.adb_schema.Soundness.{container_fault_except_contents, payload_fault, payload_in};
 ghost use Rattle.command_core.specs.Command.{CommandLine};
 ghost use Rattle.package_files.specs.make_info.Reads.{Reads};
 
@@ -154,8 +154,9 @@ pub(crate) fn read_file<T: Tree>(
 /// Tests a file completely, as a container with this table at its root.
 pub(crate) fn test_file(alloc: Global, file: &[u8], which: Which) -> Result<(), ReadFault>
     // A refusal has the first test that the file fails.
-    ensures bad { IfErr result (λ fault. IsReadFault fault (first_fault which file.now)) }
-    ensures passed { OnOk result (first_fault which file.now ≡ None) }
+    ensures bad { IfErr result (λ fault. IsReadFault fault
+        (container_fault_except_contents which file.now)) }
+    ensures passed { OnOk result (container_fault_except_contents which file.now ≡ None) }
     // If the file passes, its payload passes the tests of a payload too.
     ensures sound { OnOk result (payload_fault which (payload_in file.now) ≡ None) }
 {
@@ -207,7 +208,7 @@ impl From<TreeFault> for Refused {
 pub fn inputs_depend_on_their_own_reads()
     ensures { (command : CommandLine) (read other : Reads) (inputs : Inputs)
         → inputs_of command read ≡ Ok inputs
-        → ((n : ℕ) (name : List ℕ) → n < first_index_read + length inputs.root.repositories
+        → ((n : ℕ) (name : List ℕ) → n < first_index_read_number + length inputs.root.repositories
         → read n name ≡ other n name)
         → inputs_of command other ≡ Ok inputs }
 {}

@@ -12,7 +12,7 @@ write_limit = 2 ^ 63
 
 -- if these names are removed and written, and the others are unchanged, the files are `after`; the
 -- names are free, nothing is staged before, and the writes are below their limit
-pub record LeadsTo (removals writes : List (List ℕ)) (files after : Files) : Type 0 where
+pub record ActionsLeadToFiles (removals writes : List (List ℕ)) (files after : Files) : Type 0 where
   pub free : HasFreeDistinctNames (intent_of_lists removals writes)
   pub few : length writes < write_limit
   pub empty : IsEmptyStage files

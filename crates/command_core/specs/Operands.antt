@@ -11,7 +11,7 @@ use Rattle.command_core.specs.declared.operands.Operand.{Operand}
 use Rattle.command_core.specs.declared.operands.OperandKind.{OperandKind}
 use Rattle.command_core.specs.declared.operands.OperandKind.TheVariants.{File, Any, Dependency, DependencyName, PackageName, Path, Number, Pattern}
 use Rattle.command_core.specs.declared.operands.OperandRule.{OperandRule}
-use Rattle.command_core.specs.Files.{is_file, is_path_argument}
+use Rattle.command_core.specs.Files.{is_file_argument, is_path_argument}
 
 -- the operand that a word at a place is; places count from 1
 abbrev pub operand_at : ℕ → List ℕ → Operand
@@ -44,7 +44,7 @@ is_pattern text = nat_lt 0 (length text) && list_all is_ascii_graphic text
 
 -- whether a text can be an operand of this kind
 abbrev pub is_operand_of_kind : OperandKind → List ℕ → Bool
-is_operand_of_kind File text = is_file text
+is_operand_of_kind File text = is_file_argument text
 is_operand_of_kind Any text = true
 is_operand_of_kind Dependency text = is_some (dependency_of text)
 is_operand_of_kind DependencyName text = is_dep_name text

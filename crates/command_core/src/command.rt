@@ -266,7 +266,8 @@ impl Model for Command {
     ghost view = { λ c. command_from_parts c.applet c.flags c.operands c.values c.behind };
 
     ghost invariant = { λ c.
-        IsTrue (is_valid_command (command_from_parts c.applet c.flags c.operands c.values c.behind)) };
+        IsTrue (is_valid_command
+        (command_from_parts c.applet c.flags c.operands c.values c.behind)) };
 }
 
 impl Command {
@@ -278,7 +279,8 @@ impl Command {
         values: Values,
         behind: u32,
     ) -> Command
-        requires { IsTrue (is_valid_command (command_from_parts applet flags operands values behind)) }
+        requires { IsTrue (is_valid_command
+            (command_from_parts applet flags operands values behind)) }
         ensures { result ≡ command_from_parts applet flags operands values behind }
     {
         Command {

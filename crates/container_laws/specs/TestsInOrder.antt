@@ -14,7 +14,7 @@ use Rattle.adb_view.specs.Schema.{shape_of}
 use Rattle.adb_view.specs.Walk.{shape_fault}
 use Rattle.adb_view.specs.declared.tables.Kind.TheVariants.{Obj}
 use Rattle.adb_view.specs.declared.tables.Which.{Which}
-use Rattle.adb_view.specs.Head.{head_fault, root_of}
+use Rattle.adb_view.specs.Head.{payload_head_fault, root_word_of_payload}
 use Rattle.container_laws.specs.HeaderFaults.{IsHeaderFault}
 use Rattle.pkg_core.specs.Whole.{fault_of_further_blocks, table_of_schema}
 
@@ -32,8 +32,8 @@ pub record IsFirstFailing (tests : List (Option Cause)) (c : Cause) : Type 0 whe
 -- repeated names, the further blocks
 abbrev pub tests_of_values : Which → List ℕ → Reading → List (Option Cause)
 tests_of_values which payload behind =
-    head_fault payload
-    ∷ (shape_fault payload (shape_of (Obj which)) (root_of payload)
+    payload_head_fault payload
+    ∷ (shape_fault payload (shape_of (Obj which)) (root_word_of_payload payload)
     ∷ (text_fault which (root_value which payload)
     ∷ (repeated_fault which (root_value which payload)
     ∷ (fault_of_further_blocks which (root_value which payload) behind ∷ []))))

@@ -30,9 +30,9 @@ abbrev pub IsDependency : Dependency → Type 0
 IsDependency d = IsTrue (is_dependency d)
 
 -- the mark of a conflict: `!` (33) if the dependency is a conflict, otherwise empty
-abbrev pub mark_text : Bool → List ℕ
-mark_text true = 33 ∷ []
-mark_text false = []
+abbrev pub conflict_mark_text : Bool → List ℕ
+conflict_mark_text true = 33 ∷ []
+conflict_mark_text false = []
 
 -- the text of a tag: `@` (64) and the tag, or nothing if there is none
 abbrev pub tag_text : Option (List ℕ) → List ℕ
@@ -48,4 +48,4 @@ constraint_text (Some version) bits = unwrap_or (operator_text bits) [] ++ versi
 -- operator and the version
 abbrev pub dep_text : Dependency → List ℕ
 dep_text d =
-    mark_text d.conflict ++ (d.name ++ (tag_text d.tag ++ constraint_text d.version d.bits))
+    conflict_mark_text d.conflict ++ (d.name ++ (tag_text d.tag ++ constraint_text d.version d.bits))

@@ -5,11 +5,11 @@ use Rattle.std.specs.List.{flat_map}
 use Rattle.std.specs.List.Sorted.{IsPermutation}
 use Rattle.dep_core.specs.Dependency.{Dependency}
 use Rattle.dep_core.specs.Reading.{dependency_of}
-use Rattle.dep_core.specs.World.{IsWorld, has_name, lines_of, world_with_lines, words_of}
+use Rattle.dep_core.specs.World.{IsWorld, has_name, lines_of, world_with_lines, words_of_line}
 
 -- the words of all lines of a text, in their order
 abbrev pub words_in : List ℕ → List (List ℕ)
-words_in text = flat_map words_of (lines_of text)
+words_in text = flat_map words_of_line (lines_of text)
 
 -- whether no two of some dependencies have the same name
 abbrev pub have_different_names : List Dependency → Bool

@@ -10,8 +10,8 @@ use Rattle.version_core.specs.Order.{is_version}
 use Rattle.dep_core.specs.Dependency.{Dependency, dependency_from_parts, is_name_byte, is_dep_name, is_tag_byte, is_tag, operators}
 
 -- the text without its longest prefix of bytes that all have the property `p`
-abbrev pub rest_after : (ℕ → Bool) → List ℕ → List ℕ
-rest_after p text = drop (prefix_len p text) text
+abbrev pub without_leading_bytes : (ℕ → Bool) → List ℕ → List ℕ
+without_leading_bytes p text = drop (prefix_len p text) text
 
 -- whether a byte occurs in operators: `<`, `=`, `>` or `~`
 abbrev pub is_operator_byte : ℕ → Bool
@@ -50,7 +50,7 @@ unfoldable pub dependency_from_version : Dependency → ℕ → List ℕ → Opt
 dependency_from_version d bits text =
     if is_version (take_while is_not_at_sign text)
     then dependency_after_version (with_constraint d (take_while is_not_at_sign text) bits)
-    (rest_after is_not_at_sign text)
+    (without_leading_bytes is_not_at_sign text)
     else None
 
 -- parses the text after the bytes of an operator, given their match bits; None if these bytes are
@@ -60,36 +60,38 @@ dependency_after_operator d None text = None
 dependency_after_operator d (Some bits) text = dependency_from_version d bits text
 
 -- parses the text after the name and its tag: it is empty, or it begins with an operator
-unfoldable pub with_constraint_read : Dependency → List ℕ → Option Dependency
-with_constraint_read d [] = Some d
-with_constraint_read d (b ∷ rest) =
+unfoldable pub dependency_from_operator : Dependency → List ℕ → Option Dependency
+dependency_from_operator d [] = Some d
+dependency_from_operator d (b ∷ rest) =
     dependency_after_operator d (operator_bits (take_while is_operator_byte (b ∷ rest)))
-    (rest_after is_operator_byte (b ∷ rest))
+    (without_leading_bytes is_operator_byte (b ∷ rest))
 
 -- parses the text after the `@` that follows the name: a tag, and what follows it
 unfoldable pub dependency_from_tag : Dependency → List ℕ → Option Dependency
 dependency_from_tag d text =
     if is_tag (take_while is_tag_byte text)
-    then with_constraint_read (with_tag d (take_while is_tag_byte text))
-    (rest_after is_tag_byte text)
+    then dependency_from_operator (with_tag d (take_while is_tag_byte text))
+    (without_leading_bytes is_tag_byte text)
     else None
 
 -- parses the text after the name: `@` (64) and a tag if it begins with `@`, otherwise an operator
 -- or nothing
 unfoldable pub dependency_after_name : Dependency → List ℕ → Option Dependency
 dependency_after_name d [] = Some d
-dependency_after_name d (b ∷ rest) = if b == 64 then dependency_from_tag d rest else with_constraint_read d (b ∷ rest)
+dependency_after_name d (b ∷ rest) =
+    if b == 64 then dependency_from_tag d rest else dependency_from_operator d (b ∷ rest)
 
 -- parses a text that begins with the name; a conflict has its `!` removed before
 unfoldable pub dependency_from_name : Bool → List ℕ → Option Dependency
 dependency_from_name conflict text =
     if is_dep_name (take_while is_name_byte text)
     then dependency_after_name (dependency_on_any_version conflict (take_while is_name_byte text))
-    (rest_after is_name_byte text)
+    (without_leading_bytes is_name_byte text)
     else None
 
 -- the dependency that a text denotes, or None if it denotes none; a leading `!` (33) makes it a
 -- conflict
 unfoldable pub dependency_of : List ℕ → Option Dependency
 dependency_of [] = None
-dependency_of (b ∷ rest) = if b == 33 then dependency_from_name true rest else dependency_from_name false (b ∷ rest)
+dependency_of (b ∷ rest) =
+    if b == 33 then dependency_from_name true rest else dependency_from_name false (b ∷ rest)

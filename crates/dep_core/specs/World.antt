@@ -53,8 +53,8 @@ abbrev pub lines_of : List ℕ → List (List ℕ)
 lines_of text = slice_split is_line_end text
 
 -- the words of a line, between blanks
-abbrev pub words_of : List ℕ → List (List ℕ)
-words_of line = filter (λ word. not (length word == 0)) (slice_split is_blank line)
+abbrev pub words_of_line : List ℕ → List (List ℕ)
+words_of_line line = filter (λ word. not (length word == 0)) (slice_split is_blank line)
 
 -- world with this dependency as a new entry, or None if an entry has its name
 abbrev pub with_new_entry : List Dependency → Dependency → Option (List Dependency)
@@ -79,7 +79,8 @@ or_bad_line line next (Some world) = next world
 abbrev pub world_with_lines : List Dependency → ℕ → List (List ℕ) → Result (List Dependency) ℕ
 world_with_lines world line [] = Ok world
 world_with_lines world line (text ∷ rest) =
-    or_bad_line line (λ more. world_with_lines more (line + 1) rest) (world_with_words world (words_of text))
+    or_bad_line line (λ more. world_with_lines more (line + 1) rest)
+    (world_with_words world (words_of_line text))
 
 -- the world that a text denotes, or the number of its first bad line, counted from 1
 unfoldable pub world_of : List ℕ → Result (List Dependency) ℕ

@@ -3,7 +3,7 @@
 
 ghost use Rattle.std.specs.Prelude.{IsTrue, ◌≡◌, Some, IfSome, is_some, ◌==◌};
 ghost use Rattle.std.specs.Option.{option_copied};
-ghost use Rattle.dep_core.specs.Dependency.{dependency_from_parts, begins_with_punctuation, is_dep_name, is_name_byte, is_package_name, is_tag, is_tag_byte};
+ghost use Rattle.dep_core.specs.Dependency.{dependency_from_parts, begins_with_dash_or_dot, is_dep_name, is_name_byte, is_package_name, is_tag, is_tag_byte};
 ghost use Rattle.dep_core.specs.DependencyText.{is_dependency, operator_text};
 ghost use Rattle.dep_core.specs.Reading.{operator_bits};
 ghost use Rattle.std.specs.List.{list_all, list_any};
@@ -154,7 +154,7 @@ fn has_name_bytes(name: &[u8]) -> bool
 pub fn is_package_name(name: &[u8]) -> bool
     ensures { result ≡ is_package_name name.now }
 {
-    if !is_dep_name(name) || begins_with_punctuation(name) {
+    if !is_dep_name(name) || begins_with_dash_or_dot(name) {
         return false;
     }
     !has_slash(name)
@@ -168,8 +168,8 @@ pub fn has_slash(name: &[u8]) -> bool
 }
 
 /// Whether a name begins with a byte that no package's name may begin with.
-fn begins_with_punctuation(name: &[u8]) -> bool
-    ensures { result ≡ begins_with_punctuation name.now }
+fn begins_with_dash_or_dot(name: &[u8]) -> bool
+    ensures { result ≡ begins_with_dash_or_dot name.now }
 {
     match name.first() {
         Some(byte) => *byte == b'-' || *byte == b'.',

@@ -15,7 +15,7 @@ use Rattle.change_report.specs.change_outcome.ChangeOutcome.{ChangeDone}
 use Rattle.change_report.specs.change_outcome.MembersAfter.{MemberFound}
 use Rattle.command_core.specs.Command.{CommandLine}
 use Rattle.change_report.specs.db_core.Members.{member_name}
-use Rattle.change_report.specs.file_owners.Replaces.{version_text}
+use Rattle.change_report.specs.file_owners.Replaces.{package_version_text}
 use Rattle.change_report.specs.journal_core.Recovery.{intent_name}
 use Rattle.change_report.specs.journal_core.Staged.{AreStagingPathsFree, IsEmptyStage}
 use Rattle.change_report.specs.make_info.Reads.{Reads}
@@ -24,8 +24,8 @@ use Rattle.change_report.specs.path_clashes.Clash.{NamePair}
 use Rattle.report_core.specs.declared.refusal.Refusal.{Refusal}
 use Rattle.report_core.specs.declared.refusal.Refusal.TheVariants.{PackageBad}
 use Rattle.journal_staging.specs.Spoiled.{IsSpoiledFile}
-use Rattle.journal_staging.specs.journal_commit.StageRun.{IsStageRun, IsStageRunComplete}
-use Rattle.engine_core.specs.Changed.{IsClashForAmong, change_of_command, found_packages, selected_for}
+use Rattle.journal_staging.specs.journal_commit.StageRun.{IsRunOfStagedChange, IsStagedChangeComplete}
+use Rattle.engine_core.specs.Changed.{IsClashOfCommandAmong, change_of_command, found_packages, selected_for}
 use Rattle.engine_core.specs.Choice.{IsChoiceFrom}
 use Rattle.engine_core.specs.Selecting.{pool_of_command}
 
@@ -58,7 +58,7 @@ pub record HasSpoiledPackage (packages : Result (List MemberFound) Refusal) (ref
   pub file : List ℕ
   pub cause : Cause
   pub spoiled : IsSpoiledFile tested file cause
-  pub is : refusal ≡ PackageBad (member_name one.member) (version_text one.member.pkg) cause
+  pub is : refusal ≡ PackageBad (member_name one.member) (package_version_text one.member.pkg) cause
 
 -- The file of an added package is not what was tested, when its contents are read once more. The report
 -- on it is that on some file with other contents. This does not happen on an observable tree without an
@@ -85,9 +85,9 @@ pub record IsCommit (wanted : Result ChangeDone Refusal) (v : TreeState)
   pub is : wanted ≡ Ok done
   pub commits : done.commits ≡ true
   -- what holds in each state of a run that leads to the files of the change
-  pub run : IsStageRun done.files v old now
+  pub run : IsRunOfStagedChange done.files v old now
   -- if the run succeeds, the change is complete
-  pub ok : OnOk result (IsStageRunComplete done.files v now)
+  pub ok : OnOk result (IsStagedChangeComplete done.files v now)
   -- it fails only with an I/O error of the tree
   pub err : IfErr result (λ refused. refused ≡ Disk)
 
@@ -135,7 +135,7 @@ pub record IsChangeRun (command : CommandLine) (old now : List TreeState) (befor
   pub stand : IfObservable old (λ v. present_files ≡ files_of v)
   -- the first clash of names, if there is one
   pub clash : Option NamePair
-  pub is_clash : IsClashForAmong command read files present_files chosen clash
+  pub is_clash : IsClashOfCommandAmong command read files present_files chosen clash
   -- how the run ends
   pub comes : CarriesOut (found_packages command read (selected_for command read chosen))
       (change_of_command command read files chosen clash) old now before after result

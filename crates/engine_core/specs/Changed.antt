@@ -5,7 +5,7 @@ use Rattle.std.specs.Prelude.{◌≡◌, ℕ, Bool, true, false, if◌then◌els
 use Rattle.base_core.specs.Files.{Files}
 use Rattle.change_report.specs.change_inputs.Chains.{and_then}
 use Rattle.change_report.specs.change_inputs.Inputs.{Inputs, inputs_of}
-use Rattle.change_report.specs.change_outcome.ChangeOutcome.{ChangeDone, ChangeWishes, IsClashOfChangeAmong, change_members, change_or_refusal}
+use Rattle.change_report.specs.change_outcome.ChangeOutcome.{ChangeDone, ChangeWishes, IsClashOfChangeAmong, members_after_change, change_or_refusal}
 use Rattle.change_report.specs.change_outcome.MembersAfter.{MemberFound}
 use Rattle.command_core.specs.Command.{CommandLine}
 use Rattle.change_report.specs.make_info.Reads.{Reads}
@@ -55,7 +55,7 @@ selected_for command read chosen =
 abbrev pub found_packages :
     CommandLine → Reads → Result InputsAndReplacement Refusal → Result (List MemberFound) Refusal
 found_packages command read selected =
-    and_then selected (λ s. change_members s.inputs s.replacement (wishes_of command) read)
+    and_then selected (λ s. members_after_change s.inputs s.replacement (wishes_of command) read)
 
 -- ---- the result
 
@@ -97,9 +97,9 @@ IsClashOfSelectedAmong command read files present_files (Err refusal) clash = cl
 -- The first clash of the names after a change; none if the command is refused before that test. `files`
 -- decide whether a configuration file is kept or a file is written beside it; names clash among
 -- `present_files`.
-abbrev pub IsClashForAmong :
+abbrev pub IsClashOfCommandAmong :
     CommandLine → Reads → Files → Files → Option (List ℕ) → Option NamePair → Type 0
-IsClashForAmong command read files present_files chosen clash =
+IsClashOfCommandAmong command read files present_files chosen clash =
     IsClashOfSelectedAmong command read files present_files (selected_for command read chosen) clash
 
 -- *IsClashUnlessSimulatedAmong*, with the same files as `present_files`, as on an observable tree
@@ -114,7 +114,8 @@ abbrev pub IsClashOfSelected :
 IsClashOfSelected command read files selected clash =
     IsClashOfSelectedAmong command read files files selected clash
 
--- *IsClashForAmong*, with the same files as `present_files`
-abbrev pub IsClashFor :
+-- *IsClashOfCommandAmong*, with the same files as `present_files`
+abbrev pub IsClashOfCommand :
     CommandLine → Reads → Files → Option (List ℕ) → Option NamePair → Type 0
-IsClashFor command read files chosen clash = IsClashForAmong command read files files chosen clash
+IsClashOfCommand command read files chosen clash =
+    IsClashOfCommandAmong command read files files chosen clash

@@ -88,9 +88,9 @@ database_and_world_names r =
 -- ---- each write
 
 -- a write is that of a file of a package, of the database, or of world
-abbrev pub IsWriteBy :
+abbrev pub IsWriteOfChange :
     List Member → PackagesRead → List FileWrite → RecordWrites → StagedWrite → Type 0
-IsWriteBy members packages planned r write =
+IsWriteOfChange members packages planned r write =
     IsFileWrite members packages planned write
     ⊎ (IsWriteOfRecord r.database_name.now r.database write
     ⊎ IsWriteOfRecord r.world_name.now r.world write)

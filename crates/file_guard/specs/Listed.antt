@@ -26,5 +26,6 @@ comparison_of_bytes new old bytes =
     record { as_new = is_as_described new bytes; as_old = is_as_described old bytes }
 
 -- how the file under the name compares, if there is one
-abbrev pub comparison_of_found_file : Option ListedFile → Option ListedFile → Option (List ℕ) → Option Comparison
+abbrev pub comparison_of_found_file : Option ListedFile → Option ListedFile → Option (List ℕ)
+    → Option Comparison
 comparison_of_found_file new old found = option_map (comparison_of_bytes new old) found

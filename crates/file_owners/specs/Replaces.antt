@@ -13,8 +13,8 @@ use Rattle.db_core.specs.adb_schema.Dependencies.{dependency_in}
 use Rattle.base_core.specs.ByteOrder.{precedes}
 
 -- the version of a package, as the text in its information
-abbrev pub version_text : Plain → List ℕ
-version_text pkg = text_in (entry_in (entry_in pkg PACKAGE_INFO) INFO_VERSION)
+abbrev pub package_version_text : Plain → List ℕ
+package_version_text pkg = text_in (entry_in (entry_in pkg PACKAGE_INFO) INFO_VERSION)
 
 -- whether a package with this name and version meets the dependency; false if there is no
 -- dependency or if it is a conflict
@@ -26,8 +26,8 @@ is_replaced_by (Some d) name version = not d.conflict && meets d name (Some vers
 -- the version of y meet it
 abbrev pub replaces_entry_names : Plain → Plain → Bool
 replaces_entry_names entry y =
-    is_version (version_text y)
-    && is_replaced_by (dependency_in entry) (package_name y) (version_text y)
+    is_version (package_version_text y)
+    && is_replaced_by (dependency_in entry) (package_name y) (package_version_text y)
 
 -- whether the package x names the package y: an entry of the `replaces` of x does
 unfoldable pub replaces_names_package : Plain → Plain → Bool
@@ -49,4 +49,5 @@ is_preferred_replacer x y =
 -- whether the package x takes over the files of the package y: x names y, and either y does not
 -- name x or x is preferred
 unfoldable pub takes_over : Plain → Plain → Bool
-takes_over x y = replaces_names_package x y && (not (replaces_names_package y x) || is_preferred_replacer x y)
+takes_over x y =
+    replaces_names_package x y && (not (replaces_names_package y x) || is_preferred_replacer x y)

@@ -22,19 +22,19 @@ TextLines = List Line × List ℕ
 
 -- the lines of a text with one byte more in front, which is no line end: it belongs to the first
 -- line, or to the bytes after the last line end
-abbrev pub with_first_byte : ℕ → List Line → List ℕ → TextLines
-with_first_byte c [] rest = ([], c ∷ rest)
-with_first_byte c (l ∷ ls) rest = ((c ∷ l) ∷ ls, rest)
+abbrev pub lines_with_nonend_byte_in_front : ℕ → List Line → List ℕ → TextLines
+lines_with_nonend_byte_in_front c [] rest = ([], c ∷ rest)
+lines_with_nonend_byte_in_front c (l ∷ ls) rest = ((c ∷ l) ∷ ls, rest)
 
 -- the lines of a text with one byte more in front; a line end is the end of an empty first line
-abbrev pub lines_with_byte : ℕ → TextLines → TextLines
-lines_with_byte c lines =
-    if c == 0x0a then ([] ∷ lines.0, lines.1) else with_first_byte c lines.0 lines.1
+abbrev pub lines_with_byte_in_front : ℕ → TextLines → TextLines
+lines_with_byte_in_front c lines =
+    if c == 0x0a then ([] ∷ lines.0, lines.1) else lines_with_nonend_byte_in_front c lines.0 lines.1
 
 -- the lines of a text that have their line end, and the bytes after the last line end
 abbrev pub text_lines : List ℕ → TextLines
 text_lines [] = ([], [])
-text_lines (c ∷ cs) = lines_with_byte c (text_lines cs)
+text_lines (c ∷ cs) = lines_with_byte_in_front c (text_lines cs)
 
 -- ---- the root that is read from a text
 
@@ -87,8 +87,8 @@ dumped_root text = let lines = text_lines text in
 -- ---- the container of a text
 
 -- the schema in the header of a container with this root; 0 for a table that is no root
-abbrev pub word_of_root : Which → ℕ
-word_of_root which = unwrap_or (schema_word which) 0
+abbrev pub schema_word_or_zero : Which → ℕ
+schema_word_or_zero which = unwrap_or (schema_word which) 0
 
 -- the container of this schema and a payload, or the counts of a payload that is too large
 abbrev pub file_unless_too_large :
@@ -98,7 +98,8 @@ file_unless_too_large word (Err counts) = Err (TooLarge counts.0 counts.1)
 
 -- the container of a root, in its canonical layout; or the bad line
 abbrev pub file_of_root : Result DumpedRoot ℕ → Result (List ℕ) GenFault
-file_of_root (Ok root) = file_unless_too_large (word_of_root root.which) (payload_or_overflow root.value)
+file_of_root (Ok root) =
+    file_unless_too_large (schema_word_or_zero root.which) (payload_or_overflow root.value)
 file_of_root (Err line) = Err (Bad line)
 
 -- the container that is generated from a dump text; or what is reported: the first bad line, else the

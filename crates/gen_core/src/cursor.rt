@@ -32,7 +32,8 @@ impl<'a> Model for Cursor<'a> {
 
     ghost Value = { CursorState };
 
-    ghost view = { λ c. cursor_from_parts (lines_at_cursor c.levels (option_copied c.line) c.rest.now) c.number
+    ghost view = { λ c. cursor_from_parts (lines_at_cursor c.levels
+        (option_copied c.line) c.rest.now) c.number
         c.levels };
 
     ghost invariant = { λ c. c.number + line_end_count (option_copied c.line) + length c.rest.now

@@ -109,7 +109,8 @@ fn read_line(
     kind: Kind,
     line: &[u8],
 ) -> Result<(), GenFault>
-    ensures ok { OnOk result (draft_and_cursor_after_line (line_read (shape_of kind) line.now) draft.old cursor.old
+    ensures ok { OnOk result (draft_and_cursor_after_line (line_read
+        (shape_of kind) line.now) draft.old cursor.old
         ≡ Ok (draft.new, cursor.new)) }
     // An error is the bad line of the definition, or out of memory.
     ensures err { IfErr result (λ fault. IsTextFault fault

@@ -17,7 +17,7 @@ use Rattle.pkg_core.specs.Front.{front_payload}
 use Rattle.pkg_core.specs.declared.front.Front.{Front}
 use Rattle.pkg_core.specs.declared.front.FrontFault.{FrontFault}
 use Rattle.pkg_core.specs.declared.front.FrontFault.TheVariants.{Bad, Disk, Memory}
-use Rattle.pkg_core.specs.adb_schema.Soundness.{first_fault, payload_fault, payload_in, root_value}
+use Rattle.pkg_core.specs.adb_schema.Soundness.{container_fault_except_contents, payload_fault, payload_in, root_value}
 use Rattle.pkg_core.specs.adb_schema.adb_fields.Paths.{path_of}
 use Rattle.pkg_core.specs.adb_schema.adb_fields.Repeated.{name_of}
 use Rattle.report_core.specs.declared.refusal.Refusal.{Refusal}
@@ -32,7 +32,8 @@ use Rattle.hint_core.specs.Lines.{printed_text}
 
 -- the positions that a cause names
 abbrev pub mixed_up_positions_of_cause : Cause → Option MixedUp
-mixed_up_positions_of_cause (DataOrder expected found) = Some (record { expected = expected; found = found })
+mixed_up_positions_of_cause (DataOrder expected found) =
+    Some (record { expected = expected; found = found })
 mixed_up_positions_of_cause cause = None
 
 -- the positions that the cause of a refusal names
@@ -111,7 +112,7 @@ AreLinesOfRead name mixed (Err Memory) lines = ⊥
 abbrev pub contents_lines : List ℕ → MixedUp → Option (List ℕ) → List ℕ
 contents_lines name mixed None = []
 contents_lines name mixed (Some file) =
-    lines_unless (first_fault Package file)
+    lines_unless (container_fault_except_contents Package file)
     (package_lines name mixed (root_value Package (payload_in file)))
 
 -- ---- what is printed

@@ -108,7 +108,8 @@ repository_hint_if_found number None = Hinted.Nothing
 
 -- the index of a repository, by the text that names the repositories
 abbrev pub repository_hint : ℕ → Option (List ℕ) → Hint
-repository_hint number (Some text) = repository_hint_if_found number (repository_at number 1 (lines_of text))
+repository_hint number (Some text) =
+    repository_hint_if_found number (repository_at number 1 (lines_of text))
 repository_hint number None = Hinted.Nothing
 
 -- the hint on a line of a file, if the line was found; otherwise no hint

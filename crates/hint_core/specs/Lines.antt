@@ -17,13 +17,13 @@ use Rattle.hint_core.specs.Hints.{hint_file_name}
 -- ---- bytes as they are shown
 
 -- whether a byte is shown as it is: a space (32) or a visible ASCII character, but no backslash (92)
-abbrev pub is_printed : ℕ → Bool
-is_printed byte = ((byte == 32) || is_ascii_graphic byte) && not (byte == 92)
+abbrev pub is_byte_printed_as_is : ℕ → Bool
+is_byte_printed_as_is byte = ((byte == 32) || is_ascii_graphic byte) && not (byte == 92)
 
 -- a byte as it is shown: as it is, or as `\xNN`
 abbrev pub printed_byte : ℕ → List ℕ
 printed_byte byte =
-    if is_printed byte then byte ∷ [] else 92 ∷ (120 ∷ encode_lower (byte ∷ []))
+    if is_byte_printed_as_is byte then byte ∷ [] else 92 ∷ (120 ∷ encode_lower (byte ∷ []))
 
 -- bytes as they are shown
 abbrev pub printed_bytes : List ℕ → List ℕ

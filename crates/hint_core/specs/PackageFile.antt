@@ -7,7 +7,7 @@ use Rattle.dep_core.specs.Repositories.{Repository, repositories_of}
 use Rattle.report_core.specs.Reports.{name_dash_version}
 use Rattle.report_core.specs.declared.refusal.Refusal.{Refusal}
 use Rattle.report_core.specs.declared.refusal.Refusal.TheVariants.{PackageBad, PackageDiffers, PackageMissing}
-use Rattle.root_names.specs.PackagePath.{path_if_name, package_path}
+use Rattle.root_names.specs.PackagePath.{path_if_valid_name, package_path}
 use Rattle.root_names.specs.RootNames.{repositories_name}
 use Rattle.words_core.specs.Grammar.{command_of}
 use Rattle.words_core.specs.Usage.{texts_joined}
@@ -31,7 +31,8 @@ abbrev pub ExplainsBeside :
     List ℕ → List ℕ → Refusal → List TreeState → List ℕ → List ℕ → Type 0
 ExplainsBeside name version refusal history index lines =
     (contents : List ℕ)
-    × ExplainsMixedUp (path_if_name (package_path index name version)) (mixed_up_positions refusal) history contents
+    × ExplainsMixedUp (path_if_valid_name (package_path index name version))
+    (mixed_up_positions refusal) history contents
     × (lines ≡ package_file_line name version index ++ contents)
 
 -- these lines are those of *ExplainsBeside* for the index of each repository, one after another

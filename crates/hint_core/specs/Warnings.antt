@@ -30,8 +30,8 @@ folder_to_pack values =
     option_map (λ (v : OptionValue). without_dot_slash v.text) (first_value FILES values)
 
 -- the line that says that no file is below a folder
-abbrev pub folder_line : List ℕ → List ℕ
-folder_line folder = texts_joined
+abbrev pub empty_folder_line : List ℕ → List ℕ
+empty_folder_line folder = texts_joined
     (codes "apk: no file is below " ∷ (printed_text folder ∷ (codes "\n" ∷ [])))
 
 -- a file is below a folder
@@ -42,7 +42,7 @@ HasFileBelow v folder = (name : List ℕ) × IsSome (v.names name) × IsFolderOf
 abbrev pub WarnsOfFolder : List ℕ → List ℕ → TreeState → Type 0
 WarnsOfFolder folder lines v =
     ((lines ≡ []) × HasFileBelow v folder)
-    ⊎ ((lines ≡ folder_line folder) × (HasFileBelow v folder → ⊥))
+    ⊎ ((lines ≡ empty_folder_line folder) × (HasFileBelow v folder → ⊥))
 
 -- what is printed of the folder that `-F` gives, if it gives one
 abbrev pub WarnsIfGiven : Option (List ℕ) → List TreeState → List ℕ → Type 0
@@ -65,14 +65,15 @@ abbrev pub has_repository_with_tag : List Repository → List ℕ → Bool
 has_repository_with_tag repositories tag = list_any (λ (r : Repository). is_tag_of tag r.tag) repositories
 
 -- the line that says that no repository has a tag
-abbrev pub tag_line : List ℕ → List ℕ
-tag_line tag = texts_joined
+abbrev pub unknown_tag_line : List ℕ → List ℕ
+unknown_tag_line tag = texts_joined
     (codes "apk: no repository has the tag @" ∷ (printed_text tag ∷ (codes "\n" ∷ [])))
 
 -- what is printed of a tag, if there is one: the line if no repository has it
 abbrev pub tag_warning : List Repository → Option (List ℕ) → List ℕ
 tag_warning repositories None = []
-tag_warning repositories (Some tag) = if has_repository_with_tag repositories tag then [] else tag_line tag
+tag_warning repositories (Some tag) =
+    if has_repository_with_tag repositories tag then [] else unknown_tag_line tag
 
 -- what is printed of the tags of operands
 abbrev pub tag_warnings : List Repository → List Operand → List ℕ

@@ -123,7 +123,8 @@ pub(crate) fn lines_of_contents<T: Tree>(
     tree: &mut T,
 ) -> Result<Vec<u8>, TreeFault>
     ensures lines { IfOk result (λ lines.
-        ExplainsMixedUp name.now (mixed_up_positions refusal.now) (T.history tree.old) lines.items) }
+        ExplainsMixedUp name.now (mixed_up_positions refusal.now)
+        (T.history tree.old) lines.items) }
     ensures tree { OnlyReads TreeFault.Disk (T.history tree.old) (T.history tree.new)
         (T.counts tree.old) (T.counts tree.new) result }
 {

@@ -2,7 +2,7 @@
 //! `docs/commands.md`, "`info`".
 
 ghost use Rattle.file_owners.specs.db_core.Seen.{packages_of};
-ghost use Rattle.installed_info.specs.Info.{report_and_refusal, info_refusal, info_unless, operands_info, package_info};
+ghost use Rattle.installed_info.specs.Info.{report_and_refusal, info_refusal, info_unless_refused, operands_info, package_info};
 ghost use Rattle.installed_info.specs.Packages.{package_meant_by, package_named, path_owner};
 ghost use Rattle.report_core.specs.declared.refusal.Refusal.TheVariants.{NotInstalled};
 ghost use Rattle.std.specs.Option.{option_map_or, option_or, option_and_then};
@@ -28,7 +28,7 @@ pub(crate) fn report_operands(
     operands: &Operands,
     db: &Db<'_>,
 ) -> Result<Result<ReportAndRefusal, Refusal>, AllocError>
-    ensures { IfOk result (λ told. told ≡ info_unless
+    ensures { IfOk result (λ told. told ≡ info_unless_refused
         (info_refusal form (packages_of db.now) operands.now)
         (operands_info form (packages_of db.now) operands.now)) }
 {

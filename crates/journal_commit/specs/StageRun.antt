@@ -8,7 +8,7 @@ use Rattle.base_core.specs.Undone.{IsDurable}
 use Rattle.base_core.specs.Files.{Files}
 use Rattle.base_core.specs.Restart.{SinceGivenEarlier}
 use Rattle.base_core.specs.Tree.{TreeState, files_of}
-use Rattle.journal_core.specs.Kept.{HasOldOrNewBytes, IsRestoredByNoCrash, ShownNamesAreDurable}
+use Rattle.journal_core.specs.Kept.{HasOldOrNewBytes, IsRestoredByNoCrash, NamesOutsideJournalAreDurable}
 use Rattle.journal_core.specs.Quiet.{StateIsUnchanged}
 use Rattle.journal_core.specs.Recovery.{EachCrashLeaves, StateDependsOn, intent_name, is_staged}
 use Rattle.journal_core.specs.Staged.{IsEmptyStage, IsOldUntilCommit, IsStaged, Staging, unstaged_files}
@@ -34,12 +34,12 @@ IsStateDuringChange new old w =
 
 -- if no intent is read, a crash undoes no change of a name outside the staging area
 abbrev pub NamesAreDurableWithoutIntent : TreeState → Type 0
-NamesAreDurableWithoutIntent w = w.names intent_name ≡ None → ShownNamesAreDurable w
+NamesAreDurableWithoutIntent w = w.names intent_name ≡ None → NamesOutsideJournalAreDurable w
 
 -- ---- a change
 
 -- a change that leads to these files, from a state v on: what holds at each of its moments
-pub record IsStageRun (files : Files) (v : TreeState) (old now : List TreeState) : Type 0 where
+pub record IsRunOfStagedChange (files : Files) (v : TreeState) (old now : List TreeState) : Type 0 where
   -- A tree that was durable is durable, and a crash leaves a state from before or that of the files.
   -- Until an intent of this change has been under its name, a crash leaves a state from before.
   pub moments : (ignored : List ℕ → Bool) → IsDurable (StateDependsOn ignored) v
@@ -49,18 +49,18 @@ pub record IsStageRun (files : Files) (v : TreeState) (old now : List TreeState)
   pub reads : Since (IsStateDuringChange files (files_of v)) old now
   -- if no intent is read, a crash undoes no change of a name outside the staging area, if none could be
   -- undone at the start
-  pub last : ShownNamesAreDurable v → Since NamesAreDurableWithoutIntent old now
+  pub last : NamesOutsideJournalAreDurable v → Since NamesAreDurableWithoutIntent old now
 
 -- a change that leads to these files is complete: no intent is read, and no crash restores one, or
 -- undoes a change of a name
-pub record IsStageRunComplete (files : Files) (v : TreeState) (now : List TreeState) : Type 0 where
+pub record IsStagedChangeComplete (files : Files) (v : TreeState) (now : List TreeState) : Type 0 where
   -- the files as read are the new ones, and no intent is read
   pub reads : HoldsNow now (λ w. (files_of w ≡ files) × (w.names intent_name ≡ None))
   -- if the tree was durable at the start, each crash leaves the state of the new files
   pub settled : (ignored : List ℕ → Bool) → IsDurable (StateDependsOn ignored) v
       → HoldsNow now (EachCrashLeaves ignored files)
   -- no crash undoes a change of a name outside the journal
-  pub last : HoldsNow now ShownNamesAreDurable
+  pub last : HoldsNow now NamesOutsideJournalAreDurable
   -- no crash restores the intent
   pub gone : HoldsNow now (IsRestoredByNoCrash intent_name)
 
@@ -75,7 +75,7 @@ pub record IsStagingRun (v : TreeState) (old now : List TreeState) : Type 0 wher
   -- at each moment the files as read are the same, except for staged files
   pub reads : Since (HasFilesExceptStaged (files_of v)) old now
   -- no crash undoes a change of a name outside the journal, if none could at the start
-  pub last : ShownNamesAreDurable v → Since ShownNamesAreDurable old now
+  pub last : NamesOutsideJournalAreDurable v → Since NamesOutsideJournalAreDurable old now
 
 -- a staging run that began with an empty staging area. Now files with the bytes `contents` are
 -- staged, and, if there is a file that is begun, one with its bytes

@@ -7,7 +7,7 @@ ghost use Rattle.base_core.specs.Tree.{TreeState, files_of};
 ghost use Rattle.journal_core.specs.Staged.{IsEmptyStage, new_stage, files_with_staged};
 ghost use Rattle.journal_commit.specs.Asked.{TargetsAreAccepted};
 ghost use Rattle.journal_commit.specs.StagingCalls.{ChangesOnlyBegunFile, ChangesOnlyStagedFiles, StagesFile};
-ghost use Rattle.journal_commit.specs.StageRun.{IsStaging, IsStagingRun, IsStageRun};
+ghost use Rattle.journal_commit.specs.StageRun.{IsStaging, IsStagingRun, IsRunOfStagedChange};
 ghost use Rattle.base_core.specs.Calls.{IfObservable};
 ghost use Rattle.base_core.specs.Files.{Files};
 ghost use Rattle.journal_core.specs.Recovery.{Intent, files_after_actions, intent_name};
@@ -121,7 +121,7 @@ pub fn a_new_stage_is_staging()
 /// A run that only stages files is a run of a staged change, whatever files this is to lead to.
 pub fn a_staging_run_is_a_stage_run()
     ensures { (files : Files) (v : TreeState) (first now : List TreeState)
-        → IsStagingRun v first now → IsStageRun files v first now }
+        → IsStagingRun v first now → IsRunOfStagedChange files v first now }
 {}
 
 /// After all actions of an intent no file is staged, if before them only the files of its writes

@@ -84,7 +84,8 @@ pub record HasCommittedIntent (ignored : List ℕ → Bool) (files : Files) (mad
 pub record ChangesOnlyIntentNames (old now : List TreeState) : Type 0 where
   -- as soon as the intent is read, every other change of names is durable
   pub last : IfObservable old (λ v. v.names intent_name ≡ None
-      → Since (λ w. IsSome (w.names intent_name) → NamesAreDurableExcept (intent_name ∷ stage_name 0 ∷ []) w)
+      → Since (λ w. IsSome (w.names intent_name)
+      → NamesAreDurableExcept (intent_name ∷ stage_name 0 ∷ []) w)
       old now)
   -- at each moment the files as read are unchanged under every other name
   pub others : IfObservable old (λ v.

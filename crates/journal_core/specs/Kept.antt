@@ -62,14 +62,14 @@ NamesAreDurableExcept these v =
 
 -- each name except the intent's and those in the staging area leads in every map to the same file as in
 -- the newest, so no crash undoes its change
-abbrev pub ShownNamesAreDurable : TreeState → Type 0
-ShownNamesAreDurable v = (map : NameMap) → IsCrashMap v map → (q : List ℕ) → q ≢ intent_name
+abbrev pub NamesOutsideJournalAreDurable : TreeState → Type 0
+NamesOutsideJournalAreDurable v = (map : NameMap) → IsCrashMap v map → (q : List ℕ) → q ≢ intent_name
     → is_staged q ≡ false → map q ≡ v.names q
 
 -- the names `these`, the intent's and those in the staging area are excepted. Each other name leads
 -- in every map to the same file as in the newest, so no crash undoes its change
-abbrev pub ShownNamesAreDurableExcept : List (List ℕ) → TreeState → Type 0
-ShownNamesAreDurableExcept these v = (map : NameMap) → IsCrashMap v map → (q : List ℕ)
+abbrev pub NamesOutsideJournalAreDurableExcept : List (List ℕ) → TreeState → Type 0
+NamesOutsideJournalAreDurableExcept these v = (map : NameMap) → IsCrashMap v map → (q : List ℕ)
     → IsNoneOf q these
     → q ≢ intent_name → is_staged q ≡ false → map q ≡ v.names q
 

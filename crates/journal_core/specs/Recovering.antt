@@ -24,7 +24,7 @@ recover_fault_of_tree NoMemory = Memory
 
 -- a moment after all actions of an intent: the files as read are those that recovery of the files
 -- at the start yields, and no intent is read
-pub record IsReplayed (start v : TreeState) : Type 0 where
+pub record IsIntentReplayed (start v : TreeState) : Type 0 where
   -- the files as read are those that recovery yields
   pub reads : files_of v ≡ recovered_files (files_of start)
   -- no intent is read

@@ -8,7 +8,7 @@ use Rattle.base_core.specs.Tree.{TreeState, files_under_map, files_of}
 use Rattle.base_core.specs.Undone.{IsDurable, IsCrashMap}
 use Rattle.base_core.specs.Restart.{EachMoment}
 use Rattle.base_core.specs.declared.cause.Cause.{Cause}
-use Rattle.journal_intent.specs.adb_schema.Soundness.{first_fault}
+use Rattle.journal_intent.specs.adb_schema.Soundness.{container_fault_except_contents}
 use Rattle.adb_view.specs.declared.tables.Which.TheVariants.{Intent as IntentTable}
 use Rattle.journal_core.specs.Recovery.{Intent, EachCrashLeavesOldOrNew, IsStagedNameOf, StateDependsOn, intent_name, intent_of, is_staged, recovered_files, stage_name, state_of}
 use Rattle.journal_core.specs.Kept.{IsRestoredByNoCrash}
@@ -40,7 +40,7 @@ new_stage removals writes = record {
 -- the file under the intent's name is no intent container, for this cause
 abbrev pub IsIntentFault : Files → Cause → Type 0
 IsIntentFault files cause = (file : List ℕ) × (files intent_name ≡ Some file)
-    × (first_fault IntentTable file ≡ Some cause)
+    × (container_fault_except_contents IntentTable file ≡ Some cause)
 
 -- ---- staging
 
@@ -91,7 +91,8 @@ pub record IsStaged (stage : Staging) (contents : List (List ℕ)) (begun : Opti
   -- there was no intent at the start
   pub absent : base intent_name ≡ None
   -- the files as read are those of the start with the staged files
-  pub reads : files_of v ≡ files_with_begun_file (1 + length contents) begun (files_with_staged 1 contents base)
+  pub reads : files_of v ≡ files_with_begun_file (1 + length contents) begun
+      (files_with_staged 1 contents base)
   -- each staged file that was ended is synced
   pub synced : (k n : ℕ) → 1 ≤ k → k < 1 + length contents → v.names (stage_name k) ≡ Some n
       → (v.files n).synced ≡ true
@@ -203,7 +204,8 @@ IsPresentOrOfJournal files q =
 -- no name becomes a folder of another if the intent and all staged files are added
 pub record AreJournalPathsFree (files : Files) : Type 0 where
   -- of two names that are present or belong to the journal, none is a folder of the other
-  pub folders : (p q : List ℕ) → IsFolderOf p q → IsPresentOrOfJournal files p → IsPresentOrOfJournal files q → ⊥
+  pub folders : (p q : List ℕ) → IsFolderOf p q → IsPresentOrOfJournal files p
+      → IsPresentOrOfJournal files q → ⊥
 
 -- nothing is staged yet, and no name becomes a folder of another if the intent and all staged files are
 -- added

@@ -47,7 +47,8 @@ pub(crate) fn act<T: Tree>(
     // If the intent and the staged files have free paths beside the files of the actions done, no
     // call is a misuse.
     ensures proper { IfObservable (T.history tree.old) (λ v. (files : Files)
-        → IsCarryingOutActions (stage_with_actions_done intent.now acted) files v → AreJournalPathsFree files
+        → IsCarryingOutActions (stage_with_actions_done intent.now acted) files v
+        → AreJournalPathsFree files
         → (T.counts tree.new).misuses ≡ (T.counts tree.old).misuses) }
 {
     // A law that the proof needs; it computes nothing.
@@ -123,7 +124,8 @@ fn move_one<T: Tree>(
     // If the intent and the staged files have free paths beside the files of the actions done, no
     // call is a misuse.
     ensures proper { IfObservable (T.history tree.old) (λ v. (files : Files)
-        → IsCarryingOutActions (stage_with_actions_done intent.now acted) files v → AreJournalPathsFree files
+        → IsCarryingOutActions (stage_with_actions_done intent.now acted) files v
+        → AreJournalPathsFree files
         → (T.counts tree.new).misuses ≡ (T.counts tree.old).misuses) }
 {
     intent.names_are_free();

@@ -48,7 +48,8 @@ pub fn append<T: Tree>(tree: &mut T, name: &Name, bytes: &[u8]) -> Result<(), Di
 /// Makes the bytes of the file durable: a crash keeps them.
 pub fn sync_file<T: Tree>(tree: &mut T, name: &Name) -> Result<(), Disk>
     // Which state is added to the history: on success, and on an error.
-    ensures moves { ChangesHistory (HasName name.now) (after_sync name.now) unchanged_after_failed_call
+    ensures moves { ChangesHistory (HasName name.now)
+        (after_sync name.now) unchanged_after_failed_call
         (T.history tree.old) (T.history tree.new) result }
     // How the counts change, and which states allow the call.
     ensures counts { IsCounted (HasName name.now) (T.history tree.old)

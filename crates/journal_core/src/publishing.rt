@@ -31,7 +31,8 @@ pub(crate) fn publish_intent<T: Tree>(tree: &mut T, intent: &PreparedIntent) -> 
     ensures acting { IfObservable (T.history tree.old) (λ v. (contents : List (List ℕ))
         (base : Files) → IsStaged (fully_staged_stage intent.now) contents None base v
         → OnOk result (HoldsNow (T.history tree.new)
-        (IsCarryingOutActions (stage_with_actions_done intent.now 0) (files_after_actions intent.now (files_of v))))) }
+        (IsCarryingOutActions (stage_with_actions_done intent.now 0)
+        (files_after_actions intent.now (files_of v))))) }
     // How the tree's counts explain the result.
     ensures counts { IsResultExplainedByCounts (T.counts tree.old) (T.counts tree.new) result }
 
@@ -66,7 +67,8 @@ fn write_waiting<T: Tree>(tree: &mut T, place: &Name, bytes: &[u8]) -> Result<()
         Since (KeepsFilesExcept (λ q. q ≡ place.now) v) (T.history tree.old) (T.history tree.new)) }
     // At each moment a crash leaves every other name as it might have left it before.
     ensures maps { IfObservable (T.history tree.old) (λ v.
-        Since (KeepsCrashMapsExcept (stage_name 0 ∷ []) v) (T.history tree.old) (T.history tree.new)) }
+        Since (KeepsCrashMapsExcept (stage_name 0 ∷ []) v) (T.history tree.old)
+        (T.history tree.new)) }
     // Ok is returned only if no file was there.
     ensures absent { OnOk result
         (IfObservable (T.history tree.old) (λ v. v.names place.now ≡ None)) }
@@ -100,14 +102,17 @@ fn enter<T: Tree>(tree: &mut T, place: &Name, name: &Name) -> Result<(), Disk>
         (HasCommittedIntent ignored (files_after_actions intent base) made))) }
     // Once it has returned Ok, the intent is committed, and none of its actions is done.
     ensures acting { IfObservable (T.history tree.old) (λ v. (intent : Intent) (base : Files)
-        (made : ℕ) → IsReadyToPublish intent base made v → OnOk result (HoldsNow (T.history tree.new)
-        (IsCarryingOutActions (stage_with_actions_done intent 0) (files_after_actions intent base)))) }
+        (made : ℕ) → IsReadyToPublish intent base made v
+        → OnOk result (HoldsNow (T.history tree.new)
+        (IsCarryingOutActions (stage_with_actions_done intent 0)
+        (files_after_actions intent base)))) }
     // Only the intent's name and that of the staged file 0 have changed.
     ensures names { ChangesOnlyIntentNames (T.history tree.old) (T.history tree.new) }
     // As soon as the intent is read, recovery yields the files of the actions done.
     ensures reads { IfObservable (T.history tree.old) (λ v. (intent : Intent) (base : Files)
         (made : ℕ) → IsReadyToPublish intent base made v → Since (λ w. IsSome (w.names intent_name)
-        → RecoversTo (files_after_actions intent base) w) (T.history tree.old) (T.history tree.new)) }
+        → RecoversTo (files_after_actions intent base) w) (T.history tree.old)
+        (T.history tree.new)) }
     // Once it has returned Ok, the staged file 0 is gone.
     ensures moved { OnOk result
         (IfObservable (T.history tree.new) (λ w. w.names (stage_name 0) ≡ None)) }

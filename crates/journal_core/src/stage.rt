@@ -1,7 +1,7 @@
 //! A stage: new files wait in the staging area until one step commits all of them.
 //! The rules are in `docs/crash-safety.md`, "A change of several files".
 ghost use Rattle.std.specs.Prelude.{◌≡◌, ◌≤◌, ◌<◌, ◌+◌, ◌++◌, ◌∷◌, [], ◌^◌, ℕ, Bool, true, false, List, Some, None, length, IfOk, OnOk, OnErr, IsErrOf, IsSome, nat_lt};
-ghost use Rattle.journal_intent.specs.adb_schema.Soundness.{first_fault};
+ghost use Rattle.journal_intent.specs.adb_schema.Soundness.{container_fault_except_contents};
 ghost use Rattle.adb_view.specs.declared.tables.Which.TheVariants.{Intent as IntentTable};
 ghost use Rattle.journal_intent.specs.adb_write.Canonical.{overflow_of};
 ghost use Rattle.base_core.specs.Calls.{HoldsNow, IfObservable};
@@ -125,8 +125,8 @@ impl Stage {
         ensures published { IfOk result (λ stage. stage.published ≡ true) }
         ensures none { IfOk result (λ stage. stage.acted ≡ 0) }
         ensures bad { (cause : Cause) → IsErrOf result (RecoverFault.IntentBad cause)
-            → first_fault IntentTable file.items ≡ Some cause }
-        ensures good { OnOk result (first_fault IntentTable file.items ≡ None) }
+            → container_fault_except_contents IntentTable file.items ≡ Some cause }
+        ensures good { OnOk result (container_fault_except_contents IntentTable file.items ≡ None) }
         ensures only { IsErrOf result RecoverFault.Disk → ⊥ }
     {
         let intent = PreparedIntent::of_file(alloc, file)?;
@@ -339,7 +339,8 @@ impl Stage {
 
         // At each moment a crash leaves an old state or the one with all actions done; once it has
         // returned Ok, it leaves the latter.
-        ensures publishing { PublishesIntent self.old (T.history tree.old) (T.history tree.new) result }
+        ensures publishing { PublishesIntent self.old (T.history tree.old)
+            (T.history tree.new) result }
         ensures acting { IfObservable (T.history tree.old) (λ v. (contents : List (List ℕ))
             (base : Files) → IsStaged self.old contents None base v
             → OnOk result (HoldsNow (T.history tree.new)
@@ -415,11 +416,13 @@ impl Stage {
         // returned Ok, each crash leaves the state of the actions done, the files as read are
         // these, and no intent is read.
         ensures moments { IfObservable (T.history tree.old) (λ v. (ignored : List ℕ → Bool)
-            (files : Files) → IsDurable (StateDependsOn ignored) v → IsCarryingOutActions self.old files v
+            (files : Files) → IsDurable (StateDependsOn ignored) v
+            → IsCarryingOutActions self.old files v
             → Since (StateIsUnchanged ignored v) (T.history tree.old) (T.history tree.new)) }
         // Once it has returned Ok, each crash leaves the state of the actions done.
         ensures settled { IfObservable (T.history tree.old) (λ v. (ignored : List ℕ → Bool)
-            (files : Files) → IsDurable (StateDependsOn ignored) v → IsCarryingOutActions self.old files v
+            (files : Files) → IsDurable (StateDependsOn ignored) v
+            → IsCarryingOutActions self.old files v
             → OnOk result (HoldsNow (T.history tree.new) (EachCrashLeaves ignored files))) }
         // Once it has returned Ok, the files as read have all actions done, and no intent is read.
         ensures files { IfObservable (T.history tree.old) (λ v. (files : Files)
@@ -438,7 +441,8 @@ impl Stage {
             → Since (λ w. w.names intent_name ≡ None → NamesAreDurableExcept (intent_name ∷ []) w)
             (T.history tree.old) (T.history tree.new)) }
         // Once it has returned Ok, no crash restores the intent.
-        ensures gone { OnOk result (IfObservable (T.history tree.new) (IsRestoredByNoCrash intent_name)) }
+        ensures gone { OnOk result (IfObservable (T.history tree.new)
+            (IsRestoredByNoCrash intent_name)) }
 
         // At each moment the intent and the staged files are unchanged or gone, and no other name
         // has changed; the stage is unchanged, whatever it returns.

@@ -2,18 +2,18 @@
 //! The rules are in `docs/crash-safety.md`, "Recovery"; which actions an intent has, in "A change
 //! of several files".
 ghost use Rattle.std.specs.Prelude.{◌≡◌, ℕ, Bool, true, List, Some, None, IsSome, OnOk, IsErrOf};
-ghost use Rattle.journal_core.specs.adb_schema.Soundness.{first_fault};
+ghost use Rattle.journal_core.specs.adb_schema.Soundness.{container_fault_except_contents};
 ghost use Rattle.adb_view.specs.declared.tables.Which.TheVariants.{Intent as IntentTable};
 ghost use Rattle.base_core.specs.Calls.{HoldsNow, IfObservable};
 ghost use Rattle.base_core.specs.Crash.{Since};
 ghost use Rattle.base_core.specs.Undone.{IsDurable};
-ghost use Rattle.base_core.specs.Faults.{CountsOnlyRise, HasCause, IsNoFault};
+ghost use Rattle.base_core.specs.Faults.{CountsOnlyRise, IsFaultCountedWithCause, CountsNoNewFault};
 ghost use Rattle.base_core.specs.Tree.{files_of};
 ghost use Rattle.base_core.specs.declared.cause.Cause.{Cause};
 ghost use Rattle.journal_core.specs.CallCounts.{IsResultExplainedByCounts};
-ghost use Rattle.journal_core.specs.Kept.{HasOldOrNewBytes, IsRestoredByNoCrash, JournalOnlyShrinks, KeepsFilesExcept, RecoversTo, ShownNamesAreDurable};
+ghost use Rattle.journal_core.specs.Kept.{HasOldOrNewBytes, IsRestoredByNoCrash, JournalOnlyShrinks, KeepsFilesExcept, RecoversTo, NamesOutsideJournalAreDurable};
 ghost use Rattle.journal_core.specs.Quiet.{StateIsUnchanged};
-ghost use Rattle.journal_core.specs.Recovering.{AreStagedNames, HasEmptiedStage, IsReplayed};
+ghost use Rattle.journal_core.specs.Recovering.{AreStagedNames, HasEmptiedStage, IsIntentReplayed};
 ghost use Rattle.journal_core.specs.Recovery.{EachCrashLeaves, StateDependsOn, intent_name, intent_of, is_staged, recovered_files};
 ghost use Rattle.journal_core.specs.Staged.{AreReplayPathsFree, IsEmptyStage, unstaged_files};
 ghost use Rattle.journal_recovery.specs.RecoveryContracts.{IsRecoveryExplainedByCounts, RefusesOnlyBadIntent, RemovesIntentLast, RemovesStagedNames};
@@ -103,7 +103,7 @@ fn replay<T: Tree>(alloc: Global, tree: &mut T) -> Result<(), RecoverFault>
         (T.history tree.old) (T.history tree.new)) }
     // Once it has returned Ok, all actions are done, and no intent is read.
     ensures replayed { IfObservable (T.history tree.old) (λ v.
-        OnOk result (HoldsNow (T.history tree.new) (IsReplayed v))) }
+        OnOk result (HoldsNow (T.history tree.new) (IsIntentReplayed v))) }
     // From a durable tree with an intent: once it has returned Ok, each crash leaves the state that
     // recovery yields.
     ensures settled { IfObservable (T.history tree.old) (λ v. (ignored : List ℕ → Bool)
@@ -154,7 +154,7 @@ fn replay_file<T: Tree>(alloc: Global, tree: &mut T, file: Vec<u8>) -> Result<()
         (T.history tree.old) (T.history tree.new)) }
     // Once it has returned Ok, all actions are done, and no intent is read.
     ensures replayed { IfObservable (T.history tree.old) (λ v. files_of v intent_name
-        ≡ Some file.items → OnOk result (HoldsNow (T.history tree.new) (IsReplayed v))) }
+        ≡ Some file.items → OnOk result (HoldsNow (T.history tree.new) (IsIntentReplayed v))) }
     // From a durable tree with an intent: once it has returned Ok, each crash leaves the state that
     // recovery yields.
     ensures settled { IfObservable (T.history tree.old) (λ v. (ignored : List ℕ → Bool)
@@ -164,15 +164,17 @@ fn replay_file<T: Tree>(alloc: Global, tree: &mut T, file: Vec<u8>) -> Result<()
     // Staged files are only removed, and the intent is removed last.
     ensures journal { RemovesIntentLast (T.history tree.old) (T.history tree.new) }
     // Once it has returned Ok, no crash restores the intent.
-    ensures gone { OnOk result (IfObservable (T.history tree.new) (IsRestoredByNoCrash intent_name)) }
+    ensures gone { OnOk result (IfObservable (T.history tree.new)
+        (IsRestoredByNoCrash intent_name)) }
     // A refused file is no intent container, and nothing has changed.
     ensures bad { (cause : Cause) → IsErrOf result (RecoverFault.IntentBad cause)
         → (T.history tree.new ≡ T.history tree.old)
-        × (first_fault IntentTable file.items ≡ Some cause) }
+        × (container_fault_except_contents IntentTable file.items ≡ Some cause) }
     // Ok is returned only if the file is an intent container.
-    ensures good { OnOk result (first_fault IntentTable file.items ≡ None) }
+    ensures good { OnOk result (container_fault_except_contents IntentTable file.items ≡ None) }
     // If the file is no intent container, nothing changes.
-    ensures bad_idle { (cause : Cause) → first_fault IntentTable file.items ≡ Some cause
+    ensures bad_idle { (cause : Cause) → container_fault_except_contents IntentTable file.items
+        ≡ Some cause
         → T.history tree.new ≡ T.history tree.old }
     // How the tree's counts explain the result.
     ensures counts { IsRecoveryExplainedByCounts (T.counts tree.old) (T.counts tree.new) result }
@@ -204,13 +206,14 @@ fn empty_stage<T: Tree>(alloc: Global, tree: &mut T) -> Result<(), TreeFault>
     ensures waiting { IfObservable (T.history tree.old) (λ v.
         Since (JournalOnlyShrinks v) (T.history tree.old) (T.history tree.new)) }
     // No crash undoes a change of a name outside the journal, if none could at the start.
-    ensures last { IfObservable (T.history tree.old) (λ v. ShownNamesAreDurable v
-        → Since ShownNamesAreDurable (T.history tree.old) (T.history tree.new)) }
+    ensures last { IfObservable (T.history tree.old) (λ v. NamesOutsideJournalAreDurable v
+        → Since NamesOutsideJournalAreDurable (T.history tree.old) (T.history tree.new)) }
     // Once it has returned Ok, no file is staged, and no other name has changed.
     ensures emptied { IfObservable (T.history tree.old) (λ v.
         OnOk result (HoldsNow (T.history tree.new) (HasEmptiedStage v))) }
     // Once it has returned Ok, no crash restores an intent, if none could at the start.
-    ensures gone { IfObservable (T.history tree.old) (λ v. OnOk result (IsRestoredByNoCrash intent_name v
+    ensures gone { IfObservable (T.history tree.old) (λ v. OnOk result
+        (IsRestoredByNoCrash intent_name v
         → HoldsNow (T.history tree.new) (IsRestoredByNoCrash intent_name))) }
     // Without staged files nothing changes.
     ensures idle { IfObservable (T.history tree.old) (λ v. IsEmptyStage v.names
@@ -221,13 +224,13 @@ fn empty_stage<T: Tree>(alloc: Global, tree: &mut T) -> Result<(), TreeFault>
     ensures goes_on { CountsOnlyRise (T.counts tree.old) (T.counts tree.new) }
     // An I/O error is returned only if a fault was counted.
     ensures disk { IsErrOf result TreeFault.Disk
-        → HasCause (T.counts tree.old) (T.counts tree.new) }
+        → IsFaultCountedWithCause (T.counts tree.old) (T.counts tree.new) }
     // Ok is returned only if no fault was counted.
-    ensures kept { OnOk result (IsNoFault (T.counts tree.old) (T.counts tree.new)) }
+    ensures kept { OnOk result (CountsNoNewFault (T.counts tree.old) (T.counts tree.new)) }
     // If there is no memory, nothing has changed, and no fault was counted.
     ensures memory { IsErrOf result TreeFault.Memory
         → (T.history tree.new ≡ T.history tree.old)
-        × IsNoFault (T.counts tree.old) (T.counts tree.new) }
+        × CountsNoNewFault (T.counts tree.old) (T.counts tree.new) }
 
     // No call is a misuse.
     ensures proper { IfObservable (T.history tree.old) (λ v. (T.counts tree.new).misuses
@@ -245,7 +248,8 @@ fn empty_stage<T: Tree>(alloc: Global, tree: &mut T) -> Result<(), TreeFault>
 fn clear_all<T: Tree>(tree: &mut T, names: &Names) -> Result<(), Disk>
     // From a durable tree on, each moment is durable, and the state is unchanged.
     ensures moments { IfObservable (T.history tree.old) (λ v. (ignored : List ℕ → Bool)
-        → IsDurable (StateDependsOn ignored) v → v.names intent_name ≡ None → AreStagedNames names.now
+        → IsDurable (StateDependsOn ignored) v → v.names intent_name ≡ None
+        → AreStagedNames names.now
         → Since (StateIsUnchanged ignored v) (T.history tree.old) (T.history tree.new)) }
     // The names are removed, if all are in the staging area, and nothing else changes.
     ensures removal { RemovesStagedNames names.now
@@ -269,7 +273,8 @@ fn clear_all<T: Tree>(tree: &mut T, names: &Names) -> Result<(), Disk>
 fn remove_all<T: Tree>(tree: &mut T, names: &Names) -> Result<(), Disk>
     // From a durable tree on, each moment is durable, and the state is unchanged.
     ensures moments { IfObservable (T.history tree.old) (λ v. (ignored : List ℕ → Bool)
-        → IsDurable (StateDependsOn ignored) v → IsRestoredByNoCrash intent_name v → AreStagedNames names.now
+        → IsDurable (StateDependsOn ignored) v → IsRestoredByNoCrash intent_name v
+        → AreStagedNames names.now
         → Since (StateIsUnchanged ignored v) (T.history tree.old) (T.history tree.new)) }
     // The names are removed, if all are in the staging area, and nothing else changes.
     ensures removal { RemovesStagedNames names.now

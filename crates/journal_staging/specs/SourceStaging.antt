@@ -3,7 +3,7 @@
 -- contracts of these calls. The rules are in `docs/crash-safety.md`, "A change of several files" and
 -- "Misuses, faults and counts".
 use Rattle.std.specs.Prelude.{◌≡◌, ◌+◌, ◌++◌, ◌∷◌, [], ℕ, List, None, Result, IfErr, IsErrOf, OnOk}
-use Rattle.base_core.specs.Faults.{Counts, CountsOnlyRise, HasCause, IsNoFault}
+use Rattle.base_core.specs.Faults.{Counts, CountsOnlyRise, IsFaultCountedWithCause, CountsNoNewFault}
 use Rattle.base_core.specs.Files.{Files}
 use Rattle.base_core.specs.Tree.{TreeState, files_of}
 use Rattle.journal_commit.specs.StageRun.{IsStaging, IsStagingRun}
@@ -15,10 +15,10 @@ pub record IsFaultExplainedByCounts {T F : Type 0} (failed : F) (before now : Co
   -- no count falls
   pub goes_on : CountsOnlyRise before now
   -- a fault of the tree has its cause
-  pub disk : IsErrOf result failed → HasCause before now
+  pub disk : IsErrOf result failed → IsFaultCountedWithCause before now
   -- with any other result no fault was counted
-  pub kept : OnOk result (IsNoFault before now)
-  pub others : IfErr result (λ fault. (fault ≡ failed → ⊥) → IsNoFault before now)
+  pub kept : OnOk result (CountsNoNewFault before now)
+  pub others : IfErr result (λ fault. (fault ≡ failed → ⊥) → CountsNoNewFault before now)
 
 -- A call that stages the file of one write, and changes the stage to `next`. `Denotes` says which bytes
 -- its source denotes over some files. `first` is the tree's history when the staging began, `v` its newest

@@ -2,7 +2,7 @@
 //! are in `docs/crash-safety.md`, "A change of several files".
 ghost use Rattle.std.specs.Prelude.{◌≡◌, ◌<◌, ◌⊎◌, [], ℕ, false, List, None, length, IfErr, IsErrOf, OnErr, OnOk};
 ghost use Rattle.base_core.specs.Calls.{IfObservable};
-ghost use Rattle.base_core.specs.Faults.{CountsOnlyRise, HasCause, IsNoFault};
+ghost use Rattle.base_core.specs.Faults.{CountsOnlyRise, IsFaultCountedWithCause, CountsNoNewFault};
 ghost use Rattle.base_core.specs.Tree.{TreeState, files_of};
 ghost use Rattle.base_core.specs.declared.cause.Cause.{Cause};
 ghost use Rattle.journal_commit.specs.journal_core.Recovery.{files_after_actions, intent_name};
@@ -14,7 +14,7 @@ ghost use Rattle.journal_staging.specs.Sources.{EachMayDenote, EachDenotes};
 ghost use Rattle.journal_staging.specs.Spoiled.{HasSpoiledFile};
 ghost use Rattle.journal_staging.specs.declared.writes.StageFault.TheVariants.{Bad, Disk as DiskFault};
 ghost use Rattle.journal_commit.specs.Asked.{TargetsAreAccepted};
-ghost use Rattle.journal_commit.specs.StageRun.{IsStageRun, IsStageRunComplete, IsStaging, IsStagingRun};
+ghost use Rattle.journal_commit.specs.StageRun.{IsRunOfStagedChange, IsStagedChangeComplete, IsStaging, IsStagingRun};
 
 use crate::writes::{StageFault, StagedWrite, stage_write};
 use base_core::Tree;
@@ -88,7 +88,8 @@ pub fn carry_out<T: Tree>(
     ensures run { IfObservable (T.history tree.old) (λ v. (contents : List (List ℕ))
         → v.names intent_name ≡ None → IsEmptyStage (files_of v)
         → EachDenotes (files_of v) writes.now contents
-        → IsCarriedTo (files_after_actions stage.old.intent (files_with_staged 1 contents (files_of v)))
+        → IsCarriedTo (files_after_actions stage.old.intent (files_with_staged 1 contents
+        (files_of v)))
         v (T.history tree.old) (T.history tree.new) result) }
     // Whatever the tree returns: once it has returned Ok, the change is complete, with bytes that
     // the sources may denote. So the files of a package have the size and the digest that its value
@@ -96,7 +97,8 @@ pub fn carry_out<T: Tree>(
     ensures listed { IfObservable (T.history tree.old) (λ v.
         v.names intent_name ≡ None → IsEmptyStage (files_of v)
         → OnOk result ((contents : List (List ℕ)) × EachMayDenote writes.now contents
-        × IsStageRunComplete (files_after_actions stage.old.intent (files_with_staged 1 contents (files_of v)))
+        × IsStagedChangeComplete (files_after_actions stage.old.intent
+        (files_with_staged 1 contents (files_of v)))
         v (T.history tree.new))) }
     // If a package is bad, the change is not begun: only staged files have changed.
     ensures unpublished { IfObservable (T.history tree.old) (λ v.
@@ -109,7 +111,8 @@ pub fn carry_out<T: Tree>(
         v.names intent_name ≡ None → IsEmptyStage (files_of v)
         → OnErr result (IsStagingRun v (T.history tree.old) (T.history tree.new)
         ⊎ ((contents : List (List ℕ)) × EachMayDenote writes.now contents
-        × IsStageRun (files_after_actions stage.old.intent (files_with_staged 1 contents (files_of v)))
+        × IsRunOfStagedChange (files_after_actions stage.old.intent (files_with_staged 1 contents
+        (files_of v)))
         v (T.history tree.old) (T.history tree.new)))) }
     // All targets are asked for first: either nothing has happened, or the tree accepts each. Ok is
     // returned only if it accepts them.
@@ -126,16 +129,18 @@ pub fn carry_out<T: Tree>(
     // other result hides none.
     ensures goes_on { CountsOnlyRise (T.counts tree.old) (T.counts tree.new) }
     // An I/O error is returned only if a fault was counted.
-    ensures disk { IsErrOf result DiskFault → HasCause (T.counts tree.old) (T.counts tree.new) }
+    ensures disk { IsErrOf result DiskFault
+        → IsFaultCountedWithCause (T.counts tree.old) (T.counts tree.new) }
     // Ok is returned only if no fault was counted.
-    ensures kept { OnOk result (IsNoFault (T.counts tree.old) (T.counts tree.new)) }
+    ensures kept { OnOk result (CountsNoNewFault (T.counts tree.old) (T.counts tree.new)) }
     ensures others { IfErr result (λ fault. (fault ≡ DiskFault → ⊥)
-        → IsNoFault (T.counts tree.old) (T.counts tree.new)) }
+        → CountsNoNewFault (T.counts tree.old) (T.counts tree.new)) }
     // No call is a misuse if the paths of the stage are free, before and after the change.
     ensures proper { IfObservable (T.history tree.old) (λ v. (contents : List (List ℕ))
         → v.names intent_name ≡ None → IsEmptyStage (files_of v)
         → EachDenotes (files_of v) writes.now contents → AreJournalPathsFree (files_of v)
-        → AreJournalPathsFree (files_after_actions stage.old.intent (files_with_staged 1 contents (files_of v)))
+        → AreJournalPathsFree (files_after_actions stage.old.intent (files_with_staged 1 contents
+        (files_of v)))
         → (T.counts tree.new).misuses ≡ (T.counts tree.old).misuses) }
 {
     // Laws that the proof needs; they compute nothing.

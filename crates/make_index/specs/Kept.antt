@@ -4,7 +4,7 @@
 -- contracts of `src/entry.rt` and `src/source.rt`.
 use Rattle.std.specs.Prelude.{◌≡◌, ℕ, List, true, IsTrue, is_none, Option, Some, Result, Ok, Err}
 use Rattle.base_core.specs.declared.cause.Cause.{Cause}
-use Rattle.adb_view.specs.Head.{head_fault, root_of}
+use Rattle.adb_view.specs.Head.{payload_head_fault, root_word_of_payload}
 use Rattle.adb_view.specs.Plain.{Plain}
 use Rattle.pkg_core.specs.adb_schema.Soundness.{root_value}
 use Rattle.adb_view.specs.FieldIndexes.{INFO_FILE_SIZE, INFO_HASHES}
@@ -34,8 +34,8 @@ entry_of_source (File own) = entry_of_package own.file.items
 
 -- the payload can be read, and its root is this entry
 pub record HoldsEntry (payload : List ℕ) (entry : Plain) : Type 0 where
-  pub head : is_none (head_fault payload) ≡ true
-  pub sound : is_sound payload (Obj PkgInfo) (root_of payload) ≡ true
+  pub head : is_none (payload_head_fault payload) ≡ true
+  pub sound : is_sound payload (Obj PkgInfo) (root_word_of_payload payload) ≡ true
   pub value : copy_of_entry (root_value PkgInfo payload) ≡ entry
 
 -- the name, the version and the id, by which entries are ordered, are those of this entry; and the
@@ -59,12 +59,12 @@ AgreesUnlessMemory view (Err fault) wanted = wanted ≡ Err fault
 
 -- a result, whose value is mapped by `view`, equals the specified one. If it is out of memory or an
 -- I/O error of the tree, nothing is required
-abbrev pub AgreesUnlessStopped :
+abbrev pub AgreesUnlessMemoryOrDisk :
     {A B : Type 0} → (A → B) → Result A MakeFault → Result B MakeFault → Type 0
-AgreesUnlessStopped view (Ok x) wanted = wanted ≡ Ok (view x)
-AgreesUnlessStopped view (Err Memory) wanted = Unit {0}
-AgreesUnlessStopped view (Err Disk) wanted = Unit {0}
-AgreesUnlessStopped view (Err fault) wanted = wanted ≡ Err fault
+AgreesUnlessMemoryOrDisk view (Ok x) wanted = wanted ≡ Ok (view x)
+AgreesUnlessMemoryOrDisk view (Err Memory) wanted = Unit {0}
+AgreesUnlessMemoryOrDisk view (Err Disk) wanted = Unit {0}
+AgreesUnlessMemoryOrDisk view (Err fault) wanted = wanted ≡ Err fault
 
 -- a package that the operand at this place names is refused for the first of its tests that fails
 abbrev pub IsRefusedAt : ℕ → MakeFault → Option Cause → Type 0

@@ -60,8 +60,8 @@ abbrev pub SaysNumber : List ℕ → List FieldValue → Type 0
 SaysNumber value said = (n : ℕ) × SpellsNumber value n × (said ≡ number n ∷ [])
 
 -- a value of a field of dependencies has as its meaning one dependency for each part between spaces
-abbrev pub SaysNeeds : List ℕ → List FieldValue → Type 0
-SaysNeeds value said = SpellDependencies (spaced_parts value) said
+abbrev pub SaysDependencies : List ℕ → List FieldValue → Type 0
+SaysDependencies value said = SpellDependencies (spaced_parts value) said
 
 -- the text `value` is valid for the field, and its meaning is the list `said`
 abbrev pub FieldTextGivesValues : Field → List ℕ → List FieldValue → Type 0
@@ -78,11 +78,11 @@ FieldTextGivesValues Fields.RepoCommit value said =
 FieldTextGivesValues Fields.BuildTime value said = SaysNumber value said
 FieldTextGivesValues Fields.ProviderPriority value said = SaysNumber value said
 FieldTextGivesValues Fields.ReplacesPriority value said = SaysNumber value said
-FieldTextGivesValues Fields.Depends value said = SaysNeeds value said
-FieldTextGivesValues Fields.Provides value said = SaysNeeds value said
-FieldTextGivesValues Fields.Replaces value said = SaysNeeds value said
-FieldTextGivesValues Fields.InstallIf value said = SaysNeeds value said
-FieldTextGivesValues Fields.Recommends value said = SaysNeeds value said
+FieldTextGivesValues Fields.Depends value said = SaysDependencies value said
+FieldTextGivesValues Fields.Provides value said = SaysDependencies value said
+FieldTextGivesValues Fields.Replaces value said = SaysDependencies value said
+FieldTextGivesValues Fields.InstallIf value said = SaysDependencies value said
+FieldTextGivesValues Fields.Recommends value said = SaysDependencies value said
 FieldTextGivesValues Fields.Tags value said = said ≡ map text (spaced_parts value)
 
 -- ---- a value of `-I` among others

@@ -29,7 +29,8 @@ abbrev pub OptionsGiveFieldValues : Field → List OptionValue → List FieldVal
 OptionsGiveFieldValues f [] said = said ≡ []
 OptionsGiveFieldValues f (option ∷ options) said =
     (here : List FieldValue) × (further : List FieldValue)
-    × OptionGivesFieldValues f option here × OptionsGiveFieldValues f options further × (said ≡ here ++ further)
+    × OptionGivesFieldValues f option here × OptionsGiveFieldValues f options further
+    × (said ≡ here ++ further)
 
 -- the entries of the plain value are the values of the list, in this order
 abbrev pub HasAllValues : List FieldValue → Plain → Type 0

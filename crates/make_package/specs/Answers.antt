@@ -16,7 +16,7 @@ use Rattle.package_files.specs.make_info.declared.fault.MakeFault.{MakeFault}
 use Rattle.package_files.specs.make_info.declared.fault.MakeFault.TheVariants.{Disk, Memory}
 use Rattle.make_package.specs.Making.{made_package}
 use Rattle.package_files.specs.Runs.{IsExplainedBySomeReads}
-use Rattle.package_files.specs.Sources.{AreNamesBelowFirst, values_of_letter}
+use Rattle.package_files.specs.Sources.{AreNamesBelowFirstFolder, values_of_letter}
 
 -- ---- parts of a run
 
@@ -62,8 +62,9 @@ UnlessDiskOrMemory fault P = P (Err fault)
 pub record IsMadeOf (history : List TreeState) (command : CommandLine)
     (made : Result (List ℕ) MakeFault) : Type 0 where
   pub names : List (List ℕ)
-  pub named : AreNamesBelowFirst (values_of_letter FILES command.values) names
-  pub below : IfObservable history (λ v. AreNamesBelowFirstOption (values_of_letter FILES command.values) v names)
+  pub named : AreNamesBelowFirstFolder (values_of_letter FILES command.values) names
+  pub below : IfObservable history
+      (λ v. AreNamesBelowFirstOption (values_of_letter FILES command.values) v names)
   pub reads : IsExplainedBySomeReads history (λ read. made_package command names read ≡ made)
 
 -- the result of a run is what is made; an I/O error of the tree and out of memory may occur in any case
@@ -79,8 +80,8 @@ pub record IsMadeFromTree (command : CommandLine) (v : TreeState) (made : Result
   pub is : made_package command names (λ n name. files_of v name) ≡ made
 
 -- `made` is made from a command, some names below its folder and some reads
-pub record IsMadeBySome (command : CommandLine) (made : Result (List ℕ) MakeFault) : Type 0 where
+pub record IsMadeBySomeReads (command : CommandLine) (made : Result (List ℕ) MakeFault) : Type 0 where
   pub names : List (List ℕ)
-  pub named : AreNamesBelowFirst (values_of_letter FILES command.values) names
+  pub named : AreNamesBelowFirstFolder (values_of_letter FILES command.values) names
   pub read : Reads
   pub is : made_package command names read ≡ made

@@ -67,12 +67,12 @@ does_recover Makes = true
 does_recover Changes = true
 
 -- the name of the file that `mkpkg` or `mkndx` makes, if its arguments give one; None for other commands
-abbrev pub output_for_effect : Effect → CommandLine → Option (List ℕ)
-output_for_effect Computes command = None
-output_for_effect OnlyReadsFiles command = None
-output_for_effect AsksRoot command = None
-output_for_effect Makes command = output_name command
-output_for_effect Changes command = None
+abbrev pub output_name_for_effect : Effect → CommandLine → Option (List ℕ)
+output_name_for_effect Computes command = None
+output_name_for_effect OnlyReadsFiles command = None
+output_name_for_effect AsksRoot command = None
+output_name_for_effect Makes command = output_name command
+output_name_for_effect Changes command = None
 
 -- ---- of a command line; a usage error reads and changes nothing
 
@@ -92,10 +92,10 @@ reads_only (Ok command) = does_only_read (effect_of command.applet)
 reads_only (Err place) = true
 
 -- the name of the file that a command line makes, if it makes one
-abbrev pub output_of_arguments : Result CommandLine ℕ → Option (List ℕ)
-output_of_arguments (Ok command) = output_for_effect (effect_of command.applet) command
-output_of_arguments (Err place) = None
+abbrev pub output_name_of_arguments : Result CommandLine ℕ → Option (List ℕ)
+output_name_of_arguments (Ok command) = output_name_for_effect (effect_of command.applet) command
+output_name_of_arguments (Err place) = None
 
 -- the name of the file that a command line makes, if it makes one, given its arguments unparsed
 abbrev pub output : List (List ℕ) → Option (List ℕ)
-output words = output_of_arguments (command_of words)
+output words = output_name_of_arguments (command_of words)

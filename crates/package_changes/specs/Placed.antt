@@ -7,7 +7,7 @@ use Rattle.change_files.specs.db_core.Packages.{is_package_named}
 use Rattle.solve_core.specs.candidate_core.Candidates.{Candidate}
 use Rattle.solve_core.specs.candidate_core.Rank.{SealedPool, candidate_at, candidate_at_passes}
 use Rattle.report_core.specs.Reports.{Change}
-use Rattle.package_changes.specs.Changes.{Replacement, change_between, is_selected_named, names_before_and_selected}
+use Rattle.package_changes.specs.Changes.{Replacement, change_between, is_candidate_named, names_before_and_selected}
 
 -- a replacement, by places: the packages before, the candidates, the places of the selected ones among
 -- them, and the names that are to be installed again
@@ -28,7 +28,7 @@ replacement_of p =
 
 -- the place among the candidates of the selected one with this name, if one has it
 abbrev pub selected_place : SealedPool → List ℕ → List ℕ → Option ℕ
-selected_place pool trace name = find (candidate_at_passes pool (is_selected_named name)) trace
+selected_place pool trace name = find (candidate_at_passes pool (is_candidate_named name)) trace
 
 -- the change of a package (`change`); its place among the packages before, counted from 0, if it was
 -- there (`old`); and the place of its candidate, if one is selected (`new`)

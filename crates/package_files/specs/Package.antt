@@ -5,7 +5,7 @@
 use Rattle.std.specs.Prelude.{ℕ, ◌+◌, ◌*◌, ◌^◌, ◌==◌, nat_lt, Bool, not, ◌&&◌, if◌then◌else◌, List, [], ◌∷◌, ◌++◌, length, take, drop, map, codes, bytes_eq, sum_by, Option}
 use Rattle.std.specs.Str.{is_utf8}
 use Rattle.sha2.specs.Sha256.{sha256}
-use Rattle.adb_view.specs.Plain.{Plain, Plains, null, int, none, more, blob_or_null, arr_value, obj_value}
+use Rattle.adb_view.specs.Plain.{Plain, Plains, null, int, none, more, blob_or_null, array_or_null, trimmed_object_or_null}
 use Rattle.adb_sound.specs.pkg_core.Contents.{Contents}
 use Rattle.command_core.specs.Values.{script_types}
 use Rattle.make_info.specs.Values.{number_value, plains_of_list, size_value}
@@ -68,7 +68,7 @@ target_of_kind (Regular size hash) = []
 -- the access list that `mkpkg` gives: this mode, and `root` as user and group
 abbrev pub access_value : ℕ → Plain
 access_value mode =
-    obj_value
+    trimmed_object_or_null
     (more (int mode) (more (blob_or_null (codes "root")) (more (blob_or_null (codes "root")) none)))
 
 -- the mode that `mkpkg` gives a file: octal 644, by its digits (all may read, and root may write);
@@ -90,7 +90,7 @@ file_fields name kind =
 
 -- the entry of a file, given its name and its kind
 abbrev pub value_of_kind : List ℕ → FileKind → Plain
-value_of_kind name kind = obj_value (file_fields name kind)
+value_of_kind name kind = trimmed_object_or_null (file_fields name kind)
 
 -- the entry of a file, given its bytes
 abbrev pub value_of_file : Source → Plain
@@ -100,11 +100,11 @@ value_of_file file = value_of_kind file.name (kind_of_file file.bytes)
 abbrev pub folder_fields : List ℕ → List Plain → Plains
 folder_fields name files =
     more (blob_or_null name) (more (access_value FOLDER_MODE)
-    (more (arr_value (plains_of_list files)) none))
+    (more (array_or_null (plains_of_list files)) none))
 
 -- the entry of a folder, with the entries of its files
 abbrev pub folder_with : List ℕ → List Plain → Plain
-folder_with name files = obj_value (folder_fields name files)
+folder_with name files = trimmed_object_or_null (folder_fields name files)
 
 -- the entry of a folder, by the bytes of its files
 abbrev pub value_of_folder : SourceFolder → Plain
@@ -122,32 +122,33 @@ installed_size folders = sum_by size_of_folder folders
 -- ---- scripts
 
 -- the bytes of the script of the type `field`; empty if there is none
-abbrev pub script_in : List Script → List ℕ → List ℕ
-script_in [] field = []
-script_in (script ∷ scripts) field =
-    if bytes_eq script.field field then script.bytes else script_in scripts field
+abbrev pub script_bytes_of_field : List Script → List ℕ → List ℕ
+script_bytes_of_field [] field = []
+script_bytes_of_field (script ∷ scripts) field =
+    if bytes_eq script.field field then script.bytes else script_bytes_of_field scripts field
 
 -- the fields of a package's scripts, in the order of their table; a type without script is Null
 abbrev pub script_fields : List Script → Plains
 script_fields scripts =
-    plains_of_list (map (λ field. blob_or_null (script_in scripts field)) script_types)
+    plains_of_list (map (λ field. blob_or_null (script_bytes_of_field scripts field)) script_types)
 
 -- the scripts of a package as an object; Null if the package has no script at all
 abbrev pub value_of_scripts : List Script → Plain
-value_of_scripts scripts = obj_value (script_fields scripts)
+value_of_scripts scripts = trimmed_object_or_null (script_fields scripts)
 
 -- ---- the package
 
 -- the fields of a package: information, paths, scripts, triggers and the optional priority in replacing
 abbrev pub package_fields : Plain → List Plain → List Script → List (List ℕ) → Option ℕ → Plains
 package_fields info paths scripts triggers priority =
-    more info (more (arr_value (plains_of_list paths)) (more (value_of_scripts scripts)
-    (more (arr_value (plains_of_list (map blob_or_null triggers))) (more (number_value priority) none))))
+    more info (more (array_or_null (plains_of_list paths)) (more (value_of_scripts scripts)
+    (more (array_or_null (plains_of_list (map blob_or_null triggers)))
+    (more (number_value priority) none))))
 
 -- the value of a package, by its parts
 abbrev pub package_with : Plain → List Plain → List Script → List (List ℕ) → Option ℕ → Plain
 package_with info paths scripts triggers priority =
-    obj_value (package_fields info paths scripts triggers priority)
+    trimmed_object_or_null (package_fields info paths scripts triggers priority)
 
 -- the value of a package, given what was read
 abbrev pub value_of_package :

@@ -21,12 +21,12 @@ found_bytes_or_missing place (Some bytes) = Ok bytes
 
 -- the results of `of` for the elements of a list, or the first error. `of` gets the number of the
 -- first read of its element, and `count` says how many reads the element needs
-abbrev pub each_from :
+abbrev pub results_from_read :
     {X Y : Type 0} → (X → ℕ) → (ℕ → X → Result Y MakeFault) → ℕ → List X → Result (List Y) MakeFault
-each_from count of n [] = Ok []
-each_from count of n (x ∷ xs) =
+results_from_read count of n [] = Ok []
+results_from_read count of n (x ∷ xs) =
     and_then (of n x)
-    (λ y. and_then (each_from count of (n + count x) xs) (λ ys. Ok (y ∷ ys)))
+    (λ y. and_then (results_from_read count of (n + count x) xs) (λ ys. Ok (y ∷ ys)))
 
 -- ---- the values of options
 
@@ -39,9 +39,9 @@ abbrev pub texts_of : List OptionValue → List (List ℕ)
 texts_of values = map (λ (v : OptionValue). v.text) values
 
 -- the names are names below the folder that the first of some values gives, if there is one
-abbrev pub AreNamesBelowFirst : List OptionValue → List (List ℕ) → Type 0
-AreNamesBelowFirst [] names = Unit {0}
-AreNamesBelowFirst (folder ∷ others) names = AreNamesBelow (without_dot_slash folder.text) names
+abbrev pub AreNamesBelowFirstFolder : List OptionValue → List (List ℕ) → Type 0
+AreNamesBelowFirstFolder [] names = Unit {0}
+AreNamesBelowFirstFolder (folder ∷ others) names = AreNamesBelow (without_dot_slash folder.text) names
 
 -- ---- scripts
 
@@ -58,7 +58,7 @@ script_at read n v =
 -- the scripts of some values of `-s`, from the read of number `n` on, or the fault of the first
 -- whose file is absent
 abbrev pub scripts_from : Reads → ℕ → List OptionValue → Result (List Script) MakeFault
-scripts_from read n values = each_from (λ v. 1) (script_at read) n values
+scripts_from read n values = results_from_read (λ v. 1) (script_at read) n values
 
 -- ---- files
 
@@ -75,7 +75,7 @@ source_file_read_at place read n name =
 -- the source files under these names in the tree, by one read each; if one is absent, the argument
 -- `-F` at `place` is reported
 abbrev pub sources_from : ℕ → Reads → ℕ → List (List ℕ) → Result (List Source) MakeFault
-sources_from place read n names = each_from (λ name. 1) (source_file_read_at place read) n names
+sources_from place read n names = results_from_read (λ name. 1) (source_file_read_at place read) n names
 
 -- the source folder with all its files; the read of the first file has the number `n`
 abbrev pub source_folder_read_at : ℕ → Reads → ℕ → FolderListing → Result SourceFolder MakeFault
@@ -87,7 +87,8 @@ source_folder_read_at place read n folder =
 abbrev pub source_folders_from :
     ℕ → Reads → ℕ → List FolderListing → Result (List SourceFolder) MakeFault
 source_folders_from place read n folders =
-    each_from (λ (folder : FolderListing). length folder.files) (source_folder_read_at place read) n folders
+    results_from_read (λ (folder : FolderListing). length folder.files)
+    (source_folder_read_at place read) n folders
 
 -- the folders of a package, given the names that are listed below the folder of the first value of
 -- `-F`; no folders if it is not given

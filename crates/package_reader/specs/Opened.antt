@@ -4,7 +4,7 @@
 use Rattle.std.specs.Prelude.{◌≡◌, ℕ, ◌+◌, ◌-◌, nat_lt, if◌then◌else◌, true, false, List, [], ◌++◌, length, take, drop, Option, Some, None, Result, Ok, Err}
 use Rattle.base_core.specs.declared.cause.Cause.{Cause}
 use Rattle.base_core.specs.declared.cause.Cause.TheVariants.{DataOrder, DataSize}
-use Rattle.pkg_core.specs.Contents.{Expected, hash_fault}
+use Rattle.pkg_core.specs.Contents.{ExpectedFile, hash_fault}
 use Rattle.pkg_core.specs.Opened.{expected_of}
 use Rattle.pkg_core.specs.Pieces.{PiecesRead, part_of, piece, refusal}
 use Rattle.pkg_core.specs.Taking.{HasTaken, file_bytes_left, pieces_in}
@@ -90,7 +90,7 @@ open_file_end (Some o) = o.at + file_bytes_left o.file
 
 -- why an expected file cannot be at an offset of a package of this length: no offset is given, which is
 -- reported with (0, 0), or fewer bytes are left than its size; None if it can
-abbrev pub place_fault : Option Expected → Option ℕ → ℕ → Option Cause
+abbrev pub place_fault : Option ExpectedFile → Option ℕ → ℕ → Option Cause
 place_fault None at len = None
 place_fault (Some e) None len = Some (DataOrder (e.folder, e.file) (0, 0))
 place_fault (Some e) (Some at) len =

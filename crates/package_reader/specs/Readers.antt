@@ -3,7 +3,7 @@
 -- paragraph above it. Serves the contracts of `PieceReader`.
 use Rattle.std.specs.Prelude.{◌≡◌, ℕ, ◌+◌, ◌-◌, if◌then◌else◌, List, [], ◌∷◌, is_none, Option, Some, None, IfSome, Result, Ok, Err}
 use Rattle.base_core.specs.declared.cause.Cause.{Cause}
-use Rattle.pkg_core.specs.Contents.{Expected}
+use Rattle.pkg_core.specs.Contents.{ExpectedFile}
 use Rattle.pkg_core.specs.Opened.{expected_of, files_left_in_walk}
 use Rattle.pkg_core.specs.declared.walk.Walk.{Walk}
 use Rattle.pkg_core.specs.Pieces.{PiecesRead, no_piece, part_of, piece, refusal}
@@ -39,19 +39,19 @@ abbrev pub offset_of : PieceReader → ℕ
 offset_of reader = next_read_offset reader.place reader.opened
 
 -- the files whose last piece is still to be read: the open file, and those that the walk has left
-abbrev pub files_to_read_in : BlockPlace → Option OpenFile → List Expected
+abbrev pub files_to_read_in : BlockPlace → Option OpenFile → List ExpectedFile
 files_to_read_in place None = files_left_in_walk place.walk
 files_to_read_in place (Some o) = expected_of o.file.wanted ∷ files_left_in_walk place.walk
 
 -- the files whose last piece is still to be read by a reader in this state: none after the last block,
 -- or after a failed test
-abbrev pub files_to_read_in_state : Due → BlockPlace → Option OpenFile → List Expected
+abbrev pub files_to_read_in_state : Due → BlockPlace → Option OpenFile → List ExpectedFile
 files_to_read_in_state Files place opened = files_to_read_in place opened
 files_to_read_in_state Nothing place opened = []
 files_to_read_in_state (Refused c) place opened = []
 
 -- the files of a reader whose last piece is still to be read
-abbrev pub files_to_read : PieceReader → List Expected
+abbrev pub files_to_read : PieceReader → List ExpectedFile
 files_to_read reader = files_to_read_in_state reader.due reader.place reader.opened
 
 -- a reader can continue: no test failed, and the last block was not passed
@@ -95,12 +95,12 @@ ReturnsNextPiece AreUnreadBytes before bytes (Err (Bad c)) = (before ≡ refusal
 ReturnsNextPiece AreUnreadBytes before bytes (Err Disk) = Unit {0}
 
 -- the piece is one of the first expected file, which is expected until its last piece was read
-pub record IsOfFirstExpected (before : List Expected) (part : Part)
-    (after : List Expected) : Type 0 where
+pub record IsOfFirstExpected (before : List ExpectedFile) (part : Part)
+    (after : List ExpectedFile) : Type 0 where
   -- the first expected file
-  pub first : Expected
+  pub first : ExpectedFile
   -- the other expected files
-  pub others : List Expected
+  pub others : List ExpectedFile
   -- these were expected before
   pub due : before ≡ first ∷ others
   -- the piece is a part of the first one
@@ -110,7 +110,7 @@ pub record IsOfFirstExpected (before : List Expected) (part : Part)
 
 -- the expected files before and after a call: the pieces are in the order of the files, and at the end
 -- no file is expected
-abbrev pub IsReturnedInOrder : List Expected → Option Part → List Expected → Type 0
+abbrev pub IsReturnedInOrder : List ExpectedFile → Option Part → List ExpectedFile → Type 0
 IsReturnedInOrder before None after = before ≡ []
 IsReturnedInOrder before (Some part) after = IsOfFirstExpected before part after
 
@@ -203,7 +203,7 @@ IsPieceRead new pkg before bytes (Err Disk) = Unit {0}
 
 -- the expected files before a file was opened: this file, and those that the walk has left; none if
 -- none was opened
-abbrev pub OpensFirstOrNoneExpected : List Expected → Option OpenFile → BlockPlace → Type 0
+abbrev pub OpensFirstOrNoneExpected : List ExpectedFile → Option OpenFile → BlockPlace → Type 0
 OpensFirstOrNoneExpected before None place = before ≡ []
 OpensFirstOrNoneExpected before (Some o) place =
     before ≡ expected_of o.file.wanted ∷ files_left_in_walk place.walk

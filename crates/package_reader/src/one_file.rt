@@ -37,7 +37,7 @@ impl<'a> FilePieces<'a> {
     ghost use Rattle.std.specs.Prelude.{◌≡◌, ◌<◌, [], ℕ, List, None, Some, length, IfErr, IfOk, IfSome, Err};
     ghost use Rattle.base_core.specs.Calls.{IfObservable};
     ghost use Rattle.base_core.specs.Tree.{files_of};
-    ghost use Rattle.pkg_core.specs.Contents.{Expected, expected_contents, hash_fault};
+    ghost use Rattle.pkg_core.specs.Contents.{ExpectedFile, expected_files_of_package, hash_fault};
     ghost use Rattle.pkg_core.specs.Opened.{expected_file_at, expected_of};
     ghost use Rattle.pkg_core.specs.Seen.{HasBytesAtOffset, ReadsFile};
     ghost use Rattle.pkg_core.specs.Values.{value_of_contents};
@@ -60,16 +60,17 @@ impl<'a> FilePieces<'a> {
         ensures len { package_len_of_file result ≡ len }
         // The size and the digest that are compared are those that the values list for the file.
         ensures due { expected_file_of result ≡ expected_file_at folder file
-            (expected_contents (value_of_contents contents.entry)) }
+            (expected_files_of_package (value_of_contents contents.entry)) }
         // No bytes were returned yet.
         ensures begun { HaveBeenReturned result [] }
         // If the file cannot be at this offset of the package, this is remembered as its fault.
         ensures fault { remembered_fault result ≡ place_fault (expected_file_of result) at len }
         // If the package has there bytes of the expected size and digest, they are to be read.
-        ensures reading { (pkg bytes : List ℕ) (e : Expected) (start : ℕ) → length pkg ≡ len
+        ensures reading { (pkg bytes : List ℕ) (e : ExpectedFile) (start : ℕ) → length pkg ≡ len
             → at ≡ Some start → expected_file_at folder file
-            (expected_contents (value_of_contents contents.entry)) ≡ Some e
-            → HasBytesAtOffset pkg start bytes → length bytes ≡ e.size → hash_fault e.hash bytes ≡ None
+            (expected_files_of_package (value_of_contents contents.entry)) ≡ Some e
+            → HasBytesAtOffset pkg start bytes → length bytes ≡ e.size → hash_fault e.hash bytes
+            ≡ None
             → HasUnreadBytes result pkg bytes }
         // If the package lists no contents for the file, no bytes are to be read.
         ensures empty { (pkg : List ℕ) → expected_file_of result ≡ None

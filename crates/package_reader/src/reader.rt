@@ -5,7 +5,7 @@ ghost use Rattle.std.specs.Option.{ForSome};
 ghost use Rattle.std.specs.Prelude.{◌≤◌, ◌≡◌, List};
 ghost use Rattle.package_reader.specs.Opened.{open_file_end};
 ghost use Rattle.adb_block.specs.Reading.{Reading};
-ghost use Rattle.pkg_core.specs.Contents.{Expected, contents_fault};
+ghost use Rattle.pkg_core.specs.Contents.{ExpectedFile, contents_fault};
 ghost use Rattle.pkg_core.specs.Pieces.{pieces_read_from_blocks, refusal_of_pieces};
 
 use crate::block::next_file;
@@ -50,7 +50,7 @@ pub struct PieceReader<'a> {
 impl<'a> PieceReader<'a> {
     ghost use Rattle.std.specs.Prelude.{◌≡◌, ◌≤◌, ◌+◌, ℕ, List, None, false, is_none, length, IfErr, IfOk, IfSome};
     ghost use Rattle.adb_block.specs.Reading.{block_stream_from};
-    ghost use Rattle.pkg_core.specs.Contents.{expected_contents};
+    ghost use Rattle.pkg_core.specs.Contents.{expected_files_of_package};
     ghost use Rattle.pkg_core.specs.Opened.{files_left_in_walk};
     ghost use Rattle.pkg_core.specs.Pieces.{PiecesRead, pieces_read_from_blocks};
     ghost use Rattle.pkg_core.specs.Taking.{file_bytes_left};
@@ -70,11 +70,12 @@ impl<'a> PieceReader<'a> {
         ensures offset { offset_of result ≡ front_end front.now }
         // Each file with contents is still to be read.
         ensures files { files_to_read result
-            ≡ expected_contents (value_of_contents contents.entry.now) }
+            ≡ expected_files_of_package (value_of_contents contents.entry.now) }
         ensures start { IsBetweenFiles result }
         // The pieces to read are those of the blocks after the front.
         ensures pieces { (pkg : List ℕ) → IsReading result pkg
-            (pieces_read_from_blocks (expected_contents (value_of_contents contents.entry.now))
+            (pieces_read_from_blocks (expected_files_of_package
+            (value_of_contents contents.entry.now))
             (block_stream_from (position_after_front front.now pkg))) }
     {
         let place = BlockPlace {
@@ -291,7 +292,8 @@ impl<'a> PieceReader<'a> {
             → IsFileOpened self.old pkg before result self.new) }
         // The file is the first expected one; without a file none is expected.
         ensures opens { IfOk result (λ found.
-            OpensFirstOrNoneExpected (files_to_read_in self.old.place self.old.opened) found self.new.place) }
+            OpensFirstOrNoneExpected
+            (files_to_read_in self.old.place self.old.opened) found self.new.place) }
         // The file ends no later than the next block begins.
         ensures room { IfOk result (λ found. IfSome found (λ file.
             file.at + file_bytes_left file.file ≤ self.new.place.at)) }
@@ -324,6 +326,6 @@ impl<'a> PieceReader<'a> {
 /// The first failed test of the pieces is that of the blocks: the one for which `verify` of
 /// `pkg_core` refuses the package in memory.
 pub fn the_pieces_are_refused_for_the_first_fault_of_the_blocks()
-    ensures { (expected : List Expected) (r : Reading)
+    ensures { (expected : List ExpectedFile) (r : Reading)
         → refusal_of_pieces (pieces_read_from_blocks expected r) ≡ contents_fault expected r }
 {}

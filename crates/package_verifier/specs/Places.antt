@@ -6,7 +6,7 @@ use Rattle.package_reader.specs.adb_schema.Soundness.{payload_fault}
 use Rattle.adb_view.specs.declared.tables.Which.TheVariants.{Package}
 use Rattle.package_reader.specs.pkg_core.declared.file.Part.{Part}
 use Rattle.package_reader.specs.pkg_core.Contents.{Contents, FilesRead, contents_in, fault_of_files_read}
-use Rattle.package_reader.specs.pkg_core.Whole.{files_in_file, package_fault}
+use Rattle.package_reader.specs.pkg_core.Whole.{files_read_from_package, package_fault}
 use Rattle.package_reader.specs.pkg_core.Front.{front_payload}
 use Rattle.package_reader.specs.pkg_core.Seen.{HasBytesAtOffset}
 use Rattle.package_reader.specs.pkg_core.declared.front.Front.{Front}
@@ -47,7 +47,7 @@ AreFilesTested files pkg (Bad c) = fault_of_files_read files ≡ Some c
 -- place, or the first failed test
 abbrev pub IsWholeTested : List ℕ → FilesTest → Type 0
 IsWholeTested pkg (Sound places) =
-    (package_fault pkg ≡ None) × AreAtPlaces pkg places.items (contents_in (files_in_file pkg))
+    (package_fault pkg ≡ None) × AreAtPlaces pkg places.items (contents_in (files_read_from_package pkg))
 IsWholeTested pkg (Bad c) = package_fault pkg ≡ Some c
 
 -- if no test failed, no test of the values in the payload of the front fails

@@ -6,7 +6,7 @@ use Rattle.adb_view.specs.Plain.{Plain}
 use Rattle.package_reader.specs.adb_schema.Soundness.{payload_in, root_value}
 use Rattle.adb_view.specs.declared.tables.Which.TheVariants.{Package}
 use Rattle.package_reader.specs.pkg_core.Contents.{contents_in}
-use Rattle.package_reader.specs.pkg_core.Whole.{files_in_file, package_fault, package_id}
+use Rattle.package_reader.specs.pkg_core.Whole.{files_read_from_package, package_fault, package_id}
 use Rattle.package_reader.specs.pkg_core.Front.{front_file_len, front_payload}
 use Rattle.package_verifier.specs.Places.{AreAtPlaces}
 use Rattle.package_verifier.specs.declared.package.TestedPackage.{TestedPackage}
@@ -52,7 +52,7 @@ pub record IsTestedOf (name file : List ℕ) (pkg : TestedPackage) : Type 0 wher
   -- it has the bytes of the value of the file
   pub payload : tested_payload pkg ≡ payload_in file
   -- it has the place of the contents of each file
-  pub places : AreAtPlaces file pkg.places.items (contents_in (files_in_file file))
+  pub places : AreAtPlaces file pkg.places.items (contents_in (files_read_from_package file))
 
 -- the result of `read_package` for a file under this name, or for none
 abbrev pub IsPackageReadResult : List ℕ → Option (List ℕ) → PackageRead → Type 0

@@ -7,4 +7,5 @@ use Rattle.std.specs.Prelude.{ℕ, Bool, if◌then◌else◌, List, [], ◌∷�
 -- each member that the current one does not beat replaces it
 abbrev pub last_unbeaten_member : (ℕ → ℕ → Bool) → ℕ → List ℕ → ℕ
 last_unbeaten_member beats c [] = c
-last_unbeaten_member beats c (y ∷ ys) = if beats c y then last_unbeaten_member beats c ys else last_unbeaten_member beats y ys
+last_unbeaten_member beats c (y ∷ ys) =
+    if beats c y then last_unbeaten_member beats c ys else last_unbeaten_member beats y ys

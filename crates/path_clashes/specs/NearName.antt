@@ -4,7 +4,7 @@
 use Rattle.std.specs.Prelude.{◌≡◌, ◌⊎◌, ◌≤◌, ℕ, Bool, true, false, not, ◌&&◌, if◌then◌else◌, List, [], Option, Some, None, IfSome, bytes_eq, is_some, length}
 use Rattle.base_core.specs.Files.{Files, IsFolderOf, no_names}
 use Rattle.base_core.specs.ByteOrder.{precedes}
-use Rattle.path_clashes.specs.Clash.{IsClash, NameChange, NamePair, is_name_after, precedes_pair}
+use Rattle.path_clashes.specs.Clash.{IsClash, NameChange, NamePair, is_present_after_change, precedes_pair}
 
 -- whether a file is under the name and is kept
 abbrev pub is_name_present : (List ℕ → Bool) → Files → List ℕ → Bool
@@ -29,18 +29,18 @@ pub record IsShortestFolder (change : NameChange) (files : Files) (name : List �
   -- the folder has at least `len` bytes
   pub long : len ≤ length folder
   -- the folder's name is present after the change
-  pub after : is_name_after change files folder ≡ true
+  pub after : is_present_after_change change files folder ≡ true
   -- no such folder is shorter
   pub shortest : (other : List ℕ) → IsFolderOf other name → len ≤ length other
-      → is_name_after change files other ≡ true → length folder ≤ length other
+      → is_present_after_change change files other ≡ true → length folder ≤ length other
 
 -- the result of a search for the shortest folder above the name that is present after the change
 -- and has at least `len` bytes; None means that there is none
-abbrev pub IsFolderFound : NameChange → Files → List ℕ → ℕ → Option (List ℕ) → Type 0
-IsFolderFound change files name len None =
+abbrev pub IsShortestFolderOrNone : NameChange → Files → List ℕ → ℕ → Option (List ℕ) → Type 0
+IsShortestFolderOrNone change files name len None =
     (other : List ℕ) → IsFolderOf other name → len ≤ length other
-    → is_name_after change files other ≡ true → ⊥
-IsFolderFound change files name len (Some folder) =
+    → is_present_after_change change files other ≡ true → ⊥
+IsShortestFolderOrNone change files name len (Some folder) =
     IsShortestFolder change files name len folder
 
 -- ---- below
@@ -58,10 +58,10 @@ pub record IsFirstBelow (does_release : List ℕ → Bool) (files : Files) (fold
 
 -- the result of a search for the first name below a folder whose file is kept: that name; None
 -- means that every file below the folder is removed
-abbrev pub IsNameFound : (List ℕ → Bool) → Files → List ℕ → Option (List ℕ) → Type 0
-IsNameFound does_release files folder None =
+abbrev pub IsFirstNameBelowOrNone : (List ℕ → Bool) → Files → List ℕ → Option (List ℕ) → Type 0
+IsFirstNameBelowOrNone does_release files folder None =
     (other : List ℕ) → IsFolderOf folder other → is_name_present does_release files other ≡ true → ⊥
-IsNameFound does_release files folder (Some name) = IsFirstBelow does_release files folder name
+IsFirstNameBelowOrNone does_release files folder (Some name) = IsFirstBelow does_release files folder name
 
 -- ---- pairs with the name
 
@@ -103,7 +103,8 @@ pub record IsClashNear (change : NameChange) (files : Files) (before name : List
 
 -- over some files the pair is a clash; and its first name counts as written, or is not above the name
 -- before
-pub record IsFreshClash (change : NameChange) (before name : List ℕ) (pair : NamePair) : Type 0 where
+pub record IsNewClashOverSomeFiles (change : NameChange) (before name : List ℕ)
+    (pair : NamePair) : Type 0 where
   pub files : Files
   -- the pair is a clash over these files
   pub is : IsClash change files pair
@@ -116,6 +117,6 @@ pub record IsFreshClash (change : NameChange) (before name : List ℕ) (pair : N
 -- it
 pub record MayBeClashNear (change : NameChange) (before name : List ℕ)
     (found : Option NamePair) : Type 0 where
-  pub one : IfSome found (IsFreshClash change before name)
+  pub one : IfSome found (IsNewClashOverSomeFiles change before name)
   pub above : (folder : List ℕ) → IsFolderOf folder name → IsFolderOf folder before
       ⊎ IsNoEarlierClash change no_names found (record { path = folder; other = name })

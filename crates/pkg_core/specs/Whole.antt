@@ -8,11 +8,11 @@ use Rattle.adb_block.specs.Header.{header_of}
 use Rattle.adb_block.specs.ReaderPosition.{first_block_position}
 use Rattle.adb_block.specs.Reading.{Reading, done, fault, more, block_stream_from}
 use Rattle.adb_view.specs.Plain.{Plain}
-use Rattle.adb_schema.specs.Soundness.{file_fault_with_rest_test, fault_after_first_block, payload_in, root_value}
+use Rattle.adb_schema.specs.Soundness.{file_fault_with_rest_test, further_blocks_fault_unless_package, payload_in, root_value}
 use Rattle.adb_view.specs.declared.tables.Which.{Which}
 use Rattle.adb_view.specs.declared.tables.Which.TheVariants.{Package, Index, Idb, Intent}
 use Rattle.adb_schema.specs.declared.read.TheConstants.{PACKAGE_WORD, INDEX_WORD, IDB_WORD, INTENT_WORD}
-use Rattle.pkg_core.specs.Contents.{Contents, FilesRead, no_more, refused, files_read_from_blocks, contents_in, contents_fault, expected_contents}
+use Rattle.pkg_core.specs.Contents.{Contents, FilesRead, no_more, refused, files_read_from_blocks, contents_in, contents_fault, expected_files_of_package}
 
 -- ---- a container of any schema
 
@@ -28,8 +28,8 @@ table_of_schema schema =
 -- the first failed test of the blocks after the first: for a package the contents of its files, for
 -- another container that no block has contents
 abbrev pub fault_of_further_blocks : Which → Plain → Reading → Option Cause
-fault_of_further_blocks Package value r = contents_fault (expected_contents value) r
-fault_of_further_blocks which value r = fault_after_first_block which r
+fault_of_further_blocks Package value r = contents_fault (expected_files_of_package value) r
+fault_of_further_blocks which value r = further_blocks_fault_unless_package which r
 
 -- the first failed test of a file that is to be a container with this table at its root
 unfoldable pub container_fault_of_table : Which → List ℕ → Option Cause
@@ -44,7 +44,8 @@ container_fault_after_schema file schema (Some which) = container_fault_of_table
 -- the first failed test of a file with this result for its header
 abbrev pub container_fault_after_header : List ℕ → Result ℕ Cause → Option Cause
 container_fault_after_header file (Err c) = Some c
-container_fault_after_header file (Ok schema) = container_fault_after_schema file schema (table_of_schema schema)
+container_fault_after_header file (Ok schema) =
+    container_fault_after_schema file schema (table_of_schema schema)
 
 -- the first failed test of a file as a container of one of the four schemas
 unfoldable pub container_fault : List ℕ → Option Cause
@@ -65,16 +66,18 @@ package_id file = sha256 (payload_in file)
 abbrev pub files_after_first_block : Reading → FilesRead
 files_after_first_block done = no_more
 files_after_first_block (fault c) = refused c
-files_after_first_block (more b at r) = files_read_from_blocks (expected_contents (root_value Package b.payload)) r
+files_after_first_block (more b at r) =
+    files_read_from_blocks (expected_files_of_package (root_value Package b.payload)) r
 
 -- the files that are read from a package with this result for its header
 abbrev pub files_after_header : List ℕ → Result ℕ Cause → FilesRead
-files_after_header file (Ok schema) = files_after_first_block (block_stream_from (first_block_position schema file))
+files_after_header file (Ok schema) =
+    files_after_first_block (block_stream_from (first_block_position schema file))
 files_after_header file (Err c) = refused c
 
 -- the files that are read from the file of a package, with their contents
-unfoldable pub files_in_file : List ℕ → FilesRead
-files_in_file file = files_after_header file (header_of file)
+unfoldable pub files_read_from_package : List ℕ → FilesRead
+files_read_from_package file = files_after_header file (header_of file)
 
 -- the value of a package, with the contents of its files
 pub record PackageWithContents : Type 0 where
@@ -88,5 +91,5 @@ abbrev pub package_with_contents : List ℕ → PackageWithContents
 package_with_contents file =
     record {
       value = root_value Package (payload_in file);
-      contents = contents_in (files_in_file file);
+      contents = contents_in (files_read_from_package file);
     }

@@ -4,7 +4,7 @@
 
 ghost use Rattle.std.specs.Prelude.{◌≡◌, ◌<◌, ◌≤◌, ◌+◌, ◌-◌, ℕ, List, [], ◌∷◌, ◌++◌, length, take, None, IfNone, IfOk, IfSome};
 ghost use Rattle.adb_schema.specs.Soundness.{contents_positions};
-ghost use Rattle.pkg_core.specs.Contents.{Expected, POSITIONS_LEN, contents_bytes, files_read_from_blocks};
+ghost use Rattle.pkg_core.specs.Contents.{ExpectedFile, POSITIONS_LEN, contents_bytes, files_read_from_blocks};
 ghost use Rattle.pkg_core.specs.Opened.{expected_of, files_left_in_walk};
 ghost use Rattle.pkg_core.specs.Pieces.{PiecesRead, part_of, pieces_of_payload, position_or_size_fault, files_joined_from_pieces, pieces_read_from_blocks};
 ghost use Rattle.pkg_core.specs.Taking.{HasTaken, IsOpenResult, IsPartOfCheckedFile, IsTakeResult, HasTakenOrPassedDigest, file_bytes_left, next_piece_len};
@@ -122,7 +122,7 @@ pub fn open_file<'a>(
 ) -> Result<FileCheck<'a>, Cause>
     requires { POSITIONS_LEN ≤ len }
     // For each payload of this length that begins with these positions.
-    ensures opened { (payload : List ℕ) (further : List Expected → PiecesRead)
+    ensures opened { (payload : List ℕ) (further : List ExpectedFile → PiecesRead)
         → length payload ≡ len → take POSITIONS_LEN payload ≡ positions.now
         → IsOpenResult (pieces_of_payload payload further (files_left_in_walk walk.old)) payload
         (further (files_left_in_walk walk.new)) result }
@@ -184,6 +184,7 @@ pub struct Part {
 /// The pieces of each file, joined in order, are its contents, and the first failed test is the
 /// same: blocks read in pieces give the same result as blocks read as whole files.
 pub fn the_pieces_of_each_file_joined_are_its_contents()
-    ensures { (expected : List Expected) (r : Reading)
-        → files_joined_from_pieces (pieces_read_from_blocks expected r) [] ≡ files_read_from_blocks expected r }
+    ensures { (expected : List ExpectedFile) (r : Reading)
+        → files_joined_from_pieces (pieces_read_from_blocks expected r) []
+        ≡ files_read_from_blocks expected r }
 {}

@@ -114,7 +114,8 @@ impl<'a> BlockPlace<'a> {
         requires fits { raw_size frame ≤ self.old.len - self.old.at }
         // For each file of this length with this block there.
         ensures step { (file : List ℕ) → length file ≡ self.old.len
-            → IsFrameOrEndOfStep (Ok (Some frame)) (drop self.old.at file) (block_step_at self.old file)
+            → IsFrameOrEndOfStep (Ok (Some frame)) (drop self.old.at file)
+            (block_step_at self.old file)
             → HasPositions (Some frame) positions.now self.old file
             → IsStepResult (Some frame) self.old file result self.new }
         ensures len { self.new.len ≡ self.old.len }
@@ -145,7 +146,8 @@ impl<'a> BlockPlace<'a> {
         requires kind { frame.kind ≡ Kinds.Contents }
         // For each file of this length with this block there.
         ensures step { (file : List ℕ) → length file ≡ self.old.len
-            → IsFrameOrEndOfStep (Ok (Some frame)) (drop self.old.at file) (block_step_at self.old file)
+            → IsFrameOrEndOfStep (Ok (Some frame)) (drop self.old.at file)
+            (block_step_at self.old file)
             → HasPositions (Some frame) positions.now self.old file
             → IsStepResult (Some frame) self.old file result self.new }
         ensures len { self.new.len ≡ self.old.len }

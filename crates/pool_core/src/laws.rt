@@ -8,7 +8,7 @@ ghost use Rattle.std.specs.declared.cmp.Ordering.TheVariants.{Equal};
 ghost use Rattle.std.specs.List.{list_any};
 ghost use Rattle.adb_view.specs.Plain.{Plain};
 ghost use Rattle.adb_view.specs.Values.{int_in, text_in};
-ghost use Rattle.option_ranks.specs.candidate_core.Candidates.{Candidate, Need, as_installed, candidate_by, candidate_of, dependencies_in, is_same_id, is_same_package, need_name, offers_name, version_of_text, with_installed};
+ghost use Rattle.option_ranks.specs.candidate_core.Candidates.{Candidate, Need, as_installed, candidate_from_parts, candidate_of, dependencies_in, is_same_id, is_same_package, need_name, offers_name, version_of_text, with_installed};
 ghost use Rattle.pool_core.specs.FieldNames.{info_under_name};
 ghost use Rattle.option_ranks.specs.candidate_core.Rank.{SealedPool, candidate_at_passes, is_better, is_eligible_at, meets_at, rank_cmp};
 ghost use Rattle.option_ranks.specs.candidate_core.Options.{AreStrictlyIncreasing, IsSortedBestFirst, IsIn, options_for, places_offering};
@@ -44,7 +44,8 @@ pub fn offers_are_the_places()
         IsIn c (places_offering name pool.candidates) →
         (candidate_at_passes pool (offers_name name) c ≡ true) × (c < length pool.candidates) }
     ensures each { (pool : SealedPool) (name : List ℕ) (c : ℕ) →
-        candidate_at_passes pool (offers_name name) c ≡ true → IsIn c (places_offering name pool.candidates) }
+        candidate_at_passes pool (offers_name name) c ≡ true
+        → IsIn c (places_offering name pool.candidates) }
     ensures rising { (pool : SealedPool) (name : List ℕ) →
         AreStrictlyIncreasing (places_offering name pool.candidates) }
 {}
@@ -60,7 +61,7 @@ pub fn offers_hold_what_meets()
 pub fn a_candidate_is_read_by_field_names()
     ensures { (info : Plain) (repository : Option ℕ) (tag : Option (List ℕ)) (installed : Bool) →
         candidate_of info repository tag installed
-        ≡ candidate_by info (text_in (info_under_name (codes "name") info))
+        ≡ candidate_from_parts info (text_in (info_under_name (codes "name") info))
         (version_of_text (text_in (info_under_name (codes "version") info)))
         (text_in (info_under_name (codes "hashes") info))
         (dependencies_in (info_under_name (codes "depends") info))

@@ -38,7 +38,8 @@ repository_line_numbered repositories number =
 abbrev pub distinct_repository_lines : List Repository → ℕ → List ℕ → List ℕ
 distinct_repository_lines repositories last [] = []
 distinct_repository_lines repositories last (n ∷ numbers) =
-    if nat_lt last n then repository_line_numbered repositories n ++ distinct_repository_lines repositories n numbers
+    if nat_lt last n then repository_line_numbered repositories n
+    ++ distinct_repository_lines repositories n numbers
     else distinct_repository_lines repositories last numbers
 
 -- what is printed of a version

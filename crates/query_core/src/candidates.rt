@@ -3,7 +3,7 @@
 ghost use Rattle.query_core.specs.Appends.{Appends};
 ghost use Rattle.query_core.specs.Lines.{description_part, line_in_form};
 ghost use Rattle.query_core.specs.Order.{printed_version, query_cmp};
-ghost use Rattle.report_core.specs.QueryReports.{installed_mark, text_between};
+ghost use Rattle.report_core.specs.QueryReports.{installed_mark, text_between_unless_empty};
 ghost use Rattle.report_core.specs.Reports.{name_dash_version};
 ghost use Rattle.base_core.specs.Sorted.{sorted_by};
 ghost use Rattle.std.specs.List.{filter_map, flat_map};
@@ -158,7 +158,7 @@ fn put_between<O: ReportOut>(
     after: &[u8],
 ) -> Result<(), AllocError>
     ensures { OnOk result (Appends O.holds out.old out.new
-        (text_between before.now text.now after.now)) }
+        (text_between_unless_empty before.now text.now after.now)) }
 {
     if text.is_empty() {
         return Ok(());

@@ -8,7 +8,7 @@ ghost use Rattle.base_core.specs.Sink.{sink_before_and_after};
 ghost use Rattle.base_core.specs.Write.{Writes};
 ghost use Rattle.hex.specs.Hex.{encode_lower};
 ghost use Rattle.report_core.specs.Pieces.{cause_text_if_any, piece_text, pieces_text, sentence_text};
-ghost use Rattle.report_core.specs.Texts.{digest_bytes, position_text, refusal_line};
+ghost use Rattle.report_core.specs.Texts.{digest_bytes, folder_and_file_position_text, refusal_line};
 
 use crate::refusal::Refusal;
 use crate::sentence::{Sentence, cause_pieces, sentence_of};
@@ -39,7 +39,8 @@ fn write_sentence<E: Sink>(sentence: &Sentence<'_>, err: &mut E) -> Result<(), S
 
 /// Writes a cause, if there is one.
 fn write_cause<E: Sink>(cause: Option<Cause>, err: &mut E) -> Result<(), SinkFault>
-    ensures { Writes (cause_text_if_any cause) (sink_before_and_after E.bytes E.counts err.old err.new) result }
+    ensures { Writes (cause_text_if_any cause)
+        (sink_before_and_after E.bytes E.counts err.old err.new) result }
 {
     match cause {
         Some(cause) => write_pieces(&cause_pieces(cause), err),
@@ -98,7 +99,7 @@ fn write_piece<S: Sink>(piece: &Piece<'_>, sink: &mut S) -> Result<(), SinkFault
 
 /// Writes the positions of a folder and of a file in it, with a dot between.
 fn write_position<S: Sink>(folder: u64, file: u64, sink: &mut S) -> Result<(), SinkFault>
-    ensures { Writes (position_text folder file)
+    ensures { Writes (folder_and_file_position_text folder file)
         (sink_before_and_after S.bytes S.counts sink.old sink.new) result }
 {
     write_number(folder, sink)?;
@@ -108,7 +109,8 @@ fn write_position<S: Sink>(folder: u64, file: u64, sink: &mut S) -> Result<(), S
 
 /// Writes a number in decimal.
 fn write_number<S: Sink>(number: u64, sink: &mut S) -> Result<(), SinkFault>
-    ensures { Writes (decimal number) (sink_before_and_after S.bytes S.counts sink.old sink.new) result }
+    ensures { Writes (decimal number)
+        (sink_before_and_after S.bytes S.counts sink.old sink.new) result }
 {
     let mut digits = Buffer::new();
     write_all(sink, digits.format(number).as_bytes())

@@ -52,13 +52,14 @@ abbrev pub HasSameState : (List ℕ → Bool) → Files → Files → Type 0
 HasSameState ignored others files = state_of ignored files ≡ state_of ignored others
 
 -- files have a state that a crash might have left when the run began
-abbrev pub HasStateBefore : (List ℕ → Bool) → TreeState → Files → Type 0
-HasStateBefore ignored v files = (was : Files) × IsCrashImage v was × HasSameState ignored was files
+abbrev pub HasStateOfSomeCrashBefore : (List ℕ → Bool) → TreeState → Files → Type 0
+HasStateOfSomeCrashBefore ignored v files =
+    (was : Files) × IsCrashImage v was × HasSameState ignored was files
 
 -- files have a state from before the run, or that of an outcome of the run, which commits
-abbrev pub HasStateBeforeOrOutcome : (List ℕ → Bool) → TreeState → Run → Files → Type 0
-HasStateBeforeOrOutcome ignored v run files =
-    HasStateBefore ignored v files
+abbrev pub HasStateOfCrashBeforeOrOutcome : (List ℕ → Bool) → TreeState → Run → Files → Type 0
+HasStateOfCrashBeforeOrOutcome ignored v run files =
+    HasStateOfSomeCrashBefore ignored v files
     ⊎ ((outcome : Outcome)
     × IsOutcomeFrom v run outcome
     × (outcome.commits ≡ true)

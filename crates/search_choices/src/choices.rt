@@ -356,7 +356,8 @@ impl<'p> Choices<'p> {
         ensures less { result ≤ self.now.asking_cursor }
         ensures unasked { (name : List ℕ) (rank : ℕ) → offers_name name details.now ≡ true →
             IsIn rank (items_under_name self.now.install_ifs.waiting name) → rank < result →
-            is_install_if_triggered_at_rank (pool_of self.now) (choices_of self.now) (install_ifs_of self.now) rank
+            is_install_if_triggered_at_rank (pool_of self.now) (choices_of self.now)
+            (install_ifs_of self.now) rank
             ≡ false }
     {
         let own = self.least_rank_waiting(details.name(), self.asking_cursor);
@@ -369,7 +370,8 @@ impl<'p> Choices<'p> {
         ensures less { result ≤ cursor }
         ensures unasked { (d : Dependency) (rank : ℕ) → IsIn d provides.now →
             IsIn rank (items_under_name self.now.install_ifs.waiting d.name) → rank < result →
-            is_install_if_triggered_at_rank (pool_of self.now) (choices_of self.now) (install_ifs_of self.now) rank
+            is_install_if_triggered_at_rank (pool_of self.now) (choices_of self.now)
+            (install_ifs_of self.now) rank
             ≡ false }
     {
         let mut least = cursor;
@@ -384,7 +386,8 @@ impl<'p> Choices<'p> {
         ensures less { result ≤ cursor }
         ensures unasked { (rank : ℕ) →
             IsIn rank (items_under_name self.now.install_ifs.waiting name.now) → rank < result →
-            is_install_if_triggered_at_rank (pool_of self.now) (choices_of self.now) (install_ifs_of self.now) rank
+            is_install_if_triggered_at_rank (pool_of self.now) (choices_of self.now)
+            (install_ifs_of self.now) rank
             ≡ false }
     {
         let mut least = cursor;
@@ -397,7 +400,8 @@ impl<'p> Choices<'p> {
     // The lesser of two ranks, of which the first counts only if its candidate asks.
     fn lesser_rank(&self, rank: usize, least: usize) -> usize
         ensures less { result ≤ least }
-        ensures unasked { rank < result → is_install_if_triggered_at_rank (pool_of self.now) (choices_of self.now)
+        ensures unasked { rank < result
+            → is_install_if_triggered_at_rank (pool_of self.now) (choices_of self.now)
             (install_ifs_of self.now) rank ≡ false }
     {
         if rank < least && self.is_install_if_triggered_at_rank(rank) {

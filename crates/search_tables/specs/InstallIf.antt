@@ -25,11 +25,12 @@ is_triggered_by_install_if pool chosen c = all_met pool chosen c.install_if
 
 -- whether the candidate at a place is triggered by its install-if
 abbrev pub is_install_if_triggered_at : SealedPool → List ℕ → ℕ → Bool
-is_install_if_triggered_at pool chosen k = candidate_at_passes pool (is_triggered_by_install_if pool chosen) k
+is_install_if_triggered_at pool chosen k =
+    candidate_at_passes pool (is_triggered_by_install_if pool chosen) k
 
 -- whether the candidate at a place has an install-if that can apply
-abbrev pub is_usable_at : SealedPool → ℕ → Bool
-is_usable_at pool k = candidate_at_passes pool (has_usable_install_if pool.world) k
+abbrev pub has_usable_install_if_at : SealedPool → ℕ → Bool
+has_usable_install_if_at pool k = candidate_at_passes pool (has_usable_install_if pool.world) k
 
 -- the name of the candidate at a place; empty if there is none
 abbrev pub name_at : SealedPool → ℕ → List ℕ
@@ -45,12 +46,13 @@ has_lesser_name pool a b = is_lt (bytes_cmp (name_at pool a) (name_at pool b))
 
 -- the candidates whose install-if can apply, in byte order of their names; and a table that has for the
 -- name of each entry of an install-if the rank of its candidate
-pub record AreInstallIfs (pool : SealedPool) (by_name : List ℕ) (waiting : List (List ℕ × List ℕ)) :
+pub record AreUsableInstallIfsByName (pool : SealedPool) (by_name : List ℕ)
+    (waiting : List (List ℕ × List ℕ)) :
     Type 0 where
   -- each candidate of the list has an install-if that can apply
-  pub those : (k : ℕ) → IsIn k by_name → is_usable_at pool k ≡ true
+  pub those : (k : ℕ) → IsIn k by_name → has_usable_install_if_at pool k ≡ true
   -- the list has each candidate whose install-if can apply
-  pub each : (k : ℕ) → is_usable_at pool k ≡ true → IsIn k by_name
+  pub each : (k : ℕ) → has_usable_install_if_at pool k ≡ true → IsIn k by_name
   -- no candidate of the list has a lesser name than one before it
   pub rising :
       (i j d : ℕ) → i ≤ j → j < length by_name →
@@ -72,12 +74,13 @@ AreNoneTriggeredBelow pool chosen by_name count =
 
 -- the candidate is triggered by its install-if, which can apply; no other such candidate has a lesser name
 pub record IsLeastTriggeredInstallIf (pool : SealedPool) (chosen : List ℕ) (k : ℕ) : Type 0 where
-  pub usable : is_usable_at pool k ≡ true
+  pub usable : has_usable_install_if_at pool k ≡ true
   pub asks : is_install_if_triggered_at pool chosen k ≡ true
   pub least :
-      (o : ℕ) → is_usable_at pool o ≡ true → is_install_if_triggered_at pool chosen o ≡ true →
+      (o : ℕ) → has_usable_install_if_at pool o ≡ true → is_install_if_triggered_at pool chosen o ≡ true →
       has_lesser_name pool o k ≡ false
 
 -- no candidate whose install-if can apply is triggered by it
 abbrev pub IsNoInstallIfTriggered : SealedPool → List ℕ → Type 0
-IsNoInstallIfTriggered pool chosen = (o : ℕ) → is_usable_at pool o ≡ true → is_install_if_triggered_at pool chosen o ≡ false
+IsNoInstallIfTriggered pool chosen =
+    (o : ℕ) → has_usable_install_if_at pool o ≡ true → is_install_if_triggered_at pool chosen o ≡ false

@@ -25,7 +25,7 @@ IsReason pool reason = (selection : List ℕ) → IsSolution pool selection →
     AreAllMembersOf reason selection → ⊥
 
 -- why a candidate `c` cannot join some choices: `c` and some of the choices, `others`, form a reason
-pub record RulesOut (pool : SealedPool) (chosen : List ℕ) (c : ℕ) (others : List ℕ) : Type 0 where
+pub record IsRuledOutBy (pool : SealedPool) (chosen : List ℕ) (c : ℕ) (others : List ℕ) : Type 0 where
   pub within : AreAllMembersOf others chosen
   pub dead : IsReason pool (c ∷ others)
 
@@ -42,7 +42,7 @@ ruled_out_options (p ∷ ps) = p.0 ∷ ruled_out_options ps
 -- each option of the list is ruled out by a reason whose other members are choices
 abbrev pub AreRuledOut : SealedPool → List ℕ → List (ℕ × List ℕ) → Type 0
 AreRuledOut pool chosen [] = Unit {0}
-AreRuledOut pool chosen (p ∷ ps) = RulesOut pool chosen p.0 p.1 × AreRuledOut pool chosen ps
+AreRuledOut pool chosen (p ∷ ps) = IsRuledOutBy pool chosen p.0 p.1 × AreRuledOut pool chosen ps
 
 -- the frame is that of the next need after some choices: its ruled-out options and those that are left
 -- are the options of the need in their order

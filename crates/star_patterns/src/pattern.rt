@@ -6,14 +6,14 @@
 ghost use Rattle.std.specs.Option.{option_map_or};
 ghost use Rattle.std.specs.Prelude.{◌≡◌, ◌==◌, ◌∷◌, ◌++◌, ◌<◌, ◌+◌, ℕ, [], List, false, drop, length, position, IfSome};
 ghost use Rattle.star_patterns.specs.Ends.{has_star, matches_some_suffix};
-ghost use Rattle.star_patterns.specs.Patterns.{is_matched, matches_some_part, star};
+ghost use Rattle.star_patterns.specs.Patterns.{is_whole_text_matched, matches_some_part, star};
 
 use memchr::memmem;
 
 /// Whether a pattern matches the whole of a text. It takes time in proportion to the lengths of
 /// both.
 pub fn matches(pattern: &[u8], text: &[u8]) -> bool
-    ensures { result ≡ is_matched pattern.now text.now }
+    ensures { result ≡ is_whole_text_matched pattern.now text.now }
 {
     let Some(at) = first_star(pattern) else {
         return pattern == text;

@@ -44,7 +44,8 @@ abbrev pub step : List (List ℕ) → Change → TreeState → TreeState
 step contents (Put name file len) v = after_put name (first_bytes_of_file contents file len) v
 step contents (Create name) v = after_create name v
 step contents (Append file len) v =
-    with_file_changed (λ f. record { bytes = first_bytes_of_file contents file len; synced = false }) v (Some file)
+    with_file_changed (λ f. record { bytes = first_bytes_of_file contents file len; synced = false }) v
+    (Some file)
 step contents (Sync file) v =
     with_file_changed (λ f. record { bytes = f.bytes; synced = true }) v (Some file)
 step contents (Rename from to) v = after_rename from to v
@@ -85,4 +86,5 @@ can_record_change contents Stay v = true
 -- whether each of some changes may be recorded at the state to which those before it lead
 abbrev pub can_record_changes : List (List ℕ) → TreeState → List Change → Bool
 can_record_changes contents v [] = true
-can_record_changes contents v (c ∷ cs) = can_record_change contents c v && can_record_changes contents (step contents c v) cs
+can_record_changes contents v (c ∷ cs) =
+    can_record_change contents c v && can_record_changes contents (step contents c v) cs

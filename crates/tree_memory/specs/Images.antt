@@ -84,8 +84,8 @@ pub record HasImageNames (pick : ℕ) (v : TreeState) (entries : List NameAndFil
 -- ---- as it is read from a record
 
 -- the maps of names since the names were last synced, that as read first
-abbrev pub newest_first : TreeState → List NameMap
-newest_first v = v.names ∷ v.older
+abbrev pub maps_newest_first : TreeState → List NameMap
+maps_newest_first v = v.names ∷ v.older
 
 -- whether a change that may be recorded syncs the names
 abbrev pub syncs_names : Change → Bool

@@ -26,7 +26,7 @@ pub record IsSoundState (v : TreeState) : Type 0 where
 
 -- what a store keeps: its changes are a record, its table and its files are those of the newest state,
 -- and each state so far is sound
-pub record IsStore (changes : List Change) (entries : List NameAndFile)
+pub record IsConsistentStore (changes : List Change) (entries : List NameAndFile)
     (files : List Stored) : Type 0 where
   pub recorded : can_record_changes (contents_of files) empty_state changes ≡ true
   pub kept : HoldsState (state_after_changes (contents_of files) empty_state changes) entries files

@@ -63,7 +63,8 @@ pub record IsReadCall {T E : Type 0} (old new : MemoryTree) (result : Result T E
   -- the plan is one call nearer
   pub plan : plan_of new ≡ plan_after_one_call (plan_of old)
   -- an error is counted as a fault
-  pub faults : (counts_of new).faults ≡ (if is_ok result then (counts_of old).faults else saturating_increment
+  pub faults : (counts_of new).faults
+      ≡ (if is_ok result then (counts_of old).faults else saturating_increment
       (counts_of old).faults)
   -- no lack of memory is counted
   pub memory_faults : (counts_of new).memory_faults ≡ (counts_of old).memory_faults
@@ -97,7 +98,8 @@ pub record IsWriteCall {T E : Type 0} (can : TreeState → Type 0) (old new : Me
   pub plan : plan_of new ≡ plan_after_one_call (plan_of old)
   pub longest : longest_read_of new ≡ longest_read_of old
   -- an error is counted as a fault
-  pub faults : (counts_of new).faults ≡ (if is_ok result then (counts_of old).faults else saturating_increment
+  pub faults : (counts_of new).faults
+      ≡ (if is_ok result then (counts_of old).faults else saturating_increment
       (counts_of old).faults)
   -- a call that succeeds had no reason to fail
   pub free : OnOk result (HasNoReasonToFail can old)

@@ -42,7 +42,8 @@ listed_calls_after_one_call listed = filter (λ n. nat_lt 0 n) (map (λ n. n - 1
 
 -- the plan after one call
 abbrev pub plan_after_one_call : PlanState → PlanState
-plan_after_one_call plan = record { listed = listed_calls_after_one_call plan.listed; stop = option_map (λ n. n - 1) plan.stop }
+plan_after_one_call plan =
+    record { listed = listed_calls_after_one_call plan.listed; stop = option_map (λ n. n - 1) plan.stop }
 
 -- the plan after this many calls
 abbrev pub plan_after : ℕ → PlanState → PlanState

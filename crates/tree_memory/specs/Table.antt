@@ -44,7 +44,8 @@ pub record IsStartOfFolder (entries : List NameAndFile) (i : ℕ) (folder : List
       (length entries)
 
 -- exactly the names of a table below this folder, in byte order
-pub record IsBelow (entries : List NameAndFile) (folder : List ℕ) (names : List (List ℕ)) : Type 0 where
+pub record AreTableNamesBelow (entries : List NameAndFile) (folder : List ℕ)
+    (names : List (List ℕ)) : Type 0 where
   pub rising : AllPairs (λ a b. slice_cmp nat_cmp a b ≡ Less) names
   pub each : (q : List ℕ) → Contains names q ↔ (IsSome (lookup entries q) × IsFolderOf folder q)
 

@@ -19,7 +19,8 @@ with_fault t = record t { faults = saturating_increment t.faults }
 
 -- the counts if the call was a misuse, which always fails: one more fault, and one more misuse
 abbrev pub with_misuse : Tally → Tally
-with_misuse t = record t { faults = saturating_increment t.faults; misuses = saturating_increment t.misuses }
+with_misuse t =
+    record t { faults = saturating_increment t.faults; misuses = saturating_increment t.misuses }
 
 -- the counts if the tree was out of memory: one more fault, and one more lack of memory
 abbrev pub with_memory_fault : Tally → Tally

@@ -4,14 +4,14 @@
 ghost use Rattle.std.specs.Prelude.{◌≡◌, ◌↔◌, [], ◌∷◌, List, Some, None, IsTrue, IsOk, IfOk, IfSome, IsErrOf, OnOk, OnErr, false, true, length, max, take, drop, if◌then◌else◌};
 ghost use Rattle.std.specs.Option.{option_map, option_copied};
 ghost use Rattle.base_core.specs.Calls.{IsCounted, ChangesHistory, IfObservable};
-ghost use Rattle.base_core.specs.Faults.{CountsOnlyRise, HasCause, IsNoFault, saturating_increment};
+ghost use Rattle.base_core.specs.Faults.{CountsOnlyRise, IsFaultCountedWithCause, CountsNoNewFault, saturating_increment};
 ghost use Rattle.base_core.specs.Files.{put_name};
 ghost use Rattle.base_core.specs.Listed.{AreNamesBelow, IsNamesOf, IsListOf};
 ghost use Rattle.base_core.specs.Tree.{files_of, after_create, after_append, after_failed_append, after_sync, after_rename, after_remove, after_sync_names, unchanged_after_failed_call, IsAlwaysAllowed, HasName, CanRead, CanCreate, CanRename};
 ghost use Rattle.base_core.specs.Undone.{IsAfterCrash};
 ghost use Rattle.base_core.specs.declared.tree.TreeFault.TheVariants.{Memory, Disk as DiskFault};
 ghost use Rattle.tree_memory.specs.Changes.{empty_state, after_put};
-ghost use Rattle.tree_memory.specs.Images.{newest_first, crash_image_count_of, IsImageOf};
+ghost use Rattle.tree_memory.specs.Images.{maps_newest_first, crash_image_count_of, IsImageOf};
 ghost use Rattle.tree_memory.specs.Kept.{CanPut};
 ghost use Rattle.tree_memory.specs.Plans.{no_plan, is_next_call_to_fail, has_later_failure, plan_after_one_call};
 
@@ -184,7 +184,7 @@ impl MemoryTree {
     /// How many maps of names there are: that as read, and the older ones since the names were last
     /// synced.
     pub fn maps(&self) -> u64
-        ensures { result ≡ length (newest_first (tree_state self.now)) }
+        ensures { result ≡ length (maps_newest_first (tree_state self.now)) }
     {
         self.store.maps()
     }
@@ -255,7 +255,8 @@ impl Tree for MemoryTree {
         // What is counted of the call, and why it fails.
         ensures call { IsReadCall self.old self.new result }
         // The greatest length that was asked for, with this one.
-        ensures longest { longest_read_of self.new ≡ max (longest_read_of self.old) (length into.old) }
+        ensures longest { longest_read_of self.new
+            ≡ max (longest_read_of self.old) (length into.old) }
     {
         self.longest = self.longest.max(into.len() as u64);
         let can = self.store.can_read(name, at, into.len());
@@ -304,7 +305,8 @@ impl Tree for MemoryTree {
     /// Makes the bytes of a file durable.
     fn sync(&mut self, name: &Name) -> Result<(), Disk>
         // Which state is added to the history: on success, and on an error.
-        ensures moves { ChangesHistory (HasName name.now) (after_sync name.now) unchanged_after_failed_call
+        ensures moves { ChangesHistory (HasName name.now)
+            (after_sync name.now) unchanged_after_failed_call
             (history_of self.old) (history_of self.new) result }
         // How the counts change, and which states allow the call.
         ensures counts { IsCounted (HasName name.now) (history_of self.old) (counts_of self.old)
@@ -377,11 +379,11 @@ impl Tree for MemoryTree {
         ensures goes_on { CountsOnlyRise (counts_of self.old) (counts_of self.new) }
         // An I/O error is returned only if a fault was counted.
         ensures disk { IsErrOf result DiskFault
-            → HasCause (counts_of self.old) (counts_of self.new) }
+            → IsFaultCountedWithCause (counts_of self.old) (counts_of self.new) }
         // Ok is returned only if no fault was counted.
-        ensures kept { OnOk result (IsNoFault (counts_of self.old) (counts_of self.new)) }
+        ensures kept { OnOk result (CountsNoNewFault (counts_of self.old) (counts_of self.new)) }
         ensures memory { IsErrOf result Memory
-            → IsNoFault (counts_of self.old) (counts_of self.new) }
+            → CountsNoNewFault (counts_of self.old) (counts_of self.new) }
         ensures proper { (counts_of self.new).misuses ≡ (counts_of self.old).misuses }
         // What is returned, if the history is observable.
         ensures value { IfOk result (λ names.
@@ -394,7 +396,8 @@ impl Tree for MemoryTree {
         ensures calls { calls_of self.new ≡ saturating_increment (calls_of self.old) }
         ensures writes { writes_of self.new ≡ writes_of self.old }
         ensures faults { (counts_of self.new).faults
-            ≡ (if is_next_call_to_fail (plan_of self.old) then saturating_increment (counts_of self.old).faults else
+            ≡ (if is_next_call_to_fail (plan_of self.old) then saturating_increment
+            (counts_of self.old).faults else
             (counts_of self.old).faults) }
         ensures memory_faults { (counts_of self.new).memory_faults
             ≡ (counts_of self.old).memory_faults }

@@ -144,8 +144,8 @@ offered_text pool listed name (c ∷ cs) =
     ++ dots_if (nat_lt most_shown_offers (length (c ∷ cs)))
 
 -- what there is of a name: `lib: only 1.0-r0, 1.2-r0`
-abbrev pub offers_line : SealedPool → List Dependency → List ℕ → List ℕ
-offers_line pool listed name =
+abbrev pub offers_line_of_name : SealedPool → List Dependency → List ℕ → List ℕ
+offers_line_of_name pool listed name =
     name ++ codes ": " ++ offered_text pool listed name (places_offering name pool.candidates)
 
 -- ---- steps
@@ -153,7 +153,7 @@ offers_line pool listed name =
 -- what there is of the name of a dependency, if no candidate that may be selected meets it
 abbrev pub missing_lines : SealedPool → List Dependency → Dependency → List (List ℕ)
 missing_lines pool listed d =
-    if length (options_for pool (entry d)) == 0 then offers_line pool listed d.name ∷ [] else []
+    if length (options_for pool (entry d)) == 0 then offers_line_of_name pool listed d.name ∷ [] else []
 
 -- what an owner needs, and, if nothing meets it, what there is
 abbrev pub need_lines :
@@ -169,22 +169,24 @@ want_lines pool listed repositories want =
     need_lines pool listed repositories want.owner (wanted pool want)
 
 -- the line that says which candidate is the only one left for what is wanted
-abbrev pub only_lines :
+abbrev pub only_candidate_lines :
     SealedPool → List Dependency → List Repository → Owner → ℕ → Option Dependency →
     List (List ℕ)
-only_lines pool listed repositories owner id None = []
-only_lines pool listed repositories owner id (Some d) =
-    (needs_text pool listed repositories owner d ++ codes ": only " ++ candidate_text_at pool repositories id) ∷ []
+only_candidate_lines pool listed repositories owner id None = []
+only_candidate_lines pool listed repositories owner id (Some d) =
+    (needs_text pool listed repositories owner d ++ codes ": only "
+    ++ candidate_text_at pool repositories id) ∷ []
 
 -- the text that a candidate has a conflict, which another candidate meets
 abbrev pub conflict_text : SealedPool → List Repository → ℕ → ℕ → Dependency → List ℕ
 conflict_text pool repositories a b d =
-    candidate_text_at pool repositories a ++ codes " conflicts with " ++ candidate_text_at pool repositories b
+    candidate_text_at pool repositories a ++ codes " conflicts with "
+    ++ candidate_text_at pool repositories b
     ++ codes ": " ++ dep_text d
 
 -- the text that two candidates both occupy a name
-abbrev pub sharing_text : SealedPool → List Repository → ℕ → ℕ → List ℕ → List ℕ
-sharing_text pool repositories a b name =
+abbrev pub shared_name_text : SealedPool → List Repository → ℕ → ℕ → List ℕ → List ℕ
+shared_name_text pool repositories a b name =
     candidate_text_at pool repositories a ++ codes " and " ++ candidate_text_at pool repositories b
     ++ codes " exclude each other: both are " ++ name
 
@@ -197,7 +199,7 @@ exclusion_lines pool repositories a b (Some d) other name =
 exclusion_lines pool repositories a b None (Some d) name =
     conflict_text pool repositories b a d ∷ []
 exclusion_lines pool repositories a b None None (Some name) =
-    sharing_text pool repositories a b name ∷ []
+    shared_name_text pool repositories a b name ∷ []
 exclusion_lines pool repositories a b None None None = []
 
 -- the lines of a step
@@ -209,7 +211,7 @@ step_lines pool listed repositories (Excluded id by) =
     exclusion_lines pool repositories by id (conflict_between pool by id)
     (conflict_between pool id by) (shared_name_at_places pool by id)
 step_lines pool listed repositories (Sure id want) =
-    only_lines pool listed repositories want.owner id (wanted pool want)
+    only_candidate_lines pool listed repositories want.owner id (wanted pool want)
 
 -- ---- all lines
 

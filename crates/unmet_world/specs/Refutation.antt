@@ -80,17 +80,18 @@ IsSureOwner sure (Package c) = IsIn c sure
 -- a step follows, if some candidates are ruled out and some are sure. A candidate is ruled out if it has
 -- a dependency that only candidates meet which are ruled out, or if it and a sure one exclude each
 -- other. It is sure if all others that meet what is wanted for sure are ruled out
-abbrev pub Follows : SealedPool → List ℕ → List ℕ → Step → Type 0
-Follows pool out sure (Broken id index) =
+abbrev pub IsDerivationStep : SealedPool → List ℕ → List ℕ → Step → Type 0
+IsDerivationStep pool out sure (Broken id index) =
     IsMetOnlyBy pool (record { owner = Package id; index = index }) out
-Follows pool out sure (Excluded id by) = IsIn by sure × (exclude_each_other pool by id ≡ true)
-Follows pool out sure (Sure id want) = IsSureOwner sure want.owner × IsMetOnlyBy pool want (id ∷ out)
+IsDerivationStep pool out sure (Excluded id by) = IsIn by sure × (exclude_each_other pool by id ≡ true)
+IsDerivationStep pool out sure (Sure id want) =
+    IsSureOwner sure want.owner × IsMetOnlyBy pool want (id ∷ out)
 
 -- each step follows from those after it: the first one is the last that was taken
 abbrev pub AreDerivationSteps : SealedPool → List Step → Type 0
 AreDerivationSteps pool [] = Unit {0}
 AreDerivationSteps pool (step ∷ steps) =
-    Follows pool (ids_ruled_out steps) (ids_made_sure steps) step × AreDerivationSteps pool steps
+    IsDerivationStep pool (ids_ruled_out steps) (ids_made_sure steps) step × AreDerivationSteps pool steps
 
 -- ---- refutations
 

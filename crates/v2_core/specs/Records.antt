@@ -85,11 +85,11 @@ with_info_values f values info =
 
 -- a list whose last element was replaced by the result of `change`; None if the list is empty, or
 -- `change` returns None
-abbrev pub with_last_changed : {A : Type 0} → (A → Option A) → List A → Option (List A)
-with_last_changed change [] = None
-with_last_changed change (x ∷ []) = option_map (λ y. y ∷ []) (change x)
-with_last_changed change (x ∷ y ∷ rest) =
-    option_map (λ rest. x ∷ rest) (with_last_changed change (y ∷ rest))
+abbrev pub list_with_last_changed : {A : Type 0} → (A → Option A) → List A → Option (List A)
+list_with_last_changed change [] = None
+list_with_last_changed change (x ∷ []) = option_map (λ y. y ∷ []) (change x)
+list_with_last_changed change (x ∷ y ∷ rest) =
+    option_map (λ rest. x ∷ rest) (list_with_last_changed change (y ∷ rest))
 
 -- a file with its owner and mode; None if it has them already
 abbrev pub file_with_access : Access → ListedFile → Option ListedFile
@@ -104,7 +104,8 @@ file_with_hash hash file =
 -- a folder with its owner and mode; None if it has them already
 abbrev pub folder_with_access : Access → ListedFolder → Option ListedFolder
 folder_with_access a folder =
-    if is_some folder.access then None else Some (listed_folder_from_parts folder.name (Some a) folder.files)
+    if is_some folder.access then None else Some
+    (listed_folder_from_parts folder.name (Some a) folder.files)
 
 -- a folder with these files in place of its own
 abbrev pub folder_with_files : ListedFolder → List ListedFile → ListedFolder
@@ -117,21 +118,22 @@ folder_with_file name folder =
 
 -- a folder whose last file was replaced by the result of `change`; None if it has no file, or `change`
 -- returns None
-abbrev pub folder_with_last : (ListedFile → Option ListedFile) → ListedFolder → Option ListedFolder
-folder_with_last change folder =
-    option_map (folder_with_files folder) (with_last_changed change folder.files)
+abbrev pub folder_with_last_file_changed : (ListedFile → Option ListedFile) → ListedFolder
+    → Option ListedFolder
+folder_with_last_file_changed change folder =
+    option_map (folder_with_files folder) (list_with_last_changed change folder.files)
 
 -- some folders and their files with one more line, which begins a folder or belongs to the last one;
 -- None if it is not allowed there. Any other line changes nothing
 abbrev pub with_path_line : RecordLine → List ListedFolder → Option (List ListedFolder)
 with_path_line (info_line f values) folders = Some folders
 with_path_line (folder_line name) folders = Some (folders ++ listed_folder_from_parts name None [] ∷ [])
-with_path_line (folder_access_line a) folders = with_last_changed (folder_with_access a) folders
-with_path_line (file_line name) folders = with_last_changed (folder_with_file name) folders
+with_path_line (folder_access_line a) folders = list_with_last_changed (folder_with_access a) folders
+with_path_line (file_line name) folders = list_with_last_changed (folder_with_file name) folders
 with_path_line (file_access_line a) folders =
-    with_last_changed (folder_with_last (file_with_access a)) folders
+    list_with_last_changed (folder_with_last_file_changed (file_with_access a)) folders
 with_path_line (file_hash_line hash) folders =
-    with_last_changed (folder_with_last (file_with_hash hash)) folders
+    list_with_last_changed (folder_with_last_file_changed (file_with_hash hash)) folders
 with_path_line other_line folders = Some folders
 
 -- the lines on the package with one more line; None if it is not allowed there. A line that is not on

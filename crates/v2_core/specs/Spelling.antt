@@ -43,7 +43,8 @@ record_lines r = info_lines r.info ++ flat_map folder_lines r.folders
 abbrev pub have_no_repeated_single_field : List InfoLine → List InfoLine → Bool
 have_no_repeated_single_field before [] = true
 have_no_repeated_single_field before (l ∷ ls) =
-    (is_list_info_field l.field || not (has_line_of l.field before)) && have_no_repeated_single_field (before ++ l ∷
+    (is_list_info_field l.field || not (has_line_of l.field before))
+    && have_no_repeated_single_field (before ++ l ∷
     []) ls
 
 -- whether a text holds no line end

@@ -8,7 +8,7 @@ ghost use Rattle.v2_lines.specs.adb_schema.ReadFaults.{IsReadFault};
 ghost use Rattle.v2_core.specs.declared.read.V2Fault.TheVariants.{Bad};
 ghost use Rattle.v2_lines.specs.adb_schema.Soundness.{payload_fault};
 ghost use Rattle.adb_view.specs.declared.tables.Which.TheVariants as Tables;
-ghost use Rattle.v2_core.specs.Payload.{IsV2Fault, payload_of_text, written_payload};
+ghost use Rattle.v2_core.specs.Payload.{IsV2Fault, payload_of_text, payload_of_records};
 ghost use Rattle.v2_core.specs.Reading.{records_from_record_end, records_from, records_of};
 ghost use Rattle.v2_core.specs.Records.{Record as RecordModel, empty_record};
 ghost use Rattle.v2_core.specs.Writing.{IsLineFault, draft_with_database, draft_with_records};
@@ -63,8 +63,9 @@ fn check_database(alloc: Global, payload: &[u8]) -> Result<(), ReadFault>
 // Writes the payload of a text.
 fn write_payload(alloc: Global, bytes: &[u8]) -> Result<Vec<u8>, V2Fault>
     ensures ok { IfOk result
-        (λ payload. written_payload (records_of bytes.now) ≡ Ok payload.items) }
-    ensures err { IfErr result (λ fault. IsV2Fault fault (written_payload (records_of bytes.now))) }
+        (λ payload. payload_of_records (records_of bytes.now) ≡ Ok payload.items) }
+    ensures err { IfErr result (λ fault. IsV2Fault fault (payload_of_records
+        (records_of bytes.now))) }
 {
     let mut draft = Draft::new(alloc);
     write_database(alloc, &mut draft, bytes)?;

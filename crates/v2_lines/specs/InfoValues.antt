@@ -13,17 +13,17 @@ use Rattle.v2_lines.specs.declared.field.Grammar.{Grammar}
 use Rattle.v2_lines.specs.declared.field.Grammar.TheVariants as Grammars
 
 -- the decoded bytes, if there are 20 of them, as many as a SHA-1 has
-abbrev pub twenty_bytes : Result (List ℕ) DecodeError → Option (List ℕ)
-twenty_bytes (Ok bytes) = if length bytes == 20 then Some bytes else None
-twenty_bytes (Err e) = None
+abbrev pub bytes_if_twenty : Result (List ℕ) DecodeError → Option (List ℕ)
+bytes_if_twenty (Ok bytes) = if length bytes == 20 then Some bytes else None
+bytes_if_twenty (Err e) = None
 
 -- the SHA-1 in a text of the form `Q1` (81, 49) and the base64 (RFC 4648) of 20 bytes; None for
 -- another text
-abbrev pub sha1_of : List ℕ → Option (List ℕ)
-sha1_of [] = None
-sha1_of (q ∷ []) = None
-sha1_of (q ∷ one ∷ encoded) =
-    if (q == 81) && (one == 49) then twenty_bytes (base64_bytes standard encoded) else None
+abbrev pub sha1_in_text : List ℕ → Option (List ℕ)
+sha1_in_text [] = None
+sha1_in_text (q ∷ []) = None
+sha1_in_text (q ∷ one ∷ encoded) =
+    if (q == 81) && (one == 49) then bytes_if_twenty (base64_bytes standard encoded) else None
 
 -- the values of a field that has one text
 abbrev pub single_text_value : List ℕ → List FieldValue
@@ -41,7 +41,7 @@ commit_values (Err e) = []
 
 -- the values that a text has under a grammar; None if the text is not in the grammar
 abbrev pub values_under_grammar : Grammar → List ℕ → Option (List FieldValue)
-values_under_grammar Grammars.Sha1Text value = option_map single_text_value (sha1_of value)
+values_under_grammar Grammars.Sha1Text value = option_map single_text_value (sha1_in_text value)
 values_under_grammar Grammars.PackageName value = text_value_if (is_package_name value) value
 values_under_grammar Grammars.PackageVersion value = text_value_if (is_version value) value
 values_under_grammar Grammars.AnyText value = text_value_if true value

@@ -8,7 +8,7 @@ ghost use Rattle.std.specs.Char.{is_ascii_digit, is_ascii_lowercase};
 ghost use Rattle.std.specs.Ordering.{nat_cmp};
 ghost use Rattle.std.specs.Cmp.Lexicographic.{slice_cmp};
 ghost use Rattle.std.specs.Str.Parse.{digits_value};
-ghost use Rattle.version_core.specs.Token.{begins_with_zero, component_lexeme, leading_digits, hash_lexeme, leading_hex_digits, is_hex_digit, lexeme, lexeme_at, next_lexeme, number_lexeme, number_token, revision_lexeme, stray_lexeme, suffix_class, suffix_lexeme, suffix_rank, leading_letters, text_token, MOST_DIGITS};
+ghost use Rattle.version_core.specs.Token.{begins_with_zero, later_component_lexeme, leading_digits, hash_lexeme, leading_hex_digits, is_hex_digit, lexeme, lexeme_at, next_lexeme, number_lexeme, number_token, revision_lexeme, stray_lexeme, suffix_class, suffix_lexeme, suffix_rank, leading_letters, text_token, MOST_DIGITS};
 ghost use Rattle.version_core.specs.Overlapping.{passed_len};
 ghost use Rattle.version_core.specs.Reading.{AreDigits, hex_digit_at, is_hash, lexeme_view, whole_lexeme};
 
@@ -125,10 +125,10 @@ fn number(class: Class, mark: usize, digits: &[u8]) -> Lexeme<'_>
 
 /// The lexeme of a component after the first. It is compared as text if it begins with 0, else as a
 /// number.
-#[tactic(auto, using(crate::proofs::Lexemes::component_lexeme_zero), unfolding(crate::specs::Token::component_lexeme))]
+#[tactic(auto, using(crate::proofs::Lexemes::component_lexeme_zero), unfolding(crate::specs::Token::later_component_lexeme))]
 fn component(digits: &[u8]) -> Lexeme<'_>
     requires { AreDigits digits.now }
-    ensures token { whole_lexeme result ≡ component_lexeme digits.now }
+    ensures token { whole_lexeme result ≡ later_component_lexeme digits.now }
     ensures plain { is_hash result.token.class ≡ false }
 {
     if begins_with_zero(digits) && digits.len() <= MOST_DIGITS {

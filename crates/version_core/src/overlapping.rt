@@ -189,7 +189,8 @@ fn first_place(bytes: &[u8], from: usize, end: usize) -> Option<Place>
     requires order { from ≤ end }
     requires within { end ≤ length bytes.now }
     ensures some { IfSome result (λ place. (place.at ≤ end)
-        × (is_version (slice_range bytes.now from end) ≡ can_rest_follow_place bytes.now place end)) }
+        × (is_version (slice_range bytes.now from end)
+        ≡ can_rest_follow_place bytes.now place end)) }
     ensures none { IfNone result (is_version (slice_range bytes.now from end) ≡ false) }
 {
     let (class, len) = first_token(None, &bytes[from..end]);

@@ -4,7 +4,7 @@
 
 ghost use Rattle.std.specs.Prelude.{◌≡◌, ◌<◌, Some, false, [], ◌∷◌, drop, if◌then◌else◌};
 ghost use Rattle.version_core.specs.Token.{is_before_hash, is_before_revision, is_component, is_suffix};
-ghost use Rattle.version_core.specs.Order.{class_rank, is_last_token_class, token_cmp, tokens, tokens_after};
+ghost use Rattle.version_core.specs.Order.{class_rank, is_last_token_class, token_cmp, tokens, tokens_after_class};
 ghost use Rattle.version_core.specs.Matching.{fits};
 ghost use Rattle.version_core.specs.Reading.{bytes_left, token_view, tokens_left, unread_len};
 
@@ -147,7 +147,8 @@ impl<'a> Tokens<'a> {
     /// The tokens of the text after a token of some class, or between the digits of a hash.
     pub fn behind(class: Class, rest: &'a [u8]) -> Tokens<'a>
         ensures { tokens_left result
-            ≡ tokens_after (Some class) (unread_len (Some class) rest.entry.now) rest.entry.now }
+            ≡ tokens_after_class (Some class) (unread_len
+            (Some class) rest.entry.now) rest.entry.now }
     {
         Tokens {
             rest,
@@ -159,8 +160,10 @@ impl<'a> Tokens<'a> {
     /// one.
     pub fn next(&mut self) -> TokenAt<'a>
         ensures tokens { tokens_left self.old
-            ≡ token_view result ∷ (if is_last_token_class result.class then [] else tokens_left self.new) }
-        ensures shorter { is_last_token_class result.class ≡ false → bytes_left self.new < bytes_left self.old }
+            ≡ token_view result ∷
+            (if is_last_token_class result.class then [] else tokens_left self.new) }
+        ensures shorter { is_last_token_class result.class ≡ false
+            → bytes_left self.new < bytes_left self.old }
     {
         let rest = self.unread_text();
         let lexeme = lexeme_at(self.last, rest);

@@ -1,7 +1,7 @@
 //! What the next word of a command line can be, and what a word asks for if an option can be there:
 //! help, or the version of the program. The rules are in `docs/commands.md`, "Words" and "Help".
 ghost use Rattle.std.specs.Prelude.{◌≡◌, ◌+◌, ◌≤◌, IsTrue, length, take};
-ghost use Rattle.words_core.specs.Grammar.{help_or_version_option_at, is_option, next_after, next_word, awaited_rule, can_be_option};
+ghost use Rattle.words_core.specs.Grammar.{help_or_version_option_at, is_option, next_word_of_command_line, next_word, awaited_rule, can_be_option};
 ghost use Rattle.words_core.specs.Options.{options_of};
 ghost use Rattle.words_core.specs.declared.next.NextWord.TheVariants.{OptionOrCommand, OptionOrOperand};
 
@@ -105,9 +105,9 @@ fn awaited_rule(applet: Applet, word: &[u8]) -> Option<ValueRule>
 }
 
 /// What the word after the first `count` words of a command line can be.
-pub(crate) fn next_after(words: &Words, count: usize) -> NextWord
+pub(crate) fn next_word_of_command_line(words: &Words, count: usize) -> NextWord
     requires { count ≤ length words.now }
-    ensures { result ≡ next_after (take count words.now) }
+    ensures { result ≡ next_word_of_command_line (take count words.now) }
 {
     let mut next = NextWord::OptionOrCommand;
     for i in 0..count {
@@ -123,7 +123,7 @@ pub(crate) fn help_or_version_option_at(words: &Words, place: u32) -> Option<App
     ensures { result ≡ help_or_version_option_at words.now place }
 {
     let before = place as usize - 1;
-    if !next_after(words, before).can_be_option() {
+    if !next_word_of_command_line(words, before).can_be_option() {
         return None;
     }
     if before == words.len() {
