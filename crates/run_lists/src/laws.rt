@@ -126,7 +126,7 @@ pub fn a_root_that_commits_nothing_keeps_its_state()
 
 /// No file is ever temporarily missing: at each moment of a run a name has its old bytes, its
 /// recovered ones or the outcome's. The same holds along runs that follow each other without a
-/// crash. This excludes the intent's name and those of drafts, and needs no file to be synced.
+/// crash. This excludes the intent's name and temporary names, and needs no file to be synced.
 pub fn each_name_keeps_old_recovered_or_new_bytes()
     // At each moment of a run.
     ensures moments { (v m : TreeState) (run : Run) (q : List ℕ) → IsRunFrom v run
