@@ -122,7 +122,7 @@ fn fronts_of(alloc: Global, rows: &[Words]) -> Result<Vec<Front>, AllocError> {
 // ---- the packages after the change
 
 /// The packages after a change, of which the added ones have these fronts. None if a package is
-/// bad, absent or not in order.
+/// bad, absent or not in the order of names.
 fn members_of<'a>(
     alloc: Global,
     db: &'a Db<'a>,
@@ -145,7 +145,7 @@ fn members_of<'a>(
 }
 
 /// Adds the installed package with this name to the packages after the change. False if there is
-/// none, or it is not in order.
+/// none, or it is not in the order of names.
 fn add_named<'a>(members: &mut Members<'a>, db: &Db<'a>, name: &[u8]) -> Result<bool, AllocError> {
     for i in 0..db.len() {
         // `PhantomData` serves the borrow checker alone.
@@ -157,7 +157,7 @@ fn add_named<'a>(members: &mut Members<'a>, db: &Db<'a>, name: &[u8]) -> Result<
 }
 
 /// Adds the added package with this front to the packages after the change. False if there is no
-/// front, or the package is bad or not in order.
+/// front, or the package is bad or not in the order of names.
 fn add_next<'a>(
     alloc: Global,
     members: &mut Members<'a>,

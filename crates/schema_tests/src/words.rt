@@ -81,14 +81,14 @@ pub(crate) fn add_reads(
             add_word(answer, b"integer ")?;
             add_number(alloc, answer, u128::from(number))?;
         }
-        Err(cause) => add_fault(cause, value, b"integer", answer)?,
+        Err(cause) => add_fault_unless_wrong_kind(cause, value, b"integer", answer)?,
     }
     match adb.blob(value) {
         Ok(bytes) => {
             add_word(answer, b"blob ")?;
             answer.extend_from_slice(bytes)?;
         }
-        Err(cause) => add_fault(cause, value, b"blob", answer)?,
+        Err(cause) => add_fault_unless_wrong_kind(cause, value, b"blob", answer)?,
     }
     add_runs(alloc, adb, value, answer)
 }
@@ -102,7 +102,7 @@ fn add_runs(
 ) -> Result<(), AllocError> {
     match adb.arr(value) {
         Ok(found) => add_entries(alloc, found, b"array", answer)?,
-        Err(cause) => add_fault(cause, value, b"array", answer)?,
+        Err(cause) => add_fault_unless_wrong_kind(cause, value, b"array", answer)?,
     }
     match adb.obj::<2>(value) {
         Ok(found) => {
@@ -111,7 +111,7 @@ fn add_runs(
             add_value(alloc, found.field(1), answer)?;
             add_value(alloc, found.field(2), answer)
         }
-        Err(cause) => add_fault(cause, value, b"object", answer),
+        Err(cause) => add_fault_unless_wrong_kind(cause, value, b"object", answer),
     }
 }
 
@@ -133,7 +133,7 @@ fn add_entries(
 }
 
 /// Adds a fault of a reader, unless it is that the word is of another kind.
-fn add_fault(
+fn add_fault_unless_wrong_kind(
     cause: Cause,
     value: Val,
     what: &[u8],
