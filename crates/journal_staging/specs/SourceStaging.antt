@@ -18,6 +18,7 @@ pub record IsFaultExplainedByCounts {T F : Type 0} (failed : F) (before now : Co
   pub disk : IsErrOf result failed → IsFaultCountedWithCause before now
   -- with any other result no fault was counted
   pub kept : OnOk result (CountsNoNewFault before now)
+  -- with any other error no fault was counted
   pub others : IfErr result (λ fault. (fault ≡ failed → ⊥) → CountsNoNewFault before now)
 
 -- A call that stages the file of one write, and changes the stage to `next`. `Denotes` says which bytes
