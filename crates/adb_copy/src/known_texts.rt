@@ -102,6 +102,7 @@ impl KnownTexts {
     /// The word in the draft of the text of a word, if it is known: by this word, or by another one
     /// with an equal text.
     fn known_word(&self, adb: Adb<'_>, word: Val) -> Option<u32>
+        // Each remembered range of the payload has its period.
         requires { All (HasPeriod (payload_of adb)) self.now.overlaps.ranges.items }
         ensures { IfSome result (IsRememberedTextWord (payload_of adb.entry) self.now.words word) }
     {
@@ -116,8 +117,10 @@ impl KnownTexts {
 
     /// The word in the draft of an equal text, if its fingerprint finds one.
     fn word_of_equal(&mut self, adb: Adb<'_>, word: Val) -> Result<Option<u32>, AllocError>
+        // Each remembered range of the payload has its period.
         requires { All (HasPeriod (payload_of adb)) self.old.overlaps.ranges.items }
         ensures words { self.new.words ≡ self.old.words }
+        // Each remembered range of the payload has its period.
         ensures ranges { OnOk result
             (All (HasPeriod (payload_of adb.entry)) self.new.overlaps.ranges.items) }
         ensures known { IfOk result (λ known. IfSome known

@@ -122,6 +122,7 @@ impl Sums {
 
     /// The fingerprint of a text, if the payload is summed.
     pub(crate) fn fingerprint_of(&self, payload: &[u8], text: TextPlace) -> Option<u64>
+        // The text is within the payload.
         requires { text.from + text.len ≤ length payload.now }
     {
         let front = self.sum_before(payload, text.from)?;

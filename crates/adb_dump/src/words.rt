@@ -18,6 +18,7 @@ use adb_view::{Adb, Arr, Val, entry_word};
 /// The words of an object's entries, those past its fields too; NULL has none.
 #[tactic(auto, using(crate::proofs::WordReads::object_value_is, crate::proofs::WordReads::object_sound, adb_fields::proofs::FieldReads::object_runs, adb_fields::proofs::FieldReads::read_ok))]
 pub(crate) fn field_words<'a>(adb: Adb<'a>, which: Which, word: Val) -> Arr<'a>
+    // The word has a plain value of its kind.
     requires { is_sound (payload_of adb) (Kinds.Obj which) word ≡ true }
     ensures sound { fields_sound (payload_of adb.entry) (table which) (array_entries result)
         ≡ true }
@@ -74,6 +75,7 @@ fn are_null(adb: Adb<'_>, fields: &[Field], words: Arr<'_>) -> bool
 /// Whether a word is Null as an integer: only NULL is.
 #[tactic(auto, using(crate::proofs::Nulls::null_test, crate::proofs::Nulls::int_is_null))]
 fn is_null_int(adb: Adb<'_>, word: Val) -> bool
+    // The word has a plain value of its kind.
     requires { is_sound (payload_of adb) Kinds.Int word ≡ true }
     ensures { result ≡ is_null (value_at (payload_of adb.entry) Kinds.Int word) }
 {

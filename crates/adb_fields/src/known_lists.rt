@@ -61,9 +61,11 @@ impl<'a> KnownLists<'a> {
         alloc: Global,
         list: Val,
     ) -> Result<Option<Pair>, AllocError>
+        // The word has a plain value of its kind.
         requires { is_sound (payload_of self.old.adb) (Kinds.ObjArr self.old.which) list ≡ true }
         ensures value { IfOk result (λ pair. pair
             ≡ repeated_name_pair_at (payload_of self.old.adb) self.old.which list) }
+        // The remembered lists are still those of objects of this table in this payload.
         ensures lists { AreRememberedListsOf self.old.adb self.old.which self.new }
     {
         let objects = objects_word(self.adb, self.which, list);
@@ -95,8 +97,10 @@ fn name_twice_in_list(
     which: Which,
     objects: Arr<'_>,
 ) -> Result<Option<Pair>, AllocError>
+    // Each word has a plain value of its kind.
     requires sound { are_all_sound (payload_of adb) (Kinds.Obj which) (array_entries objects)
         ≡ true }
+    // The first field of the table is a text, the name.
     requires kind { kind_at which NAME_INDEX ≡ Some Kinds.Text }
     ensures { IfOk result (λ pair. pair
         ≡ first_repeat (map name_of (plains_at (payload_of adb.entry) (Kinds.Obj which)

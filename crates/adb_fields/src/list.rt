@@ -44,6 +44,7 @@ impl<'a, V: View<'a>> List<'a, V> {
 
     /// The list of the entries with these words.
     pub fn of(adb: Adb<'a>, entries: Arr<'a>) -> List<'a, V>
+        // Each word has a plain value of its kind.
         requires { are_all_sound (payload_of adb) V.kind (array_entries entries) ≡ true }
         ensures { list_value result
             ≡ array_at (payload_of adb.entry) V.kind (array_entries entries.entry) }
@@ -67,6 +68,7 @@ impl<'a, V: View<'a>> List<'a, V> {
     /// The entry at this position, counted from 1.
     #[tactic(auto, using(crate::proofs::FieldReads::entry_count, crate::proofs::FieldReads::entry_sound, crate::proofs::FieldReads::entry_value))]
     pub fn get(&self, i: usize) -> V
+        // The entries are counted from 1.
         requires from { 1 ≤ i }
         requires to { i ≤ count_of (entries_in (list_value self.now)) }
         ensures { V.shows result ≡ entry_in (list_value self.now) (i - 1) }

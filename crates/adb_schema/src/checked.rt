@@ -44,10 +44,13 @@ impl<'a> Checked<'a> {
     /// `Bad` with the cause `BadText` and the number of the first field that breaks its rule, depth
     /// first and field by field. A missing field counts as Null. Or `Memory`.
     pub fn new(alloc: Global, shaped: Shaped<'a>) -> Result<Checked<'a>, ReadFault>
+        // The error is the first failed test, or out of memory.
         ensures bad { IfErr result (λ fault.
             IsReadFault fault (text_fault (table_of shaped.entry) (shaped_value shaped.entry))) }
+        // On Ok, none of these tests failed.
         ensures sound { IfOk result (λ _.
             text_fault (table_of shaped.entry) (shaped_value shaped.entry) ≡ None) }
+        // The table at the root is unchanged.
         ensures which { IfOk result (λ checked. table_of_checked checked ≡ table_of shaped.entry) }
         ensures value { IfOk result (λ checked. checked_value checked ≡ shaped_value shaped.entry) }
         ensures payload { IfOk result (λ checked. adb_of checked.shaped ≡ adb_of shaped.entry) }
@@ -129,6 +132,7 @@ impl<'a> IndexView<'a> {
 
     /// The view of a word that is an index whose texts obey their rules.
     pub fn of(adb: Adb<'a>, word: Val) -> IndexView<'a>
+        // The word has a plain value of its kind.
         requires sound { is_sound (payload_of adb) (Kinds.Obj Tables.Index) word ≡ true }
         requires texts { is_none (text_fault Tables.Index
             (value_at (payload_of adb) (Kinds.Obj Tables.Index) word)) ≡ true }
@@ -159,6 +163,7 @@ impl<'a> IndexView<'a> {
     /// The word of the index in the payload.
     pub fn word(&self) -> Val
         ensures is { result ≡ self.now.word }
+        // The word has a plain value of its kind.
         ensures sound { is_sound (payload_of self.now.adb) (Kinds.Obj Tables.Index) result
             ≡ true }
     {
@@ -250,6 +255,7 @@ impl<'a> IdbView<'a> {
         requires { i < count_of (entries_in (entry_in (idb_value self.now) IDB_PACKAGES)) }
         ensures value { package_value result
             ≡ entry_in (entry_in (idb_value self.now) IDB_PACKAGES) i }
+        // The payload of the result is the one from which it was read.
         ensures lent { payload_of result.adb ≡ payload_of self.now.adb }
     {
         let entries = objects_field(

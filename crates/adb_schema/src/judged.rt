@@ -100,6 +100,7 @@ impl<'a> Judged<'a> {
     pub fn keeps(&mut self, rule: TextRule, word: Val, text: &[u8]) -> Result<bool, AllocError>
         requires { text.now ≡ text_at (payload_of self.old.adb) word }
         ensures value { IfOk result (λ kept. kept ≡ keeps_text_rule rule text.now) }
+        // The payload is unchanged.
         ensures payload { self.new.adb ≡ self.old.adb }
     {
         if text.len() <= LONGEST_SHORT_TEXT {
@@ -132,6 +133,7 @@ impl<'a> Judged<'a> {
     ) -> Result<bool, AllocError>
         requires { text.now ≡ text_at (payload_of self.old.adb) word }
         ensures value { IfOk result (λ kept. kept ≡ keeps_text_rule rule text.now) }
+        // The payload is unchanged.
         ensures payload { self.new.adb ≡ self.old.adb }
     {
         match rule {
@@ -145,6 +147,7 @@ impl<'a> Judged<'a> {
     fn is_version_or_empty(&mut self, word: Val, text: &[u8]) -> Result<bool, AllocError>
         requires { text.now ≡ text_at (payload_of self.old.adb) word }
         ensures value { IfOk result (λ is. is ≡ is_version_or_empty text.now) }
+        // The payload is unchanged.
         ensures payload { self.new.adb ≡ self.old.adb }
     {
         if text.is_empty() {
@@ -157,6 +160,7 @@ impl<'a> Judged<'a> {
     fn is_version(&mut self, word: Val, text: &[u8]) -> Result<bool, AllocError>
         requires { text.now ≡ text_at (payload_of self.old.adb) word }
         ensures value { IfOk result (λ is. is ≡ is_version text.now) }
+        // The payload is unchanged.
         ensures payload { self.new.adb ≡ self.old.adb }
     {
         match self.adb.blob_range(word) {

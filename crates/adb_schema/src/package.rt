@@ -319,9 +319,11 @@ impl<'a> PackageView<'a> {
 
     /// The view of a word that is sound as a package, read from this payload.
     pub(crate) fn at(adb: Adb<'a>, word: Val) -> PackageView<'a>
+        // The word has a plain value of its kind.
         requires { is_sound (payload_of adb) (Kinds.Obj Tables.Package) word ≡ true }
         ensures value { package_value result
             ≡ value_at (payload_of adb.entry) (Kinds.Obj Tables.Package) word }
+        // The payload of the result is the one from which it was read.
         ensures lent { payload_of result.adb ≡ payload_of adb.entry }
     {
         PackageView { adb, word }
@@ -337,6 +339,7 @@ impl<'a> PackageView<'a> {
     /// The word of the package in the payload.
     pub fn word(&self) -> Val
         ensures is { result ≡ self.now.word }
+        // The word has a plain value of its kind.
         ensures sound { is_sound (payload_of self.now.adb) (Kinds.Obj Tables.Package) result
             ≡ true }
     {

@@ -108,6 +108,7 @@ impl<'a> PkgInfo<'a> {
     /// The word of the information in the payload.
     pub fn word(&self) -> Val
         ensures is { result ≡ self.now.word }
+        // The word has a plain value of its kind.
         ensures sound { is_sound (payload_of self.now.adb) (Kinds.Obj Tables.PkgInfo) result
             ≡ true }
     {

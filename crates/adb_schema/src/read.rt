@@ -121,10 +121,13 @@ pub fn repeated(alloc: Global, checked: &Checked<'_>) -> Result<Option<Cause>, A
 /// that is no root.
 #[tactic(auto, unfolding(crate::specs::Soundness::container_fault_except_contents, crate::specs::Soundness::payload_in))]
 pub fn read_adb<'a>(alloc: Global, bytes: &'a [u8], which: Which) -> Result<Checked<'a>, ReadFault>
+    // The error is the first failed test, or out of memory.
     ensures bad { IfErr result (λ fault. IsReadFault fault
         (container_fault_except_contents which bytes.entry.now)) }
+    // On Ok, none of these tests failed.
     ensures sound { IfOk result (λ _. container_fault_except_contents which bytes.entry.now
         ≡ None) }
+    // The values have the wanted table at their root.
     ensures table { IfOk result (λ checked. table_of_checked checked ≡ which) }
     ensures payload { IfOk result (λ checked. payload_of (adb_of checked.shaped)
         ≡ payload_in bytes.entry.now) }
@@ -158,8 +161,10 @@ fn read_first<'a>(
     which: Which,
 ) -> Result<Checked<'a>, ReadFault>
     requires { blocks.old.last ≡ None }
+    // The error is the first failed test, or out of memory.
     ensures bad { IfErr result
         (λ fault. IsReadFault fault (first_block_fault which (block_stream_from blocks.old))) }
+    // The values have the wanted table at their root.
     ensures table { IfOk result (λ checked. table_of_checked checked ≡ which) }
     ensures behind { IfOk result
         (λ checked. IsAfterFirstBlock which (payload_of (adb_of checked.shaped)) (block_stream_from
@@ -178,9 +183,11 @@ fn check_payload<'a>(
     payload: &'a [u8],
     which: Which,
 ) -> Result<Checked<'a>, ReadFault>
+    // The error is the first failed test, or out of memory.
     ensures bad { IfErr result
         (λ fault. IsReadFault fault (payload_fault which payload.entry.now)) }
     ensures sound { IfOk result (λ _. payload_fault which payload.entry.now ≡ None) }
+    // The values have the wanted table at their root.
     ensures table { IfOk result (λ checked. table_of_checked checked ≡ which) }
     ensures payload { IfOk result (λ checked. payload_of (adb_of checked.shaped)
         ≡ payload.entry.now) }

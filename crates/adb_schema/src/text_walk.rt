@@ -103,6 +103,7 @@ impl<'a> Surroundings<'a> {
 
     /// The surroundings of an object's fields, from those of the object.
     pub(crate) fn inside(&self, adb: Adb<'a>, which: Which, object: Val) -> Surroundings<'a>
+        // The word has a plain value of its kind.
         requires { is_sound (payload_of adb) (Kinds.Obj which) object ≡ true }
         ensures { surroundings_of result
             ≡ surroundings_of_fields (table_number which) (surroundings_of self.now)
@@ -167,6 +168,7 @@ impl<'a> Surroundings<'a> {
 
 /// Whether a file has contents: no target, and a size above 0.
 fn has_contents(adb: Adb<'_>, file: Val) -> bool
+    // The word has a plain value of its kind.
     requires { is_sound (payload_of adb) (Kinds.Obj Tables.File) file ≡ true }
     ensures { result
         ≡ is_file_with_contents (value_at (payload_of adb.entry) (Kinds.Obj Tables.File) file) }
@@ -351,6 +353,7 @@ fn check_entries<'a>(
 
 /// Whether an entry is the same word as the one before it.
 fn is_same_as_before(entries: Arr<'_>, i: usize) -> bool
+    // The index is one of an entry.
     requires { i < length (array_entries entries) }
     ensures { OnTrue result (IsSameWordAsPrevious (array_entries entries.entry) i) }
 {

@@ -73,6 +73,7 @@ impl<'a> Arr<'a> {
 
     /// The entry at this position, which counts from 1.
     pub fn get(&self, i: usize) -> Val
+        // The entries are counted from 1.
         requires from { 1 ≤ i }
         requires to { i ≤ length (array_entries self.now) }
         ensures { result ≡ entry_at (array_entries self.now) i }
@@ -101,6 +102,7 @@ impl<'a, const N: usize> Obj<'a, N> {
 
     /// The entry of the field with this number, which counts from 1; NULL past the last entry.
     pub fn field(&self, i: usize) -> Val
+        // The entries are counted from 1.
         requires from { 1 ≤ i }
         requires to { i ≤ N }
         ensures { result ≡ entry_at (object_entries self.now) i }

@@ -28,6 +28,7 @@ impl<'a> Shaped<'a> {
 
     /// The payload that was walked as an object of this table, without a fault.
     pub(crate) fn of(adb: Adb<'a>, which: Which) -> Shaped<'a>
+        // The root of the payload has a plain value of its kind.
         requires sound { is_sound (payload_of adb) (Kinds.Obj which) (root_word_of_payload
             (payload_of adb))
             ≡ true }

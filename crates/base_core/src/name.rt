@@ -145,6 +145,7 @@ impl Names {
     /// Adds a name at the end. A refused push drops it and leaves the list as it was.
     pub fn push(&mut self, name: Name) -> Result<(), AllocError>
         ensures ok { OnOk result (self.new ≡ self.old ++ name ∷ []) }
+        // An error leaves the value unchanged.
         ensures err { OnErr result (self.new ≡ self.old) }
     {
         self.names.push(name)?;
@@ -174,6 +175,7 @@ impl Names {
 
     /// The name at a place, counted from 0.
     pub fn get(&self, i: usize) -> &Name
+        // The index is one of the list.
         requires { i < length self.now }
         ensures { slice_get self.now i ≡ Some result.now }
     {

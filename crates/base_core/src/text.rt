@@ -76,6 +76,7 @@ impl Words {
     pub fn push(&mut self, word: &[u8]) -> Result<(), AllocError>
         requires { length self.old < 4294967294 }
         ensures ok { OnOk result (self.new ≡ self.old ++ word.now ∷ []) }
+        // An error leaves the value unchanged.
         ensures err { OnErr result (self.new ≡ self.old) }
     {
         let text = Text::of(self.alloc, word)?;
@@ -100,6 +101,7 @@ impl Words {
 
     /// The word at an index, counted from 0 (the places in usage errors count from 1).
     pub fn word(&self, i: usize) -> &[u8]
+        // The index is one of the list.
         requires { i < length self.now }
         ensures { slice_get self.now i ≡ Some result.now }
     {

@@ -210,6 +210,7 @@ pub fn read_all<T: Tree>(
 ) -> Result<Option<Vec<u8>>, TreeFault>
     ensures answer { IfOk result (λ found. IfObservable (T.history tree.old) (λ v.
         bytes_in found ≡ files_of v name.now)) }
+    // The tree is only read: no file changes, no I/O error is hidden, and no call is a misuse.
     ensures tree { OnlyReads TreeFault.Disk (T.history tree.old) (T.history tree.new)
         (T.counts tree.old) (T.counts tree.new) result }
 {
@@ -239,10 +240,12 @@ pub fn append_file_to<T: Tree>(
     size: u64,
     bytes: &mut Vec<u8>,
 ) -> Result<(), TreeFault>
+    // If the tree is observable, the file has this length.
     requires { IfObservable (T.history tree.old) (λ v.
         Some size ≡ option_map length (files_of v name.now)) }
     ensures added { OnOk result (AppendsReadBytes (T.history tree.old) name.now 0 size
         bytes.old.items bytes.new.items) }
+    // The tree is only read: no file changes, no I/O error is hidden, and no call is a misuse.
     ensures tree { OnlyReads TreeFault.Disk (T.history tree.old) (T.history tree.new)
         (T.counts tree.old) (T.counts tree.new) result }
 {
@@ -267,6 +270,7 @@ fn read_some<T: Tree>(
     requires { IfObservable (T.history tree.old) (CanRead name.now at len) }
     ensures added { OnOk result (AppendsReadBytes (T.history tree.old) name.now at len
         bytes.old.items bytes.new.items) }
+    // The tree is only read: no file changes, no I/O error is hidden, and no call is a misuse.
     ensures tree { OnlyReads TreeFault.Disk (T.history tree.old) (T.history tree.new)
         (T.counts tree.old) (T.counts tree.new) result }
 {

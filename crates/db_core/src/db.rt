@@ -75,9 +75,11 @@ impl<'a> Db<'a> {
     ///
     /// `Bad` with the cause of the first test that fails, or `Memory`.
     pub fn read(alloc: Global, bytes: &'a [u8]) -> Result<Db<'a>, ReadFault>
+        // The error is the first failed test, or out of memory.
         ensures bad { IfErr result
             (λ fault. IsReadFault fault
             (container_fault_except_contents Tables.Idb bytes.entry.now)) }
+        // On Ok, none of these tests failed.
         ensures sound { IfOk result
             (λ _. container_fault_except_contents Tables.Idb bytes.entry.now ≡ None) }
         ensures packages { IfOk result (λ db. packages_of db
@@ -142,6 +144,7 @@ impl<'a> Db<'a> {
     pub fn find(&self, name: &[u8]) -> Option<usize>
         ensures found { result
             ≡ position_from (is_package_named name.now) 0 (packages_of self.now) }
+        // An index in the result is one of the list.
         ensures within { IfSome result (λ i. i < length (packages_of self.now)) }
     {
         place_of(&self.names, name)
@@ -151,6 +154,7 @@ impl<'a> Db<'a> {
     /// exactly if no package lists it. It searches all that the database lists.
     pub fn owner_of(&self, path: &Name) -> Option<usize>
         ensures found { result ≡ position_from (lists_path path.now) 0 (packages_of self.now) }
+        // An index in the result is one of the list.
         ensures within { IfSome result (λ i. i < length (packages_of self.now)) }
     {
         match &self.idb {
@@ -179,6 +183,7 @@ pub(crate) fn package_of_database<'a>(idb: &Option<IdbView<'a>>, i: usize) -> Pa
     requires { i < length (packages_of_database_value (option_map idb_value idb.now)) }
     ensures value { slice_get (packages_of_database_value (option_map idb_value idb.now)) i
         ≡ Some (package_value result) }
+    // The payload of the result is the one from which it was read.
     ensures lent { payload_of result.adb ≡ payload_of_database idb.now }
 {
     match idb {
@@ -217,6 +222,7 @@ pub fn open_idb(payload: &[u8]) -> IdbView<'_>
 /// The view of the database in a payload whose head and root pass their tests.
 fn open_root(payload: &[u8]) -> IdbView<'_>
     requires head { is_none (payload_head_fault payload.now) ≡ true }
+    // The root of the payload has the plain value of a database.
     requires sound { is_sound payload.now (Kinds.Obj Tables.Idb)
         (root_word_of_payload payload.now) ≡ true }
     ensures { idb_value result ≡ root_value Tables.Idb payload.now }
@@ -230,6 +236,7 @@ fn open_root(payload: &[u8]) -> IdbView<'_>
 
 /// The package at a place of a list, counted from 0.
 fn package_at<'a>(packages: &List<'a, PackageView<'a>>, i: usize) -> PackageView<'a>
+    // The index is one of an entry of the list.
     requires { i < count_of (entries_in (list_value packages.now)) }
     ensures { package_value result ≡ entry_in (list_value packages.now) i }
 {
@@ -243,6 +250,7 @@ fn package_at<'a>(packages: &List<'a, PackageView<'a>>, i: usize) -> PackageView
 
 /// Whether the package at a place of a list, counted from 0, lists this path.
 fn is_lister<'a>(packages: &List<'a, PackageView<'a>>, i: usize, path: &[u8]) -> bool
+    // The index is one of an entry of the list.
     requires { i < count_of (entries_in (list_value packages.now)) }
     ensures { result ≡ lists_path path.now (entry_in (list_value packages.now) i) }
 {
@@ -254,6 +262,7 @@ fn is_lister<'a>(packages: &List<'a, PackageView<'a>>, i: usize, path: &[u8]) ->
 fn find_lister<'a>(packages: &List<'a, PackageView<'a>>, path: &[u8]) -> Option<usize>
     ensures found { result ≡ position_from (lists_path path.now) 0
         (list_of (entries_in (list_value packages.now))) }
+    // An index in the result is one of the list.
     ensures within { IfSome result (λ i. i < count_of (entries_in (list_value packages.now))) }
 {
     for i in 0..packages.len() {

@@ -118,6 +118,7 @@ impl<'a> Members<'a> {
     /// Out of memory.
     pub fn stays(&mut self, i: usize) -> Result<(), AllocError>
         requires at { i < length (packages_of_old_database self.old) }
+        // The name is after those of all members so far.
         requires behind { (pkg : Plain) → slice_get (packages_of_old_database self.old) i ≡ Some pkg
             → is_after_members (package_name pkg) (members_of self.old) ≡ true }
         requires few { length (members_of self.old) < MOST_MEMBERS }
@@ -125,6 +126,7 @@ impl<'a> Members<'a> {
             → slice_get (packages_of_old_database self.old) i ≡ Some pkg
             → members_of self.new ≡ members_of self.old ++ member_of_kept pkg ∷ []) }
         ensures err { OnErr result (members_of self.new ≡ members_of self.old) }
+        // The packages of the old database are unchanged.
         ensures before { packages_of_old_database self.new ≡ packages_of_old_database self.old }
     {
         let view = package_of_database(&self.db.idb, i);
@@ -138,6 +140,7 @@ impl<'a> Members<'a> {
     ///
     /// Out of memory.
     pub fn push_added_in_pieces(&mut self, contents: &Contents<'a>) -> Result<(), AllocError>
+        // The name is after those of all members so far.
         requires behind { is_after_members (package_name (value_of_contents contents.now))
             (members_of self.old) ≡ true }
         requires few { length (members_of self.old) < MOST_MEMBERS }
@@ -145,6 +148,7 @@ impl<'a> Members<'a> {
             ++ member_of_added (value_of_contents contents.now)
             (sha256 (payload_of_contents contents.now)) ∷ []) }
         ensures err { OnErr result (members_of self.new ≡ members_of self.old) }
+        // The packages of the old database are unchanged.
         ensures before { packages_of_old_database self.new ≡ packages_of_old_database self.old }
     {
         contents.values_keep_their_rules();
@@ -172,6 +176,7 @@ impl<'a> Members<'a> {
     pub fn find(&self, name: &[u8]) -> Option<usize>
         ensures found { (i : ℕ) (m : Member) → slice_get (members_of self.now) i ≡ Some m
             → is_found_place i result ≡ bytes_eq (member_name m) name.now }
+        // An index in the result is one of the list.
         ensures within { IfSome result (λ i. i < length (members_of self.now)) }
     {
         let at = self.count_before(name);
@@ -186,7 +191,9 @@ impl<'a> Members<'a> {
 
     /// How many packages have names before this one.
     fn count_before(&self, name: &[u8]) -> usize
+        // The result is at most the number of elements.
         ensures within { result ≤ length self.now.entries.items }
+        // All elements before this index are before the wanted one, and none from it on.
         ensures point { IsPartitionPoint
             (λ e. precedes (member_name (member_of_entry e)) name.now ≡ true)
             (λ e. precedes (member_name (member_of_entry e)) name.now ≡ false)

@@ -78,6 +78,7 @@ impl<'a> Dep<'a> {
 
     /// This dependency with its version and operator replaced.
     pub(crate) fn with_constraint(self, version: Version<'a>, op: Op) -> Dep<'a>
+        // The operator can be written as a text.
         requires { IsTrue (is_some (operator_text op)) }
         ensures { dependency result ≡ with_constraint (dependency self.entry) version.entry op }
     {
@@ -116,6 +117,7 @@ pub fn operator_of(text: &[u8]) -> Option<Op>
 
 /// The text of an operator; it must have one.
 pub fn operator_text(op: Op) -> &'static [u8]
+    // The operator can be written as a text.
     requires { IsTrue (is_some (operator_text op)) }
     ensures { operator_text op ≡ Some result.now }
 {

@@ -85,6 +85,7 @@ fn dependency_from_operator<'a>(dep: Dep<'a>, text: &'a [u8]) -> Option<Dep<'a>>
 /// Reads the version after an operator, and what follows it.
 #[tactic(auto, unfolding(crate::specs::Reading::dependency_from_version))]
 fn dependency_from_version<'a>(dep: Dep<'a>, op: Op, text: &'a [u8]) -> Option<Dep<'a>>
+    // The operator can be written as a text.
     requires { IsTrue (is_some (operator_text op)) }
     ensures { option_map dependency result
         ≡ dependency_from_version (dependency dep.entry) op text.entry.now }
@@ -204,6 +205,7 @@ pub fn append_dep(text: &mut Vec<u8>, dep: &Dep<'_>) -> Result<(), AllocError>
 #[tactic(auto, using(crate::proofs::Prefixes::len_at))]
 pub fn name_len(text: &[u8]) -> usize
     ensures len { result ≡ prefix_len is_name_byte text.now }
+    // The result is at most the number of elements.
     ensures within { result ≤ length text.now }
 {
     name_end(text).unwrap_or(text.len())
@@ -220,6 +222,7 @@ fn name_end(text: &[u8]) -> Option<usize>
 #[tactic(auto, using(crate::proofs::Prefixes::len_at))]
 pub fn tag_len(text: &[u8]) -> usize
     ensures len { result ≡ prefix_len is_tag_byte text.now }
+    // The result is at most the number of elements.
     ensures within { result ≤ length text.now }
 {
     tag_end(text).unwrap_or(text.len())
@@ -236,6 +239,7 @@ fn tag_end(text: &[u8]) -> Option<usize>
 #[tactic(auto, using(crate::proofs::Prefixes::len_at))]
 pub fn operator_len(text: &[u8]) -> usize
     ensures len { result ≡ prefix_len is_operator_byte text.now }
+    // The result is at most the number of elements.
     ensures within { result ≤ length text.now }
 {
     operator_end(text).unwrap_or(text.len())
@@ -259,6 +263,7 @@ fn is_operator_byte(byte: u8) -> bool
 #[tactic(auto, using(crate::proofs::Prefixes::len_at))]
 pub fn len_before_at_sign(text: &[u8]) -> usize
     ensures len { result ≡ prefix_len is_not_at_sign text.now }
+    // The result is at most the number of elements.
     ensures within { result ≤ length text.now }
 {
     at_sign(text).unwrap_or(text.len())
@@ -275,6 +280,7 @@ fn at_sign(text: &[u8]) -> Option<usize>
 #[tactic(auto, using(crate::proofs::Prefixes::len_at))]
 pub fn blank_len(text: &[u8]) -> usize
     ensures len { result ≡ prefix_len is_blank text.now }
+    // The result is at most the number of elements.
     ensures within { result ≤ length text.now }
 {
     blank_end(text).unwrap_or(text.len())

@@ -86,6 +86,7 @@ impl World {
     /// nothing.
     pub fn add(&mut self, dep: &Dep<'_>) -> Result<(), AllocError>
         ensures ok { OnOk result (self.new ≡ with_entry (dependency dep.now) self.old) }
+        // An error leaves the value unchanged.
         ensures err { OnErr result (self.new ≡ self.old) }
     {
         let entry = Entry::of(self.alloc, dep)?;
@@ -130,6 +131,7 @@ impl World {
 
     /// An entry, by its index.
     pub fn entry(&self, i: usize) -> Dep<'_>
+        // The index is one of the list.
         requires { i < length self.now }
         ensures { slice_get self.now i ≡ Some (dependency result) }
     {

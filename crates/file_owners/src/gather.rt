@@ -78,6 +78,7 @@ fn add_folder<'a>(
     folders: &List<'a, DirInfo<'a>>,
     i: usize,
 ) -> Result<(), AllocError>
+    // The index is one of an entry of the list.
     requires { i < count_of (entries_in (list_value folders.now)) }
     ensures { IfOk result (λ _. (m : Member) → map claim_seen claims.new.items
         ≡ claims_with_listings (map claim_seen claims.old.items)

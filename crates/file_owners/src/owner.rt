@@ -61,6 +61,7 @@ impl<'m, 'a> Contest for Claimants<'m, 'a> {
 fn member_beats(members: &Members<'_>, named: &[Vec<u32>], one: u32, other: u32) -> bool
     requires one { one < length (members_of members.now) }
     requires other { other < length (members_of members.now) }
+    // `named` has, for each member, the places of the members that it names.
     requires each { ArePlacesNamedByEachMember (members_of members.now) (map
         (λ v. v.items) named.now) }
     ensures { result ≡ member_beats (members_of members.now) one other }

@@ -115,6 +115,7 @@ impl<'a> Cursor<'a> {
 fn first_line(text: &[u8]) -> Option<(&[u8], &[u8])>
     ensures lines { MatchOption result ((text_lines text.entry.now).0 ≡ [])
         (λ found. (text_lines text.entry.now).0 ≡ found.0.now ∷ (text_lines found.1.now).0) }
+    // Fewer bytes are left than before, so that a loop ends.
     ensures shorter { MatchOption result (0 ≤ length text.entry.now)
         (λ found. length found.1.now < length text.entry.now) }
 {

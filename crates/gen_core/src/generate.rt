@@ -47,6 +47,7 @@ fn fault_of_writer(fault: WriteFault) -> GenFault
 fn read_text(alloc: Global, draft: &mut Draft, text: &[u8]) -> Result<Which, GenFault>
     ensures ok { IfOk result (λ which. table_and_draft_of_root (dumped_root text.now) draft.old
         ≡ Ok (which, draft.new)) }
+    // An error is the bad line of the definition, or out of memory.
     ensures err { IfErr result (λ fault. IsTextFault fault
         (table_and_draft_of_root (dumped_root text.now) draft.old)) }
 {

@@ -58,6 +58,7 @@ fn read_block(
     requires within { cursor.old.levels ≤ depth }
     // No value is so deep that its lines exceed the greatest depth.
     requires deep { depth + rank kind ≤ DEPTH_LIMIT }
+    // On Ok, the draft gets the value of the block, and the cursor is after the block.
     ensures ok { let block = block_at depth cursor.old.lines in OnOk result
         (block_taken (block_read (shape_of kind) block.0)
         block draft.old cursor.old ≡ Ok (draft.new, cursor.new)) }
@@ -86,6 +87,7 @@ fn read_only_line(
     requires within { cursor.old.levels ≤ depth }
     // A value of the kind has one line.
     requires line { has_one_line kind ≡ true }
+    // On Ok, the draft gets the value of the block, and the cursor is after the block.
     ensures ok { let block = block_at depth cursor.old.lines in OnOk result
         (block_taken (block_read (shape_of kind) block.0)
         block draft.old cursor.old ≡ Ok (draft.new, cursor.new)) }
@@ -186,6 +188,7 @@ fn read_array(
     requires within { cursor.old.levels ≤ depth }
     // No value is so deep that its lines exceed the greatest depth.
     requires deep { depth + rank kind < DEPTH_LIMIT }
+    // On Ok, the draft gets the value of the block, and the cursor is after the block.
     ensures ok { let block = block_at depth cursor.old.lines in OnOk result
         (block_taken (block_read (array (shape_of kind)) block.0)
         block draft.old cursor.old ≡ Ok (draft.new, cursor.new)) }
@@ -216,6 +219,7 @@ fn read_entries(
     requires within { cursor.old.levels ≤ depth }
     // No value is so deep that its lines exceed the greatest depth.
     requires deep { depth + rank kind < DEPTH_LIMIT }
+    // On Ok, the draft gets the value of the block, and the cursor is after the block.
     ensures ok { let block = block_at depth cursor.old.lines in OnOk result
         (values_taken (entries_read (block_read (shape_of kind)) (length block.0) block.0)
         block draft.old cursor.old ≡ Ok (draft.new, cursor.new)) }
@@ -248,6 +252,7 @@ fn read_entry(
     requires within { cursor.old.levels ≤ depth }
     // No value is so deep that its lines exceed the greatest depth.
     requires deep { depth + rank kind ≤ DEPTH_LIMIT }
+    // On Ok, the draft gets the value of the block, and the cursor is after the block.
     ensures ok { let block = block_at depth cursor.old.lines in OnOk result
         (block_taken (entry_block_read (block_read (shape_of kind)) block.0)
         block draft.old cursor.old ≡ Ok (draft.new, cursor.new)) }
@@ -289,6 +294,7 @@ fn read_object(
     requires within { cursor.old.levels ≤ depth }
     // No value is so deep that its lines exceed the greatest depth.
     requires deep { depth + rank (Kinds.Obj which) ≤ DEPTH_LIMIT }
+    // On Ok, the draft gets the value of the block, and the cursor is after the block.
     ensures ok { let block = block_at depth cursor.old.lines in OnOk result
         (block_taken (block_read (shape_of (Kinds.Obj which)) block.0)
         block draft.old cursor.old ≡ Ok (draft.new, cursor.new)) }
@@ -320,6 +326,7 @@ fn read_fields(
     requires within { cursor.old.levels ≤ depth }
     // No value is so deep that its lines exceed the greatest depth.
     requires deep { depth + rank_of_all fields.now < DEPTH_LIMIT }
+    // On Ok, the draft gets the value of the block, and the cursor is after the block.
     ensures ok { let block = block_at depth cursor.old.lines in OnOk result
         (values_taken (fields_read (shapes_of fields.now) block.0)
         block draft.old cursor.old ≡ Ok (draft.new, cursor.new)) }
@@ -372,6 +379,7 @@ fn read_named(
     requires deep { depth + rank kind < DEPTH_LIMIT }
     // The block has a line.
     requires some { 0 < length (block_at depth cursor.old.lines).0 }
+    // On Ok, the draft gets the value of the block, and the cursor is after the block.
     ensures ok { let block = block_at depth cursor.old.lines in OnOk result
         ((others : List Line → ResultOrBadLine Plains)
         → values_taken (named_read (shape_of kind) others (drop 1 block.0) value.now)

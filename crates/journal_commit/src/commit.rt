@@ -20,6 +20,7 @@ use journal_core::{Stage, apply_all};
 /// Publishes (commits) the intent of a stage all of whose files are staged, does all its actions,
 /// and removes the intent.
 pub fn carry_through<T: Tree>(stage: &mut Stage, tree: &mut T) -> Result<(), Disk>
+    // No staged file is begun.
     requires closed { stage.old.is_open ≡ false }
     requires all { stage.old.staged ≡ length stage.old.intent.writes }
 
@@ -38,6 +39,7 @@ pub fn carry_through<T: Tree>(stage: &mut Stage, tree: &mut T) -> Result<(), Dis
     // How the tree's counts explain the result: no count falls, and a fault is returned exactly if
     // a count of faults rose.
     ensures goes_on { CountsOnlyRise (T.counts tree.old) (T.counts tree.new) }
+    // An error is a counted fault of the tree.
     ensures cause { OnErr result (IsFaultCountedWithCause (T.counts tree.old) (T.counts tree.new)) }
     // Ok is returned only if no fault was counted.
     ensures kept { OnOk result (CountsNoNewFault (T.counts tree.old) (T.counts tree.new)) }

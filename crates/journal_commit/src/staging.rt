@@ -18,7 +18,9 @@ use journal_core::Stage;
 
 /// Makes an empty file for the next write.
 pub fn begin_file<T: Tree>(stage: &mut Stage, tree: &mut T) -> Result<(), Disk>
+    // No staged file is begun.
     requires closed { stage.old.is_open ≡ false }
+    // A write is left whose file is not staged.
     requires more { stage.old.staged < length stage.old.intent.writes }
 
     // Whatever it returns, only staged files have changed at each moment; and no call is a misuse
@@ -40,6 +42,7 @@ pub fn begin_file<T: Tree>(stage: &mut Stage, tree: &mut T) -> Result<(), Disk>
 /// path.
 pub fn append_piece<T: Tree>(stage: &mut Stage, tree: &mut T, piece: &[u8]) -> Result<(), Disk>
     requires { stage.old.is_open ≡ true }
+    // Whatever it returns, only the begun file has changed.
     ensures only { ChangesOnlyBegunFile stage.old (T.history tree.old) (T.history tree.new)
         (T.counts tree.old) (T.counts tree.new) result }
     ensures staging { (contents : List (List ℕ)) (so_far : List ℕ) (v : TreeState)
@@ -56,6 +59,7 @@ pub fn append_piece<T: Tree>(stage: &mut Stage, tree: &mut T, piece: &[u8]) -> R
 /// it needs no free path.
 pub fn end_file<T: Tree>(stage: &mut Stage, tree: &mut T) -> Result<(), Disk>
     requires { stage.old.is_open ≡ true }
+    // Whatever it returns, only the begun file has changed.
     ensures only { ChangesOnlyBegunFile stage.old (T.history tree.old) (T.history tree.new)
         (T.counts tree.old) (T.counts tree.new) result }
     ensures staging { (contents : List (List ℕ)) (so_far : List ℕ) (v : TreeState)
@@ -73,7 +77,9 @@ pub fn end_file<T: Tree>(stage: &mut Stage, tree: &mut T) -> Result<(), Disk>
 /// Stages one whole file with these bytes. The clauses are those of `begin_file`, for the three
 /// calls.
 pub fn stage_bytes<T: Tree>(stage: &mut Stage, tree: &mut T, bytes: &[u8]) -> Result<(), Disk>
+    // No staged file is begun.
     requires closed { stage.old.is_open ≡ false }
+    // A write is left whose file is not staged.
     requires more { stage.old.staged < length stage.old.intent.writes }
     ensures { StagesFile stage.old stage.new bytes.now (T.history tree.old) (T.history tree.new)
         (T.counts tree.old) (T.counts tree.new) result }
@@ -91,7 +97,9 @@ pub fn stage_pieces<T: Tree>(
     first_piece: &[u8],
     last_piece: &[u8],
 ) -> Result<(), Disk>
+    // No staged file is begun.
     requires closed { stage.old.is_open ≡ false }
+    // A write is left whose file is not staged.
     requires more { stage.old.staged < length stage.old.intent.writes }
     ensures { StagesFile stage.old stage.new (first_piece.now ++ last_piece.now)
         (T.history tree.old) (T.history tree.new) (T.counts tree.old) (T.counts tree.new) result }

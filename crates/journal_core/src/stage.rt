@@ -210,7 +210,9 @@ impl Stage {
 
     /// Makes an empty file for the next write.
     pub fn file_begin<T: Tree>(&mut self, tree: &mut T) -> Result<(), Disk>
+        // No staged file is begun.
         requires closed { self.old.is_open ≡ false }
+        // A write is left whose file is not staged.
         requires more { self.old.staged < length self.old.intent.writes }
 
         // From a durable tree on, each moment is durable, and the state is unchanged. Once it has
@@ -334,6 +336,7 @@ impl Stage {
     /// The commit, which cannot be taken back: the intent is written as a staged file of its own,
     /// and moved to its name. No action is done yet.
     pub fn publish<T: Tree>(&mut self, tree: &mut T) -> Result<(), Disk>
+        // No staged file is begun.
         requires closed { self.old.is_open ≡ false }
         requires all { self.old.staged ≡ length self.old.intent.writes }
 

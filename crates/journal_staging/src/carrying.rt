@@ -31,6 +31,7 @@ fn stage_each<T: Tree>(
     writes: &[StagedWrite<'_>],
     piece: &mut Piece,
 ) -> Result<(), StageFault>
+    // No staged file is begun.
     requires closed { stage.old.is_open ≡ false }
     requires none { stage.old.staged ≡ 0 }
     requires same { length writes.now ≡ length stage.old.intent.writes }
@@ -80,6 +81,7 @@ pub fn carry_out<T: Tree>(
     writes: &[StagedWrite<'_>],
     piece: &mut Piece,
 ) -> Result<(), StageFault>
+    // Nothing is staged yet.
     requires new { stage.old ≡ new_stage stage.old.intent.removals stage.old.intent.writes }
     requires same { length writes.now ≡ length stage.old.intent.writes }
 

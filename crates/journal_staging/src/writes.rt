@@ -29,7 +29,9 @@ fn stage_packaged<T: Tree>(
     f: &PackagedFile<'_>,
     piece: &mut Piece,
 ) -> Result<(), StageFault>
+    // No staged file is begun.
     requires closed { stage.old.is_open ≡ false }
+    // A write is left whose file is not staged.
     requires more { stage.old.staged < length stage.old.intent.writes }
     ensures source { StagesSource stage.old stage.new
         (λ files bytes. IsFileSource files f.now bytes) DiskFault
@@ -64,7 +66,9 @@ pub(crate) fn stage_write<T: Tree>(
     source: &Source<'_>,
     piece: &mut Piece,
 ) -> Result<(), StageFault>
+    // No staged file is begun.
     requires closed { stage.old.is_open ≡ false }
+    // A write is left whose file is not staged.
     requires more { stage.old.staged < length stage.old.intent.writes }
     // Whatever is returned, only staged files have changed at each moment. If the source denotes
     // bytes, these are staged then, after those that were staged before, and only the tree may fail.

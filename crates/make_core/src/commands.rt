@@ -27,6 +27,7 @@ use std::alloc::Global;
 /// `TooLarge` if the package's values exceed a limit of the writer. `Disk` if the tree failed, and
 /// `Memory`.
 pub fn mkpkg<T: Tree>(alloc: Global, command: &Command, tree: &mut T) -> Result<Vec<u8>, MakeFault>
+    // The command is `mkpkg`.
     requires { command.now.applet ≡ Applet.Mkpkg }
     // If the tree's files are observable: the package is theirs, or the refusal.
     ensures ok { IfOk result (λ file. IfObservable (T.history tree.old) (λ v.
@@ -57,6 +58,7 @@ pub fn mkpkg<T: Tree>(alloc: Global, command: &Command, tree: &mut T) -> Result<
 /// Operand by operand, `FileMissing` or `FileBad` at the operand's place; then `TooLarge` if the
 /// index exceeds a limit of the writer. `Disk` if the tree failed, and `Memory`.
 pub fn mkndx<T: Tree>(alloc: Global, command: &Command, tree: &mut T) -> Result<Vec<u8>, MakeFault>
+    // The command is `mkndx`.
     requires { command.now.applet ≡ Applet.Mkndx }
     // If the tree's files are observable.
     ensures made { IfObservable (T.history tree.old) (λ v.

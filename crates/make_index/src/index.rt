@@ -53,6 +53,7 @@ use version_core::order_is_total;
 /// Operand by operand, `FileMissing` or `FileBad` at the operand's place; then `TooLarge` if the
 /// index exceeds a limit of the writer. `Disk` if the tree failed, and `Memory`.
 pub fn make<T: Tree>(alloc: Global, command: &Command, tree: &mut T) -> Result<Vec<u8>, MakeFault>
+    // The command is `mkndx`.
     requires { command.now.applet ≡ Applet.Mkndx }
     // If the tree's files are observable.
     ensures made { IfObservable (T.history tree.old) (λ v.
@@ -93,6 +94,7 @@ fn read_entries<T: Tree>(
         AgreesUnlessMemoryOrDisk entries_view result (found_entries (reads_of v) 0 operands.now)) }
     ensures found { (read : Reads) × FindOnlyFiles read 0 operands.now
         × AgreesUnlessMemoryOrDisk entries_view result (found_entries read 0 operands.now) }
+    // The tree is only read: no file changes, no I/O error is hidden, and no call is a misuse.
     ensures tree { OnlyReads MakeFault.Disk (T.history tree.old) (T.history tree.new)
         (T.counts tree.old) (T.counts tree.new) result }
 {
@@ -127,6 +129,7 @@ fn read_entry<T: Tree>(
         AgreesUnlessMemoryOrDisk entry_view result (found_entry place (files_of v file.now))) }
     ensures found { (found : Option (List ℕ)) × IfSome found AreFileBytes
         × AgreesUnlessMemoryOrDisk entry_view result (found_entry place found) }
+    // The tree is only read: no file changes, no I/O error is hidden, and no call is a misuse.
     ensures tree { OnlyReads MakeFault.Disk (T.history tree.old) (T.history tree.new)
         (T.counts tree.old) (T.counts tree.new) result }
 {
@@ -178,6 +181,7 @@ fn index_payload(alloc: Global, description: &[u8], entries: &[Entry]) -> Result
         payload_or_overflow (value_of_index description.now (map entry_view entries.now))
         ≡ Ok payload.items) }
     ensures small { IfOk result (λ payload. length payload.items ≤ MOST_BYTES) }
+    // An error is the limit of a payload that is exceeded, or out of memory.
     ensures err { IfErr result (λ fault. IsOverflowFault fault
         (payload_or_overflow (value_of_index description.now (map entry_view entries.now)))) }
 {

@@ -129,6 +129,7 @@ fn write_entry_info(
     id: &[u8],
     len: u64,
 ) -> Result<(), AllocError>
+    // The word has a plain value of its kind.
     requires { is_sound (payload_of adb) (Kinds.Obj Tables.PkgInfo) info ≡ true }
     ensures { OnOk result (draft.new ≡ draft_with (info_with_id_and_size
         (value_at (payload_of adb.entry) (Kinds.Obj Tables.PkgInfo) info) id.now len) draft.old) }

@@ -75,6 +75,7 @@ impl<'a> FolderNames<'a> {
 
     /// The folder at a place, counted from 0.
     pub(crate) fn get(&self, i: usize) -> &'a [u8]
+        // The index is one of the list.
         requires { i < length self.now }
         ensures { slice_get self.now i ≡ Some result.now }
     {
@@ -159,6 +160,7 @@ pub(crate) fn last_part_of(path: &[u8]) -> &[u8]
 /// The offset at which the last part of a path begins: after its last `/`, or 0.
 fn part_start(path: &[u8]) -> usize
     ensures value { result ≡ length path.now - suffix_len (λ b. not (is_slash b)) path.now }
+    // The result is at most the number of elements.
     ensures within { result ≤ length path.now }
 {
     let mut start = 0;

@@ -132,8 +132,11 @@ fn pack_folders<'a, T: Tree>(
     files: &[Vec<&'a Name>],
 ) -> Result<Packing<'a>, MakeFault>
     requires { length files.now ≡ length folders.now }
+    // The tree is only read: no file changes, no I/O error is hidden, and no call is a misuse.
     ensures tree { OnlyReads MakeFault.Disk (T.history tree.old) (T.history tree.new)
         (T.counts tree.old) (T.counts tree.new) result }
+    // There are results of reads that give this result; if the tree is observable, they are its
+    // files.
     ensures read { (n : ℕ) → IsExplainedBySomeReads (T.history tree.old) (λ read.
         AgreesOrIsFault IsPacking result (source_folders_from place read n
         (listings_of folders.now files.now))) }
@@ -177,8 +180,11 @@ fn pack_folder<'a, T: Tree>(
     names: &[&'a Name],
     blocks: &mut Vec<u8>,
 ) -> Result<Folder<'a>, MakeFault>
+    // The tree is only read: no file changes, no I/O error is hidden, and no call is a misuse.
     ensures tree { OnlyReads MakeFault.Disk (T.history tree.old) (T.history tree.new)
         (T.counts tree.old) (T.counts tree.new) result }
+    // There are results of reads that give this result; if the tree is observable, they are its
+    // files.
     ensures read { (n : ℕ) → IsExplainedBySomeReads (T.history tree.old) (λ read.
         AgreesOrIsFault (IsPackedFolder position blocks.old.items blocks.new.items) result
         (source_folder_read_at place read n (record {
@@ -201,8 +207,11 @@ fn pack_files<'a, T: Tree>(
     names: &[&'a Name],
     blocks: &mut Vec<u8>,
 ) -> Result<Vec<File<'a>>, MakeFault>
+    // The tree is only read: no file changes, no I/O error is hidden, and no call is a misuse.
     ensures tree { OnlyReads MakeFault.Disk (T.history tree.old) (T.history tree.new)
         (T.counts tree.old) (T.counts tree.new) result }
+    // There are results of reads that give this result; if the tree is observable, they are its
+    // files.
     ensures read { (n : ℕ) → IsExplainedBySomeReads (T.history tree.old) (λ read.
         AgreesOrIsFault (ArePackedFiles folder blocks.old.items blocks.new.items) result
         (sources_from place read n (map (λ name. name.now) names.now))) }
@@ -233,8 +242,11 @@ fn pack_file<'a, T: Tree>(
     name: &'a Name,
     blocks: &mut Vec<u8>,
 ) -> Result<File<'a>, MakeFault>
+    // The tree is only read: no file changes, no I/O error is hidden, and no call is a misuse.
     ensures tree { OnlyReads MakeFault.Disk (T.history tree.old) (T.history tree.new)
         (T.counts tree.old) (T.counts tree.new) result }
+    // There are results of reads that give this result; if the tree is observable, they are its
+    // files.
     ensures read { (n : ℕ) → IsExplainedBySomeReads (T.history tree.old) (λ read.
         AgreesOrIsFault
         (IsPackedFile position.0 position.1 blocks.old.items blocks.new.items) result
@@ -262,6 +274,8 @@ fn read_listed<T: Tree>(
         (T.counts tree.old) (T.counts tree.new) result }
     ensures begun { IfOk result (λ at. HasBlockFront position.0 position.1 blocks.old.items
         blocks.new.items at) }
+    // There are results of reads that give this result; if the tree is observable, they are its
+    // files.
     ensures read { (n : ℕ) → IsExplainedBySomeReads (T.history tree.old) (λ read.
         AgreesOrIsFault (λ at bytes. bytes ≡ drop at blocks.new.items) result
         (found_bytes_or_missing place (read n name.now))) }
@@ -281,6 +295,7 @@ fn read_in_block<T: Tree>(
     name: &Name,
     blocks: &mut Vec<u8>,
 ) -> Result<Option<usize>, TreeFault>
+    // The tree is only read: no file changes, no I/O error is hidden, and no call is a misuse.
     ensures tree { OnlyReads TreeFault.Disk (T.history tree.old) (T.history tree.new)
         (T.counts tree.old) (T.counts tree.new) result }
     ensures begun { IfOk result (λ found. IfSome found (HasBlockFront position.0 position.1
@@ -305,8 +320,11 @@ pub fn read_file<T: Tree>(
     place: u32,
     name: &Name,
 ) -> Result<Vec<u8>, MakeFault>
+    // The tree is only read: no file changes, no I/O error is hidden, and no call is a misuse.
     ensures tree { OnlyReads MakeFault.Disk (T.history tree.old) (T.history tree.new)
         (T.counts tree.old) (T.counts tree.new) result }
+    // There are results of reads that give this result; if the tree is observable, they are its
+    // files.
     ensures read { (n : ℕ) → IsExplainedBySomeReads (T.history tree.old) (λ read.
         AgreesOrIsFault (λ bytes found. found ≡ bytes.items) result
         (found_bytes_or_missing place (read n name.now))) }

@@ -99,6 +99,7 @@ pub(crate) fn open_at<'a>(
     len: u64,
 ) -> Result<OpenFile<'a>, Cause>
     requires { 0 < wanted.size }
+    // The error is that of the definition.
     ensures fault { result_err result ≡ place_fault (Some (expected_of wanted.entry)) at len }
     // The file ends within the package.
     ensures within { IfOk result (λ o. o.at + file_bytes_left o.file ≤ len) }

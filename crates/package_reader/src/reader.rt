@@ -157,6 +157,7 @@ impl<'a> PieceReader<'a> {
         ensures refused { IfErr result (λ fault. RemembersFault fault self.new) }
         // The name and the length of the package are unchanged.
         ensures name { name_in_tree self.new ≡ name_in_tree self.old }
+        // The length of the package is unchanged.
         ensures len { package_len self.new ≡ package_len self.old }
         // The tree is unchanged. `Disk` is returned only if the tree failed, and no call is a
         // misuse if the file still has its length.
@@ -205,6 +206,7 @@ impl<'a> PieceReader<'a> {
         ensures refused { IfErr result (λ fault. RemembersFault fault self.new) }
         // The name and the length of the package are unchanged.
         ensures name { name_in_tree self.new ≡ name_in_tree self.old }
+        // The length of the package is unchanged.
         ensures len { package_len self.new ≡ package_len self.old }
         // The tree is unchanged. `Disk` is returned only if the tree failed, and no call is a
         // misuse if the file still has its length.
@@ -261,6 +263,7 @@ impl<'a> PieceReader<'a> {
             is_none self.new.opened ≡ part.last)) }
         // The name and the length of the package are unchanged.
         ensures name { name_in_tree self.new ≡ name_in_tree self.old }
+        // The length of the package is unchanged.
         ensures len { package_len self.new ≡ package_len self.old }
         // The tree is unchanged. `Disk` is returned only if the tree failed, and no call is a
         // misuse if the file still has its length.
@@ -305,6 +308,7 @@ impl<'a> PieceReader<'a> {
         ensures due { self.new.due ≡ self.old.due }
         // The name and the length of the package are unchanged.
         ensures name { name_in_tree self.new ≡ name_in_tree self.old }
+        // The length of the package is unchanged.
         ensures len { package_len self.new ≡ package_len self.old }
         // The tree is unchanged. `Disk` is returned only if the tree failed, and no call is a
         // misuse if the file still has its length.

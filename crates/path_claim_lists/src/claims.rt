@@ -23,7 +23,9 @@ use std::alloc::{AllocError, Global};
 /// The place of the first claim of a path, counted from 0, by a binary search among claims in the
 /// order of their paths. None is returned exactly if no claim has the path.
 pub fn find_claim(claims: &[Claim<'_>], path: &FilePath<'_>) -> Option<usize>
+    // The claims are in the order of their paths.
     requires { IsSorted claim_cmp (map claim_seen claims.now) }
+    // An index in the result is one of the list.
     ensures within { IfSome result (λ i. i < length claims.now) }
     ensures found { option_and_then (slice_get (map claim_seen claims.now)) result
         ≡ find (is_claim_of_path (joined_path path.now)) (map claim_seen claims.now) }
@@ -37,7 +39,9 @@ pub fn find_claim(claims: &[Claim<'_>], path: &FilePath<'_>) -> Option<usize>
 /// claim, or to the place where the path would be. If the first place is right, it makes three
 /// comparisons.
 pub fn find_next_claim(claims: &[Claim<'_>], path: &FilePath<'_>, next: &mut usize) -> Option<usize>
+    // The claims are in the order of their paths.
     requires { IsSorted claim_cmp (map claim_seen claims.now) }
+    // An index in the result is one of the list.
     ensures within { IfSome result (λ i. i < length claims.now) }
     ensures found { option_and_then (slice_get (map claim_seen claims.now)) result
         ≡ find (is_claim_of_path (joined_path path.now)) (map claim_seen claims.now) }
@@ -54,10 +58,12 @@ pub fn find_next_claim(claims: &[Claim<'_>], path: &FilePath<'_>, next: &mut usi
 /// The place of a path among claims, if the claim there has the path: `at` is how many claims have
 /// paths before it.
 fn claim_at(claims: &[Claim<'_>], path: &FilePath<'_>, at: usize) -> Option<usize>
+    // The claims are in the order of their paths.
     requires sorted { IsSorted claim_cmp (map claim_seen claims.now) }
     requires bound { at ≤ length claims.now }
     requires place { IsPartitionPoint (λ c. precedes c.path (joined_path path.now) ≡ true)
         (λ c. precedes c.path (joined_path path.now) ≡ false) (map claim_seen claims.now) at }
+    // An index in the result is one of the list.
     ensures within { IfSome result (λ i. i < length claims.now) }
     ensures found { option_and_then (slice_get (map claim_seen claims.now)) result
         ≡ find (is_claim_of_path (joined_path path.now)) (map claim_seen claims.now) }
@@ -74,6 +80,7 @@ fn claim_at(claims: &[Claim<'_>], path: &FilePath<'_>, at: usize) -> Option<usiz
 
 /// How many claims have paths before this one; the search starts at `guess`.
 fn place_near(claims: &[Claim<'_>], path: &FilePath<'_>, guess: usize) -> usize
+    // The claims are in the order of their paths.
     requires { IsSorted claim_cmp (map claim_seen claims.now) }
     ensures bound { result ≤ length claims.now }
     ensures place { IsPartitionPoint (λ c. precedes c.path (joined_path path.now) ≡ true)
@@ -93,6 +100,7 @@ fn place_near(claims: &[Claim<'_>], path: &FilePath<'_>, guess: usize) -> usize
 
 /// How many claims have paths before this one, by binary search.
 fn place_of(claims: &[Claim<'_>], path: &FilePath<'_>) -> usize
+    // The claims are in the order of their paths.
     requires { IsSorted claim_cmp (map claim_seen claims.now) }
     ensures bound { result ≤ length claims.now }
     ensures place { IsPartitionPoint (λ c. precedes c.path (joined_path path.now) ≡ true)
@@ -110,6 +118,7 @@ pub fn one_of_each_path<'a>(
     alloc: Global,
     claims: &[Claim<'a>],
 ) -> Result<Vec<Claim<'a>>, AllocError>
+    // The claims are in the order of their paths.
     requires { IsSorted claim_cmp (map claim_seen claims.now) }
     ensures { IfOk result
         (λ firsts. HasFirstClaimOfEachPath (map claim_seen claims.now)

@@ -49,7 +49,9 @@ fn owner_at<C: Contest>(
     before: Option<u32>,
 ) -> Option<u32>
     requires at { i < length claims.now }
+    // Of two members, at most one beats the other.
     requires one_way { IsAsymmetric (C.beats contest.now) }
+    // The claims are in the order of their paths.
     requires sorted { IsSorted claim_cmp (map claim_seen claims.now) }
     requires before { (j : ℕ) (c : PathClaim) → j + 1 ≡ i
         → slice_get (map claim_seen claims.now) j ≡ Some c
@@ -70,7 +72,9 @@ fn owners_in_order<C: Contest>(
     contest: &C,
     claims: &[Claim<'_>],
 ) -> Result<Vec<Option<u32>>, AllocError>
+    // Of two members, at most one beats the other.
     requires one_way { IsAsymmetric (C.beats contest.now) }
+    // The claims are in the order of their paths.
     requires sorted { IsSorted claim_cmp (map claim_seen claims.now) }
     ensures { IfOk result (λ owners. owners.items
         ≡ map (λ c. owner_among (C.beats contest.now) (map claim_seen claims.now) c.path)
@@ -123,6 +127,7 @@ fn contested_from<'a, C: Contest>(
     i: usize,
 ) -> Option<Contested<'a>>
     requires at { i < length claims.now }
+    // The claims are in the order of their paths.
     requires sorted { IsSorted claim_cmp (map claim_seen claims.now) }
     requires first { is_first_of_path (map claim_seen claims.now) i ≡ true }
     ensures { (c : PathClaim) → slice_get (map claim_seen claims.now) i ≡ Some c
@@ -144,7 +149,9 @@ fn first_contested<'a, C: Contest>(
     claims: &[Claim<'a>],
     owners: &[Option<u32>],
 ) -> Option<Contested<'a>>
+    // The claims are in the order of their paths.
     requires sorted { IsSorted claim_cmp (map claim_seen claims.now) }
+    // `owners` has the owner of each claim's path.
     requires owners { owners.now
         ≡ map (λ c. owner_among (C.beats contest.now) (map claim_seen claims.now) c.path)
         (map claim_seen claims.now) }
@@ -198,6 +205,7 @@ pub fn owners_of<'a, C: Contest>(
     contest: &C,
     claims: Vec<Claim<'a>>,
 ) -> Result<Owners<'a>, AllocError>
+    // Of two members, at most one beats the other.
     requires one_way { IsAsymmetric (C.beats contest.now) }
     requires numbered { AreNumberedByPlace (map claim_seen claims.items) }
     // The claims in the order of their paths; those of one path keep their order.

@@ -104,7 +104,9 @@ fn clash_near<T: Tree, G: IsReleased>(
     before: &[u8],
     bytes: &[u8],
 ) -> Result<Option<Clash>, TreeFault>
+    // The paths are in byte order.
     requires sorted { IsSorted bytes_cmp (map joined_path written.now) }
+    // Each path is a name.
     requires names { All IsName (map joined_path written.now) }
     requires written { is_one_of_paths written.now bytes.now ≡ true }
     // If the tree's files are observable.
@@ -115,6 +117,7 @@ fn clash_near<T: Tree, G: IsReleased>(
     ensures may { IfOk result (λ found. MayBeClashNear
         (name_change_of_paths written.now (G.does_release let_go.now))
         before.now bytes.now (option_map clash_seen found)) }
+    // The tree is only read: no file changes, no I/O error is hidden, and no call is a misuse.
     ensures tree { OnlyReads TreeFault.Disk (T.history tree.old) (T.history tree.new)
         (T.counts tree.old) (T.counts tree.new) result }
 {
@@ -148,7 +151,9 @@ pub fn first_clash<T: Tree, G: IsReleased>(
     written: &[FilePath<'_>],
     let_go: &G,
 ) -> Result<Option<Clash>, TreeFault>
+    // The paths are in byte order.
     requires sorted { IsSorted bytes_cmp (map joined_path written.now) }
+    // Each path is a name.
     requires names { All IsName (map joined_path written.now) }
     // If the tree's files are observable.
     ensures first { IfOk result (λ found. IfObservable (T.history tree.old) (λ v.
@@ -160,6 +165,7 @@ pub fn first_clash<T: Tree, G: IsReleased>(
     ensures may { IfOk result (λ found. IsFirstClashOverSomeFiles
         (name_change_of_paths written.now (G.does_release let_go.now))
         (option_map clash_seen found)) }
+    // The tree is only read: no file changes, no I/O error is hidden, and no call is a misuse.
     ensures tree { OnlyReads TreeFault.Disk (T.history tree.old) (T.history tree.new)
         (T.counts tree.old) (T.counts tree.new) result }
 {

@@ -40,6 +40,7 @@ fn is_name_present<T: Tree, G: IsReleased>(
         present_files ≡ is_name_present (G.does_release let_go.now) (files_of v) name.now)) }
     ensures stays { IfOk result (λ present_files.
         present_files ≡ true → G.does_release let_go.now name.now ≡ false) }
+    // The tree is only read: no file changes, no I/O error is hidden, and no call is a misuse.
     ensures tree { OnlyReads TreeFault.Disk (T.history tree.old) (T.history tree.new)
         (T.counts tree.old) (T.counts tree.new) result }
 {
@@ -59,7 +60,9 @@ fn folder_after<T: Tree, G: IsReleased>(
     let_go: &G,
     folder: &[u8],
 ) -> Result<Option<Name>, TreeFault>
+    // The paths are in byte order.
     requires sorted { IsSorted bytes_cmp (map joined_path written.now) }
+    // Each path is a name.
     requires names { All IsName (map joined_path written.now) }
     ensures found { IfOk result (λ found. IfObservable (T.history tree.old) (λ v.
         found ≡ name_if_holds (is_present_after_change (name_change_of_paths written.now
@@ -69,6 +72,7 @@ fn folder_after<T: Tree, G: IsReleased>(
         found ≡ name_if_holds (is_present_after_change (name_change_of_paths written.now
         (G.does_release let_go.now))
         (files_with_only_name found) folder.now) folder.now) }
+    // The tree is only read: no file changes, no I/O error is hidden, and no call is a misuse.
     ensures tree { OnlyReads TreeFault.Disk (T.history tree.old) (T.history tree.new)
         (T.counts tree.old) (T.counts tree.new) result }
 {
@@ -91,7 +95,9 @@ pub(crate) fn first_folder<T: Tree, G: IsReleased>(
     name: &[u8],
     len: usize,
 ) -> Result<Option<Name>, TreeFault>
+    // The paths are in byte order.
     requires sorted { IsSorted bytes_cmp (map joined_path written.now) }
+    // Each path is a name.
     requires names { All IsName (map joined_path written.now) }
     ensures found { IfOk result (λ found. IfObservable (T.history tree.old) (λ v.
         IsShortestFolderOrNone (name_change_of_paths written.now (G.does_release let_go.now))
@@ -101,6 +107,7 @@ pub(crate) fn first_folder<T: Tree, G: IsReleased>(
         IsShortestFolderOrNone (name_change_of_paths written.now (G.does_release let_go.now))
         (files_with_only_name found)
         name.now len found) }
+    // The tree is only read: no file changes, no I/O error is hidden, and no call is a misuse.
     ensures tree { OnlyReads TreeFault.Disk (T.history tree.old) (T.history tree.new)
         (T.counts tree.old) (T.counts tree.new) result }
 {
@@ -144,6 +151,7 @@ pub(crate) fn first_below<T: Tree, G: IsReleased>(
     ensures may { IfOk result (λ found.
         IsFirstNameBelowOrNone (G.does_release let_go.now)
         (files_with_only_name found) folder.now found) }
+    // The tree is only read: no file changes, no I/O error is hidden, and no call is a misuse.
     ensures tree { OnlyReads TreeFault.Disk (T.history tree.old) (T.history tree.new)
         (T.counts tree.old) (T.counts tree.new) result }
 {

@@ -91,6 +91,7 @@ impl<'a> Package<'a> {
         ensures bad { IfErr result
             (λ fault. IsFaultOf fault
             (container_fault_except_contents Tables.Package bytes.entry.now)) }
+        // On Ok, none of these tests failed.
         ensures sound { IfOk result
             (λ _. container_fault_except_contents Tables.Package bytes.entry.now ≡ None) }
         // It has the value, the id and the contents of the file from which it was read.

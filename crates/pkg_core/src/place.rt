@@ -67,6 +67,7 @@ impl<'a> BlockPlace<'a> {
         // The new place is after the block and its padding.
         ensures behind { IfSome framing (λ frame. OnOk result (self.new.at
             ≡ self.old.at + whole_size frame (self.old.len - self.old.at))) }
+        // The place is still within the file.
         ensures within { self.new.at ≤ self.new.len }
         // All bytes of an opened file are still to be taken. Only contents open a file, which is
         // the next of the walk. `End` is returned only if no block is left.
@@ -89,6 +90,7 @@ impl<'a> BlockPlace<'a> {
         // For each file in which no block is left at the place.
         ensures step { (file : List ℕ) → block_step_at self.old file ≡ ended
             → IsStepResult None self.old file result self.new }
+        // The length of the file is unchanged.
         ensures len { self.new.len ≡ self.old.len }
         ensures at { self.new.at ≡ self.old.at }
         // The walk advances over an opened file; at the end no file is expected.
@@ -118,10 +120,12 @@ impl<'a> BlockPlace<'a> {
             (block_step_at self.old file)
             → HasPositions (Some frame) positions.now self.old file
             → IsStepResult (Some frame) self.old file result self.new }
+        // The length of the file is unchanged.
         ensures len { self.new.len ≡ self.old.len }
         // The new place is after the block and its padding.
         ensures behind { OnOk result (self.new.at
             ≡ self.old.at + whole_size frame (self.old.len - self.old.at)) }
+        // The place is still within the file.
         ensures within { self.new.at ≤ self.new.len }
         ensures left { IfOk result (HasWholeFileLeft frame) }
         ensures kind { IfOk result (OpensOnlyContents frame) }
@@ -150,10 +154,12 @@ impl<'a> BlockPlace<'a> {
             (block_step_at self.old file)
             → HasPositions (Some frame) positions.now self.old file
             → IsStepResult (Some frame) self.old file result self.new }
+        // The length of the file is unchanged.
         ensures len { self.new.len ≡ self.old.len }
         // The new place is after the block and its padding.
         ensures behind { OnOk result (self.new.at
             ≡ self.old.at + whole_size frame (self.old.len - self.old.at)) }
+        // The place is still within the file.
         ensures within { self.new.at ≤ self.new.len }
         ensures left { IfOk result (HasWholeFileLeft frame) }
         ensures kind { IfOk result (OpensOnlyContents frame) }

@@ -47,6 +47,7 @@ pub fn read_v2(alloc: Global, bytes: &[u8]) -> Result<Vec<u8>, V2Fault>
 
 // Tests a payload as that of an installed database.
 fn check_database(alloc: Global, payload: &[u8]) -> Result<(), ReadFault>
+    // The error is the first failed test, or out of memory.
     ensures bad { IfErr result
         (λ fault. IsReadFault fault (payload_fault Tables.Idb payload.now)) }
     ensures sound { OnOk result (payload_fault Tables.Idb payload.now ≡ None) }

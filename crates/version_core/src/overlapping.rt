@@ -77,8 +77,10 @@ impl<'a> OverlappingVersions<'a> {
     /// size of the bytes.
     pub fn is_version(&mut self, from: usize, end: usize) -> Result<bool, AllocError>
         requires order { from ≤ end }
+        // The end is within the bytes.
         requires within { end ≤ length self.old }
         ensures value { IfOk result (λ is. is ≡ is_version (slice_range self.old from end)) }
+        // The bytes that are read are unchanged.
         ensures bytes { self.new ≡ self.old }
     {
         self.make_leaps()?;
@@ -91,8 +93,10 @@ impl<'a> OverlappingVersions<'a> {
     /// Whether the bytes between a place and an end may be the rest of a version.
     fn is_passed(&mut self, first: Place, end: usize) -> bool
         requires order { first.at ≤ end }
+        // The end is within the bytes.
         requires within { end ≤ length self.old }
         ensures value { result ≡ can_rest_follow_place self.old first end }
+        // The bytes that are read are unchanged.
         ensures bytes { self.new ≡ self.old }
     {
         let mut begun = first;
@@ -110,7 +114,9 @@ impl<'a> OverlappingVersions<'a> {
     /// The next place of a version after a place before its end: as far as an earlier version
     /// leads, or else after one token. None if no token of a version follows.
     fn next_place(&self, place: Place, end: usize) -> Option<Place>
+        // Bytes are left between the place and the end.
         requires order { place.at < end }
+        // The end is within the bytes.
         requires within { end ≤ length self.now }
         ensures some { IfSome result (IsNextPlace self.now end place) }
         ensures none { IfNone result (can_rest_follow_place self.now place end ≡ false) }
@@ -143,6 +149,7 @@ impl<'a> OverlappingVersions<'a> {
     fn pass(&mut self, begun: Place, place: Place) -> Place
         requires { IsSafeSkip self.old begun place }
         ensures leads { IsSafeSkip self.old result place }
+        // The bytes that are read are unchanged.
         ensures bytes { self.new ≡ self.old }
     {
         if place.at / BYTES_PER_LEAP == begun.at / BYTES_PER_LEAP {
@@ -187,6 +194,7 @@ impl<'a> OverlappingVersions<'a> {
 /// there.
 fn first_place(bytes: &[u8], from: usize, end: usize) -> Option<Place>
     requires order { from ≤ end }
+    // The end is within the bytes.
     requires within { end ≤ length bytes.now }
     ensures some { IfSome result (λ place. (place.at ≤ end)
         × (is_version (slice_range bytes.now from end)
@@ -205,7 +213,9 @@ fn first_place(bytes: &[u8], from: usize, end: usize) -> Option<Place>
 
 /// The place after the next token, or after some more digits of a hash, at most a block of them.
 fn place_after_lexeme(bytes: &[u8], place: Place, end: usize) -> Option<Place>
+    // Bytes are left between the place and the end.
     requires order { place.at < end }
+    // The end is within the bytes.
     requires within { end ≤ length bytes.now }
     ensures some { IfSome result (IsNextPlace bytes.now end place) }
     ensures none { IfNone result (can_rest_follow_place bytes.now place end ≡ false) }
@@ -233,7 +243,9 @@ fn unread_digits(class: Class, text: &[u8]) -> usize
 
 /// The place after the next token, if no digit of a hash is left before it.
 fn place_after_token(bytes: &[u8], place: Place, end: usize) -> Option<Place>
+    // Bytes are left between the place and the end.
     requires order { place.at < end }
+    // The end is within the bytes.
     requires within { end ≤ length bytes.now }
     requires none { unread_len (Some place.class) (slice_range bytes.now place.at end) ≡ 0 }
     ensures some { IfSome result (IsNextPlace bytes.now end place) }

@@ -162,6 +162,7 @@ impl<'a> Tokens<'a> {
         ensures tokens { tokens_left self.old
             ≡ token_view result ∷
             (if is_last_token_class result.class then [] else tokens_left self.new) }
+        // Fewer bytes are left than before, so that a loop ends.
         ensures shorter { is_last_token_class result.class ≡ false
             → bytes_left self.new < bytes_left self.old }
     {
