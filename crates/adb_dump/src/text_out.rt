@@ -231,6 +231,7 @@ impl Count {
     /// The length of a word's text in a line. The length is remembered, for each place with the
     /// word.
     fn line_len(&mut self, word: Val, text: &[u8]) -> Result<usize, AllocError>
+        // On Ok, the result is the length of the text's form, if all remembered lengths are right.
         ensures len { IfOk result (λ len. (payload : List ℕ)
             → text.now ≡ text_in (value_at payload Kinds.Text word)
             → AreLineLengths payload self.old.lens → len ≡ length (bare_or_quoted_text text.now)) }

@@ -20,8 +20,10 @@ use adb_view::{Adb, Arr, Val, entry_word};
 pub(crate) fn field_words<'a>(adb: Adb<'a>, which: Which, word: Val) -> Arr<'a>
     // The word has a plain value of its kind.
     requires { is_sound (payload_of adb) (Kinds.Obj which) word ≡ true }
+    // Each of the words of the object has a plain value of its field's kind.
     ensures sound { fields_sound (payload_of adb.entry) (table which) (array_entries result)
         ≡ true }
+    // The object's value consists of the values of these words.
     ensures value { value_at (payload_of adb.entry) (Kinds.Obj which) word
         ≡ trimmed_object_or_null (fields_at (payload_of adb.entry) (table which)
         (array_entries result)) }

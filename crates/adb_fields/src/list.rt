@@ -33,9 +33,13 @@ pub trait View<'a>: Kinded {
 
 /// The entries of an array, shown as views.
 pub struct List<'a, V: Kinded> {
+    /// The payload that contains the list.
     adb: Adb<'a>,
+    /// The words (32-bit references) of the entries.
     entries: Arr<'a>,
+    /// The type of the entries, of which no value is stored.
     of: PhantomData<V>,
+    // Each word has a plain value of the entries' kind.
     ghost sound: { are_all_sound (payload_of adb) V.kind (array_entries entries) ≡ true },
 }
 

@@ -25,7 +25,9 @@ use std::alloc::Global;
 /// A payload of the shape of a table in which each text obeys the rule of its field.
 #[derive(Clone, Copy)]
 pub struct Checked<'a> {
+    /// The payload whose shape was tested.
     shaped: Shaped<'a>,
+    // Each text and number obeys the rule of its field.
     ghost texts: { is_none (text_fault (table_of shaped) (shaped_value shaped)) ≡ true },
 }
 
@@ -52,7 +54,9 @@ impl<'a> Checked<'a> {
             text_fault (table_of shaped.entry) (shaped_value shaped.entry) ≡ None) }
         // The table at the root is unchanged.
         ensures which { IfOk result (λ checked. table_of_checked checked ≡ table_of shaped.entry) }
+        // The value is that of the walked payload.
         ensures value { IfOk result (λ checked. checked_value checked ≡ shaped_value shaped.entry) }
+        // The payload is the walked one.
         ensures payload { IfOk result (λ checked. adb_of checked.shaped ≡ adb_of shaped.entry) }
     {
         match check_texts(alloc, shaped)? {
@@ -116,8 +120,11 @@ impl<'a> Checked<'a> {
 /// A view of an index of packages (table 8), each of whose texts obeys the rule of its field.
 #[derive(Clone, Copy)]
 pub struct IndexView<'a> {
+    /// The payload that contains the index.
     adb: Adb<'a>,
+    /// The word (32-bit reference) of the index in the payload.
     word: u32,
+    // The word has a plain value, an index.
     ghost sound: { is_sound (payload_of adb) (Kinds.Obj Tables.Index) word ≡ true },
     ghost texts: { is_none (text_fault Tables.Index
         (value_at (payload_of adb) (Kinds.Obj Tables.Index) word)) ≡ true },
@@ -134,6 +141,7 @@ impl<'a> IndexView<'a> {
     pub fn of(adb: Adb<'a>, word: Val) -> IndexView<'a>
         // The word has a plain value of its kind.
         requires sound { is_sound (payload_of adb) (Kinds.Obj Tables.Index) word ≡ true }
+        // Each text and number of the index obeys the rule of its field.
         requires texts { is_none (text_fault Tables.Index
             (value_at (payload_of adb) (Kinds.Obj Tables.Index) word)) ≡ true }
         ensures { index_value result
@@ -212,8 +220,11 @@ impl<'a> IndexView<'a> {
 /// A view of an installed database (table 9).
 #[derive(Clone, Copy)]
 pub struct IdbView<'a> {
+    /// The payload that contains the database.
     adb: Adb<'a>,
+    /// The word (32-bit reference) of the database in the payload.
     word: Val,
+    // The word has a plain value, a database.
     ghost sound: { is_sound (payload_of adb) (Kinds.Obj Tables.Idb) word ≡ true },
 }
 
@@ -253,6 +264,7 @@ impl<'a> IdbView<'a> {
     /// The package at a place, counted from 0, which is read from the payload of the database.
     pub fn package_at(&self, i: usize) -> PackageView<'a>
         requires { i < count_of (entries_in (entry_in (idb_value self.now) IDB_PACKAGES)) }
+        // The value is that of entry `i` of the database's packages.
         ensures value { package_value result
             ≡ entry_in (entry_in (idb_value self.now) IDB_PACKAGES) i }
         // The payload of the result is the one from which it was read.
@@ -272,8 +284,11 @@ impl<'a> IdbView<'a> {
 /// A view of a journal entry (table 10), which names what a change will remove and write.
 #[derive(Clone, Copy)]
 pub struct IntentView<'a> {
+    /// The payload that contains the intent (journal entry).
     adb: Adb<'a>,
+    /// The word (32-bit reference) of the intent in the payload.
     word: Val,
+    // The word has a plain value, an intent.
     ghost sound: { is_sound (payload_of adb) (Kinds.Obj Tables.Intent) word ≡ true },
 }
 

@@ -72,7 +72,9 @@ pub struct Judged<'a> {
     /// The bytes of the payload, and leaps by which judging a version skips bytes that an earlier
     /// version has passed.
     versions: OverlappingVersions<'a>,
+    // Each remembered text obeys the rule with which it is remembered.
     ghost kept: { All (KeepsTextRule (payload_of adb)) good.keys },
+    // The versions are judged in this payload.
     ghost same: { versions ≡ payload_of adb },
 }
 

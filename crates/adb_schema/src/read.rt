@@ -129,8 +129,10 @@ pub fn read_adb<'a>(alloc: Global, bytes: &'a [u8], which: Which) -> Result<Chec
         ≡ None) }
     // The values have the wanted table at their root.
     ensures table { IfOk result (λ checked. table_of_checked checked ≡ which) }
+    // The payload is that of the container's first block.
     ensures payload { IfOk result (λ checked. payload_of (adb_of checked.shaped)
         ≡ payload_in bytes.entry.now) }
+    // The value is that of the payload's root.
     ensures value { IfOk result (λ checked. checked_value checked
         ≡ root_value which (payload_in bytes.entry.now)) }
 {
@@ -166,6 +168,7 @@ fn read_first<'a>(
         (λ fault. IsReadFault fault (first_block_fault which (block_stream_from blocks.old))) }
     // The values have the wanted table at their root.
     ensures table { IfOk result (λ checked. table_of_checked checked ≡ which) }
+    // The blocks that are left are those after the first one.
     ensures behind { IfOk result
         (λ checked. IsAfterFirstBlock which (payload_of (adb_of checked.shaped)) (block_stream_from
         blocks.old)
@@ -189,6 +192,7 @@ fn check_payload<'a>(
     ensures sound { IfOk result (λ _. payload_fault which payload.entry.now ≡ None) }
     // The values have the wanted table at their root.
     ensures table { IfOk result (λ checked. table_of_checked checked ≡ which) }
+    // The payload is the given one.
     ensures payload { IfOk result (λ checked. payload_of (adb_of checked.shaped)
         ≡ payload.entry.now) }
 {
@@ -276,8 +280,10 @@ pub fn schema_words_are_as_listed()
 /// text and number obeys the rule of its field and no name repeats. If it is read from bytes, it is
 /// normal. The body calls the laws that the proof needs.
 pub fn sound_containers_hold_sound_values()
+    // The root of a sound container has a sound value.
     ensures value { (which : Which) (file : List ℕ)
         → IsSoundContainer which file → IsSoundValue which (root_value which (payload_in file)) }
+    // If the payload consists of bytes, this value is normal.
     ensures normal { (which : Which) (file : List ℕ)
         → IsSoundContainer which file → All (λ b. b < 256) (payload_in file)
         → IsNormal (root_value which (payload_in file)) }

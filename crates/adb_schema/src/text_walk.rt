@@ -200,6 +200,7 @@ fn keeps_rule_of_field(
 ) -> Result<bool, AllocError>
     // `text` is the text of the word.
     requires { text.now ≡ text_at (payload_of judged.old.adb) word }
+    // On Ok, the result says whether the text obeys the rule of the field.
     ensures value { IfOk result (λ kept.
         kept ≡ is_allowed_text_of_field field_number (surroundings_of around.now) text.now) }
     // The payload is unchanged.
@@ -232,6 +233,7 @@ fn keeps_file_name(
 ) -> Result<bool, AllocError>
     // `text` is the text of the word.
     requires { text.now ≡ text_at (payload_of judged.old.adb) word }
+    // On Ok, the result says whether the text is an allowed file name in this folder.
     ensures value { IfOk result (λ kept.
         kept ≡ is_allowed_file_name (surroundings_of around.now) text.now) }
     // The payload is unchanged.
@@ -504,21 +506,27 @@ pub fn no_text_is_bad_where_each_keeps_its_rule()
 /// entries. Entries count from 0; `root` is the table of the container, and `folder` the name of
 /// the file's folder.
 pub fn entries_keep_the_rule_of_their_list()
+    // For a list of dependencies.
     ensures dependency { (list : Plain) (i : ℕ)
         → Each IsSoundDependency (entries_in list) → i < count_of (entries_in list)
         → IsSoundDependency (entry_in list i) }
+    // For a list of packages' information.
     ensures information { (root : Which) (list : Plain) (i : ℕ)
         → Each (IsSoundInformation root) (entries_in list) → i < count_of (entries_in list)
         → IsSoundInformation root (entry_in list i) }
+    // For a list of the files of a folder.
     ensures file { (root : Which) (folder : List ℕ) (list : Plain) (i : ℕ)
         → Each (IsSoundFileOf root folder) (entries_in list) → i < count_of (entries_in list)
         → IsSoundFileOf root folder (entry_in list i) }
+    // For a list of folders.
     ensures folder { (root : Which) (list : Plain) (i : ℕ)
         → Each (IsSoundFolder root) (entries_in list) → i < count_of (entries_in list)
         → IsSoundFolder root (entry_in list i) }
+    // For a list of packages.
     ensures package { (root : Which) (list : Plain) (i : ℕ)
         → Each (IsSoundPackage root) (entries_in list) → i < count_of (entries_in list)
         → IsSoundPackage root (entry_in list i) }
+    // For a list of names in an intent (journal entry).
     ensures change_name { (list : Plain) (i : ℕ)
         → Each IsNameAllowedInIntent (entries_in list) → i < count_of (entries_in list)
         → IsNameAllowedInIntent (entry_in list i) }

@@ -14,6 +14,7 @@ use base_core::Cause;
 pub struct Arr<'a> {
     /// The words of the entries, four bytes each.
     bytes: &'a [u8],
+    // The number of the words fits into 32 bits.
     ghost counted: { length bytes.now < 4 * (2 ^ 32 - 1) },
 }
 

@@ -42,6 +42,7 @@ pub(crate) mod kind {
 /// the start of the word's payload (apk-v3(5)).
 #[derive(Clone, Copy, Debug, PartialEq, Eq)]
 pub struct Val {
+    /// The 32 bits: a tag, and a number or an offset in the payload.
     word: u32,
 }
 

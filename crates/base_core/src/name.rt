@@ -14,6 +14,7 @@ use std::str;
 /// `..`, no zero byte. It is relative to the tree's root.
 #[derive(Drop)]
 pub struct Name {
+    /// The bytes of the name, UTF-8 text.
     bytes: Vec<u8>,
 }
 
@@ -118,6 +119,7 @@ pub fn is_folder_of(folder: &[u8], name: &[u8]) -> bool
 /// A list of names, as a listing returns it.
 #[derive(Drop)]
 pub struct Names {
+    /// The names, in the order in which they were added.
     names: Vec<Name>,
 }
 

@@ -29,6 +29,7 @@ pub trait Sink {
     fn write(&mut self, piece: &[u8]) -> Result<usize, SinkFault>
         ensures taken { IfOk result (λ n. IsWriteCount n piece.now) }
         ensures empty { piece.now ≡ [] → IsOk result }
+        // On Ok, exactly the first n bytes of the piece are added, where n is the result.
         ensures added { IfOk result (λ n.
             Adds (bytes self.old) (bytes self.new) (take n piece.now)) }
         ensures unchanged { OnErr result (bytes self.new ≡ bytes self.old) }
@@ -42,6 +43,7 @@ pub trait Sink {
 /// `SinkFault` if the sink failed; then a prefix of the bytes was added.
 pub fn write_all<S: Sink>(sink: &mut S, bytes: &[u8]) -> Result<(), SinkFault>
     ensures ok { OnOk result (Adds (S.bytes sink.old) (S.bytes sink.new) bytes.now) }
+    // On an error, a prefix of the bytes was added.
     ensures err { OnErr result (AddsPrefixToSink (S.bytes sink.old) (S.bytes sink.new) bytes.now) }
     ensures cause { FailsWithCause (S.counts sink.old) (S.counts sink.new) result }
 {

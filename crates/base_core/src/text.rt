@@ -9,6 +9,7 @@ use std::marker::Model;
 /// Owned bytes of any values, such as a word, an option or a line.
 #[derive(Drop)]
 pub struct Text {
+    /// The bytes of the text, in memory of its own.
     bytes: Vec<u8>,
 }
 
@@ -47,7 +48,9 @@ impl Text {
 /// that places, counted from 1, and the place after the last one are u32 numbers.
 #[derive(Drop)]
 pub struct Words {
+    /// The allocator for further texts.
     alloc: Global,
+    /// The texts, in the order in which they were added.
     words: Vec<Text>,
 }
 

@@ -208,6 +208,7 @@ pub fn read_all<T: Tree>(
     tree: &mut T,
     name: &Name,
 ) -> Result<Option<Vec<u8>>, TreeFault>
+    // On Ok, if the tree is observable, the result has the file's bytes, or None if it is absent.
     ensures answer { IfOk result (λ found. IfObservable (T.history tree.old) (λ v.
         bytes_in found ≡ files_of v name.now)) }
     // The tree is only read: no file changes, no I/O error is hidden, and no call is a misuse.

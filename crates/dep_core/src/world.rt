@@ -46,6 +46,7 @@ impl From<AllocError> for WorldFault {
 /// name.
 #[derive(Drop)]
 pub struct World {
+    /// The allocator for further entries.
     alloc: Global,
     /// In byte order of their names, one per name.
     entries: Vec<Entry>,
@@ -144,9 +145,13 @@ impl World {
 pub struct Entry {
     // The parts are those of `Dep`, in texts that the entry owns.
     name: Text,
+    /// The wanted version, if one is named.
     version: Option<Text>,
+    /// The version operator, such as `>=`.
     op: Op,
+    /// Whether the entry excludes the packages that meet it.
     conflict: bool,
+    /// The tag of the repositories to be preferred, if one is given.
     tag: Option<Text>,
 }
 

@@ -39,6 +39,7 @@ use std::marker::Model;
 /// recovered.
 #[derive(Drop)]
 pub struct Stage {
+    /// The intent (journal entry) of the change.
     pub(crate) intent: PreparedIntent,
     /// How many writes have their staged files.
     pub(crate) staged: usize,
@@ -124,8 +125,10 @@ impl Stage {
         ensures intent { IfOk result (λ stage. read_intent file.items ≡ Some stage.intent) }
         ensures published { IfOk result (λ stage. stage.published ≡ true) }
         ensures none { IfOk result (λ stage. stage.acted ≡ 0) }
+        // The cause of a refusal is the first failed test of the intent's container.
         ensures bad { (cause : Cause) → IsErrOf result (RecoverFault.IntentBad cause)
             → container_fault_except_contents IntentTable file.items ≡ Some cause }
+        // Ok is returned only if the intent's container passes all tests.
         ensures good { OnOk result (container_fault_except_contents IntentTable file.items ≡ None) }
         ensures only { IsErrOf result RecoverFault.Disk → ⊥ }
     {
@@ -182,9 +185,11 @@ impl Stage {
     /// Before the first file is made, the names are synced. So no crash restores the intent of an
     /// older change, by which that file would be a staged file of its own.
     fn sync_before_first<T: Tree>(&self, tree: &mut T) -> Result<(), Disk>
+        // From a durable tree on, each moment is durable, and the state is unchanged.
         ensures moments { IfObservable (T.history tree.old) (λ v. (ignored : List ℕ → Bool)
             → IsDurable (StateDependsOn ignored) v
             → Since (StateIsUnchanged ignored v) (T.history tree.old) (T.history tree.new)) }
+        // Once it has returned Ok, the staged files are as before, and no crash restores an intent.
         ensures staged { IfObservable (T.history tree.old) (λ v. (contents : List (List ℕ))
             (base : Files) → IsStaged self.now contents None base v
             → OnOk result (HoldsNow (T.history tree.new)
@@ -221,6 +226,7 @@ impl Stage {
             (contents : List (List ℕ)) (base : Files) → IsDurable (StateDependsOn ignored) v
             → IsStaged self.old contents None base v
             → Since (StateIsUnchanged ignored v) (T.history tree.old) (T.history tree.new)) }
+        // Once it has returned Ok, the staged files are as before, and the begun one is empty.
         ensures staged { IfObservable (T.history tree.old) (λ v. (contents : List (List ℕ))
             (base : Files) → IsStaged self.old contents None base v
             → OnOk result (HoldsNow (T.history tree.new)
@@ -263,6 +269,7 @@ impl Stage {
             (contents : List (List ℕ)) (so_far : List ℕ) (base : Files)
             → IsDurable (StateDependsOn ignored) v → IsStaged self.old contents (Some so_far) base v
             → Since (StateIsUnchanged ignored v) (T.history tree.old) (T.history tree.new)) }
+        // Once it has returned Ok, the begun file has the bytes so far and then these.
         ensures staged { IfObservable (T.history tree.old) (λ v. (contents : List (List ℕ))
             (so_far : List ℕ) (base : Files) → IsStaged self.old contents (Some so_far) base v
             → OnOk result (HoldsNow (T.history tree.new)
@@ -302,6 +309,7 @@ impl Stage {
             (contents : List (List ℕ)) (so_far : List ℕ) (base : Files)
             → IsDurable (StateDependsOn ignored) v → IsStaged self.old contents (Some so_far) base v
             → Since (StateIsUnchanged ignored v) (T.history tree.old) (T.history tree.new)) }
+        // Once it has returned Ok, the begun file is one of the staged files.
         ensures staged { IfObservable (T.history tree.old) (λ v. (contents : List (List ℕ))
             (so_far : List ℕ) (base : Files) → IsStaged self.old contents (Some so_far) base v
             → OnOk result (HoldsNow (T.history tree.new)
@@ -344,6 +352,7 @@ impl Stage {
         // returned Ok, it leaves the latter.
         ensures publishing { PublishesIntent self.old (T.history tree.old)
             (T.history tree.new) result }
+        // Once it has returned Ok, the intent is committed, and none of its actions is done.
         ensures acting { IfObservable (T.history tree.old) (λ v. (contents : List (List ℕ))
             (base : Files) → IsStaged self.old contents None base v
             → OnOk result (HoldsNow (T.history tree.new)
@@ -373,6 +382,7 @@ impl Stage {
         // The state is unchanged at each moment. Once it has returned Ok, the stage's count of
         // actions done is true of the tree.
         ensures actions { CarriesOutActions self.old (T.history tree.old) (T.history tree.new) }
+        // Once it has returned Ok, the count of actions done is true of the tree again.
         ensures acting { IfObservable (T.history tree.old) (λ v. (files : Files)
             → IsCarryingOutActions self.old files v
             → OnOk result (HoldsNow (T.history tree.new) (IsCarryingOutActions self.new files))) }
@@ -389,8 +399,10 @@ impl Stage {
         // left, no call is made. A call that fails leaves the stage as it was.
         ensures answer { IfOk result
             (λ was_left. was_left ≡ nat_lt self.old.acted (action_count self.old.intent)) }
+        // If an action is left, Ok counts one more action as done.
         ensures more { self.old.acted < action_count self.old.intent
             → OnOk result (self.new ≡ record self.old { acted = self.old.acted + 1 }) }
+        // If no action is left, stage and tree are unchanged.
         ensures none_left { action_count self.old.intent ≤ self.old.acted
             → OnOk result (self.new ≡ self.old) × (tree.new ≡ tree.old) }
         // An error leaves the stage as it was.
@@ -451,8 +463,10 @@ impl Stage {
         // has changed; the stage is unchanged, whatever it returns.
         ensures waiting { IfObservable (T.history tree.old) (λ v.
             Since (JournalOnlyShrinks v) (T.history tree.old) (T.history tree.new)) }
+        // In the newest state, each file except the intent's is unchanged.
         ensures others { IfObservable (T.history tree.old) (λ v. HoldsNow (T.history tree.new)
             (KeepsFilesExcept (λ q. q ≡ intent_name) v)) }
+        // At each moment, each file except the intent's is unchanged.
         ensures shown { IfObservable (T.history tree.old) (λ v.
             Since (KeepsFilesExcept (λ q. q ≡ intent_name) v)
             (T.history tree.old) (T.history tree.new)) }
@@ -477,6 +491,7 @@ pub fn apply_all<T: Tree>(stage: &mut Stage, tree: &mut T) -> Result<(), Disk>
     requires within { stage.old.acted ≤ action_count stage.old.intent }
     // If the actions that are counted are done at the start, the state is unchanged at each moment.
     ensures actions { CarriesOutActions stage.old (T.history tree.old) (T.history tree.new) }
+    // Once it has returned Ok, the count of actions done is true of the tree again.
     ensures acting { IfObservable (T.history tree.old) (λ v. (files : Files)
         → IsCarryingOutActions stage.old files v
         → OnOk result (HoldsNow (T.history tree.new) (IsCarryingOutActions stage.new files))) }

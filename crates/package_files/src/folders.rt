@@ -159,6 +159,7 @@ pub(crate) fn last_part_of(path: &[u8]) -> &[u8]
 
 /// The offset at which the last part of a path begins: after its last `/`, or 0.
 fn part_start(path: &[u8]) -> usize
+    // The offset is the path's length, less the length of its last part.
     ensures value { result ≡ length path.now - suffix_len (λ b. not (is_slash b)) path.now }
     // The result is at most the number of elements.
     ensures within { result ≤ length path.now }

@@ -65,8 +65,10 @@ fn begin_block(blocks: &mut Vec<u8>, position: (u64, u64), size: u64) -> Result<
 /// its padding. A file that has no contents has no block, and the begun one is removed.
 fn end_block(blocks: &mut Vec<u8>, start: usize, kind: &FileKind) -> Result<(), AllocError>
     requires { start ≤ length blocks.old.items }
+    // A file without contents leaves the blocks as they were before its block.
     ensures none { OnOk result (has_contents kind.now ≡ false
         → blocks.new.items ≡ take start blocks.old.items) }
+    // A file with contents has its block filled up by zeros.
     ensures padded { OnOk result (has_contents kind.now ≡ true
         → blocks.new.items ≡ blocks.old.items
         ++ replicate (padding_of (length blocks.old.items - start)) 0) }
@@ -272,6 +274,7 @@ fn read_listed<T: Tree>(
     // The tree is only read, and `Disk` has a counted fault of the tree as its cause.
     ensures tree { OnlyReads MakeFault.Disk (T.history tree.old) (T.history tree.new)
         (T.counts tree.old) (T.counts tree.new) result }
+    // The block begins with its header and the positions, before the file's bytes.
     ensures begun { IfOk result (λ at. HasBlockFront position.0 position.1 blocks.old.items
         blocks.new.items at) }
     // There are results of reads that give this result; if the tree is observable, they are its
@@ -298,8 +301,10 @@ fn read_in_block<T: Tree>(
     // The tree is only read: no file changes, no I/O error is hidden, and no call is a misuse.
     ensures tree { OnlyReads TreeFault.Disk (T.history tree.old) (T.history tree.new)
         (T.counts tree.old) (T.counts tree.new) result }
+    // If the file is present, the block begins with its header and the positions.
     ensures begun { IfOk result (λ found. IfSome found (HasBlockFront position.0 position.1
         blocks.old.items blocks.new.items)) }
+    // If the tree is observable, the bytes from the result on are the file's.
     ensures answer { IfOk result (λ found. IfObservable (T.history tree.old) (λ v.
         option_map (λ at. drop at blocks.new.items) found ≡ files_of v name.now)) }
 {

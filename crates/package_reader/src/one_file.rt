@@ -28,8 +28,11 @@ pub struct FilePieces<'a> {
     pub(crate) opened: Option<OpenFile<'a>>,
     // The test that failed, if one did.
     pub(crate) refused: Option<Cause>,
+    // The open file ends within the package.
     ghost within: { open_file_end opened ≤ len },
+    // An open file has bytes left.
     ghost more: { ForSome opened (λ o. 0 < file_bytes_left o.file) },
+    // If the file is open, `due` has its size and digest.
     ghost same: { ForSome opened (λ o. due ≡ Some o.file.wanted) },
 }
 

@@ -42,8 +42,11 @@ pub struct PieceReader<'a> {
     pub(crate) start: u64,
     /// Whether files are left, the last block was passed, or a test failed.
     pub(crate) due: Due,
+    // The place is within the package.
     ghost within: { place.at ≤ place.len },
+    // The open file does not end after the place.
     ghost behind: { open_file_end opened ≤ place.at },
+    // The open file's next byte is not before its start.
     ghost begun: { ForSome opened (λ file. start ≤ file.at) },
 }
 

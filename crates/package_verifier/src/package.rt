@@ -22,6 +22,7 @@ pub struct TestedPackage {
     pub(crate) front: Front,
     /// Where the contents of each file begin, in the order of the files.
     pub(crate) places: Vec<FilePlace>,
+    // All tests of the payload were passed.
     ghost tested: { is_none (payload_fault Tables.Package (front_payload front)) ≡ true },
 }
 

@@ -27,6 +27,7 @@ pub fn find_claim(claims: &[Claim<'_>], path: &FilePath<'_>) -> Option<usize>
     requires { IsSorted claim_cmp (map claim_seen claims.now) }
     // An index in the result is one of the list.
     ensures within { IfSome result (λ i. i < length claims.now) }
+    // The claim at the result is the first claim of the path; without a claim of it there is none.
     ensures found { option_and_then (slice_get (map claim_seen claims.now)) result
         ≡ find (is_claim_of_path (joined_path path.now)) (map claim_seen claims.now) }
 {
@@ -43,6 +44,7 @@ pub fn find_next_claim(claims: &[Claim<'_>], path: &FilePath<'_>, next: &mut usi
     requires { IsSorted claim_cmp (map claim_seen claims.now) }
     // An index in the result is one of the list.
     ensures within { IfSome result (λ i. i < length claims.now) }
+    // The claim at the result is the first claim of the path; without a claim of it there is none.
     ensures found { option_and_then (slice_get (map claim_seen claims.now)) result
         ≡ find (is_claim_of_path (joined_path path.now)) (map claim_seen claims.now) }
 {
@@ -61,10 +63,12 @@ fn claim_at(claims: &[Claim<'_>], path: &FilePath<'_>, at: usize) -> Option<usiz
     // The claims are in the order of their paths.
     requires sorted { IsSorted claim_cmp (map claim_seen claims.now) }
     requires bound { at ≤ length claims.now }
+    // `at` claims have paths before this one, and the others have not.
     requires place { IsPartitionPoint (λ c. precedes c.path (joined_path path.now) ≡ true)
         (λ c. precedes c.path (joined_path path.now) ≡ false) (map claim_seen claims.now) at }
     // An index in the result is one of the list.
     ensures within { IfSome result (λ i. i < length claims.now) }
+    // The claim at the result is the first claim of the path; without a claim of it there is none.
     ensures found { option_and_then (slice_get (map claim_seen claims.now)) result
         ≡ find (is_claim_of_path (joined_path path.now)) (map claim_seen claims.now) }
 {
@@ -83,6 +87,7 @@ fn place_near(claims: &[Claim<'_>], path: &FilePath<'_>, guess: usize) -> usize
     // The claims are in the order of their paths.
     requires { IsSorted claim_cmp (map claim_seen claims.now) }
     ensures bound { result ≤ length claims.now }
+    // So many claims have paths before this one, and the others have not.
     ensures place { IsPartitionPoint (λ c. precedes c.path (joined_path path.now) ≡ true)
         (λ c. precedes c.path (joined_path path.now) ≡ false) (map claim_seen claims.now) result }
 {
@@ -103,6 +108,7 @@ fn place_of(claims: &[Claim<'_>], path: &FilePath<'_>) -> usize
     // The claims are in the order of their paths.
     requires { IsSorted claim_cmp (map claim_seen claims.now) }
     ensures bound { result ≤ length claims.now }
+    // So many claims have paths before this one, and the others have not.
     ensures place { IsPartitionPoint (λ c. precedes c.path (joined_path path.now) ≡ true)
         (λ c. precedes c.path (joined_path path.now) ≡ false) (map claim_seen claims.now) result }
 {

@@ -53,9 +53,11 @@ fn owner_at<C: Contest>(
     requires one_way { IsAsymmetric (C.beats contest.now) }
     // The claims are in the order of their paths.
     requires sorted { IsSorted claim_cmp (map claim_seen claims.now) }
+    // `before` is the owner of the path of the claim before this one, if there is such a claim.
     requires before { (j : ℕ) (c : PathClaim) → j + 1 ≡ i
         → slice_get (map claim_seen claims.now) j ≡ Some c
         → before ≡ owner_among (C.beats contest.now) (map claim_seen claims.now) c.path }
+    // The result is the owner of the claim's path, or none.
     ensures { (c : PathClaim) → slice_get (map claim_seen claims.now) i ≡ Some c
         → result ≡ owner_among (C.beats contest.now) (map claim_seen claims.now) c.path }
 {
@@ -102,6 +104,7 @@ fn is_owning_member(member: u32, owner: Option<u32>) -> bool
 /// Sets the flag of each claim, by its number: whether its member owns its path.
 fn mark_owned(flags: &mut [bool], claims: &[Claim<'_>], owners: &[Option<u32>])
     requires owners { length owners.now ≡ length claims.now }
+    // There is a flag for the number of each claim.
     requires flags { (j : ℕ) (c : PathClaim) → slice_get (map claim_seen claims.now) j ≡ Some c
         → c.number < length flags.old }
     // Each number belongs to one claim, so it gets one flag.
@@ -110,6 +113,7 @@ fn mark_owned(flags: &mut [bool], claims: &[Claim<'_>], owners: &[Option<u32>])
         → slice_get (map claim_seen claims.now) k ≡ Some d → slice_get owners.now k ≡ Some p
         → c.number ≡ d.number → is_owning_member c.member o ≡ is_owning_member d.member p }
     ensures len { length flags.new ≡ length flags.old }
+    // The flag of each claim says whether its member owns its path.
     ensures marked { (j : ℕ) (c : PathClaim) (o : Option ℕ)
         → slice_get (map claim_seen claims.now) j ≡ Some c → slice_get owners.now j ≡ Some o
         → slice_get flags.new c.number ≡ Some (is_owning_member c.member o) }
@@ -176,13 +180,16 @@ fn owned_flags(
     owners: &[Option<u32>],
 ) -> Result<Vec<bool>, AllocError>
     requires owners { length owners.now ≡ length claims.now }
+    // The number of each claim is below the number of claims.
     requires numbers { (j : ℕ) (c : PathClaim) → slice_get (map claim_seen claims.now) j ≡ Some c
         → c.number < length claims.now }
+    // Claims of one number have the same flag.
     requires same { (j k : ℕ) (c d : PathClaim) (o p : Option ℕ)
         → slice_get (map claim_seen claims.now) j ≡ Some c → slice_get owners.now j ≡ Some o
         → slice_get (map claim_seen claims.now) k ≡ Some d → slice_get owners.now k ≡ Some p
         → c.number ≡ d.number → is_owning_member c.member o ≡ is_owning_member d.member p }
     ensures len { IfOk result (λ flags. length flags.items ≡ length claims.now) }
+    // The flag of each claim says whether its member owns its path.
     ensures marked { IfOk result (λ flags. (j : ℕ) (c : PathClaim) (o : Option ℕ)
         → slice_get (map claim_seen claims.now) j ≡ Some c → slice_get owners.now j ≡ Some o
         → slice_get flags.items c.number ≡ Some (is_owning_member c.member o)) }

@@ -193,10 +193,12 @@ pub trait IsReleased {
 /// If a change has no clash, no name that is present after it is a folder of another: so a file
 /// system can have the files after it.
 pub fn files_without_a_clash_have_no_file_as_folder()
+    // For the files after a change.
     ensures files { (change : NameChange) (files after : Files) → HasNoFileAsFolder files
         → HasNoClash change files
         → ((name : List ℕ) → IsSome (after name) → is_present_after_change change files name ≡ true)
         → HasNoFileAsFolder after }
+    // For a map of the names after a change.
     ensures names { (change : NameChange) (files : Files) (after : NameMap)
         → HasNoFileAsFolder files
         → HasNoClash change files

@@ -36,8 +36,10 @@ fn is_name_present<T: Tree, G: IsReleased>(
     let_go: &G,
     name: &Name,
 ) -> Result<bool, TreeFault>
+    // On Ok, if the tree is observable, the result says whether the name has a file that is kept.
     ensures answer { IfOk result (λ present_files. IfObservable (T.history tree.old) (λ v.
         present_files ≡ is_name_present (G.does_release let_go.now) (files_of v) name.now)) }
+    // A name that the change releases does not count as present.
     ensures stays { IfOk result (λ present_files.
         present_files ≡ true → G.does_release let_go.now name.now ≡ false) }
     // The tree is only read: no file changes, no I/O error is hidden, and no call is a misuse.
@@ -64,10 +66,12 @@ fn folder_after<T: Tree, G: IsReleased>(
     requires sorted { IsSorted bytes_cmp (map joined_path written.now) }
     // Each path is a name.
     requires names { All IsName (map joined_path written.now) }
+    // On Ok, the folder's name is returned exactly if it is present after the change.
     ensures found { IfOk result (λ found. IfObservable (T.history tree.old) (λ v.
         found ≡ name_if_holds (is_present_after_change (name_change_of_paths written.now
         (G.does_release let_go.now))
         (files_of v) folder.now) folder.now)) }
+    // Over any tree, the result is right for a tree that has only the name found, if any.
     ensures may { IfOk result (λ found.
         found ≡ name_if_holds (is_present_after_change (name_change_of_paths written.now
         (G.does_release let_go.now))
@@ -99,10 +103,13 @@ pub(crate) fn first_folder<T: Tree, G: IsReleased>(
     requires sorted { IsSorted bytes_cmp (map joined_path written.now) }
     // Each path is a name.
     requires names { All IsName (map joined_path written.now) }
+    // On Ok, the result is the shortest folder of the name that is present after the change, or
+    // none.
     ensures found { IfOk result (λ found. IfObservable (T.history tree.old) (λ v.
         IsShortestFolderOrNone (name_change_of_paths written.now (G.does_release let_go.now))
         (files_of v)
         name.now len found)) }
+    // Over any tree, the result is right for a tree that has only the name found, if any.
     ensures may { IfOk result (λ found.
         IsShortestFolderOrNone (name_change_of_paths written.now (G.does_release let_go.now))
         (files_with_only_name found)

@@ -21,7 +21,9 @@ use std::alloc::Global;
 /// by `Values` of `specs/`, the plain value and its bytes.
 #[derive(Clone, Copy)]
 pub struct Contents<'a> {
+    /// The payload of the package's first block.
     adb: Adb<'a>,
+    // All tests of the payload were passed.
     ghost tested: { is_none (payload_fault Tables.Package (payload_of adb)) ≡ true },
 }
 
@@ -51,6 +53,7 @@ impl<'a> Contents<'a> {
         // The value and its bytes are those of the front.
         ensures value { IfOk result (λ contents. value_of_contents contents
             ≡ root_value Tables.Package (front_payload front.entry.now)) }
+        // The payload is that of the front.
         ensures payload { IfOk result (λ contents. payload_of_contents contents
             ≡ front_payload front.entry.now) }
     {

@@ -67,6 +67,7 @@ impl<'a> FileCheck<'a> {
             HasTakenOrPassedDigest self.entry.wanted.hash.now (so_far ++ bytes.now) taken.1) }
         // The piece is a part of this file, and its length is subtracted from the rest.
         ensures part { IfOk result (IsPartOfCheckedFile self.entry) }
+        // If the file goes on, so many bytes are left as before, less those of this piece.
         ensures left { IfOk result (λ taken. IfSome taken.1 (λ further.
             file_bytes_left further ≡ file_bytes_left self.entry - length bytes.now)) }
         // Only the last piece ends the file.
@@ -148,6 +149,7 @@ pub fn open_file<'a>(
 /// Why a block of contents does not belong to a file, before its bytes are read: first the
 /// positions are compared, then the size. None if both agree.
 fn position_or_size_fault(found: (u32, u32), size: u64, wanted: Wanted<'_>) -> Option<Cause>
+    // The result is that of the definition for each payload with these positions and this size.
     ensures exact { (payload : List ℕ) → length (contents_bytes payload) ≡ size
         → contents_positions payload ≡ found
         → result ≡ position_or_size_fault payload (expected_of wanted.entry) }

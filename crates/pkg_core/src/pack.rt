@@ -69,6 +69,7 @@ pub struct Package<'a> {
     rest: Rest<'a>,
     /// The test that failed, if one did.
     refused: Option<Cause>,
+    // The payload's root is a package.
     ghost table: { table_of_checked checked ≡ Tables.Package },
 }
 
@@ -97,8 +98,11 @@ impl<'a> Package<'a> {
         // It has the value, the id and the contents of the file from which it was read.
         ensures value { IfOk result
             (λ pkg. opened_value pkg ≡ root_value Tables.Package (payload_in bytes.entry.now)) }
+        // The payload is that of the package's first block.
         ensures payload { IfOk result (λ pkg. opened_payload pkg ≡ payload_in bytes.entry.now) }
+        // The id of the package is the SHA-256 digest of its payload.
         ensures id { IfOk result (λ pkg. sha256 (opened_payload pkg) ≡ package_id bytes.entry.now) }
+        // The files that `next_file` will read are those of the package.
         ensures files { IfOk result (λ pkg. opened_files pkg
             ≡ files_read_from_package bytes.entry.now) }
     {
@@ -168,6 +172,7 @@ impl<'a> Package<'a> {
 fn first_block<'a>(bytes: &'a [u8]) -> (&'a [u8], Blocks<'a>)
     requires { container_fault_except_contents Tables.Package bytes.now ≡ None }
     ensures payload { result.0.now ≡ payload_in bytes.entry.now }
+    // The files read from the blocks that are left are those of the package.
     ensures files { files_read_from_blocks (expected_files_of_package
         (root_value Tables.Package result.0.now))
         (block_stream_from result.1) ≡ files_read_from_package bytes.entry.now }
