@@ -87,6 +87,7 @@ impl KnownTexts {
     ) -> Result<(), AllocError>
         // The word has a plain value of its kind.
         requires sound { is_sound (payload_of adb) (Kinds.Obj which) object ≡ true }
+        // The field is a text.
         requires kind { kind_at which field ≡ Some Kinds.Text }
         // The remembered texts are blobs of the draft.
         requires known { AreRememberedBlobsOfDraft (payload_of adb) draft.old self.old }
@@ -123,6 +124,7 @@ impl KnownTexts {
         // Each remembered range of the payload has its period.
         ensures ranges { OnOk result
             (All (HasPeriod (payload_of adb.entry)) self.new.overlaps.ranges.items) }
+        // A known word is that of an equal text in the draft.
         ensures known { IfOk result (λ known. IfSome known
             (IsRememberedTextWord (payload_of adb.entry) self.old.words word)) }
     {

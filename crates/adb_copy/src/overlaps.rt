@@ -186,13 +186,16 @@ impl Overlaps {
         first: TextPlace,
         second: TextPlace,
     ) -> Result<Option<PeriodicRange>, AllocError>
+        // The first text is within the payload,
         requires first { first.from + first.len ≤ length (payload_of adb) }
+        // and so is the second.
         requires second { second.from + second.len ≤ length (payload_of adb) }
         // Each remembered range of the payload has its period.
         requires ranges { All (HasPeriod (payload_of adb)) self.old.ranges.items }
         // Each remembered range of the payload has its period.
         ensures ranges { OnOk result
             (All (HasPeriod (payload_of adb.entry)) self.new.ranges.items) }
+        // The range that is returned, if any, has its period.
         ensures range { IfOk result
             (λ range. IfSome range (HasPeriod (payload_of adb.entry))) }
     {
@@ -315,8 +318,10 @@ fn repeat_place(first: TextPlace, second: TextPlace) -> (usize, usize, usize) {
 
 /// The place of a word's text in the payload; None if it has no bytes at an offset.
 pub(crate) fn text_place(adb: Adb<'_>, word: Val) -> Option<TextPlace>
+    // The place of the text has the text of the word.
     ensures text { IfSome result (λ text. text_in (value_at (payload_of adb.entry) Kinds.Text word)
         ≡ take text.len (drop text.from (payload_of adb.entry))) }
+    // This place is within the payload.
     ensures within { IfSome result (λ text. text.from + text.len ≤ length (payload_of adb.entry)) }
 {
     match adb.blob_range(word) {

@@ -136,6 +136,7 @@ impl Sums {
 
     /// The sum of the bytes in front of an offset, if the payload is summed.
     fn sum_before(&self, payload: &[u8], offset: usize) -> Option<Pair>
+        // The offset is within the payload.
         requires { offset ≤ length payload.now }
     {
         let block = offset / BLOCK;

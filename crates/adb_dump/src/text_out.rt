@@ -43,6 +43,7 @@ pub(crate) trait Out {
 pub(crate) trait BlobOut: Out {
     /// Appends the text of a word in its form in a line.
     fn put_text(&mut self, adb: Adb<'_>, word: Val, text: &[u8]) -> Result<(), AllocError>
+        // These bytes are the text of the word.
         requires { text.now ≡ text_in (value_at (payload_of adb) Kinds.Text word) }
         ensures { OnOk result (Puts (Self.holds (payload_of adb.entry)) self.old self.new
             (bare_or_quoted_text text.now)) };

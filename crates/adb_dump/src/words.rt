@@ -41,6 +41,7 @@ pub(crate) fn field_words<'a>(adb: Adb<'a>, which: Which, word: Val) -> Arr<'a>
 #[tactic(auto, using(adb_view::proofs::WalkSteps::table_rank, crate::proofs::Nulls::text_null, crate::proofs::Nulls::hash_null, crate::proofs::Nulls::arr_null, crate::proofs::Nulls::obj_null))]
 #[inline(always)]
 pub(crate) fn is_null(adb: Adb<'_>, kind: Kind, word: Val) -> bool
+    // The word has a plain value of its kind.
     requires { is_sound (payload_of adb) kind word ≡ true }
     ensures { result ≡ is_null (value_at (payload_of adb.entry) kind word) }
 {
@@ -58,6 +59,7 @@ pub(crate) fn is_null(adb: Adb<'_>, kind: Kind, word: Val) -> bool
 #[cycle(null)]
 #[tactic(auto, using(adb_view::proofs::WalkSteps::field_rank, crate::proofs::Left::field_here, crate::proofs::Left::fields_later, crate::proofs::Left::null_next, crate::proofs::Left::null_stop, crate::proofs::Left::null_done, crate::proofs::Left::null_over))]
 fn are_null(adb: Adb<'_>, fields: &[Field], words: Arr<'_>) -> bool
+    // Each word of the object has a plain value of its field's kind.
     requires { fields_sound (payload_of adb) fields.now (array_entries words) ≡ true }
     ensures { result
         ≡ are_null (fields_at (payload_of adb.entry) fields.now (array_entries words.entry)) }

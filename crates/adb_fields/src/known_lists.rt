@@ -44,6 +44,7 @@ impl<'a> KnownLists<'a> {
     /// The lists of a payload before any was searched. The first field of the table must be a text,
     /// which is the name.
     pub(crate) fn new(alloc: Global, adb: Adb<'a>, which: Which) -> KnownLists<'a>
+        // The first field of the table is a text, the name.
         requires { kind_at which NAME_INDEX ≡ Some Kinds.Text }
         ensures { AreRememberedListsOf adb.entry which result }
     {

@@ -27,6 +27,7 @@ pub trait View<'a>: Kinded {
 
     /// The view of a word that is sound for the kind.
     fn of(adb: Adb<'a>, word: Val) -> Self
+        // The word has a plain value of the entries' kind.
         requires { is_sound (payload_of adb) Self.kind word ≡ true }
         ensures { shows result ≡ value_at (payload_of adb.entry) Self.kind word };
 }
@@ -74,6 +75,7 @@ impl<'a, V: View<'a>> List<'a, V> {
     pub fn get(&self, i: usize) -> V
         // The entries are counted from 1.
         requires from { 1 ≤ i }
+        // The number is at most that of the last entry.
         requires to { i ≤ count_of (entries_in (list_value self.now)) }
         ensures { V.shows result ≡ entry_in (list_value self.now) (i - 1) }
     {

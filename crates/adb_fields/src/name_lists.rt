@@ -28,6 +28,7 @@ const NAME_INDEX: usize = DIR_NAME;
 
 /// Adds a name after the others, at the next position.
 fn add<'a>(names: &mut Vec<PathWithPosition<'a>>, name: &'a [u8]) -> Result<(), AllocError>
+    // The next position fits into 32 bits.
     requires { vec_len names.old + 1 < 2 ^ 32 }
     ensures added { IfOk result (λ _. map joined_name_with_position names.new.items
         ≡ map joined_name_with_position names.old.items
@@ -110,6 +111,7 @@ pub(crate) fn add_texts<'a>(
 ) -> Result<(), AllocError>
     // Each word has a plain value of its kind.
     requires sound { are_all_sound (payload_of adb) Kinds.Text (array_entries texts) ≡ true }
+    // The positions of all these texts fit into 32 bits.
     requires few { vec_len names.old + length (array_entries texts) < 2 ^ 32 }
     ensures added { IfOk result (λ _. map joined_name_with_position names.new.items
         ≡ map joined_name_with_position names.old.items

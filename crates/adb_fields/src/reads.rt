@@ -127,6 +127,7 @@ pub fn objects_word<'a>(adb: Adb<'a>, which: Which, word: Val) -> Arr<'a>
 pub fn int_field(adb: Adb<'_>, which: Which, object: Val, i: usize) -> u64
     // The word has a plain value of its kind.
     requires sound { is_sound (payload_of adb) (Kinds.Obj which) object ≡ true }
+    // Field `i` of the table is an integer.
     requires kind { kind_at which i ≡ Some Kinds.Int }
     ensures { result
         ≡ int_in (entry_in (value_at (payload_of adb.entry) (Kinds.Obj which) object) i) }
@@ -138,6 +139,7 @@ pub fn int_field(adb: Adb<'_>, which: Which, object: Val, i: usize) -> u64
 pub fn text_field<'a>(adb: Adb<'a>, which: Which, object: Val, i: usize) -> &'a [u8]
     // The word has a plain value of its kind.
     requires sound { is_sound (payload_of adb) (Kinds.Obj which) object ≡ true }
+    // Field `i` of the table is a text.
     requires kind { kind_at which i ≡ Some Kinds.Text }
     ensures { result.now
         ≡ text_in (entry_in (value_at (payload_of adb.entry) (Kinds.Obj which) object) i) }
@@ -149,6 +151,7 @@ pub fn text_field<'a>(adb: Adb<'a>, which: Which, object: Val, i: usize) -> &'a 
 pub fn hash_field<'a>(adb: Adb<'a>, which: Which, object: Val, i: usize) -> &'a [u8]
     // The word has a plain value of its kind.
     requires sound { is_sound (payload_of adb) (Kinds.Obj which) object ≡ true }
+    // Field `i` of the table is a hash.
     requires kind { kind_at which i ≡ Some Kinds.Hash }
     ensures { result.now
         ≡ text_in (entry_in (value_at (payload_of adb.entry) (Kinds.Obj which) object) i) }
@@ -160,6 +163,7 @@ pub fn hash_field<'a>(adb: Adb<'a>, which: Which, object: Val, i: usize) -> &'a 
 pub fn texts_field<'a>(adb: Adb<'a>, which: Which, object: Val, i: usize) -> Arr<'a>
     // The word has a plain value of its kind.
     requires sound { is_sound (payload_of adb) (Kinds.Obj which) object ≡ true }
+    // Field `i` of the table is an array of texts.
     requires kind { kind_at which i ≡ Some Kinds.TextArr }
     // Each word of the result has a plain value of its kind.
     ensures sound { are_all_sound (payload_of adb.entry) Kinds.Text (array_entries result) ≡ true }
@@ -174,6 +178,7 @@ pub fn texts_field<'a>(adb: Adb<'a>, which: Which, object: Val, i: usize) -> Arr
 pub fn objects_field<'a>(adb: Adb<'a>, which: Which, object: Val, i: usize, inner: Which) -> Arr<'a>
     // The word has a plain value of its kind.
     requires sound { is_sound (payload_of adb) (Kinds.Obj which) object ≡ true }
+    // Field `i` of the table is an array of objects of the table `inner`.
     requires kind { kind_at which i ≡ Some (Kinds.ObjArr inner) }
     // Each word of the result has a plain value of its kind.
     ensures sound { are_all_sound (payload_of adb.entry) (Kinds.Obj inner) (array_entries result)

@@ -185,6 +185,7 @@ fn between_packages(
 fn in_intent(alloc: Global, adb: Adb<'_>, intent: Val) -> Result<Option<Cause>, AllocError>
     // The word has a plain value of its kind.
     requires sound { is_sound (payload_of adb) (Kinds.Obj Tables.Intent) intent ≡ true }
+    // The intent has fewer than 2^32 removals and writes together.
     requires few { count_of (entries_in
         (entry_in (value_at (payload_of adb) (Kinds.Obj Tables.Intent) intent) INTENT_REMOVALS)) +
         count_of (entries_in

@@ -82,6 +82,7 @@ impl<'a> Checked<'a> {
 
     /// The package in the payload.
     pub fn package(&self) -> PackageView<'a>
+        // The table at the root is that of a package.
         requires { table_of_checked self.now ≡ Tables.Package }
         ensures { package_value result ≡ checked_value self.now }
     {
@@ -91,6 +92,7 @@ impl<'a> Checked<'a> {
 
     /// The index in the payload.
     pub fn index(&self) -> IndexView<'a>
+        // The table at the root is that of an index.
         requires { table_of_checked self.now ≡ Tables.Index }
         ensures { index_value result ≡ checked_value self.now }
     {
@@ -100,6 +102,7 @@ impl<'a> Checked<'a> {
 
     /// The installed database in the payload.
     pub fn idb(&self) -> IdbView<'a>
+        // The table at the root is that of a database.
         requires { table_of_checked self.now ≡ Tables.Idb }
         ensures { idb_value result ≡ checked_value self.now }
     {
@@ -109,6 +112,7 @@ impl<'a> Checked<'a> {
 
     /// The journal entry in the payload.
     pub fn intent(&self) -> IntentView<'a>
+        // The table at the root is that of an intent (journal entry).
         requires { table_of_checked self.now ≡ Tables.Intent }
         ensures { intent_value result ≡ checked_value self.now }
     {
@@ -263,6 +267,7 @@ impl<'a> IdbView<'a> {
 
     /// The package at a place, counted from 0, which is read from the payload of the database.
     pub fn package_at(&self, i: usize) -> PackageView<'a>
+        // The index is one of the database's packages.
         requires { i < count_of (entries_in (entry_in (idb_value self.now) IDB_PACKAGES)) }
         // The value is that of entry `i` of the database's packages.
         ensures value { package_value result

@@ -100,6 +100,7 @@ impl<'a> Judged<'a> {
     /// Whether the text of a word obeys a rule. Only long texts need memory, each once for each
     /// rule that it obeys. The payload is unchanged, so the verdicts on its words stay true.
     pub fn keeps(&mut self, rule: TextRule, word: Val, text: &[u8]) -> Result<bool, AllocError>
+        // These bytes are the text of the word.
         requires { text.now ≡ text_at (payload_of self.old.adb) word }
         ensures value { IfOk result (λ kept. kept ≡ keeps_text_rule rule text.now) }
         // The payload is unchanged.
@@ -133,6 +134,7 @@ impl<'a> Judged<'a> {
         word: Val,
         text: &[u8],
     ) -> Result<bool, AllocError>
+        // These bytes are the text of the word.
         requires { text.now ≡ text_at (payload_of self.old.adb) word }
         ensures value { IfOk result (λ kept. kept ≡ keeps_text_rule rule text.now) }
         // The payload is unchanged.
@@ -147,6 +149,7 @@ impl<'a> Judged<'a> {
 
     /// Whether the text of a word is empty or a version.
     fn is_version_or_empty(&mut self, word: Val, text: &[u8]) -> Result<bool, AllocError>
+        // These bytes are the text of the word.
         requires { text.now ≡ text_at (payload_of self.old.adb) word }
         ensures value { IfOk result (λ is. is ≡ is_version_or_empty text.now) }
         // The payload is unchanged.
@@ -160,6 +163,7 @@ impl<'a> Judged<'a> {
 
     /// Whether the text of a word is a version.
     fn is_version(&mut self, word: Val, text: &[u8]) -> Result<bool, AllocError>
+        // These bytes are the text of the word.
         requires { text.now ≡ text_at (payload_of self.old.adb) word }
         ensures value { IfOk result (λ is. is ≡ is_version text.now) }
         // The payload is unchanged.

@@ -162,6 +162,7 @@ fn read_first<'a>(
     blocks: &mut Blocks<'a>,
     which: Which,
 ) -> Result<Checked<'a>, ReadFault>
+    // No block was read before.
     requires { blocks.old.last ≡ None }
     // The error is the first failed test, or out of memory.
     ensures bad { IfErr result
@@ -259,6 +260,7 @@ fn unexpected_contents_cause(payload: &[u8], at: u64) -> Cause
 /// The two numbers at the front of contents (apk-v3(5)): the positions of the folder and of its
 /// file, which count from 1.
 pub fn contents_positions(payload: &[u8]) -> (u32, u32)
+    // The payload has at least the 8 bytes of its head.
     requires { 8 ≤ length payload.now }
     ensures { result ≡ contents_positions payload.now }
 {

@@ -76,6 +76,7 @@ impl<'a> Arr<'a> {
     pub fn get(&self, i: usize) -> Val
         // The entries are counted from 1.
         requires from { 1 ≤ i }
+        // The number is at most that of the last entry.
         requires to { i ≤ length (array_entries self.now) }
         ensures { result ≡ entry_at (array_entries self.now) i }
     {
@@ -105,6 +106,7 @@ impl<'a, const N: usize> Obj<'a, N> {
     pub fn field(&self, i: usize) -> Val
         // The entries are counted from 1.
         requires from { 1 ≤ i }
+        // The number is at most `N`.
         requires to { i ≤ N }
         ensures { result ≡ entry_at (object_entries self.now) i }
     {

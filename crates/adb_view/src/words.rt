@@ -140,6 +140,7 @@ pub(crate) fn number(bytes: &[u8], at: usize, width: Width) -> Option<u64>
 /// The start and the end of a blob's bytes whose length, of this width, is at `at`; None if they
 /// pass the end. An offset has 28 bits.
 pub(crate) fn counted_range(bytes: &[u8], at: usize, width: Width) -> Option<(usize, usize)>
+    // The offset fits into the 28 bits of a word.
     requires { at < 2 ^ 28 }
     ensures found { Finds (λ found. slice_range bytes.now found.0 found.1) result
         (length_prefixed_bytes_at (width_of width) bytes.now at) }
@@ -158,6 +159,7 @@ pub(crate) fn counted_range(bytes: &[u8], at: usize, width: Width) -> Option<(us
 /// The entries of the run at `at`: the words after its first, which counts all of its words, itself
 /// included. None if that count is 0, or the words pass the end.
 pub(crate) fn run(bytes: &[u8], at: usize) -> Option<&[u8]>
+    // The offset fits into the 28 bits of a word.
     requires { at < 2 ^ 28 }
     ensures found { Finds (λ found. words (length found.now / 4) found.now) result
         (run_entries_at bytes.now at) }

@@ -44,6 +44,7 @@ impl Name {
 
     /// The bytes as a name, if they are known to be one.
     pub fn of(alloc: Global, bytes: &[u8]) -> Result<Name, AllocError>
+        // The bytes are a valid name.
         requires { IsName bytes.now }
         ensures { IfOk result (λ name. name ≡ bytes.now) }
     {

@@ -268,6 +268,7 @@ fn read_some<T: Tree>(
     len: u64,
     bytes: &mut Vec<u8>,
 ) -> Result<(), TreeFault>
+    // If the tree is observable, the file exists and has these bytes.
     requires { IfObservable (T.history tree.old) (CanRead name.now at len) }
     ensures added { OnOk result (AppendsReadBytes (T.history tree.old) name.now at len
         bytes.old.items bytes.new.items) }

@@ -82,6 +82,7 @@ impl<'a> Db<'a> {
         // On Ok, none of these tests failed.
         ensures sound { IfOk result
             (λ _. container_fault_except_contents Tables.Idb bytes.entry.now ≡ None) }
+        // The packages are those of the file's database.
         ensures packages { IfOk result (λ db. packages_of db
             ≡ entries_at IDB_PACKAGES (root_value Tables.Idb (payload_in bytes.entry.now))) }
     {
@@ -97,6 +98,7 @@ impl<'a> Db<'a> {
     ///
     /// Out of memory.
     pub fn open(alloc: Global, payload: &'a [u8]) -> Result<Db<'a>, AllocError>
+        // The payload passes all tests of a database.
         requires { payload_fault Tables.Idb payload.now ≡ None }
         ensures { IfOk result (λ db. packages_of db
             ≡ entries_at IDB_PACKAGES (root_value Tables.Idb payload.entry.now)) }
@@ -133,6 +135,7 @@ impl<'a> Db<'a> {
 
     /// The package at a place, counted from 0.
     pub fn package(&self, i: usize) -> PackageView<'a>
+        // The index is one of the packages.
         requires { i < length (packages_of self.now) }
         ensures { slice_get (packages_of self.now) i ≡ Some (package_value result) }
     {
@@ -142,6 +145,7 @@ impl<'a> Db<'a> {
     /// The place of the first package with this name, counted from 0, found by binary search. None
     /// is returned exactly if no package has the name.
     pub fn find(&self, name: &[u8]) -> Option<usize>
+        // The result is the index of the first package with this name, or none.
         ensures found { result
             ≡ position_from (is_package_named name.now) 0 (packages_of self.now) }
         // An index in the result is one of the list.
@@ -153,6 +157,7 @@ impl<'a> Db<'a> {
     /// The place of the first package that lists this path, counted from 0. None is returned
     /// exactly if no package lists it. It searches all that the database lists.
     pub fn owner_of(&self, path: &Name) -> Option<usize>
+        // The result is the index of the first package that lists this path, or none.
         ensures found { result ≡ position_from (lists_path path.now) 0 (packages_of self.now) }
         // An index in the result is one of the list.
         ensures within { IfSome result (λ i. i < length (packages_of self.now)) }
@@ -180,6 +185,7 @@ impl<'a> Db<'a> {
 
 /// The package at a place of a database, counted from 0, which is read from the database's payload.
 pub(crate) fn package_of_database<'a>(idb: &Option<IdbView<'a>>, i: usize) -> PackageView<'a>
+    // The index is one of the packages.
     requires { i < length (packages_of_database_value (option_map idb_value idb.now)) }
     ensures value { slice_get (packages_of_database_value (option_map idb_value idb.now)) i
         ≡ Some (package_value result) }
@@ -196,6 +202,7 @@ pub(crate) fn package_of_database<'a>(idb: &Option<IdbView<'a>>, i: usize) -> Pa
 /// The payload of a file that passed its tests.
 #[tactic(auto, unfolding(adb_schema::specs::Soundness::container_fault_except_contents, adb_schema::specs::Soundness::payload_in))]
 pub fn payload_in(file: &[u8]) -> &[u8]
+    // The file passes all tests of a container, for some table.
     requires { (which : Which) × (container_fault_except_contents which file.now ≡ None) }
     ensures { result.now ≡ payload_in file.entry.now }
 {
@@ -211,6 +218,7 @@ pub fn payload_in(file: &[u8]) -> &[u8]
 
 /// A view of the database in a payload that passes all tests; they are not repeated.
 pub fn open_idb(payload: &[u8]) -> IdbView<'_>
+    // The payload passes all tests of a database.
     requires { payload_fault Tables.Idb payload.now ≡ None }
     ensures { idb_value result ≡ root_value Tables.Idb payload.now }
 {
@@ -221,6 +229,7 @@ pub fn open_idb(payload: &[u8]) -> IdbView<'_>
 
 /// The view of the database in a payload whose head and root pass their tests.
 fn open_root(payload: &[u8]) -> IdbView<'_>
+    // The head of the payload passes its tests.
     requires head { is_none (payload_head_fault payload.now) ≡ true }
     // The root of the payload has the plain value of a database.
     requires sound { is_sound payload.now (Kinds.Obj Tables.Idb)
@@ -260,6 +269,7 @@ fn is_lister<'a>(packages: &List<'a, PackageView<'a>>, i: usize, path: &[u8]) ->
 
 /// The place in a list, counted from 0, of the first package that lists this path, if one does.
 fn find_lister<'a>(packages: &List<'a, PackageView<'a>>, path: &[u8]) -> Option<usize>
+    // The result is the index of the first package that lists this path, or none.
     ensures found { result ≡ position_from (lists_path path.now) 0
         (list_of (entries_in (list_value packages.now))) }
     // An index in the result is one of the list.

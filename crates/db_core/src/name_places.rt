@@ -78,6 +78,7 @@ fn sort_names(names: &mut Vec<NamePlace<'_>>) -> Result<(), AllocError>
 
 /// How many names are before this one; the names are in byte order.
 fn count_before(names: &[NamePlace<'_>], name: &[u8]) -> usize
+    // The names are in byte order.
     requires { IsSorted placed_name_cmp (map name_seen names.now) }
     // The result is at most the number of elements.
     ensures within { result ≤ length names.now }
@@ -91,6 +92,7 @@ fn count_before(names: &[NamePlace<'_>], name: &[u8]) -> usize
 /// The place of the first of the packages with this name, if one has it; the names are in byte
 /// order.
 pub(crate) fn place_of(names: &[NamePlace<'_>], name: &[u8]) -> Option<usize>
+    // The names are in byte order.
     requires { IsSorted placed_name_cmp (map name_seen names.now) }
     ensures { result ≡ place_under_name name.now (map name_seen names.now) }
 {

@@ -54,6 +54,7 @@ impl<'a> Dep<'a> {
 
     /// The dependency on any version of a name.
     pub(crate) fn dependency_on_any_version(conflict: bool, name: &'a [u8]) -> Dep<'a>
+        // The bytes are an allowed name of a dependency.
         requires { IsTrue (is_dep_name name.now) }
         ensures { dependency result ≡ dependency_on_any_version conflict name.entry.now }
     {
@@ -68,6 +69,7 @@ impl<'a> Dep<'a> {
 
     /// This dependency, with a tag.
     pub(crate) fn with_tag(self, tag: &'a [u8]) -> Dep<'a>
+        // The bytes are an allowed tag.
         requires { IsTrue (is_tag tag.now) }
         ensures { dependency result ≡ with_tag (dependency self.entry) tag.entry.now }
     {

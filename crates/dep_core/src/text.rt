@@ -132,7 +132,9 @@ pub fn dep_of<'a>(name: &'a [u8], version: &'a [u8], matching: u64) -> Option<De
 /// read.
 #[tactic(auto, unfolding(crate::specs::ValueReading::dependency_of_value))]
 pub fn dep_of_parts<'a>(name: &'a [u8], version: &'a [u8], matching: u64) -> Option<Dep<'a>>
+    // The name is allowed for a dependency.
     requires name { is_dep_name name.now ≡ true }
+    // The version is valid, or empty.
     requires version { is_version_or_empty version.now ≡ true }
     ensures { option_map dependency result
         ≡ dependency_of_value name.entry.now version.entry.now matching }

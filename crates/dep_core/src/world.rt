@@ -221,7 +221,9 @@ impl Entry {
 /// Replaces the entry of the same name, or inserts the entry at the place of its name. A call that
 /// fails changes nothing.
 pub fn put(entries: &mut Vec<Entry>, entry: Entry) -> Result<(), AllocError>
+    // The entries are those of a world: each name once, in order.
     requires world { IsWorld entries.old.items }
+    // The entry is a valid dependency.
     requires dependency { IsDependency entry }
     ensures ok { OnOk result (entries.new.items ≡ with_entry entry entries.old.items) }
     ensures err { OnErr result (entries.new.items ≡ entries.old.items) }
@@ -236,6 +238,7 @@ pub fn put(entries: &mut Vec<Entry>, entry: Entry) -> Result<(), AllocError>
 
 /// Removes the entry of a name, and returns whether there was one.
 pub fn take_out(entries: &mut Vec<Entry>, name: &[u8]) -> bool
+    // The entries are those of a world: each name once, in order.
     requires { IsWorld entries.old.items }
     ensures found { result ≡ has_name name.now entries.old.items }
     ensures rest { entries.new.items ≡ without_name name.now entries.old.items }

@@ -99,6 +99,8 @@ fn compare_present<T: Tree>(
     // If the tree is observable, the file has this length.
     requires { IfObservable (T.history tree.old) (λ v.
         Some size ≡ option_map length (files_of v name.now)) }
+    // On Ok, the result compares some bytes, the file's if the tree is observable, with the
+    // entries.
     ensures found { IfOk result (λ comparison. (bytes : List ℕ)
         × IfObservable (T.history tree.old) (λ v. Some bytes ≡ files_of v name.now)
         × (comparison ≡ comparison_of_bytes new.entry old.entry bytes)) }

@@ -45,6 +45,7 @@ fn count_listed(db: &Db<'_>) -> usize {
 /// How many files the package at a place of the database, counted from 0, lists. The mark serves
 /// only the borrow checker, as in `add_package`.
 fn count_in_package<'a>(db: &Db<'a>, i: usize, _mark: PhantomData<PackageView<'a>>) -> usize
+    // The index is one of the database's packages.
     requires { i < length (packages_of db.now) }
 {
     let package = db.package(i);
@@ -73,6 +74,7 @@ fn add_package<'a>(
     i: usize,
     _mark: PhantomData<PackageView<'a>>,
 ) -> Result<(), AllocError>
+    // The index is one of the database's packages.
     requires { i < length (packages_of db.now) }
     ensures { IfOk result (λ _. (m : Member)
         → slice_get (map member_of_kept (packages_of db.now)) i ≡ Some m

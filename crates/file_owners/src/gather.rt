@@ -141,6 +141,7 @@ fn add_member<'a>(
     members: &Members<'a>,
     i: usize,
 ) -> Result<(), AllocError>
+    // The index is one of the members.
     requires { i < length (members_of members.now) }
     ensures { IfOk result (λ _. (m : Member) → slice_get (members_of members.now) i ≡ Some m
         → map claim_seen claims.new.items
@@ -152,6 +153,7 @@ fn add_member<'a>(
 
 /// A place among members in 32 bits, as claims have it.
 pub(crate) fn place_of(members: &Members<'_>, i: usize) -> u32
+    // The index is one of the members.
     requires { i < length (members_of members.now) }
     ensures { result ≡ i }
 {

@@ -86,6 +86,7 @@ fn replaced_entries<'a>(info: &PkgInfo<'a>) -> Arr<'a>
 
 /// Whether a place is among places in rising order, by binary search.
 pub(crate) fn is_among(places: &[u32], place: u32) -> bool
+    // The places are in rising order.
     requires { IsSorted nat_cmp places.now }
     ensures { result ≡ list_any (λ p. p == place) places.now }
 {

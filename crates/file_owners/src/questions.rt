@@ -103,6 +103,8 @@ fn questions_of<'a>(
     // The entries obey the rules of dependencies.
     requires texts { Each IsSoundDependency (entries_in
         (array_at (payload_of adb) (Kinds.Obj Tables.Dep) (array_entries entries))) }
+    // For a member, the answer to one of the questions is yes exactly if one of the entries names
+    // it.
     ensures asked { IfOk result (λ questions. (y : ℕ) (m : Member)
         → slice_get (members_of members.now) y ≡ Some m
         → list_any (question_names_package (payload_of adb.entry) y m.pkg) questions.items
@@ -139,6 +141,7 @@ fn question_of(members: &Members<'_>, adb: Adb<'_>, entry: Val) -> Option<Questi
     requires sound { is_sound (payload_of adb) (Kinds.Obj Tables.Dep) entry ≡ true }
     // The entries obey the rules of dependencies.
     requires texts { IsSoundDependency (value_at (payload_of adb) (Kinds.Obj Tables.Dep) entry) }
+    // For a member, the answer to the question is yes exactly if the entry names it.
     ensures asked { (y : ℕ) (m : Member) → slice_get (members_of members.now) y ≡ Some m
         → question_names_if_any (payload_of adb.entry) y m.pkg result
         ≡ replaces_entry_names (value_at (payload_of adb.entry)
@@ -194,6 +197,7 @@ fn add_place(places: &mut Vec<u32>, place: Option<u32>) -> Result<(), AllocError
 
 /// The place of the question's member, if the answer is yes and the question before is another one.
 fn place_asked(members: &Members<'_>, adb: Adb<'_>, questions: &[Question], i: usize) -> Option<u32>
+    // The index is one of the questions.
     requires within { i < length questions.now }
     // Each question is about one of the members.
     requires questions { All (IsQuestionIn (members_of members.now) (payload_of adb))
@@ -227,6 +231,7 @@ fn repeats_the_one_before(questions: &[Question], i: usize) -> bool
 
 /// The place of the member that a question is about, if its entry names that member.
 fn place_if_named(members: &Members<'_>, adb: Adb<'_>, question: &Question) -> Option<u32>
+    // The question is about one of the members.
     requires { IsQuestionIn (members_of members.now) (payload_of adb) question.now }
     ensures { (y : ℕ) (m : Member) → slice_get (members_of members.now) y ≡ Some m
         → is_found_place y result

@@ -45,6 +45,7 @@ fn fault_of_writer(fault: WriteFault) -> GenFault
 
 /// Reads a text: adds the value of its root to the draft, and returns the table of the root.
 fn read_text(alloc: Global, draft: &mut Draft, text: &[u8]) -> Result<Which, GenFault>
+    // On Ok, the draft gets the value of the root, and the result is its table.
     ensures ok { IfOk result (λ which. table_and_draft_of_root (dumped_root text.now) draft.old
         ≡ Ok (which, draft.new)) }
     // An error is the bad line of the definition, or out of memory.
@@ -62,9 +63,12 @@ fn read_text(alloc: Global, draft: &mut Draft, text: &[u8]) -> Result<Which, Gen
 
 /// Reads the first line of a text, which names the table of its root.
 fn read_table(cursor: &mut Cursor<'_>) -> Result<Which, GenFault>
+    // No indentation of the first line was read.
     requires { cursor.old.levels ≡ 0 }
     ensures ok { IfOk result (λ which. table_read cursor.old.lines ≡ Some which) }
+    // On Ok, the cursor is after the first line.
     ensures next { OnOk result (cursor.new ≡ cursor_after_line cursor.old.lines cursor.old) }
+    // An error is the first line, which names no table.
     ensures err { IfErr result (λ fault. (fault ≡ Bad cursor.old.number)
         × (table_read cursor.old.lines ≡ None)) }
 {

@@ -166,6 +166,7 @@ fn read_value(
 
 /// Tests that no further line belongs to a block of this depth.
 fn end_block(cursor: &Cursor<'_>, depth: u32) -> Result<(), GenFault>
+    // No more levels of the line's indentation were read than this depth.
     requires { cursor.now.levels ≤ depth }
     ensures { result ≡ end_or_bad_line (block_at depth cursor.now.lines).0 cursor.now.number }
 {
@@ -271,6 +272,7 @@ fn read_entry(
 
 /// Whether a block has the first line `null`.
 fn is_null_entry(cursor: &Cursor<'_>, depth: u32) -> bool
+    // No more levels of the line's indentation were read than this depth.
     requires { cursor.now.levels ≤ depth }
     ensures { result ≡ is_null_line (line_of_block (block_at depth cursor.now.lines).0) }
 {

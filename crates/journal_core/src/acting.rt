@@ -103,7 +103,9 @@ fn move_one<T: Tree>(
     acted: usize,
     tree: &mut T,
 ) -> Result<(), Disk>
+    // The index is one of the writes.
     requires within { j < length intent.now.writes }
+    // `acted` counts all removals and the first `j` writes.
     requires behind { acted ≡ length intent.now.removals + j }
     // If the actions that are counted are done at the start, the state is unchanged at each moment.
     ensures actions { CarriesOutActions (stage_with_actions_done intent.now acted)

@@ -76,6 +76,7 @@ impl Stage {
     ///
     /// Those of `of_names`.
     pub fn begin(alloc: Global, removals: &Names, writes: &Names) -> Result<Stage, WriteFault>
+        // The names are allowed in an intent (journal entry).
         requires { AreChangeNames (removals.now ++ writes.now) }
         ensures view { IfOk result (λ stage. stage ≡ new_stage removals.now writes.now) }
         // The error for a payload that is too large has the counts at which a limit is exceeded.
@@ -99,6 +100,7 @@ impl Stage {
     /// `TooLarge` exactly if the payload of the intent's container would exceed a limit of the
     /// writer, with the counts there; or `Memory`.
     pub fn of_names(alloc: Global, removals: Names, writes: Names) -> Result<Stage, WriteFault>
+        // The names are allowed in an intent (journal entry).
         requires { AreChangeNames (removals ++ writes) }
         ensures view { IfOk result (λ stage. stage ≡ new_stage removals writes) }
         // The error for a payload that is too large has the counts at which a limit is exceeded.
@@ -164,6 +166,7 @@ impl Stage {
 
     /// The name of the next write's staged file: the writes are numbered from 1.
     fn next_name(&self) -> &Name
+        // A write is left whose file is not staged.
         requires { self.now.staged < length self.now.intent.writes }
         ensures { IsNextStagedName result.now self.now }
     {
@@ -174,6 +177,7 @@ impl Stage {
 
     /// The name of the staged file that is begun.
     fn open_name(&self) -> &Name
+        // A staged file is begun.
         requires { self.now.is_open ≡ true }
         ensures { IsNextStagedName result.now self.now }
     {
@@ -261,6 +265,7 @@ impl Stage {
 
     /// Adds bytes to the file that is begun.
     pub fn file_append<T: Tree>(&mut self, tree: &mut T, piece: &[u8]) -> Result<(), Disk>
+        // A staged file is begun.
         requires { self.old.is_open ≡ true }
 
         // From a durable tree on, each moment is durable, and the state is unchanged. Once it has
@@ -301,6 +306,7 @@ impl Stage {
 
     /// Ends the file that is begun: its bytes are made durable.
     pub fn file_end<T: Tree>(&mut self, tree: &mut T) -> Result<(), Disk>
+        // A staged file is begun.
         requires { self.old.is_open ≡ true }
 
         // From a durable tree on, each moment is durable, and the state is unchanged. Once it has
@@ -346,6 +352,7 @@ impl Stage {
     pub fn publish<T: Tree>(&mut self, tree: &mut T) -> Result<(), Disk>
         // No staged file is begun.
         requires closed { self.old.is_open ≡ false }
+        // All writes have their staged files.
         requires all { self.old.staged ≡ length self.old.intent.writes }
 
         // At each moment a crash leaves an old state or the one with all actions done; once it has
@@ -377,6 +384,7 @@ impl Stage {
 
     /// Does the next action; returns true exactly if one was left.
     pub fn apply_one<T: Tree>(&mut self, tree: &mut T) -> Result<bool, Disk>
+        // The intent is committed.
         requires { self.old.published ≡ true }
 
         // The state is unchanged at each moment. Once it has returned Ok, the stage's count of
@@ -424,7 +432,9 @@ impl Stage {
 
     /// After the last action: makes the names durable, and removes the intent.
     pub fn finish<T: Tree>(&mut self, tree: &mut T) -> Result<(), Disk>
+        // The intent is committed.
         requires published { self.old.published ≡ true }
+        // All actions are done.
         requires all { self.old.acted ≡ action_count self.old.intent }
 
         // From a durable tree on, each moment is durable, and the state is unchanged. Once it has
@@ -487,7 +497,9 @@ impl Stage {
 /// Does all actions of a published stage that are left. The clauses are those of `apply_one`, for
 /// all of them.
 pub fn apply_all<T: Tree>(stage: &mut Stage, tree: &mut T) -> Result<(), Disk>
+    // The intent is committed.
     requires published { stage.old.published ≡ true }
+    // No more actions count as done than there are.
     requires within { stage.old.acted ≤ action_count stage.old.intent }
     // If the actions that are counted are done at the start, the state is unchanged at each moment.
     ensures actions { CarriesOutActions stage.old (T.history tree.old) (T.history tree.new) }

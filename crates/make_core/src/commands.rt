@@ -32,10 +32,12 @@ pub fn mkpkg<T: Tree>(alloc: Global, command: &Command, tree: &mut T) -> Result<
     // If the tree's files are observable: the package is theirs, or the refusal.
     ensures ok { IfOk result (λ file. IfObservable (T.history tree.old) (λ v.
         IsMadeFromTree command.now v (Ok file.items))) }
+    // If the tree is observable, an error other than I/O or memory is that of its files.
     ensures err { IfErr result (λ fault. UnlessDiskOrMemory fault (λ made.
         IfObservable (T.history tree.old) (λ v. IsMadeFromTree command.now v made))) }
     // Over every tree: by some names below the folder and some reads.
     ensures found { IfOk result (λ file. IsMadeBySomeReads command.now (Ok file.items)) }
+    // Over any tree, an error other than I/O or memory is that of some reads.
     ensures found_err { IfErr result (λ fault. UnlessDiskOrMemory fault
         (IsMadeBySomeReads command.now)) }
     // What is made passes all tests of a container.

@@ -100,7 +100,9 @@ impl Entry {
 
 /// The order of two texts that are versions.
 fn compare_versions(one: &[u8], other: &[u8]) -> Ordering
+    // The first version is valid,
     requires one { IsTrue (is_version one.now) }
+    // and so is the second.
     requires other { IsTrue (is_version other.now) }
     ensures { result ≡ version_cmp one.now other.now }
 {
@@ -130,8 +132,10 @@ fn read_parts(alloc: Global, place: u32, file: &[u8]) -> Result<Parts, MakeFault
     // A refusal has the first test that fails.
     ensures bad { IfErr result (λ fault. IsRefusedAt place fault (package_fault file.now)) }
     ensures sound { IfOk result (λ _. package_fault file.now ≡ None) }
+    // The package passes its tests, apart from those of its contents.
     ensures opened { IfOk result (λ _. container_fault_except_contents Tables.Package file.now
         ≡ None) }
+    // The parts give the name, the version and the id of the package's entry.
     ensures keys { IfOk result (λ parts.
         IsEntryWithKeys parts.name.items parts.version.items parts.id (entry_of_package file.now)) }
     // A payload that is kept has the entry.
@@ -168,12 +172,16 @@ pub(crate) fn open_tested<'a>(
     place: u32,
     file: &'a [u8],
 ) -> Result<Package<'a>, MakeFault>
+    // The error is the first failed test of the package, or out of memory.
     ensures bad { IfErr result (λ fault. IsRefusedAt place fault (package_fault file.entry.now)) }
     ensures sound { IfOk result (λ _. package_fault file.entry.now ≡ None) }
+    // The package passes its tests, apart from those of its contents.
     ensures opened { IfOk result
         (λ _. container_fault_except_contents Tables.Package file.entry.now ≡ None) }
+    // The value is that of the root in the file.
     ensures value { IfOk result (λ pkg.
         opened_value pkg ≡ root_value Tables.Package (payload_in file.entry.now)) }
+    // The payload is that of the file's first block.
     ensures payload { IfOk result (λ pkg. opened_payload pkg ≡ payload_in file.entry.now) }
 {
     a_package_is_tested_by_its_values_and_then_its_files();

@@ -109,6 +109,7 @@ fn write_package(
     id: &[u8],
     len: u64,
 ) -> Result<(), AllocError>
+    // The id is the SHA-256 digest of the payload.
     requires { id.now ≡ sha256 (opened_payload pkg.now) }
     ensures { OnOk result (draft.new ≡ draft_with
         (info_with_id_and_size (entry_in (opened_value pkg.now) PACKAGE_INFO) (sha256
@@ -146,6 +147,7 @@ pub(crate) fn entry_payload(
     id: &[u8],
     len: u64,
 ) -> Result<Option<Vec<u8>>, AllocError>
+    // The id is the SHA-256 digest of the payload.
     requires { id.now ≡ sha256 (opened_payload pkg.now) }
     ensures small { len < 2 ^ 64 }
     ensures payload { IfOk result (λ found. IfSome found (λ payload. payload_or_overflow

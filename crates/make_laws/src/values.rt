@@ -94,10 +94,13 @@ pub fn a_value_is_stored_as_given()
 /// An entry of an index has the package's id and the length of its file. Each other field, by its
 /// name, is the one of the package's information, without zeros.
 pub fn an_entry_has_the_values_of_its_package()
+    // The field `hashes` is the package's id.
     ensures id { (file : List ℕ) → field_named PkgInfo (codes "hashes") (entry_of_package file)
         ≡ blob_or_null (package_id file) }
+    // The field `file-size` is the length of the package's file.
     ensures length { (file : List ℕ)
         → int_in (field_named PkgInfo (codes "file-size") (entry_of_package file)) ≡ length file }
+    // Each other field is that of the package's information, without zeros.
     ensures others { (file name : List ℕ) → name ≢ codes "hashes" → name ≢ codes "file-size"
         → field_named PkgInfo name (entry_of_package file) ≡ without_zeros
         (field_named PkgInfo name (field_named Package (codes "info")

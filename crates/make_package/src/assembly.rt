@@ -59,6 +59,7 @@ pub(crate) fn package(
 
 /// The installed size of a package: the sum of the sizes of the files of all folders.
 fn installed_size(folders: &[Folder<'_>]) -> u64
+    // The installed size fits into 64 bits.
     requires { installed_size_of_folders folders.now < 2 ^ 64 }
     ensures { result ≡ installed_size_of_folders folders.now }
 {
@@ -71,6 +72,7 @@ fn installed_size(folders: &[Folder<'_>]) -> u64
 
 /// The sum of the sizes of the files of a folder.
 fn size_in(files: &[File<'_>]) -> u64
+    // The size of the files fits into 64 bits.
     requires { files_size files.now < 2 ^ 64 }
     ensures { result ≡ files_size files.now }
 {
@@ -110,6 +112,7 @@ fn payload(
 /// The bytes of the package with this payload followed by these blocks, which are in memory only
 /// once.
 fn package_file(alloc: Global, payload: &[u8], mut blocks: Vec<u8>) -> Result<Vec<u8>, AllocError>
+    // The payload is not above the greatest length of a payload.
     requires { length payload.now ≤ MOST_BYTES }
     ensures { IfOk result (λ bytes. bytes.items
         ≡ file_of PACKAGE_WORD payload.now ++ blocks.items) }

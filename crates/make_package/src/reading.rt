@@ -94,6 +94,7 @@ pub(crate) fn read_scripts<'a, T: Tree>(
     tree: &mut T,
     values: &'a Values,
 ) -> Result<Vec<Script<'a>>, MakeFault>
+    // Each value is one that `mkpkg` allows.
     requires { IsTrue (are_allowed_values (value_rules Mkpkg) values.now) }
     // The tree is only read: no file changes, no I/O error is hidden, and no call is a misuse.
     ensures tree { OnlyReads MakeFault.Disk (T.history tree.old) (T.history tree.new)
@@ -132,6 +133,7 @@ fn read_script<'a, T: Tree>(
     value: &'a OptionValue,
     file: &Name,
 ) -> Result<Script<'a>, MakeFault>
+    // The name is that of the file in the value of `-s`.
     requires { file.now ≡ without_dot_slash (script_file value.now.text) }
     // The tree is only read: no file changes, no I/O error is hidden, and no call is a misuse.
     ensures tree { OnlyReads MakeFault.Disk (T.history tree.old) (T.history tree.new)

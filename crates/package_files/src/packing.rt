@@ -64,6 +64,7 @@ fn begin_block(blocks: &mut Vec<u8>, position: (u64, u64), size: u64) -> Result<
 /// Ends the block that begins at `start`, of a file of this kind whose bytes are the last ones, by
 /// its padding. A file that has no contents has no block, and the begun one is removed.
 fn end_block(blocks: &mut Vec<u8>, start: usize, kind: &FileKind) -> Result<(), AllocError>
+    // The block begins within the bytes.
     requires { start ≤ length blocks.old.items }
     // A file without contents leaves the blocks as they were before its block.
     ensures none { OnOk result (has_contents kind.now ≡ false

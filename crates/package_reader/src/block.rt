@@ -51,6 +51,7 @@ pub(crate) fn next_block<'a, T: Tree>(
     name: &Name,
     place: &mut BlockPlace<'a>,
 ) -> Result<BlockStep<'a>, PieceFault>
+    // The place is within the file.
     requires { place.old.at ≤ place.old.len }
     // For each package of this length that has the bytes that were read.
     ensures block { (seen : List ℕ)
@@ -101,6 +102,7 @@ pub(crate) fn read_block<T: Tree>(
     name: &Name,
     place: &BlockPlace<'_>,
 ) -> Result<BlockRead, PieceFault>
+    // The place is within the file.
     requires { place.now.at ≤ place.now.len }
     // The block ends within the file.
     ensures fits { IfOk result (λ read. IfSome read.framing (λ frame.
@@ -135,6 +137,7 @@ fn read_positions<T: Tree>(
     at: u64,
     framing: Option<Frame>,
 ) -> Result<[u8; POSITIONS_LEN], PieceFault>
+    // The end of the block fits into 64 bits.
     requires { IfSome framing (λ frame. at + raw_size frame < 2 ^ 64) }
     // The bytes that were read are the positions, if the payload has as many bytes.
     ensures seen { IfOk result (λ positions. (seen : List ℕ) × SeesPositions framing positions seen
@@ -164,6 +167,7 @@ pub(crate) fn next_file<'a, T: Tree>(
     name: &Name,
     place: &mut BlockPlace<'a>,
 ) -> Result<Option<OpenFile<'a>>, PieceFault>
+    // The place is within the file.
     requires { place.old.at ≤ place.old.len }
     // For each package of this length that has the bytes that were read.
     ensures file { (seen : List ℕ)

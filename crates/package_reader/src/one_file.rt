@@ -102,6 +102,7 @@ impl<'a> FilePieces<'a> {
         wanted: Wanted<'a>,
         at: Option<u64>,
     ) -> FilePieces<'a>
+        // The file is not empty.
         requires { 0 < wanted.size }
         ensures name { package_name_of_file result ≡ name.entry.now }
         ensures len { package_len_of_file result ≡ len }
@@ -191,6 +192,7 @@ impl<'a> FilePieces<'a> {
     /// Reads the next piece, if no test failed. The clauses are those of `next_piece`, except that
     /// a failed test is not remembered yet.
     fn read_next<T: Tree>(&mut self, tree: &mut T, piece: &mut Piece) -> Result<bool, PieceFault>
+        // No test has failed so far.
         requires { remembered_fault self.old ≡ None }
         // If the tree has the package: the piece is the next of the bytes that are left; or none
         // are left.

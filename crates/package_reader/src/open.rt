@@ -98,6 +98,7 @@ pub(crate) fn open_at<'a>(
     at: Option<u64>,
     len: u64,
 ) -> Result<OpenFile<'a>, Cause>
+    // The file is not empty.
     requires { 0 < wanted.size }
     // The error is that of the definition.
     ensures fault { result_err result ≡ place_fault (Some (expected_of wanted.entry)) at len }

@@ -92,6 +92,7 @@ impl<'a> PieceReader<'a> {
 
     /// A reader in front of the block at a place.
     pub(crate) fn in_front_of(name: &'a Name, place: BlockPlace<'a>) -> PieceReader<'a>
+        // The place is within the package.
         requires { place.at ≤ place.len }
         ensures name { name_in_tree result ≡ name.entry.now }
         ensures place { result.place ≡ place.entry }

@@ -62,6 +62,7 @@ impl TestedPackage {
         ensures due { expected_file_of result ≡ expected_file_at folder file
             (expected_files_of_package (tested_value self.now)) }
         ensures begun { HaveBeenReturned result [] }
+        // The pieces give the contents of the file in the package that was tested.
         ensures reading { (name pkg : List ℕ) → IsTestedOf name pkg self.now → HasUnreadBytes
             result pkg (bytes_of_file folder file (contents_in (files_read_from_package pkg))) }
     {

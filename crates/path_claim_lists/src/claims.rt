@@ -62,6 +62,7 @@ pub fn find_next_claim(claims: &[Claim<'_>], path: &FilePath<'_>, next: &mut usi
 fn claim_at(claims: &[Claim<'_>], path: &FilePath<'_>, at: usize) -> Option<usize>
     // The claims are in the order of their paths.
     requires sorted { IsSorted claim_cmp (map claim_seen claims.now) }
+    // The place is not after the end of the claims.
     requires bound { at ≤ length claims.now }
     // `at` claims have paths before this one, and the others have not.
     requires place { IsPartitionPoint (λ c. precedes c.path (joined_path path.now) ≡ true)
@@ -146,6 +147,7 @@ pub fn one_of_each_path<'a>(
 ///
 /// Out of memory.
 pub fn name_of_path(alloc: Global, path: &FilePath<'_>) -> Result<Name, AllocError>
+    // The path is a valid name.
     requires { IsName (joined_path path.now) }
     ensures { IfOk result (λ name. name ≡ joined_path path.now) }
 {
@@ -159,6 +161,7 @@ pub fn name_of_path(alloc: Global, path: &FilePath<'_>) -> Result<Name, AllocErr
 ///
 /// Out of memory.
 pub fn names_of_claims(alloc: Global, claims: &[Claim<'_>]) -> Result<Names, AllocError>
+    // Each path is a valid name.
     requires { HaveValidPaths (map claim_seen claims.now) }
     ensures { IfOk result (λ names. names ≡ map (λ c. c.path) (map claim_seen claims.now)) }
 {

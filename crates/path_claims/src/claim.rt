@@ -65,6 +65,7 @@ fn run_in_front<'c, 'a>(claims: &'c [Claim<'a>], path: &FilePath<'_>) -> &'c [Cl
 
 /// The claims from the one at a place on, up to the first that has another path.
 pub fn run_at<'c, 'a>(claims: &'c [Claim<'a>], from: usize) -> &'c [Claim<'a>]
+    // The place is one of the claims.
     requires { from < length claims.now }
     ensures { (c : PathClaim) → slice_get (map claim_seen claims.now) from ≡ Some c
         → map claim_seen result.now

@@ -48,6 +48,7 @@ fn owner_at<C: Contest>(
     i: usize,
     before: Option<u32>,
 ) -> Option<u32>
+    // The place is one of the claims.
     requires at { i < length claims.now }
     // Of two members, at most one beats the other.
     requires one_way { IsAsymmetric (C.beats contest.now) }
@@ -103,6 +104,7 @@ fn is_owning_member(member: u32, owner: Option<u32>) -> bool
 
 /// Sets the flag of each claim, by its number: whether its member owns its path.
 fn mark_owned(flags: &mut [bool], claims: &[Claim<'_>], owners: &[Option<u32>])
+    // There is one entry of `owners` for each claim.
     requires owners { length owners.now ≡ length claims.now }
     // There is a flag for the number of each claim.
     requires flags { (j : ℕ) (c : PathClaim) → slice_get (map claim_seen claims.now) j ≡ Some c
@@ -130,9 +132,11 @@ fn contested_from<'a, C: Contest>(
     claims: &[Claim<'a>],
     i: usize,
 ) -> Option<Contested<'a>>
+    // The place is one of the claims.
     requires at { i < length claims.now }
     // The claims are in the order of their paths.
     requires sorted { IsSorted claim_cmp (map claim_seen claims.now) }
+    // No earlier claim has the same path.
     requires first { is_first_of_path (map claim_seen claims.now) i ≡ true }
     ensures { (c : PathClaim) → slice_get (map claim_seen claims.now) i ≡ Some c
         → option_map contested_seen result
@@ -179,6 +183,7 @@ fn owned_flags(
     claims: &[Claim<'_>],
     owners: &[Option<u32>],
 ) -> Result<Vec<bool>, AllocError>
+    // There is one entry of `owners` for each claim.
     requires owners { length owners.now ≡ length claims.now }
     // The number of each claim is below the number of claims.
     requires numbers { (j : ℕ) (c : PathClaim) → slice_get (map claim_seen claims.now) j ≡ Some c
@@ -214,6 +219,7 @@ pub fn owners_of<'a, C: Contest>(
 ) -> Result<Owners<'a>, AllocError>
     // Of two members, at most one beats the other.
     requires one_way { IsAsymmetric (C.beats contest.now) }
+    // The number of each claim is its place in the list.
     requires numbered { AreNumberedByPlace (map claim_seen claims.items) }
     // The claims in the order of their paths; those of one path keep their order.
     ensures claims { IfOk result (λ found. map claim_seen found.claims.items

@@ -108,6 +108,7 @@ fn clash_near<T: Tree, G: IsReleased>(
     requires sorted { IsSorted bytes_cmp (map joined_path written.now) }
     // Each path is a name.
     requires names { All IsName (map joined_path written.now) }
+    // The name is one of the written paths.
     requires written { is_one_of_paths written.now bytes.now ≡ true }
     // If the tree's files are observable.
     ensures near { IfOk result (λ found. IfObservable (T.history tree.old) (λ v.

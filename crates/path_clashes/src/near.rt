@@ -22,6 +22,7 @@ use std::alloc::{AllocError, Global};
 
 /// Whether a name is one of these paths, by binary search.
 fn is_one_of_paths(paths: &[FilePath<'_>], name: &[u8]) -> bool
+    // The paths are in byte order.
     requires { IsSorted bytes_cmp (map joined_path paths.now) }
     ensures { result ≡ is_one_of_paths paths.now name.now }
 {

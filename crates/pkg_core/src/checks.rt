@@ -105,6 +105,7 @@ fn check_files(pkg: &mut Package<'_>) -> Result<(), Cause>
 /// Tests a container that is no package, and so has no contents.
 #[tactic(auto, using(crate::proofs::Steps::other_fault))]
 fn verify_other(alloc: Global, bytes: &[u8], which: Which) -> Result<(), PackageFault>
+    // The table is not that of a package.
     requires { which ≢ Tables.Package }
     // The error is the first failed test, or out of memory.
     ensures bad { IfErr result (λ fault. IsFaultOf fault

@@ -64,6 +64,7 @@ impl<'a> Contents<'a> {
     /// The values of a package in a payload that passes all tests. They are not tested again, and
     /// no memory is allocated.
     pub fn open(payload: &'a [u8]) -> Contents<'a>
+        // The payload passes all tests of a package.
         requires { payload_fault Tables.Package payload.now ≡ None }
         // The value and its bytes are those of the payload.
         ensures value { value_of_contents result ≡ root_value Tables.Package payload.entry.now }

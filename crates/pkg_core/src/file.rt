@@ -57,6 +57,7 @@ impl<'a> FileCheck<'a> {
     /// `HashDiffers`, after the last piece, if all bytes together do not have the file's digest.
     #[tactic(auto, using(crate::proofs::Taken::more_left, crate::proofs::Taken::last_good, crate::proofs::Taken::last_bad))]
     pub fn take(self, bytes: &[u8]) -> Result<(Part, Option<FileCheck<'a>>), Cause>
+        // The piece has the length that the reader expects next.
         requires { length bytes.now ≡ next_piece_len self }
         // If `so_far` was taken of a file, these bytes are the next piece, and `left` remains.
         ensures taken { (so_far left : List ℕ) (further : PiecesRead) → HasTaken self.entry so_far
@@ -121,6 +122,7 @@ pub fn open_file<'a>(
     len: u64,
     positions: &[u8; POSITIONS_LEN],
 ) -> Result<FileCheck<'a>, Cause>
+    // The payload has at least the two positions of contents.
     requires { POSITIONS_LEN ≤ len }
     // For each payload of this length that begins with these positions.
     ensures opened { (payload : List ℕ) (further : List ExpectedFile → PiecesRead)

@@ -170,6 +170,7 @@ impl<'a> Package<'a> {
 /// The payload of the first block, and the blocks after it.
 #[tactic(auto, unfolding(adb_schema::specs::Soundness::container_fault_except_contents, adb_schema::specs::Soundness::payload_in, crate::specs::Whole::files_read_from_package))]
 fn first_block<'a>(bytes: &'a [u8]) -> (&'a [u8], Blocks<'a>)
+    // The container passes all tests, apart from those of its contents.
     requires { container_fault_except_contents Tables.Package bytes.now ≡ None }
     ensures payload { result.0.now ≡ payload_in bytes.entry.now }
     // The files read from the blocks that are left are those of the package.

@@ -147,6 +147,7 @@ impl<'a> BlockPlace<'a> {
         requires at { self.old.at ≤ self.old.len }
         // The block ends within the file.
         requires fits { raw_size frame ≤ self.old.len - self.old.at }
+        // The block is one of contents.
         requires kind { frame.kind ≡ Kinds.Contents }
         // For each file of this length with this block there.
         ensures step { (file : List ℕ) → length file ≡ self.old.len

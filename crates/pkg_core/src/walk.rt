@@ -258,6 +258,7 @@ impl<'a> Walk<'a> {
 /// Why contents are not those of a file, if they are not: first the positions are compared, then
 /// the size, then the digest.
 fn contents_fault_for_expected_file(payload: &[u8], wanted: Wanted<'_>) -> Option<Cause>
+    // The payload has at least the two positions of contents.
     requires { POSITIONS_LEN ≤ length payload.now }
     ensures { result ≡ contents_fault_for_expected_file payload.now (expected_of wanted.entry) }
 {

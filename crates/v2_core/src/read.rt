@@ -121,6 +121,7 @@ fn add_line<'a>(
     line: &'a [u8],
     number: u64,
 ) -> Result<(), V2Fault>
+    // Lines are numbered from 1.
     requires { 0 < number }
     // On Ok, the line is read: whatever lines follow, the text so far and they give the same
     // packages.

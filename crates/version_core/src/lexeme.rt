@@ -111,8 +111,10 @@ fn next_lexeme<'a>(last: Class, text: &'a [u8]) -> Lexeme<'a>
 /// The lexeme of a number; `mark` is how many bytes its mark has: none, `.` or `-r`.
 #[tactic(auto, unfolding(crate::specs::Token::number_lexeme))]
 fn number(class: Class, mark: usize, digits: &[u8]) -> Lexeme<'_>
+    // The bytes are decimal digits.
     requires digits { AreDigits digits.now }
     requires small { mark ≤ 2 }
+    // The token is no hash.
     requires plain { is_hash class ≡ false }
     ensures token { whole_lexeme result ≡ number_lexeme class mark digits.now }
     ensures plain { is_hash result.token.class ≡ false }
@@ -127,6 +129,7 @@ fn number(class: Class, mark: usize, digits: &[u8]) -> Lexeme<'_>
 /// number.
 #[tactic(auto, using(crate::proofs::Lexemes::component_lexeme_zero), unfolding(crate::specs::Token::later_component_lexeme))]
 fn component(digits: &[u8]) -> Lexeme<'_>
+    // The bytes are decimal digits.
     requires { AreDigits digits.now }
     ensures token { whole_lexeme result ≡ later_component_lexeme digits.now }
     ensures plain { is_hash result.token.class ≡ false }
@@ -188,6 +191,7 @@ fn suffix_class(rank: u64) -> Class
 /// The lexeme of a hash; the text begins with its mark, `~`.
 #[tactic(auto, unfolding(crate::specs::Token::hash_lexeme))]
 fn hash(text: &[u8]) -> Lexeme<'_>
+    // The text is not empty.
     requires { 0 < length text.now }
     ensures { lexeme_view text.now result ≡ hash_lexeme (leading_hex_digits (drop 1 text.now)) }
 {
@@ -212,6 +216,7 @@ fn revision(text: &[u8]) -> Lexeme<'_>
 
 /// The value of decimal digits; 18 of them stay below 2^64.
 fn value_of(digits: &[u8]) -> u64
+    // The bytes are decimal digits.
     requires digits { AreDigits digits.now }
     requires few { length digits.now ≤ MOST_DIGITS }
     ensures { result ≡ digits_value 10 digits.now }
@@ -311,6 +316,7 @@ fn hex_digit_at(text: &[u8], at: usize) -> Option<u8>
 
 /// The text after its first `count` bytes.
 pub fn behind(text: &[u8], count: usize) -> &[u8]
+    // The text has at least so many bytes.
     requires { count ≤ length text.now }
     ensures { result.now ≡ drop count text.now }
 {

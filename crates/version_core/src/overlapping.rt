@@ -76,6 +76,7 @@ impl<'a> OverlappingVersions<'a> {
     /// passed it takes one leap per 256 bytes. The first call allocates memory, an eighth of the
     /// size of the bytes.
     pub fn is_version(&mut self, from: usize, end: usize) -> Result<bool, AllocError>
+        // The range does not end before it begins.
         requires order { from ≤ end }
         // The end is within the bytes.
         requires within { end ≤ length self.old }
@@ -92,6 +93,7 @@ impl<'a> OverlappingVersions<'a> {
 
     /// Whether the bytes between a place and an end may be the rest of a version.
     fn is_passed(&mut self, first: Place, end: usize) -> bool
+        // The first place is not after the end.
         requires order { first.at ≤ end }
         // The end is within the bytes.
         requires within { end ≤ length self.old }
@@ -193,6 +195,7 @@ impl<'a> OverlappingVersions<'a> {
 /// The place after the first token of a version between two offsets; None if no version begins
 /// there.
 fn first_place(bytes: &[u8], from: usize, end: usize) -> Option<Place>
+    // The range does not end before it begins.
     requires order { from ≤ end }
     // The end is within the bytes.
     requires within { end ≤ length bytes.now }
@@ -247,6 +250,7 @@ fn place_after_token(bytes: &[u8], place: Place, end: usize) -> Option<Place>
     requires order { place.at < end }
     // The end is within the bytes.
     requires within { end ≤ length bytes.now }
+    // No digit of a hash is left before the next token.
     requires none { unread_len (Some place.class) (slice_range bytes.now place.at end) ≡ 0 }
     ensures some { IfSome result (IsNextPlace bytes.now end place) }
     ensures none { IfNone result (can_rest_follow_place bytes.now place end ≡ false) }

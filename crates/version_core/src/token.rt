@@ -159,6 +159,7 @@ impl<'a> Tokens<'a> {
     /// Takes the next token. No token may be taken after the last one, which is the end or a stray
     /// one.
     pub fn next(&mut self) -> TokenAt<'a>
+        // The tokens that were left are the result and those that are left now.
         ensures tokens { tokens_left self.old
             ≡ token_view result ∷
             (if is_last_token_class result.class then [] else tokens_left self.new) }

@@ -106,6 +106,7 @@ impl<'a> Version<'a> {
 
     /// The version of a text that is known to be one; the text is not read again.
     pub fn of(text: &'a [u8]) -> Version<'a>
+        // The text is a valid version.
         requires { IsTrue (is_version text.now) }
         ensures { result ≡ text.entry.now }
     {
