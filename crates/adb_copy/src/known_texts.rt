@@ -60,6 +60,7 @@ impl KnownTexts {
         requires sound { is_sound (payload_of adb) Kinds.Text word ≡ true }
         // The remembered texts are blobs of the draft.
         requires known { AreRememberedBlobsOfDraft (payload_of adb) draft.old self.old }
+        // On Ok, the draft gets the text, or NULL if it is empty.
         ensures text { OnOk result (draft.new ≡ draft_with
             (blob_or_null (text_in (value_at (payload_of adb.entry) Kinds.Text word))) draft.old) }
         // The remembered texts are blobs of the new draft.
@@ -91,6 +92,7 @@ impl KnownTexts {
         requires kind { kind_at which field ≡ Some Kinds.Text }
         // The remembered texts are blobs of the draft.
         requires known { AreRememberedBlobsOfDraft (payload_of adb) draft.old self.old }
+        // On Ok, the draft gets the text of the field, or NULL if it is empty.
         ensures text { OnOk result (draft.new ≡ draft_with (blob_or_null (text_in (entry_in
             (value_at (payload_of adb.entry) (Kinds.Obj which) object) field))) draft.old) }
         // The remembered texts are blobs of the new draft.
@@ -151,6 +153,7 @@ impl KnownTexts {
         requires sound { is_sound (payload_of adb) Kinds.Text word ≡ true }
         // The remembered texts are blobs of the draft.
         requires known { AreRememberedBlobsOfDraft (payload_of adb) draft.old self.old }
+        // On Ok, the draft gets the text, or NULL if it is empty.
         ensures text { OnOk result (draft.new ≡ draft_with
             (blob_or_null (text_in (value_at (payload_of adb.entry) Kinds.Text word))) draft.old) }
         // The remembered texts are blobs of the new draft.
@@ -172,6 +175,7 @@ impl KnownTexts {
         requires sound { is_sound (payload_of adb) Kinds.Text word ≡ true }
         // The remembered texts are blobs of the draft.
         requires known { AreRememberedBlobsOfDraft (payload_of adb) draft.old self.old }
+        // On Ok, the draft gets the text, or NULL if it is empty.
         ensures text { OnOk result (draft.new ≡ draft_with
             (blob_or_null (text_in (value_at (payload_of adb.entry) Kinds.Text word))) draft.old) }
         // The remembered texts are blobs of the new draft.

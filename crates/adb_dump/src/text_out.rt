@@ -205,6 +205,7 @@ impl Count {
     /// A count of no bytes.
     pub(crate) fn new(alloc: Global) -> Count
         ensures none { result.len.bytes ≡ 0 }
+        // No length is remembered yet, so that each remembered one is right.
         ensures lens { (payload : List ℕ) → AreLineLengths payload result.lens }
     {
         Count {
@@ -218,6 +219,7 @@ impl Count {
     /// Counts this many more bytes. After a certain count an allocation of that size is tried and
     /// freed: if it fails, the count need not continue. It is tried again at twice the count.
     fn add(&mut self, bytes: usize) -> Result<(), AllocError>
+        // On Ok, the count of bytes has risen by these.
         ensures len { OnOk result (self.new.len.bytes ≡ self.old.len.bytes + bytes) }
         ensures lens { self.new.lens ≡ self.old.lens }
     {

@@ -64,6 +64,8 @@ impl<'a> KnownLists<'a> {
     ) -> Result<Option<Pair>, AllocError>
         // The word has a plain value of its kind.
         requires { is_sound (payload_of self.old.adb) (Kinds.ObjArr self.old.which) list ≡ true }
+        // On Ok, the result is the first pair of positions with one name in the list, if there is
+        // one.
         ensures value { IfOk result (λ pair. pair
             ≡ repeated_name_pair_at (payload_of self.old.adb) self.old.which list) }
         // The remembered lists are still those of objects of this table in this payload.

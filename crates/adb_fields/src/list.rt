@@ -64,6 +64,7 @@ impl<'a, V: View<'a>> List<'a, V> {
     /// How many entries there are.
     #[tactic(auto, using(crate::proofs::FieldReads::entry_count))]
     pub fn len(&self) -> usize
+        // The result is the number of entries.
         ensures value { result ≡ count_of (entries_in (list_value self.now)) }
         ensures small { result < 2 ^ 32 }
     {

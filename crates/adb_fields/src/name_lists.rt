@@ -30,9 +30,11 @@ const NAME_INDEX: usize = DIR_NAME;
 fn add<'a>(names: &mut Vec<PathWithPosition<'a>>, name: &'a [u8]) -> Result<(), AllocError>
     // The next position fits into 32 bits.
     requires { vec_len names.old + 1 < 2 ^ 32 }
+    // On Ok, the name is added with the next position.
     ensures added { IfOk result (λ _. map joined_name_with_position names.new.items
         ≡ map joined_name_with_position names.old.items
         ++ (name_with_position name.now (vec_len names.old + 1) ∷ [])) }
+    // On Ok, there is one more name.
     ensures len { IfOk result (λ _. vec_len names.new ≡ vec_len names.old + 1) }
 {
     let position = names.len() as u32 + 1;
@@ -113,10 +115,12 @@ pub(crate) fn add_texts<'a>(
     requires sound { are_all_sound (payload_of adb) Kinds.Text (array_entries texts) ≡ true }
     // The positions of all these texts fit into 32 bits.
     requires few { vec_len names.old + length (array_entries texts) < 2 ^ 32 }
+    // On Ok, the texts are added with the next positions.
     ensures added { IfOk result (λ _. map joined_name_with_position names.new.items
         ≡ map joined_name_with_position names.old.items
         ++ numbered_from (vec_len names.old + 1)
         (map text_in (plains_at (payload_of adb.entry) Kinds.Text (array_entries texts.entry)))) }
+    // On Ok, there are so many more names.
     ensures len { IfOk result (λ _. vec_len names.new
         ≡ vec_len names.old + length (array_entries texts.entry)) }
 {

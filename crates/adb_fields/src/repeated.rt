@@ -217,6 +217,7 @@ fn folder_twice_in_package(
     requires sound { is_sound (payload_of adb) (Kinds.Obj Tables.Package) pkg ≡ true }
     // The remembered lists are those of objects of this table in this payload.
     requires lists { AreRememberedListsOf adb Tables.Dir lists.old }
+    // On Ok, the result is the first pair of positions of folders with one name, if there is one.
     ensures pair { IfOk result (λ pair. pair
         ≡ first_repeat (map name_of (folders_in
         (value_at (payload_of adb.entry) (Kinds.Obj Tables.Package) pkg)))) }
@@ -238,6 +239,8 @@ fn file_twice_in_package(
     requires sound { is_sound (payload_of adb) (Kinds.Obj Tables.Package) pkg ≡ true }
     // The remembered lists are those of objects of this table in this payload.
     requires lists { AreRememberedListsOf adb Tables.File lists.old }
+    // On Ok, the result is the first pair of positions of files with one name in one folder, if
+    // there is one.
     ensures pair { IfOk result (λ pair. pair
         ≡ repeated_pair_in_one_list (map (λ folder. map name_of (files_in folder))
         (folders_in (value_at (payload_of adb.entry) (Kinds.Obj Tables.Package) pkg)))) }
@@ -264,6 +267,7 @@ fn file_twice_in_folder(
     requires sound { is_sound (payload_of adb) (Kinds.Obj Tables.Dir) folder ≡ true }
     // The remembered lists are those of objects of this table in this payload.
     requires lists { AreRememberedListsOf adb Tables.File lists.old }
+    // On Ok, the result is the first pair of positions of files with one name, if there is one.
     ensures pair { IfOk result (λ pair. pair
         ≡ first_repeat (map name_of (files_in
         (value_at (payload_of adb.entry) (Kinds.Obj Tables.Dir) folder)))) }

@@ -102,6 +102,7 @@ impl<'a> Judged<'a> {
     pub fn keeps(&mut self, rule: TextRule, word: Val, text: &[u8]) -> Result<bool, AllocError>
         // These bytes are the text of the word.
         requires { text.now ≡ text_at (payload_of self.old.adb) word }
+        // On Ok, the result says whether the text obeys the rule.
         ensures value { IfOk result (λ kept. kept ≡ keeps_text_rule rule text.now) }
         // The payload is unchanged.
         ensures payload { self.new.adb ≡ self.old.adb }
@@ -136,6 +137,7 @@ impl<'a> Judged<'a> {
     ) -> Result<bool, AllocError>
         // These bytes are the text of the word.
         requires { text.now ≡ text_at (payload_of self.old.adb) word }
+        // On Ok, the result says whether the text obeys the rule.
         ensures value { IfOk result (λ kept. kept ≡ keeps_text_rule rule text.now) }
         // The payload is unchanged.
         ensures payload { self.new.adb ≡ self.old.adb }
@@ -151,6 +153,7 @@ impl<'a> Judged<'a> {
     fn is_version_or_empty(&mut self, word: Val, text: &[u8]) -> Result<bool, AllocError>
         // These bytes are the text of the word.
         requires { text.now ≡ text_at (payload_of self.old.adb) word }
+        // On Ok, the result says whether the text is a valid version or empty.
         ensures value { IfOk result (λ is. is ≡ is_version_or_empty text.now) }
         // The payload is unchanged.
         ensures payload { self.new.adb ≡ self.old.adb }
@@ -165,6 +168,7 @@ impl<'a> Judged<'a> {
     fn is_version(&mut self, word: Val, text: &[u8]) -> Result<bool, AllocError>
         // These bytes are the text of the word.
         requires { text.now ≡ text_at (payload_of self.old.adb) word }
+        // On Ok, the result says whether the text is a valid version.
         ensures value { IfOk result (λ is. is ≡ is_version text.now) }
         // The payload is unchanged.
         ensures payload { self.new.adb ≡ self.old.adb }

@@ -190,6 +190,7 @@ fn check_payload<'a>(
     // The error is the first failed test, or out of memory.
     ensures bad { IfErr result
         (λ fault. IsReadFault fault (payload_fault which payload.entry.now)) }
+    // On Ok, none of these tests failed.
     ensures sound { IfOk result (λ _. payload_fault which payload.entry.now ≡ None) }
     // The values have the wanted table at their root.
     ensures table { IfOk result (λ checked. table_of_checked checked ≡ which) }

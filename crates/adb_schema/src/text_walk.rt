@@ -250,6 +250,7 @@ fn keeps_file_name(
 fn keeps_change_name(judged: &mut Judged<'_>, word: Val, text: &[u8]) -> Result<bool, AllocError>
     // `text` is the text of the word.
     requires { text.now ≡ text_at (payload_of judged.old.adb) word }
+    // On Ok, the result says whether the text is a name that an intent may have.
     ensures value { IfOk result (λ kept. kept ≡ is_name_allowed_in_intent text.now) }
     // The payload is unchanged.
     ensures payload { judged.new.adb ≡ judged.old.adb }

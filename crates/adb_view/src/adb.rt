@@ -41,7 +41,9 @@ impl<'a> Adb<'a> {
     /// `Truncated` at 0 if there are fewer than 8 bytes, else `CompatVersion` if the first is not
     /// 0.
     pub fn new(payload: &'a [u8]) -> Result<Adb<'a>, Cause>
+        // An error is the fault of the payload's head.
         ensures exact { result_err result ≡ payload_head_fault payload.now }
+        // The opened payload has the given bytes.
         ensures lent { IfOk result (λ adb. payload_of adb ≡ payload.now) }
     {
         if payload.len() < HEAD {
@@ -113,6 +115,7 @@ impl<'a> Adb<'a> {
         ensures found { Gives (λ found. slice_range (payload_of self.now) found.0 found.1) result
             (blob_of (payload_of self.now) v) }
         ensures order { IfOk result (λ found. found.0 ≤ found.1) }
+        // The end of the blob is within the payload.
         ensures within { IfOk result (λ found. found.1 ≤ length (payload_of self.now)) }
     {
         if v.is_null() {

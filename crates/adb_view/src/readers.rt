@@ -44,6 +44,7 @@ pub(crate) fn is_sound_leaf(adb: Adb<'_>, kind: Kind, word: Val) -> bool
 /// The integer of a word, or why it is none.
 #[tactic(auto, using(crate::proofs::ReaderFaults::int_fault, crate::proofs::ReaderFaults::read_ok))]
 pub(crate) fn read_int(adb: Adb<'_>, word: Val) -> Result<u64, VisitFault>
+    // On Ok, this is the integer to which the word refers.
     ensures ok { IfOk result (λ n. int_of (payload_of adb.entry) word ≡ Ok n) }
     // An error is that of reading the word as an integer.
     ensures err { IfErr result (λ fault. int_of (payload_of adb.entry) word

@@ -70,7 +70,9 @@ pub fn shape(adb: Adb<'_>, which: Which) -> Result<Shaped<'_>, Cause>
     ensures exact { result_err result
         ≡ shape_fault (payload_of adb.entry) (shape_of (Kinds.Obj which))
         (root_word_of_payload (payload_of adb.entry)) }
+    // The result has the payload that was walked.
     ensures walked { IfOk result (λ shaped. adb_of shaped ≡ adb.entry) }
+    // The result has the table by which it was walked.
     ensures table { IfOk result (λ shaped. table_of shaped ≡ which) }
 {
     // A law that the proof needs; it has no effect at run time.

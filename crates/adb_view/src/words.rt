@@ -125,7 +125,9 @@ pub(crate) fn range(bytes: &[u8], at: usize, len: usize) -> Option<&[u8]>
 
 /// The little-endian number at `at`, or `None` if it passes the end.
 pub(crate) fn number(bytes: &[u8], at: usize, width: Width) -> Option<u64>
+    // The result is the number at the offset, or None if it is not within the bytes.
     ensures value { result ≡ number_at (width_of width) bytes.now at }
+    // The number fits into so many bytes.
     ensures fits { IfSome result (λ n. n < 2 ^ (8 * byte_len (width_of width))) }
 {
     let x = range(bytes, at, width.bytes())?;
@@ -142,9 +144,11 @@ pub(crate) fn number(bytes: &[u8], at: usize, width: Width) -> Option<u64>
 pub(crate) fn counted_range(bytes: &[u8], at: usize, width: Width) -> Option<(usize, usize)>
     // The offset fits into the 28 bits of a word.
     requires { at < 2 ^ 28 }
+    // The range has the bytes after the length at the offset, if they are all there.
     ensures found { Finds (λ found. slice_range bytes.now found.0 found.1) result
         (length_prefixed_bytes_at (width_of width) bytes.now at) }
     ensures order { IfSome result (λ found. found.0 ≤ found.1) }
+    // The end of the range is within the bytes.
     ensures within { IfSome result (λ found. found.1 ≤ length bytes.now) }
 {
     let len = number(bytes, at, width)?;
@@ -161,8 +165,10 @@ pub(crate) fn counted_range(bytes: &[u8], at: usize, width: Width) -> Option<(us
 pub(crate) fn run(bytes: &[u8], at: usize) -> Option<&[u8]>
     // The offset fits into the 28 bits of a word.
     requires { at < 2 ^ 28 }
+    // The result has the words of the run at the offset, if there is one.
     ensures found { Finds (λ found. words (length found.now / 4) found.now) result
         (run_entries_at bytes.now at) }
+    // The number of the words fits into 32 bits.
     ensures counted { IfSome result (λ found. length found.now < 4 * (2 ^ 32 - 1)) }
 {
     let count = number(bytes, at, Width::Four)?.checked_sub(1)?;

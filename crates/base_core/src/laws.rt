@@ -16,6 +16,7 @@ ghost use Rattle.base_core.specs.Undone.{IsAfterCrash, IsDurable, IsCrashImage, 
 
 /// The files by each map of names, and so the files as read, are among what a crash may leave.
 pub fn a_crash_may_leave_the_files_as_read()
+    // The files as read are among those that a crash may leave.
     ensures read { (v : TreeState) → IsCrashImageIfUndoneNewestFirst v (files_of v) }
     // The files under the current map, or an older one, are among those that a crash may leave.
     ensures by_map { (v : TreeState) (map : NameMap) → IsCurrentOrOlderMap v map
@@ -68,6 +69,7 @@ pub fn a_tree_stays_durable_in_order_if_fewer_files_must_be<D: Durability>()
 /// The files as read are among what a crash may leave, and so are those by each map that it may
 /// leave. A crash may undo or keep each change of names, whatever it does with the earlier ones.
 pub fn a_crash_may_undo_any_changes()
+    // The files as read are among those that a crash may leave.
     ensures read { (v : TreeState) → IsCrashImage v (files_of v) }
     // The files under each map that a crash may leave are among those that it may leave.
     ensures by_map { (v : TreeState) (map : NameMap) → IsCrashMap v map
@@ -184,6 +186,7 @@ pub fn the_files_of_a_well_formed_state_are_named_files()
     // Under each map, files have valid names and a possible length.
     ensures named { (v : TreeState) → IsWellFormed v → (map : NameMap) → IsCurrentOrOlderMap v map
         → AreNamedFiles (files_under_map v map) }
+    // The files as read have valid names and a possible length.
     ensures read { (v : TreeState) → IsWellFormed v → AreNamedFiles (files_of v) }
     // The files as read are finitely many.
     ensures finite { (v : TreeState) → IsWellFormed v → (names : List (List ℕ))
@@ -207,6 +210,7 @@ pub fn counts_of_consecutive_calls_compose()
     // Without new faults from a to b and from b to c there are none from a to c.
     ensures no_fault { (a b c : Counts) → CountsNoNewFault a b → CountsNoNewFault b c
         → CountsNoNewFault a c }
+    // If no call is made, no count falls, and no fault is counted.
     ensures stays { (a : Counts) → CountsOnlyRise a a × CountsNoNewFault a a }
 {}
 

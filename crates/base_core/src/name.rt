@@ -32,7 +32,9 @@ impl Model for Name {
 impl Name {
     /// The bytes as a name, or None exactly if they are not a name.
     pub fn read(alloc: Global, bytes: &[u8]) -> Result<Option<Name>, AllocError>
+        // On Ok, a name is returned exactly if the bytes are valid as a name.
         ensures when { IfOk result (λ found. is_some found ≡ is_name bytes.now) }
+        // A returned name has these bytes.
         ensures value { IfOk result (λ found. IfSome found (λ name. name ≡ bytes.now)) }
     {
         if !is_name(bytes) {

@@ -78,6 +78,7 @@ impl Words {
     /// Adds a copy of the word. A refused push changes nothing.
     pub fn push(&mut self, word: &[u8]) -> Result<(), AllocError>
         requires { length self.old < 4294967294 }
+        // On Ok, the word is added at the end.
         ensures ok { OnOk result (self.new ≡ self.old ++ word.now ∷ []) }
         // An error leaves the value unchanged.
         ensures err { OnErr result (self.new ≡ self.old) }

@@ -153,7 +153,7 @@ pub fn the_file_of_a_kept_package_is_not_touched()
         → owner_listing change path ≡ Some l → is_added l.member ≡ false
         → (listing_written_under_name change files path ≡ None) × (is_removed change files path
         ≡ false) }
-    // So it is as before.
+    // So this file is unchanged after the change.
     ensures file { (change : FileChange) (bytes_of : Listing
         → List ℕ) (records : DatabaseAndWorldAfter)
         (files : Files) (path : List ℕ) (l : Listing)

@@ -187,6 +187,7 @@ impl<'a> Db<'a> {
 pub(crate) fn package_of_database<'a>(idb: &Option<IdbView<'a>>, i: usize) -> PackageView<'a>
     // The index is one of the packages.
     requires { i < length (packages_of_database_value (option_map idb_value idb.now)) }
+    // The result is the package at this index.
     ensures value { slice_get (packages_of_database_value (option_map idb_value idb.now)) i
         ≡ Some (package_value result) }
     // The payload of the result is the one from which it was read.

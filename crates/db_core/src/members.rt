@@ -95,6 +95,7 @@ impl<'a> Members<'a> {
     /// A list without packages, for kept packages of a database and added ones.
     pub fn new(alloc: Global, db: &'a Db<'a>) -> Members<'a>
         ensures none { members_of result ≡ [] }
+        // The old packages are those of the given database.
         ensures before { packages_of_old_database result ≡ packages_of db.entry.now }
     {
         Members {
@@ -128,6 +129,7 @@ impl<'a> Members<'a> {
         ensures ok { OnOk result ((pkg : Plain)
             → slice_get (packages_of_old_database self.old) i ≡ Some pkg
             → members_of self.new ≡ members_of self.old ++ member_of_kept pkg ∷ []) }
+        // An error leaves the members unchanged.
         ensures err { OnErr result (members_of self.new ≡ members_of self.old) }
         // The packages of the old database are unchanged.
         ensures before { packages_of_old_database self.new ≡ packages_of_old_database self.old }
@@ -152,6 +154,7 @@ impl<'a> Members<'a> {
         ensures ok { OnOk result (members_of self.new ≡ members_of self.old
             ++ member_of_added (value_of_contents contents.now)
             (sha256 (payload_of_contents contents.now)) ∷ []) }
+        // An error leaves the members unchanged.
         ensures err { OnErr result (members_of self.new ≡ members_of self.old) }
         // The packages of the old database are unchanged.
         ensures before { packages_of_old_database self.new ≡ packages_of_old_database self.old }

@@ -46,6 +46,7 @@ impl Owned {
     ///
     /// Out of memory.
     pub fn push(&mut self, owned: bool) -> Result<(), AllocError>
+        // On Ok, the flag is added at the end.
         ensures ok { OnOk result (self.new ≡ self.old ++ owned ∷ []) }
         // An error leaves the value unchanged.
         ensures err { OnErr result (self.new ≡ self.old) }

@@ -102,6 +102,7 @@ fn equal() -> Op
 /// text is no operator.
 pub fn operator_of(text: &[u8]) -> Option<Op>
     ensures bits { result ≡ operator_bits text.now }
+    // An operator that is returned can be written as a text.
     ensures has_text { IfSome result (λ op. IsTrue (is_some (operator_text op))) }
 {
     match text {

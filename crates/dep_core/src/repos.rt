@@ -72,6 +72,7 @@ impl Repos {
     /// path. Lines that are empty or begin with `#` are skipped, as are spaces and tabs at both
     /// ends of a line. One leading `/` of a path is dropped, and the rest must be a name.
     pub fn read(alloc: Global, bytes: &[u8]) -> Result<Repos, ReposFault>
+        // On Ok, the repositories are those of the text.
         ensures ok { IfOk result (λ repos. repositories_of bytes.now ≡ Ok repos) }
         // An error is that of the definition, or out of memory.
         ensures bad { IfErr result (λ fault. IsReposFault fault (repositories_of bytes.now)) }

@@ -163,6 +163,7 @@ fn is_version_or_empty(text: &[u8]) -> bool
 /// The operator that the low four bits of a match number denote; None if any version is accepted.
 fn wanted_op(low: Op) -> Option<Op>
     ensures bits { result ≡ match_bits_unless_any_version low }
+    // An operator that is returned can be written as a text.
     ensures has_text { IfSome result (λ op. IsTrue (is_some (operator_text op))) }
 {
     match low.bits() {

@@ -219,6 +219,7 @@ fn repeats_the_one_before(questions: &[Question], i: usize) -> bool
     // The index is one of the list.
     requires { i < length questions.now }
     ensures first { result ≡ true → 0 < i }
+    // If the result is true, the question and the one before it are the same.
     ensures same { result ≡ true → (one other : AskedQuestion)
         → slice_get questions.now (i - 1) ≡ Some one → slice_get questions.now i ≡ Some other
         → AreSameQuestion one other }

@@ -1,5 +1,5 @@
 -- Roots and the lines of their dumps, and the first line of a text that no dump has after the lines
--- before it. By the definition of a dump text alone: no reader is needed.
+-- before it. These definitions use only the definition of a dump text, and no reader.
 -- The rule is in `docs/formats.md`, "Dump text". Serves the laws of `src/laws.rt`.
 use Rattle.std.specs.Prelude.{◌≡◌, ◌≢◌, ℕ, ◌+◌, ◌-◌, ◌≤◌, ◌⊎◌, List, [], ◌++◌, length, take, IsSome}
 use Rattle.adb_view.specs.Plain.{Plain}

@@ -22,7 +22,9 @@ use thiserror::Error;
 /// `Bad` with the number of the first line that no dump text has after the lines before it; else
 /// `TooLarge`, if the payload passes a limit of the writer. Or `Memory`.
 pub fn gen_(alloc: Global, text: &[u8]) -> Result<Vec<u8>, GenFault>
+    // On Ok, the file is the container of the text.
     ensures ok { IfOk result (λ file. generated_file text.now ≡ Ok file.items) }
+    // An error is that of the definition, or out of memory.
     ensures err { IfErr result (λ fault. IsGenFault fault (generated_file text.now)) }
 {
     let mut draft = Draft::new(alloc);
@@ -65,6 +67,7 @@ fn read_text(alloc: Global, draft: &mut Draft, text: &[u8]) -> Result<Which, Gen
 fn read_table(cursor: &mut Cursor<'_>) -> Result<Which, GenFault>
     // No indentation of the first line was read.
     requires { cursor.old.levels ≡ 0 }
+    // On Ok, the result is the table that the first line names.
     ensures ok { IfOk result (λ which. table_read cursor.old.lines ≡ Some which) }
     // On Ok, the cursor is after the first line.
     ensures next { OnOk result (cursor.new ≡ cursor_after_line cursor.old.lines cursor.old) }

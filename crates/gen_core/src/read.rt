@@ -31,6 +31,7 @@ pub(crate) fn read_root(
 ) -> Result<(), GenFault>
     // Nothing of the line's indentation was read yet.
     requires { cursor.old.levels ≡ 0 }
+    // On Ok, the draft gets the value of the root, and all lines are read.
     ensures ok { OnOk result (block_taken (value_read which cursor.old.lines) (cursor.old.lines, [])
         draft.old cursor.old ≡ Ok (draft.new, cursor.new)) }
     // An error is the bad line of the definition, or out of memory.
@@ -111,6 +112,7 @@ fn read_line(
     kind: Kind,
     line: &[u8],
 ) -> Result<(), GenFault>
+    // On Ok, the draft gets the value of the line, and the cursor is after the line.
     ensures ok { OnOk result (draft_and_cursor_after_line (line_read
         (shape_of kind) line.now) draft.old cursor.old
         ≡ Ok (draft.new, cursor.new)) }

@@ -78,6 +78,7 @@ impl Stage {
     pub fn begin(alloc: Global, removals: &Names, writes: &Names) -> Result<Stage, WriteFault>
         // The names are allowed in an intent (journal entry).
         requires { AreChangeNames (removals.now ++ writes.now) }
+        // On Ok, the stage is new, with these removals and writes.
         ensures view { IfOk result (λ stage. stage ≡ new_stage removals.now writes.now) }
         // The error for a payload that is too large has the counts at which a limit is exceeded.
         ensures large { (bytes values : ℕ) → IsErrOf result (WriteFault.TooLarge bytes values)
@@ -102,6 +103,7 @@ impl Stage {
     pub fn of_names(alloc: Global, removals: Names, writes: Names) -> Result<Stage, WriteFault>
         // The names are allowed in an intent (journal entry).
         requires { AreChangeNames (removals ++ writes) }
+        // On Ok, the stage is new, with these removals and writes.
         ensures view { IfOk result (λ stage. stage ≡ new_stage removals writes) }
         // The error for a payload that is too large has the counts at which a limit is exceeded.
         ensures large { (bytes values : ℕ) → IsErrOf result (WriteFault.TooLarge bytes values)
@@ -124,7 +126,9 @@ impl Stage {
     /// The stage of an intent that was found in a file: all its files were staged, it is published,
     /// and none of its actions counts as done, since each may be done twice.
     pub fn found(alloc: Global, file: Vec<u8>) -> Result<Stage, RecoverFault>
+        // On Ok, the stage has the intent that the file encodes.
         ensures intent { IfOk result (λ stage. read_intent file.items ≡ Some stage.intent) }
+        // On Ok, the intent counts as committed.
         ensures published { IfOk result (λ stage. stage.published ≡ true) }
         ensures none { IfOk result (λ stage. stage.acted ≡ 0) }
         // The cause of a refusal is the first failed test of the intent's container.
@@ -512,6 +516,7 @@ pub fn apply_all<T: Tree>(stage: &mut Stage, tree: &mut T) -> Result<(), Disk>
         Since (KeepsIntent v) (T.history tree.old) (T.history tree.new)) }
     // Once it has returned Ok, all actions are done.
     ensures all { OnOk result (stage.new.acted ≡ action_count stage.new.intent) }
+    // On Ok, the intent still counts as committed.
     ensures published { OnOk result (stage.new.published ≡ true) }
     // How the tree's counts explain the result.
     ensures counts { IsResultExplainedByCounts (T.counts tree.old) (T.counts tree.new) result }

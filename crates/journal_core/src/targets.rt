@@ -19,6 +19,7 @@ pub fn check_target<T: Tree>(tree: &mut T, name: &Name, source: Option<&Name>) -
     // The tree is only read: no file changes, no I/O error is hidden, and no call is a misuse.
     ensures tree { OnlyReads (record {}) (T.history tree.old) (T.history tree.new)
         (T.counts tree.old) (T.counts tree.new) result }
+    // On Ok, the tree has accepted this target.
     ensures accepted { OnOk result (T.accepts (option_copied source.entry) name.now) }
 {
     tree.check_target(name, source)?;
@@ -68,6 +69,7 @@ pub fn check_targets<T: Tree>(stage: &Stage, tree: &mut T) -> Result<(), Disk>
     // The tree is only read: no file changes, no I/O error is hidden, and no call is a misuse.
     ensures tree { OnlyReads (record {}) (T.history tree.old) (T.history tree.new)
         (T.counts tree.old) (T.counts tree.new) result }
+    // On Ok, the tree has accepted each target of the change.
     ensures accepted { OnOk result (AreAccepted T.accepts stage.now.intent) }
 {
     // A law that the proof needs; it computes nothing.

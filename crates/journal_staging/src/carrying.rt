@@ -130,6 +130,7 @@ pub fn carry_out<T: Tree>(
     // returned only if it accepts them.
     ensures asked { (T.history tree.new ≡ T.history tree.old)
         ⊎ AreAccepted T.accepts stage.old.intent }
+    // On Ok, the tree has accepted each target of the change.
     ensures accepted { OnOk result (AreAccepted T.accepts stage.old.intent) }
     // So at each moment the tree accepts each name to which a recovery gives other bytes.
     ensures promised { TargetsAreAccepted T.accepts (T.history tree.old) (T.history tree.new) }

@@ -56,6 +56,8 @@ impl Entry {
     ///
     /// `FileBad` with the cause of the first test that fails, or `Memory`.
     pub(crate) fn of(alloc: Global, place: u32, file: Vec<u8>) -> Result<Entry, MakeFault>
+        // The result is the entry of a package with these bytes, or its refusal, unless out of
+        // memory.
         ensures made { AgreesUnlessMemory entry_view result (found_entry place (Some file.items)) }
         ensures bytes { AreFileBytes file.items }
     {
@@ -131,6 +133,7 @@ struct Parts {
 fn read_parts(alloc: Global, place: u32, file: &[u8]) -> Result<Parts, MakeFault>
     // A refusal has the first test that fails.
     ensures bad { IfErr result (λ fault. IsRefusedAt place fault (package_fault file.now)) }
+    // The package passes all its tests.
     ensures sound { IfOk result (λ _. package_fault file.now ≡ None) }
     // The package passes its tests, apart from those of its contents.
     ensures opened { IfOk result (λ _. container_fault_except_contents Tables.Package file.now
@@ -174,6 +177,7 @@ pub(crate) fn open_tested<'a>(
 ) -> Result<Package<'a>, MakeFault>
     // The error is the first failed test of the package, or out of memory.
     ensures bad { IfErr result (λ fault. IsRefusedAt place fault (package_fault file.entry.now)) }
+    // The package passes all its tests.
     ensures sound { IfOk result (λ _. package_fault file.entry.now ≡ None) }
     // The package passes its tests, apart from those of its contents.
     ensures opened { IfOk result
@@ -197,8 +201,10 @@ pub(crate) fn open_tested<'a>(
 
 /// Reads the files of a package to the last, which tests their contents.
 fn test_files(pkg: &mut Package<'_>) -> Result<(), Cause>
+    // An error is the fault of the first file whose contents are bad.
     ensures files { result_err result ≡ fault_of_files_read (opened_files pkg.old) }
     ensures value { opened_value pkg.new ≡ opened_value pkg.old }
+    // The package's payload is unchanged.
     ensures payload { opened_payload pkg.new ≡ opened_payload pkg.old }
 {
     while pkg.next_file()?.is_some() {}

@@ -55,11 +55,12 @@ use version_core::order_is_total;
 pub fn make<T: Tree>(alloc: Global, command: &Command, tree: &mut T) -> Result<Vec<u8>, MakeFault>
     // The command is `mkndx`.
     requires { command.now.applet ≡ Applet.Mkndx }
-    // If the tree's files are observable.
+    // If the tree is observable, the index is made from its files.
     ensures made { IfObservable (T.history tree.old) (λ v.
         AgreesUnlessMemoryOrDisk (λ file. file.items) result (made_index command.now
         (reads_of v))) }
-    // Over every tree: by some bytes for each read. The first operand's read has the number 0.
+    // Over any tree, the index is made from some bytes for each read. The first operand's read has
+    // the number 0.
     ensures found { (read : Reads) × FindOnlyFiles read 0 command.now.operands
         × AgreesUnlessMemoryOrDisk (λ file. file.items) result (made_index command.now read) }
     // The tree is only read, and `Disk` has a fault of the tree as its cause.
@@ -145,6 +146,7 @@ fn read_entry<T: Tree>(
 /// The entry of what was found under the name that the operand at a place gives; a file that is
 /// absent is refused.
 fn entry_of(alloc: Global, place: u32, found: Option<Vec<u8>>) -> Result<Entry, MakeFault>
+    // The result is the entry of the bytes found, or the refusal, unless out of memory.
     ensures made { AgreesUnlessMemory entry_view result (found_entry place (bytes_in found)) }
     ensures bytes { IfSome (bytes_in found) AreFileBytes }
 {
@@ -186,6 +188,7 @@ fn index_payload(alloc: Global, description: &[u8], entries: &[Entry]) -> Result
     ensures made { IfOk result (λ payload.
         payload_or_overflow (value_of_index description.now (map entry_view entries.now))
         ≡ Ok payload.items) }
+    // The payload is not longer than a payload may be.
     ensures small { IfOk result (λ payload. length payload.items ≤ MOST_BYTES) }
     // An error is the limit of a payload that is exceeded, or out of memory.
     ensures err { IfErr result (λ fault. IsOverflowFault fault

@@ -150,6 +150,7 @@ pub(crate) fn entry_payload(
     // The id is the SHA-256 digest of the payload.
     requires { id.now ≡ sha256 (opened_payload pkg.now) }
     ensures small { len < 2 ^ 64 }
+    // If a payload is returned, it is that of the entry.
     ensures payload { IfOk result (λ found. IfSome found (λ payload. payload_or_overflow
         (info_with_id_and_size (entry_in (opened_value pkg.now) PACKAGE_INFO) (sha256
         (opened_payload pkg.now))

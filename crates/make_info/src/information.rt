@@ -87,6 +87,7 @@ pub fn read_information<'a>(
     alloc: Global,
     command: &'a Command,
 ) -> Result<Information<'a>, MakeFault>
+    // On Ok, the information is the one that the command describes.
     ensures ok { IfOk result (λ info. information command.entry.now ≡ Ok info) }
     // An error is that of the definition, or out of memory.
     ensures err { IfErr result (λ fault. IsInfoFault fault (information command.entry.now)) }
@@ -102,6 +103,7 @@ fn read_values<'a>(
     values: &'a Values,
     behind: u32,
 ) -> Result<Information<'a>, MakeFault>
+    // On Ok, the information is the one that the values describe.
     ensures ok { IfOk result (λ info. information_of values.entry.now behind ≡ Ok info) }
     // An error is that of the definition, or out of memory.
     ensures err { IfErr result (λ fault. IsInfoFault fault

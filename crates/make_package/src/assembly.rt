@@ -37,6 +37,7 @@ pub(crate) fn package(
     // Each packed regular file has its bytes in the blocks, so the sum of the sizes is at most
     // their length.
     requires { installed_size_of_folders packing.folders.items ≤ length packing.blocks.items }
+    // The result is the package of these parts, or its refusal, unless out of memory.
     ensures made { (sources : List SourceFolder) → IsPacking packing.entry sources
         → AgreesOrIsFault IsBytes result (package_of_parts command.now
         (scripts_view scripts.now) about.now sources) }
@@ -93,10 +94,12 @@ fn payload(
     scripts: &[Script<'_>],
     size: u64,
 ) -> Result<Vec<u8>, MakeFault>
+    // On Ok, the payload is that of the package with these parts.
     ensures made { IfOk result (λ payload. payload_or_overflow
         (package_with (information_value about.now size) (map packed_folder folders.now)
         (scripts_view scripts.now) (texts_of (values_of_letter TRIGGER values.now))
         (replaces_priority about.now)) ≡ Ok payload.items) }
+    // The payload is not longer than a payload may be.
     ensures small { IfOk result (λ payload. length payload.items ≤ MOST_BYTES) }
     // An error is the limit of a payload that is exceeded, or out of memory.
     ensures err { IfErr result (λ fault. IsOverflowFault fault

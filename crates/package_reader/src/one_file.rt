@@ -106,6 +106,7 @@ impl<'a> FilePieces<'a> {
         requires { 0 < wanted.size }
         ensures name { package_name_of_file result ≡ name.entry.now }
         ensures len { package_len_of_file result ≡ len }
+        // The expected file is the wanted one.
         ensures due { expected_file_of result ≡ Some (expected_of wanted.entry) }
         // No bytes were returned yet.
         ensures begun { HaveBeenReturned result [] }
@@ -161,14 +162,17 @@ impl<'a> FilePieces<'a> {
         // returned only if all bytes together have the expected size and digest.
         ensures tested { (so_far : List ℕ) → HaveBeenReturned self.old so_far
             → IsTestedReturn self.old so_far piece.new result self.new }
+        // The expected file is unchanged.
         ensures due { expected_file_of self.new ≡ expected_file_of self.old }
         // The bytes of the piece are subtracted from those that are left.
         ensures left { IfOk result (HasFewerLeft self.old (length piece.new) self.new) }
+        // A failed test is remembered for the next call.
         ensures refused { IfErr result (λ fault. RemembersFileFault fault self.new) }
         // Each later call returns a test that failed.
         ensures again { IfSome (remembered_fault self.old) (λ cause. result ≡ Err (Bad cause)) }
         // The name and the length of the package are unchanged.
         ensures name { package_name_of_file self.new ≡ package_name_of_file self.old }
+        // The length of the package is unchanged.
         ensures len { package_len_of_file self.new ≡ package_len_of_file self.old }
         // The tree is unchanged. `Disk` is returned only if the tree failed, and no call is a
         // misuse if the file still has its length.
@@ -203,11 +207,13 @@ impl<'a> FilePieces<'a> {
         // The last piece and the end are returned only if all bytes pass the tests.
         ensures tested { (so_far : List ℕ) → HaveBeenReturned self.old so_far
             → IsTestedReturn self.old so_far piece.new result self.new }
+        // The expected file is unchanged.
         ensures due { expected_file_of self.new ≡ expected_file_of self.old }
         // The bytes of the piece are subtracted from those that are left.
         ensures left { IfOk result (HasFewerLeft self.old (length piece.new) self.new) }
         // The name and the length of the package are unchanged.
         ensures name { package_name_of_file self.new ≡ package_name_of_file self.old }
+        // The length of the package is unchanged.
         ensures len { package_len_of_file self.new ≡ package_len_of_file self.old }
         // The tree is unchanged. `Disk` is returned only if the tree failed, and no call is a
         // misuse if the file still has its length.

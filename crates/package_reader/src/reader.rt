@@ -207,6 +207,7 @@ impl<'a> PieceReader<'a> {
         // The offset at which the file begins is unchanged while the file is open.
         ensures start { IfOk result (λ found. IfSome found (λ part.
             KeepsFileStart part (length piece.new) self.old self.new)) }
+        // A failed test is remembered for the next call.
         ensures refused { IfErr result (λ fault. RemembersFault fault self.new) }
         // The name and the length of the package are unchanged.
         ensures name { name_in_tree self.new ≡ name_in_tree self.old }

@@ -193,6 +193,7 @@ fn owned_flags(
         → slice_get (map claim_seen claims.now) j ≡ Some c → slice_get owners.now j ≡ Some o
         → slice_get (map claim_seen claims.now) k ≡ Some d → slice_get owners.now k ≡ Some p
         → c.number ≡ d.number → is_owning_member c.member o ≡ is_owning_member d.member p }
+    // There is one flag for each claim.
     ensures len { IfOk result (λ flags. length flags.items ≡ length claims.now) }
     // The flag of each claim says whether its member owns its path.
     ensures marked { IfOk result (λ flags. (j : ℕ) (c : PathClaim) (o : Option ℕ)

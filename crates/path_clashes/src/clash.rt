@@ -110,11 +110,11 @@ fn clash_near<T: Tree, G: IsReleased>(
     requires names { All IsName (map joined_path written.now) }
     // The name is one of the written paths.
     requires written { is_one_of_paths written.now bytes.now ≡ true }
-    // If the tree's files are observable.
+    // If the tree is observable, the result is the one for its files.
     ensures near { IfOk result (λ found. IfObservable (T.history tree.old) (λ v.
         IsClashNear (name_change_of_paths written.now (G.does_release let_go.now)) (files_of v)
         before.now bytes.now (option_map clash_seen found))) }
-    // Over any tree, even one whose files are not observable.
+    // Over any tree, even an unobservable one, the result may be the one for some files.
     ensures may { IfOk result (λ found. MayBeClashNear
         (name_change_of_paths written.now (G.does_release let_go.now))
         before.now bytes.now (option_map clash_seen found)) }
@@ -161,8 +161,8 @@ pub fn first_clash<T: Tree, G: IsReleased>(
         IsFirstClashOrNone (name_change_of_paths written.now (G.does_release let_go.now))
         (files_of v)
         (option_map clash_seen found))) }
-    // Over any tree, even one whose files are not observable: it is the first clash over some
-    // files, or there is none over some.
+    // Over any tree, even an unobservable one, the result is right for some files: it is the first
+    // clash, or there is none.
     ensures may { IfOk result (λ found. IsFirstClashOverSomeFiles
         (name_change_of_paths written.now (G.does_release let_go.now))
         (option_map clash_seen found)) }

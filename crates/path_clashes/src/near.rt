@@ -154,8 +154,11 @@ pub(crate) fn first_below<T: Tree, G: IsReleased>(
     let_go: &G,
     folder: &Name,
 ) -> Result<Option<Name>, TreeFault>
+    // On Ok, if the tree is observable, the result is the first name below the folder whose file is
+    // kept.
     ensures found { IfOk result (λ found. IfObservable (T.history tree.old) (λ v.
         IsFirstNameBelowOrNone (G.does_release let_go.now) (files_of v) folder.now found)) }
+    // Over any tree, the result is right for a tree that has only the name found, if any.
     ensures may { IfOk result (λ found.
         IsFirstNameBelowOrNone (G.does_release let_go.now)
         (files_with_only_name found) folder.now found) }

@@ -57,6 +57,7 @@ pub fn verify(alloc: Global, bytes: &[u8]) -> Result<(), PackageFault>
 /// the four.
 pub fn table_of_schema(schema: u32) -> Option<Which>
     ensures root { result ≡ table_of_schema schema }
+    // A table in the result is one that has a schema.
     ensures known { IfSome result (λ which. IsTrue (is_some (schema_word which))) }
 {
     match schema {
@@ -87,6 +88,7 @@ fn verify_as(alloc: Global, bytes: &[u8], which: Which) -> Result<(), PackageFau
 fn verify_package(alloc: Global, bytes: &[u8]) -> Result<(), PackageFault>
     // The error is the first failed test, or out of memory.
     ensures bad { IfErr result (λ fault. IsFaultOf fault (package_fault bytes.now)) }
+    // On Ok, none of these tests failed.
     ensures sound { IfOk result (λ _. package_fault bytes.now ≡ None) }
 {
     let mut pkg = Package::new(alloc, bytes)?;

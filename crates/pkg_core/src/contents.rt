@@ -68,6 +68,7 @@ impl<'a> Contents<'a> {
         requires { payload_fault Tables.Package payload.now ≡ None }
         // The value and its bytes are those of the payload.
         ensures value { value_of_contents result ≡ root_value Tables.Package payload.entry.now }
+        // The result has the given payload.
         ensures payload { payload_of_contents result ≡ payload.entry.now }
     {
         // The payload passes all tests, that of its head among them.
@@ -88,6 +89,7 @@ impl<'a> Contents<'a> {
 
     /// The value of a package is sound and normal.
     pub fn values_are_sound(&self)
+        // The value obeys all rules of a package.
         ensures sound { IsSoundValue Tables.Package (value_of_contents self.now) }
         ensures normal { IsNormal (value_of_contents self.now) }
     {
@@ -120,6 +122,7 @@ fn check_payload<'a>(alloc: Global, payload: &'a [u8]) -> Result<Adb<'a>, ReadFa
         (λ fault. IsReadFault fault (payload_fault Tables.Package payload.entry.now)) }
     // If no error is returned, no test of the values fails.
     ensures sound { IfOk result (λ _. payload_fault Tables.Package payload.entry.now ≡ None) }
+    // The result has the given payload.
     ensures payload { IfOk result (λ adb. payload_of adb ≡ payload.entry.now) }
 {
     let adb = Adb::new(payload)?;

@@ -150,8 +150,11 @@ impl<'a> Package<'a> {
     /// if a file is left (`DataOrder`); another size (`DataSize`); another digest (`HashDiffers`).
     /// After an error the next call returns the same error.
     pub fn next_file(&mut self) -> Result<Option<FileContents<'a>>, Cause>
+        // The result is the next of the files that are left, and the later ones stay left.
         ensures file { IsNextFile (opened_files self.old) result (opened_files self.new) }
+        // The package's value is unchanged.
         ensures value { opened_value self.new ≡ opened_value self.old }
+        // The package's payload is unchanged.
         ensures payload { opened_payload self.new ≡ opened_payload self.old }
     {
         if let Some(cause) = self.refused {

@@ -219,6 +219,7 @@ impl<'a> Walk<'a> {
     pub fn end(&mut self) -> Result<(), Cause>
         // An error says that the contents of a file are missing.
         ensures exact { result_err result ≡ missing_contents_fault (files_left_in_walk self.old) }
+        // On Ok, no file is left.
         ensures end { IfOk result (λ _. files_left_in_walk self.new ≡ []) }
     {
         match self.next() {

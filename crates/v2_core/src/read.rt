@@ -34,7 +34,9 @@ use v2_lines::{Checked, Draft, ReadFault, Which, WriteFault, repeated, shape};
 /// an installed database that the payload fails. Or `Memory`.
 #[tactic(auto, unfolding(crate::specs::Payload::payload_of_text))]
 pub fn read_v2(alloc: Global, bytes: &[u8]) -> Result<Vec<u8>, V2Fault>
+    // On Ok, the payload is that of the text.
     ensures ok { IfOk result (λ payload. payload_of_text bytes.now ≡ Ok payload.items) }
+    // An error is that of the definition, or out of memory.
     ensures err { IfErr result (λ fault. IsV2Fault fault (payload_of_text bytes.now)) }
 {
     let payload = write_payload(alloc, bytes)?;
@@ -50,6 +52,7 @@ fn check_database(alloc: Global, payload: &[u8]) -> Result<(), ReadFault>
     // The error is the first failed test, or out of memory.
     ensures bad { IfErr result
         (λ fault. IsReadFault fault (payload_fault Tables.Idb payload.now)) }
+    // On Ok, none of the tests of a database failed.
     ensures sound { OnOk result (payload_fault Tables.Idb payload.now ≡ None) }
 {
     let adb = Adb::new(payload)?;

@@ -80,6 +80,7 @@ impl<'a> OverlappingVersions<'a> {
         requires order { from ≤ end }
         // The end is within the bytes.
         requires within { end ≤ length self.old }
+        // On Ok, the result says whether the range is a version.
         ensures value { IfOk result (λ is. is ≡ is_version (slice_range self.old from end)) }
         // The bytes that are read are unchanged.
         ensures bytes { self.new ≡ self.old }
@@ -97,6 +98,7 @@ impl<'a> OverlappingVersions<'a> {
         requires order { first.at ≤ end }
         // The end is within the bytes.
         requires within { end ≤ length self.old }
+        // The result says whether the rest up to the end can follow the place in a version.
         ensures value { result ≡ can_rest_follow_place self.old first end }
         // The bytes that are read are unchanged.
         ensures bytes { self.new ≡ self.old }
@@ -120,7 +122,9 @@ impl<'a> OverlappingVersions<'a> {
         requires order { place.at < end }
         // The end is within the bytes.
         requires within { end ≤ length self.now }
+        // A place that is returned is one to which the first place leads.
         ensures some { IfSome result (IsNextPlace self.now end place) }
+        // Without a place, the rest up to the end cannot follow in a version.
         ensures none { IfNone result (can_rest_follow_place self.now place end ≡ false) }
     {
         match self.leap(place, end) {
@@ -163,6 +167,7 @@ impl<'a> OverlappingVersions<'a> {
 
     /// Records a leap, in place of any other over the same block.
     fn remember(&mut self, from: Place, to: Place)
+        // The leap is safe: a version that is at its first place can go on at its second.
         requires { IsSafeSkip self.old from to }
         ensures { self.new ≡ self.old }
     {
@@ -199,9 +204,11 @@ fn first_place(bytes: &[u8], from: usize, end: usize) -> Option<Place>
     requires order { from ≤ end }
     // The end is within the bytes.
     requires within { end ≤ length bytes.now }
+    // If a place is returned, the range is a version exactly if its rest can follow the place.
     ensures some { IfSome result (λ place. (place.at ≤ end)
         × (is_version (slice_range bytes.now from end)
         ≡ can_rest_follow_place bytes.now place end)) }
+    // Without a place, the range is no version.
     ensures none { IfNone result (is_version (slice_range bytes.now from end) ≡ false) }
 {
     let (class, len) = first_token(None, &bytes[from..end]);
@@ -220,7 +227,9 @@ fn place_after_lexeme(bytes: &[u8], place: Place, end: usize) -> Option<Place>
     requires order { place.at < end }
     // The end is within the bytes.
     requires within { end ≤ length bytes.now }
+    // A place that is returned is one to which the first place leads.
     ensures some { IfSome result (IsNextPlace bytes.now end place) }
+    // Without a place, the rest up to the end cannot follow in a version.
     ensures none { IfNone result (can_rest_follow_place bytes.now place end ≡ false) }
 {
     let len = (end - place.at).min(BYTES_PER_LEAP);
@@ -252,7 +261,9 @@ fn place_after_token(bytes: &[u8], place: Place, end: usize) -> Option<Place>
     requires within { end ≤ length bytes.now }
     // No digit of a hash is left before the next token.
     requires none { unread_len (Some place.class) (slice_range bytes.now place.at end) ≡ 0 }
+    // A place that is returned is one to which the first place leads.
     ensures some { IfSome result (IsNextPlace bytes.now end place) }
+    // Without a place, the rest up to the end cannot follow in a version.
     ensures none { IfNone result (can_rest_follow_place bytes.now place end ≡ false) }
 {
     let (class, len) = first_token(Some(place.class), &bytes[place.at..end]);
