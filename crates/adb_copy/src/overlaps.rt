@@ -395,7 +395,7 @@ fn end_of_period(bytes: &[u8], text: TextPlace, period: usize, reach: usize) -> 
     // The period is not longer than the text.
     requires period { period ≤ text.len }
     ensures behind { text.from + text.len ≤ result }
-    // The result is at most the number of elements.
+    // The result is at most the length.
     ensures within { result ≤ length bytes.now }
 {
     let start = text.from + text.len;
@@ -413,7 +413,7 @@ fn end_by_steps(bytes: &[u8], start: usize, most: usize, period: usize, step: us
     // A step of 0 bytes would never end.
     requires some { 0 < step }
     ensures behind { start ≤ result }
-    // The result is at most the number of elements.
+    // The result is at most the length.
     ensures within { result ≤ length bytes.now }
 {
     let mut end = start;

@@ -261,7 +261,7 @@ fn unexpected_contents_cause(payload: &[u8], at: u64) -> Cause
 /// The two numbers at the front of contents (apk-v3(5)): the positions of the folder and of its
 /// file, which count from 1.
 pub fn contents_positions(payload: &[u8]) -> (u32, u32)
-    // The payload has at least the 8 bytes of its head.
+    // The payload has at least the 8 bytes of the two positions.
     requires { 8 ≤ length payload.now }
     ensures { result ≡ contents_positions payload.now }
 {

@@ -356,7 +356,7 @@ fn check_entries<'a>(
 
 /// Whether an entry is the same word as the one before it.
 fn is_same_as_before(entries: Arr<'_>, i: usize) -> bool
-    // The index is one of an entry.
+    // The index is that of an entry.
     requires { i < length (array_entries entries) }
     ensures { OnTrue result (IsSameWordAsPrevious (array_entries entries.entry) i) }
 {

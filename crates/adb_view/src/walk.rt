@@ -44,7 +44,7 @@ pub fn object_entries<'a>(adb: Adb<'a>, object: Val) -> Result<Arr<'a>, Cause>
 
 /// The word of an entry, by its index, which counts from 0.
 pub fn entry_word(entries: Arr<'_>, i: usize) -> Val
-    // The index is one of an entry.
+    // The index is that of an entry.
     requires { i < length (array_entries entries) }
     ensures { result ≡ slice_index (array_entries entries.entry) i }
 {

@@ -177,7 +177,7 @@ pub(crate) fn run(bytes: &[u8], at: usize) -> Option<&[u8]>
 
 /// The word with this index, which counts from 0.
 pub(crate) fn word_at(bytes: &[u8], i: usize) -> u32
-    // The index is one of a word in the bytes.
+    // The index is that of a word in the bytes.
     requires { i < length bytes.now / 4 }
     ensures { result ≡ slice_index (words (length bytes.now / 4) bytes.now) i }
 {

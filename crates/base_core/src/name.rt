@@ -180,7 +180,7 @@ impl Names {
 
     /// The name at a place, counted from 0.
     pub fn get(&self, i: usize) -> &Name
-        // The index is one of the list.
+        // The index is that of an element.
         requires { i < length self.now }
         ensures { slice_get self.now i ≡ Some result.now }
     {

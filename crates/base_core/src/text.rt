@@ -105,7 +105,7 @@ impl Words {
 
     /// The word at an index, counted from 0 (the places in usage errors count from 1).
     pub fn word(&self, i: usize) -> &[u8]
-        // The index is one of the list.
+        // The index is that of an element.
         requires { i < length self.now }
         ensures { slice_get self.now i ≡ Some result.now }
     {

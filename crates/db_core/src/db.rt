@@ -135,7 +135,7 @@ impl<'a> Db<'a> {
 
     /// The package at a place, counted from 0.
     pub fn package(&self, i: usize) -> PackageView<'a>
-        // The index is one of the packages.
+        // The index is that of one of the packages.
         requires { i < length (packages_of self.now) }
         ensures { slice_get (packages_of self.now) i ≡ Some (package_value result) }
     {
@@ -148,7 +148,7 @@ impl<'a> Db<'a> {
         // The result is the index of the first package with this name, or none.
         ensures found { result
             ≡ position_from (is_package_named name.now) 0 (packages_of self.now) }
-        // An index in the result is one of the list.
+        // An index that is returned is that of an element.
         ensures within { IfSome result (λ i. i < length (packages_of self.now)) }
     {
         place_of(&self.names, name)
@@ -159,7 +159,7 @@ impl<'a> Db<'a> {
     pub fn owner_of(&self, path: &Name) -> Option<usize>
         // The result is the index of the first package that lists this path, or none.
         ensures found { result ≡ position_from (lists_path path.now) 0 (packages_of self.now) }
-        // An index in the result is one of the list.
+        // An index that is returned is that of an element.
         ensures within { IfSome result (λ i. i < length (packages_of self.now)) }
     {
         match &self.idb {
@@ -185,7 +185,7 @@ impl<'a> Db<'a> {
 
 /// The package at a place of a database, counted from 0, which is read from the database's payload.
 pub(crate) fn package_of_database<'a>(idb: &Option<IdbView<'a>>, i: usize) -> PackageView<'a>
-    // The index is one of the packages.
+    // The index is that of one of the packages.
     requires { i < length (packages_of_database_value (option_map idb_value idb.now)) }
     // The result is the package at this index.
     ensures value { slice_get (packages_of_database_value (option_map idb_value idb.now)) i
@@ -246,7 +246,7 @@ fn open_root(payload: &[u8]) -> IdbView<'_>
 
 /// The package at a place of a list, counted from 0.
 fn package_at<'a>(packages: &List<'a, PackageView<'a>>, i: usize) -> PackageView<'a>
-    // The index is one of an entry of the list.
+    // The index is that of an entry of the list.
     requires { i < count_of (entries_in (list_value packages.now)) }
     ensures { package_value result ≡ entry_in (list_value packages.now) i }
 {
@@ -260,7 +260,7 @@ fn package_at<'a>(packages: &List<'a, PackageView<'a>>, i: usize) -> PackageView
 
 /// Whether the package at a place of a list, counted from 0, lists this path.
 fn is_lister<'a>(packages: &List<'a, PackageView<'a>>, i: usize, path: &[u8]) -> bool
-    // The index is one of an entry of the list.
+    // The index is that of an entry of the list.
     requires { i < count_of (entries_in (list_value packages.now)) }
     ensures { result ≡ lists_path path.now (entry_in (list_value packages.now) i) }
 {
@@ -273,7 +273,7 @@ fn find_lister<'a>(packages: &List<'a, PackageView<'a>>, path: &[u8]) -> Option<
     // The result is the index of the first package that lists this path, or none.
     ensures found { result ≡ position_from (lists_path path.now) 0
         (list_of (entries_in (list_value packages.now))) }
-    // An index in the result is one of the list.
+    // An index that is returned is that of an element.
     ensures within { IfSome result (λ i. i < count_of (entries_in (list_value packages.now))) }
 {
     for i in 0..packages.len() {

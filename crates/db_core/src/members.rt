@@ -185,7 +185,7 @@ impl<'a> Members<'a> {
         // The result is the place of a member exactly if the member has this name.
         ensures found { (i : ℕ) (m : Member) → slice_get (members_of self.now) i ≡ Some m
             → is_found_place i result ≡ bytes_eq (member_name m) name.now }
-        // An index in the result is one of the list.
+        // An index that is returned is that of an element.
         ensures within { IfSome result (λ i. i < length (members_of self.now)) }
     {
         let at = self.count_before(name);
@@ -200,7 +200,7 @@ impl<'a> Members<'a> {
 
     /// How many packages have names before this one.
     fn count_before(&self, name: &[u8]) -> usize
-        // The result is at most the number of elements.
+        // The result is at most the length.
         ensures within { result ≤ length self.now.entries.items }
         // All elements before this index are before the wanted one, and none from it on.
         ensures point { IsPartitionPoint
@@ -228,7 +228,7 @@ impl<'a> Members<'a> {
 
     /// The package at a place, counted from 0. A kept one is read from the payload of the database.
     pub fn view(&self, i: usize) -> &PackageView<'a>
-        // The index is one of the members.
+        // The index is that of one of the members.
         requires { i < length (members_of self.now) }
         // The value of the view is the member's package.
         ensures value { (m : Member) → slice_get (members_of self.now) i ≡ Some m
@@ -242,7 +242,7 @@ impl<'a> Members<'a> {
 
     /// The id of the package at a place, counted from 0; none if the package is kept.
     pub fn id(&self, i: usize) -> Option<[u8; 32]>
-        // The index is one of the members.
+        // The index is that of one of the members.
         requires { i < length (members_of self.now) }
         ensures { (m : Member) → slice_get (members_of self.now) i ≡ Some m → result ≡ m.id }
     {

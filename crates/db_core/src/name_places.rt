@@ -55,7 +55,7 @@ fn names_of<'a>(
 
 /// The name of the package at a place, counted from 0.
 fn name_at<'a>(packages: &List<'a, PackageView<'a>>, i: usize) -> &'a [u8]
-    // The index is one of an entry of the list.
+    // The index is that of an entry of the list.
     requires { i < count_of (entries_in (list_value packages.now)) }
     ensures { result.now ≡ package_name (entry_in (list_value packages.now) i) }
 {
@@ -80,7 +80,7 @@ fn sort_names(names: &mut Vec<NamePlace<'_>>) -> Result<(), AllocError>
 fn count_before(names: &[NamePlace<'_>], name: &[u8]) -> usize
     // The names are in byte order.
     requires { IsSorted placed_name_cmp (map name_seen names.now) }
-    // The result is at most the number of elements.
+    // The result is at most the length.
     ensures within { result ≤ length names.now }
     // All elements before this index are before the wanted one, and none from it on.
     ensures point { IsPartitionPoint (λ n. precedes n.name name.now ≡ true)

@@ -71,7 +71,7 @@ impl Owned {
 
     /// Whether its member owns the file at a place, counted from 0.
     pub fn get(&self, i: usize) -> bool
-        // The index is one of the list.
+        // The index is that of an element.
         requires { i < length self.now }
         ensures { slice_get self.now i ≡ Some result }
     {

@@ -104,7 +104,7 @@ impl Repos {
 
     /// The file of the index of a repository, by its index.
     pub fn path(&self, i: usize) -> &Name
-        // The index is one of the list.
+        // The index is that of an element.
         requires { i < length self.now }
         ensures { option_map (λ repo. repo.path) (slice_get self.now i) ≡ Some result.now }
     {
@@ -113,7 +113,7 @@ impl Repos {
 
     /// The tag of a repository, if it has one, by its index.
     pub fn tag(&self, i: usize) -> Option<&[u8]>
-        // The index is one of the list.
+        // The index is that of an element.
         requires { i < length self.now }
         ensures { option_map (λ repo. repo.tag) (slice_get self.now i)
             ≡ Some (option_copied result) }

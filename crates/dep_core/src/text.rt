@@ -208,7 +208,7 @@ pub fn append_dep(text: &mut Vec<u8>, dep: &Dep<'_>) -> Result<(), AllocError>
 #[tactic(auto, using(crate::proofs::Prefixes::len_at))]
 pub fn name_len(text: &[u8]) -> usize
     ensures len { result ≡ prefix_len is_name_byte text.now }
-    // The result is at most the number of elements.
+    // The result is at most the length.
     ensures within { result ≤ length text.now }
 {
     name_end(text).unwrap_or(text.len())
@@ -225,7 +225,7 @@ fn name_end(text: &[u8]) -> Option<usize>
 #[tactic(auto, using(crate::proofs::Prefixes::len_at))]
 pub fn tag_len(text: &[u8]) -> usize
     ensures len { result ≡ prefix_len is_tag_byte text.now }
-    // The result is at most the number of elements.
+    // The result is at most the length.
     ensures within { result ≤ length text.now }
 {
     tag_end(text).unwrap_or(text.len())
@@ -242,7 +242,7 @@ fn tag_end(text: &[u8]) -> Option<usize>
 #[tactic(auto, using(crate::proofs::Prefixes::len_at))]
 pub fn operator_len(text: &[u8]) -> usize
     ensures len { result ≡ prefix_len is_operator_byte text.now }
-    // The result is at most the number of elements.
+    // The result is at most the length.
     ensures within { result ≤ length text.now }
 {
     operator_end(text).unwrap_or(text.len())
@@ -266,7 +266,7 @@ fn is_operator_byte(byte: u8) -> bool
 #[tactic(auto, using(crate::proofs::Prefixes::len_at))]
 pub fn len_before_at_sign(text: &[u8]) -> usize
     ensures len { result ≡ prefix_len is_not_at_sign text.now }
-    // The result is at most the number of elements.
+    // The result is at most the length.
     ensures within { result ≤ length text.now }
 {
     at_sign(text).unwrap_or(text.len())
@@ -283,7 +283,7 @@ fn at_sign(text: &[u8]) -> Option<usize>
 #[tactic(auto, using(crate::proofs::Prefixes::len_at))]
 pub fn blank_len(text: &[u8]) -> usize
     ensures len { result ≡ prefix_len is_blank text.now }
-    // The result is at most the number of elements.
+    // The result is at most the length.
     ensures within { result ≤ length text.now }
 {
     blank_end(text).unwrap_or(text.len())

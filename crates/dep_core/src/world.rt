@@ -136,7 +136,7 @@ impl World {
 
     /// An entry, by its index.
     pub fn entry(&self, i: usize) -> Dep<'_>
-        // The index is one of the list.
+        // The index is that of an element.
         requires { i < length self.now }
         ensures { slice_get self.now i ≡ Some (dependency result) }
     {

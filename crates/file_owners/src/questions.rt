@@ -197,7 +197,7 @@ fn add_place(places: &mut Vec<u32>, place: Option<u32>) -> Result<(), AllocError
 
 /// The place of the question's member, if the answer is yes and the question before is another one.
 fn place_asked(members: &Members<'_>, adb: Adb<'_>, questions: &[Question], i: usize) -> Option<u32>
-    // The index is one of the questions.
+    // The index is that of one of the questions.
     requires within { i < length questions.now }
     // Each question is about one of the members.
     requires questions { All (IsQuestionIn (members_of members.now) (payload_of adb))
@@ -216,7 +216,7 @@ fn place_asked(members: &Members<'_>, adb: Adb<'_>, questions: &[Question], i: u
 
 /// Whether a question is the same as the one before it.
 fn repeats_the_one_before(questions: &[Question], i: usize) -> bool
-    // The index is one of the list.
+    // The index is that of an element.
     requires { i < length questions.now }
     ensures first { result ≡ true → 0 < i }
     // If the result is true, the question and the one before it are the same.

@@ -25,7 +25,7 @@ use std::alloc::{AllocError, Global};
 pub fn find_claim(claims: &[Claim<'_>], path: &FilePath<'_>) -> Option<usize>
     // The claims are in the order of their paths.
     requires { IsSorted claim_cmp (map claim_seen claims.now) }
-    // An index in the result is one of the list.
+    // An index that is returned is that of an element.
     ensures within { IfSome result (λ i. i < length claims.now) }
     // The claim at the result is the first claim of the path; without a claim of it there is none.
     ensures found { option_and_then (slice_get (map claim_seen claims.now)) result
@@ -42,7 +42,7 @@ pub fn find_claim(claims: &[Claim<'_>], path: &FilePath<'_>) -> Option<usize>
 pub fn find_next_claim(claims: &[Claim<'_>], path: &FilePath<'_>, next: &mut usize) -> Option<usize>
     // The claims are in the order of their paths.
     requires { IsSorted claim_cmp (map claim_seen claims.now) }
-    // An index in the result is one of the list.
+    // An index that is returned is that of an element.
     ensures within { IfSome result (λ i. i < length claims.now) }
     // The claim at the result is the first claim of the path; without a claim of it there is none.
     ensures found { option_and_then (slice_get (map claim_seen claims.now)) result
@@ -67,7 +67,7 @@ fn claim_at(claims: &[Claim<'_>], path: &FilePath<'_>, at: usize) -> Option<usiz
     // `at` claims have paths before this one, and the others have not.
     requires place { IsPartitionPoint (λ c. precedes c.path (joined_path path.now) ≡ true)
         (λ c. precedes c.path (joined_path path.now) ≡ false) (map claim_seen claims.now) at }
-    // An index in the result is one of the list.
+    // An index that is returned is that of an element.
     ensures within { IfSome result (λ i. i < length claims.now) }
     // The claim at the result is the first claim of the path; without a claim of it there is none.
     ensures found { option_and_then (slice_get (map claim_seen claims.now)) result

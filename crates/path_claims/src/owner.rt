@@ -48,7 +48,7 @@ fn owner_at<C: Contest>(
     i: usize,
     before: Option<u32>,
 ) -> Option<u32>
-    // The place is one of the claims.
+    // The place is that of a claim.
     requires at { i < length claims.now }
     // Of two members, at most one beats the other.
     requires one_way { IsAsymmetric (C.beats contest.now) }
@@ -132,7 +132,7 @@ fn contested_from<'a, C: Contest>(
     claims: &[Claim<'a>],
     i: usize,
 ) -> Option<Contested<'a>>
-    // The place is one of the claims.
+    // The place is that of a claim.
     requires at { i < length claims.now }
     // The claims are in the order of their paths.
     requires sorted { IsSorted claim_cmp (map claim_seen claims.now) }

@@ -156,7 +156,7 @@ pub fn first_clash<T: Tree, G: IsReleased>(
     requires sorted { IsSorted bytes_cmp (map joined_path written.now) }
     // Each path is a name.
     requires names { All IsName (map joined_path written.now) }
-    // If the tree's files are observable.
+    // If the tree is observable, the result is the first clash over its files, or none.
     ensures first { IfOk result (λ found. IfObservable (T.history tree.old) (λ v.
         IsFirstClashOrNone (name_change_of_paths written.now (G.does_release let_go.now))
         (files_of v)
