@@ -330,6 +330,7 @@ fn write_field<O: BlobOut>(
         return write_text_field(out, adb, field.name, word, start);
     }
     if is_null(adb, field.kind, word) {
+        // A value that is Null has no lines.
         return Ok(true);
     }
     write_named(out, adb, field, word, start)?;
@@ -360,6 +361,7 @@ fn write_text_field<O: BlobOut>(
 {
     let text = text_word(adb, word);
     if text.is_empty() {
+        // An empty text is Null, and has no line.
         return Ok(true);
     }
     let LineStart { depth, .. } = start;

@@ -66,8 +66,8 @@ fn listed_files<'a>(alloc: Global, db: &Db<'a>) -> Result<Vec<Claim<'a>>, AllocE
 }
 
 /// Adds the files of the package at a place of the database, counted from 0, to the claims. The
-/// mark serves only the borrow checker: it does not know the parts of a view that is made and lent
-/// here unless the signature names the view as an argument.
+/// argument `PhantomData` serves only the borrow checker: it does not know the parts of a view that
+/// is made and lent here unless the signature names the view as an argument.
 fn add_package<'a>(
     claims: &mut Vec<Claim<'a>>,
     db: &Db<'a>,

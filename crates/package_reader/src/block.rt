@@ -53,7 +53,7 @@ pub(crate) fn next_block<'a, T: Tree>(
 ) -> Result<BlockStep<'a>, PieceFault>
     // The place is within the file.
     requires { place.old.at ≤ place.old.len }
-    // For each package of this length that has the bytes that were read.
+    // The result is right for each package of this length that has the bytes that were read.
     ensures block { (seen : List ℕ)
         × IsSeenIn (T.history tree.old) name.now place.old.len place.old.at seen
         × IfOk result (λ step. ReadEndsBeforeNext (place.old.at + length seen) step place.new)
@@ -110,7 +110,7 @@ pub(crate) fn read_block<T: Tree>(
     // The end of the block is below 2^64.
     ensures small { IfOk result (λ read. IfSome read.framing (λ frame.
         place.now.at + raw_size frame < 2 ^ 64)) }
-    // For each file of this length that has the bytes that were read.
+    // The result is right for each file of this length that has the bytes that were read.
     ensures block { (seen : List ℕ)
         × IsSeenIn (T.history tree.old) name.now place.now.len place.now.at seen
         × IfOk result (λ read. AreSeenWithinPositions read.framing (length seen))
@@ -169,7 +169,7 @@ pub(crate) fn next_file<'a, T: Tree>(
 ) -> Result<Option<OpenFile<'a>>, PieceFault>
     // The place is within the file.
     requires { place.old.at ≤ place.old.len }
-    // For each package of this length that has the bytes that were read.
+    // The result is right for each package of this length that has the bytes that were read.
     ensures file { (seen : List ℕ)
         × IsSeenIn (T.history tree.old) name.now place.old.len place.old.at seen
         × IfOk result (λ found. IfSome found (λ next.

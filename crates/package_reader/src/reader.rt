@@ -184,7 +184,7 @@ impl<'a> PieceReader<'a> {
         piece: &mut Piece,
     ) -> Result<Option<Part>, PieceFault>
         requires { CanContinue self.old }
-        // For each package of this length that has the bytes that were read.
+        // The result is right for each package of this length that has the bytes that were read.
         ensures piece { (seen : List ℕ)
             × IsSeenIn (T.history tree.old) (name_in_tree self.old) (package_len self.old)
             (offset_of self.old) seen

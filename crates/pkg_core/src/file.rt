@@ -90,10 +90,12 @@ impl<'a> FileCheck<'a> {
                 done,
                 hasher,
             };
+            // This piece is not the last one of the file.
             return Ok((part_of(wanted, false), Some(further)));
         }
         match hasher.fault(wanted.hash) {
             Some(cause) => Err(cause),
+            // This piece is the last one of the file.
             None => Ok((part_of(wanted, true), None)),
         }
     }
@@ -124,7 +126,7 @@ pub fn open_file<'a>(
 ) -> Result<FileCheck<'a>, Cause>
     // The payload has at least the two positions of contents.
     requires { POSITIONS_LEN ≤ len }
-    // For each payload of this length that begins with these positions.
+    // The result is right for each payload of this length that begins with these positions.
     ensures opened { (payload : List ℕ) (further : List ExpectedFile → PiecesRead)
         → length payload ≡ len → take POSITIONS_LEN payload ≡ positions.now
         → IsOpenResult (pieces_of_payload payload further (files_left_in_walk walk.old)) payload

@@ -144,7 +144,7 @@ fn read_present<T: Tree>(
     schema: u32,
 ) -> Result<Front, FrontFault>
     ensures len { IfOk result (λ front. front.len ≡ len) }
-    // For each file of this length that has the bytes that were read.
+    // The result is right for each file of this length that has the bytes that were read.
     ensures front { (seen : List ℕ) × IsSeenIn (T.history tree.old) name.now len 0 seen
         × ((file : List ℕ) → length file ≡ len → HasBytesAtOffset file 0 seen
         → IsFrontReadOfFile schema result (length seen) file) }
