@@ -35,8 +35,10 @@ pub fn only_lines_of_values_are_read()
 /// The text of a normal value is split into exactly its lines, and the lines that a text is split
 /// into make up that text.
 pub fn texts_are_split_into_their_lines()
+    // A text of a normal value is split into its lines.
     ensures split { (which : Which) (v : Plain) → IsNormal v
         → split_lines (dump_text which v) ≡ Some (dump_lines which v) }
+    // The lines into which a text is split make up the text.
     ensures joined { (text : List ℕ) (ls : List Line) → split_lines text ≡ Some ls
         → dump_text_of_lines ls ≡ text }
 {}

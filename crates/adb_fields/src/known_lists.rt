@@ -44,6 +44,7 @@ impl<'a> KnownLists<'a> {
     /// The lists of a payload before any was searched. The first field of the table must be a text,
     /// which is the name.
     pub(crate) fn new(alloc: Global, adb: Adb<'a>, which: Which) -> KnownLists<'a>
+        // The first field of the table is a text, the name.
         requires { kind_at which NAME_INDEX ≡ Some Kinds.Text }
         ensures { AreRememberedListsOf adb.entry which result }
     {
@@ -61,9 +62,13 @@ impl<'a> KnownLists<'a> {
         alloc: Global,
         list: Val,
     ) -> Result<Option<Pair>, AllocError>
+        // The word has a plain value of its kind.
         requires { is_sound (payload_of self.old.adb) (Kinds.ObjArr self.old.which) list ≡ true }
+        // On Ok, the result is the first pair of positions with one name in the list, if there is
+        // one.
         ensures value { IfOk result (λ pair. pair
             ≡ repeated_name_pair_at (payload_of self.old.adb) self.old.which list) }
+        // The remembered lists are still those of objects of this table in this payload.
         ensures lists { AreRememberedListsOf self.old.adb self.old.which self.new }
     {
         let objects = objects_word(self.adb, self.which, list);
@@ -95,8 +100,10 @@ fn name_twice_in_list(
     which: Which,
     objects: Arr<'_>,
 ) -> Result<Option<Pair>, AllocError>
+    // Each word has a plain value of its kind.
     requires sound { are_all_sound (payload_of adb) (Kinds.Obj which) (array_entries objects)
         ≡ true }
+    // The first field of the table is a text, the name.
     requires kind { kind_at which NAME_INDEX ≡ Some Kinds.Text }
     ensures { IfOk result (λ pair. pair
         ≡ first_repeat (map name_of (plains_at (payload_of adb.entry) (Kinds.Obj which)

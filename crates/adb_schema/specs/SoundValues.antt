@@ -35,9 +35,13 @@ pub record IsSoundInformation (root : Which) (v : Plain) : Type 0 where
   pub hash : is_package_hash_length root (length (text_in (entry_in v INFO_HASHES))) ≡ true
   -- the rules of fields 315 to 319: lists of dependencies
   pub depends : Each IsSoundDependency (entries_in (entry_in v INFO_DEPENDS))
+  -- field 316
   pub provides : Each IsSoundDependency (entries_in (entry_in v INFO_PROVIDES))
+  -- field 317
   pub replaces : Each IsSoundDependency (entries_in (entry_in v INFO_REPLACES))
+  -- field 318
   pub install_if : Each IsSoundDependency (entries_in (entry_in v INFO_INSTALL_IF))
+  -- field 319
   pub recommends : Each IsSoundDependency (entries_in (entry_in v INFO_RECOMMENDS))
 
 -- a file of the folder with this name obeys its rules; if it has contents, it has their hash, which may

@@ -25,7 +25,9 @@ use std::alloc::Global;
 /// A payload of the shape of a table in which each text obeys the rule of its field.
 #[derive(Clone, Copy)]
 pub struct Checked<'a> {
+    /// The payload whose shape was tested.
     shaped: Shaped<'a>,
+    // Each text and number obeys the rule of its field.
     ghost texts: { is_none (text_fault (table_of shaped) (shaped_value shaped)) ≡ true },
 }
 
@@ -44,12 +46,17 @@ impl<'a> Checked<'a> {
     /// `Bad` with the cause `BadText` and the number of the first field that breaks its rule, depth
     /// first and field by field. A missing field counts as Null. Or `Memory`.
     pub fn new(alloc: Global, shaped: Shaped<'a>) -> Result<Checked<'a>, ReadFault>
+        // The error is the first failed test, or out of memory.
         ensures bad { IfErr result (λ fault.
             IsReadFault fault (text_fault (table_of shaped.entry) (shaped_value shaped.entry))) }
+        // On Ok, none of these tests failed.
         ensures sound { IfOk result (λ _.
             text_fault (table_of shaped.entry) (shaped_value shaped.entry) ≡ None) }
+        // The table at the root is unchanged.
         ensures which { IfOk result (λ checked. table_of_checked checked ≡ table_of shaped.entry) }
+        // The value is that of the walked payload.
         ensures value { IfOk result (λ checked. checked_value checked ≡ shaped_value shaped.entry) }
+        // The payload is the walked one.
         ensures payload { IfOk result (λ checked. adb_of checked.shaped ≡ adb_of shaped.entry) }
     {
         match check_texts(alloc, shaped)? {
@@ -75,6 +82,7 @@ impl<'a> Checked<'a> {
 
     /// The package in the payload.
     pub fn package(&self) -> PackageView<'a>
+        // The table at the root is that of a package.
         requires { table_of_checked self.now ≡ Tables.Package }
         ensures { package_value result ≡ checked_value self.now }
     {
@@ -84,6 +92,7 @@ impl<'a> Checked<'a> {
 
     /// The index in the payload.
     pub fn index(&self) -> IndexView<'a>
+        // The table at the root is that of an index.
         requires { table_of_checked self.now ≡ Tables.Index }
         ensures { index_value result ≡ checked_value self.now }
     {
@@ -93,6 +102,7 @@ impl<'a> Checked<'a> {
 
     /// The installed database in the payload.
     pub fn idb(&self) -> IdbView<'a>
+        // The table at the root is that of a database.
         requires { table_of_checked self.now ≡ Tables.Idb }
         ensures { idb_value result ≡ checked_value self.now }
     {
@@ -102,6 +112,7 @@ impl<'a> Checked<'a> {
 
     /// The journal entry in the payload.
     pub fn intent(&self) -> IntentView<'a>
+        // The table at the root is that of an intent (journal entry).
         requires { table_of_checked self.now ≡ Tables.Intent }
         ensures { intent_value result ≡ checked_value self.now }
     {
@@ -113,8 +124,11 @@ impl<'a> Checked<'a> {
 /// A view of an index of packages (table 8), each of whose texts obeys the rule of its field.
 #[derive(Clone, Copy)]
 pub struct IndexView<'a> {
+    /// The payload that contains the index.
     adb: Adb<'a>,
+    /// The word (32-bit reference) of the index in the payload.
     word: u32,
+    // The word has a plain value, an index.
     ghost sound: { is_sound (payload_of adb) (Kinds.Obj Tables.Index) word ≡ true },
     ghost texts: { is_none (text_fault Tables.Index
         (value_at (payload_of adb) (Kinds.Obj Tables.Index) word)) ≡ true },
@@ -129,7 +143,9 @@ impl<'a> IndexView<'a> {
 
     /// The view of a word that is an index whose texts obey their rules.
     pub fn of(adb: Adb<'a>, word: Val) -> IndexView<'a>
+        // The word has a plain value of its kind.
         requires sound { is_sound (payload_of adb) (Kinds.Obj Tables.Index) word ≡ true }
+        // Each text and number of the index obeys the rule of its field.
         requires texts { is_none (text_fault Tables.Index
             (value_at (payload_of adb) (Kinds.Obj Tables.Index) word)) ≡ true }
         ensures { index_value result
@@ -159,6 +175,7 @@ impl<'a> IndexView<'a> {
     /// The word of the index in the payload.
     pub fn word(&self) -> Val
         ensures is { result ≡ self.now.word }
+        // The word has a plain value of its kind.
         ensures sound { is_sound (payload_of self.now.adb) (Kinds.Obj Tables.Index) result
             ≡ true }
     {
@@ -207,8 +224,11 @@ impl<'a> IndexView<'a> {
 /// A view of an installed database (table 9).
 #[derive(Clone, Copy)]
 pub struct IdbView<'a> {
+    /// The payload that contains the database.
     adb: Adb<'a>,
+    /// The word (32-bit reference) of the database in the payload.
     word: Val,
+    // The word has a plain value, a database.
     ghost sound: { is_sound (payload_of adb) (Kinds.Obj Tables.Idb) word ≡ true },
 }
 
@@ -247,9 +267,12 @@ impl<'a> IdbView<'a> {
 
     /// The package at a place, counted from 0, which is read from the payload of the database.
     pub fn package_at(&self, i: usize) -> PackageView<'a>
+        // The index is one of the database's packages.
         requires { i < count_of (entries_in (entry_in (idb_value self.now) IDB_PACKAGES)) }
+        // The value is that of entry `i` of the database's packages.
         ensures value { package_value result
             ≡ entry_in (entry_in (idb_value self.now) IDB_PACKAGES) i }
+        // The payload of the result is the one from which it was read.
         ensures lent { payload_of result.adb ≡ payload_of self.now.adb }
     {
         let entries = objects_field(
@@ -266,8 +289,11 @@ impl<'a> IdbView<'a> {
 /// A view of a journal entry (table 10), which names what a change will remove and write.
 #[derive(Clone, Copy)]
 pub struct IntentView<'a> {
+    /// The payload that contains the intent (journal entry).
     adb: Adb<'a>,
+    /// The word (32-bit reference) of the intent in the payload.
     word: Val,
+    // The word has a plain value, an intent.
     ghost sound: { is_sound (payload_of adb) (Kinds.Obj Tables.Intent) word ≡ true },
 }
 

@@ -121,13 +121,18 @@ pub fn repeated(alloc: Global, checked: &Checked<'_>) -> Result<Option<Cause>, A
 /// that is no root.
 #[tactic(auto, unfolding(crate::specs::Soundness::container_fault_except_contents, crate::specs::Soundness::payload_in))]
 pub fn read_adb<'a>(alloc: Global, bytes: &'a [u8], which: Which) -> Result<Checked<'a>, ReadFault>
+    // The error is the first failed test, or out of memory.
     ensures bad { IfErr result (λ fault. IsReadFault fault
         (container_fault_except_contents which bytes.entry.now)) }
+    // On Ok, none of these tests failed.
     ensures sound { IfOk result (λ _. container_fault_except_contents which bytes.entry.now
         ≡ None) }
+    // The values have the wanted table at their root.
     ensures table { IfOk result (λ checked. table_of_checked checked ≡ which) }
+    // The payload is that of the container's first block.
     ensures payload { IfOk result (λ checked. payload_of (adb_of checked.shaped)
         ≡ payload_in bytes.entry.now) }
+    // The value is that of the payload's root.
     ensures value { IfOk result (λ checked. checked_value checked
         ≡ root_value which (payload_in bytes.entry.now)) }
 {
@@ -157,10 +162,14 @@ fn read_first<'a>(
     blocks: &mut Blocks<'a>,
     which: Which,
 ) -> Result<Checked<'a>, ReadFault>
+    // No block was read before.
     requires { blocks.old.last ≡ None }
+    // The error is the first failed test, or out of memory.
     ensures bad { IfErr result
         (λ fault. IsReadFault fault (first_block_fault which (block_stream_from blocks.old))) }
+    // The values have the wanted table at their root.
     ensures table { IfOk result (λ checked. table_of_checked checked ≡ which) }
+    // The blocks that are left are those after the first one.
     ensures behind { IfOk result
         (λ checked. IsAfterFirstBlock which (payload_of (adb_of checked.shaped)) (block_stream_from
         blocks.old)
@@ -178,10 +187,14 @@ fn check_payload<'a>(
     payload: &'a [u8],
     which: Which,
 ) -> Result<Checked<'a>, ReadFault>
+    // The error is the first failed test, or out of memory.
     ensures bad { IfErr result
         (λ fault. IsReadFault fault (payload_fault which payload.entry.now)) }
+    // On Ok, none of these tests failed.
     ensures sound { IfOk result (λ _. payload_fault which payload.entry.now ≡ None) }
+    // The values have the wanted table at their root.
     ensures table { IfOk result (λ checked. table_of_checked checked ≡ which) }
+    // The payload is the given one.
     ensures payload { IfOk result (λ checked. payload_of (adb_of checked.shaped)
         ≡ payload.entry.now) }
 {
@@ -248,6 +261,7 @@ fn unexpected_contents_cause(payload: &[u8], at: u64) -> Cause
 /// The two numbers at the front of contents (apk-v3(5)): the positions of the folder and of its
 /// file, which count from 1.
 pub fn contents_positions(payload: &[u8]) -> (u32, u32)
+    // The payload has at least the 8 bytes of the two positions.
     requires { 8 ≤ length payload.now }
     ensures { result ≡ contents_positions payload.now }
 {
@@ -269,8 +283,10 @@ pub fn schema_words_are_as_listed()
 /// text and number obeys the rule of its field and no name repeats. If it is read from bytes, it is
 /// normal. The body calls the laws that the proof needs.
 pub fn sound_containers_hold_sound_values()
+    // The root of a sound container has a sound value.
     ensures value { (which : Which) (file : List ℕ)
         → IsSoundContainer which file → IsSoundValue which (root_value which (payload_in file)) }
+    // If the payload consists of bytes, this value is normal.
     ensures normal { (which : Which) (file : List ℕ)
         → IsSoundContainer which file → All (λ b. b < 256) (payload_in file)
         → IsNormal (root_value which (payload_in file)) }

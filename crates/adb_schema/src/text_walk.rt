@@ -103,6 +103,7 @@ impl<'a> Surroundings<'a> {
 
     /// The surroundings of an object's fields, from those of the object.
     pub(crate) fn inside(&self, adb: Adb<'a>, which: Which, object: Val) -> Surroundings<'a>
+        // The word has a plain value of its kind.
         requires { is_sound (payload_of adb) (Kinds.Obj which) object ≡ true }
         ensures { surroundings_of result
             ≡ surroundings_of_fields (table_number which) (surroundings_of self.now)
@@ -167,6 +168,7 @@ impl<'a> Surroundings<'a> {
 
 /// Whether a file has contents: no target, and a size above 0.
 fn has_contents(adb: Adb<'_>, file: Val) -> bool
+    // The word has a plain value of its kind.
     requires { is_sound (payload_of adb) (Kinds.Obj Tables.File) file ≡ true }
     ensures { result
         ≡ is_file_with_contents (value_at (payload_of adb.entry) (Kinds.Obj Tables.File) file) }
@@ -198,6 +200,7 @@ fn keeps_rule_of_field(
 ) -> Result<bool, AllocError>
     // `text` is the text of the word.
     requires { text.now ≡ text_at (payload_of judged.old.adb) word }
+    // On Ok, the result says whether the text obeys the rule of the field.
     ensures value { IfOk result (λ kept.
         kept ≡ is_allowed_text_of_field field_number (surroundings_of around.now) text.now) }
     // The payload is unchanged.
@@ -230,6 +233,7 @@ fn keeps_file_name(
 ) -> Result<bool, AllocError>
     // `text` is the text of the word.
     requires { text.now ≡ text_at (payload_of judged.old.adb) word }
+    // On Ok, the result says whether the text is an allowed file name in this folder.
     ensures value { IfOk result (λ kept.
         kept ≡ is_allowed_file_name (surroundings_of around.now) text.now) }
     // The payload is unchanged.
@@ -246,6 +250,7 @@ fn keeps_file_name(
 fn keeps_change_name(judged: &mut Judged<'_>, word: Val, text: &[u8]) -> Result<bool, AllocError>
     // `text` is the text of the word.
     requires { text.now ≡ text_at (payload_of judged.old.adb) word }
+    // On Ok, the result says whether the text is a name that an intent may have.
     ensures value { IfOk result (λ kept. kept ≡ is_name_allowed_in_intent text.now) }
     // The payload is unchanged.
     ensures payload { judged.new.adb ≡ judged.old.adb }
@@ -351,6 +356,7 @@ fn check_entries<'a>(
 
 /// Whether an entry is the same word as the one before it.
 fn is_same_as_before(entries: Arr<'_>, i: usize) -> bool
+    // The index is that of an entry.
     requires { i < length (array_entries entries) }
     ensures { OnTrue result (IsSameWordAsPrevious (array_entries entries.entry) i) }
 {
@@ -501,21 +507,27 @@ pub fn no_text_is_bad_where_each_keeps_its_rule()
 /// entries. Entries count from 0; `root` is the table of the container, and `folder` the name of
 /// the file's folder.
 pub fn entries_keep_the_rule_of_their_list()
+    // For a list of dependencies.
     ensures dependency { (list : Plain) (i : ℕ)
         → Each IsSoundDependency (entries_in list) → i < count_of (entries_in list)
         → IsSoundDependency (entry_in list i) }
+    // For a list of packages' information.
     ensures information { (root : Which) (list : Plain) (i : ℕ)
         → Each (IsSoundInformation root) (entries_in list) → i < count_of (entries_in list)
         → IsSoundInformation root (entry_in list i) }
+    // For a list of the files of a folder.
     ensures file { (root : Which) (folder : List ℕ) (list : Plain) (i : ℕ)
         → Each (IsSoundFileOf root folder) (entries_in list) → i < count_of (entries_in list)
         → IsSoundFileOf root folder (entry_in list i) }
+    // For a list of folders.
     ensures folder { (root : Which) (list : Plain) (i : ℕ)
         → Each (IsSoundFolder root) (entries_in list) → i < count_of (entries_in list)
         → IsSoundFolder root (entry_in list i) }
+    // For a list of packages.
     ensures package { (root : Which) (list : Plain) (i : ℕ)
         → Each (IsSoundPackage root) (entries_in list) → i < count_of (entries_in list)
         → IsSoundPackage root (entry_in list i) }
+    // For a list of names in an intent (journal entry).
     ensures change_name { (list : Plain) (i : ℕ)
         → Each IsNameAllowedInIntent (entries_in list) → i < count_of (entries_in list)
         → IsNameAllowedInIntent (entry_in list i) }

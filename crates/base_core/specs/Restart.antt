@@ -26,6 +26,7 @@ pub record SinceGivenEarlier (P : List TreeState → TreeState → Type 0)
   pub added : List TreeState
   -- the new history is these states before the old history
   pub is : new ≡ added ++ old
+  -- P holds at each added state, together with the states before it
   pub each : EachMoment P added
 
 -- at one of the moments the name as read led to a file whose number is `made` or larger

@@ -171,6 +171,7 @@ pub trait Tree {
         // Out of memory is no fault of the tree.
         ensures memory { IsErrOf result Memory
             → CountsNoNewFault (counts self.old) (counts self.new) }
+        // No call is a misuse.
         ensures proper { (counts self.new).misuses ≡ (counts self.old).misuses }
         // What is returned, if the history is observable.
         ensures value { IfOk result (λ names.
@@ -208,8 +209,10 @@ pub fn read_all<T: Tree>(
     tree: &mut T,
     name: &Name,
 ) -> Result<Option<Vec<u8>>, TreeFault>
+    // On Ok, if the tree is observable, the result has the file's bytes, or None if it is absent.
     ensures answer { IfOk result (λ found. IfObservable (T.history tree.old) (λ v.
         bytes_in found ≡ files_of v name.now)) }
+    // The tree is only read: no file changes, no I/O error is hidden, and no call is a misuse.
     ensures tree { OnlyReads TreeFault.Disk (T.history tree.old) (T.history tree.new)
         (T.counts tree.old) (T.counts tree.new) result }
 {
@@ -239,10 +242,13 @@ pub fn append_file_to<T: Tree>(
     size: u64,
     bytes: &mut Vec<u8>,
 ) -> Result<(), TreeFault>
+    // If the tree is observable, the file has this length.
     requires { IfObservable (T.history tree.old) (λ v.
         Some size ≡ option_map length (files_of v name.now)) }
+    // On Ok, the bytes of the whole file are added at the end.
     ensures added { OnOk result (AppendsReadBytes (T.history tree.old) name.now 0 size
         bytes.old.items bytes.new.items) }
+    // The tree is only read: no file changes, no I/O error is hidden, and no call is a misuse.
     ensures tree { OnlyReads TreeFault.Disk (T.history tree.old) (T.history tree.new)
         (T.counts tree.old) (T.counts tree.new) result }
 {
@@ -264,9 +270,12 @@ fn read_some<T: Tree>(
     len: u64,
     bytes: &mut Vec<u8>,
 ) -> Result<(), TreeFault>
+    // If the tree is observable, the file exists and has these bytes.
     requires { IfObservable (T.history tree.old) (CanRead name.now at len) }
+    // On Ok, the bytes of the file from the offset on are added at the end.
     ensures added { OnOk result (AppendsReadBytes (T.history tree.old) name.now at len
         bytes.old.items bytes.new.items) }
+    // The tree is only read: no file changes, no I/O error is hidden, and no call is a misuse.
     ensures tree { OnlyReads TreeFault.Disk (T.history tree.old) (T.history tree.new)
         (T.counts tree.old) (T.counts tree.new) result }
 {

@@ -9,8 +9,11 @@ use Rattle.file_owners.specs.Owners.{owner_of_path}
 -- a change of packages, for their files: the packages of the database before, those after, and whether
 -- configuration that the user changed is removed with its package (`--purge`)
 pub record FileChange : Type 0 where
+  -- the packages of the database before the change
   pub old : List Plain
+  -- the packages that are installed after the change
   pub members : List Member
+  -- whether configuration that the user changed is removed with its package
   pub purge : Bool
 
 -- ---- before

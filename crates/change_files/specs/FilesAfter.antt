@@ -115,8 +115,11 @@ bytes_after bytes_of None false old = old
 -- the results of a change apart from the files of packages: the bytes of the new database and of
 -- the new world, and whether a text database was converted
 pub record DatabaseAndWorldAfter : Type 0 where
+  -- the bytes of the new database
   pub database : List ℕ
+  -- the bytes of the new world
   pub world : List ℕ
+  -- whether a text database was converted
   pub takes_text_over : Bool
 
 -- The files after a change: the new database and world; no converted text database; the added files; no

@@ -38,9 +38,13 @@ old_paths change = map (λ l. l.path) (old_listings change)
 -- a write of a change: a name, and the file whose contents it gets. The place of the file's member
 -- counts from 0, those of the folder and of the file in it from 1
 pub record FileWrite : Type 0 where
+  -- the name under which the file is written
   pub name : List ℕ
+  -- the place of the package among the members, counted from 0
   pub member : ℕ
+  -- the place of the folder in the package, counted from 1
   pub folder : ℕ
+  -- the place of the file in the folder, counted from 1
   pub file : ℕ
 
 -- the write of a listed file under a name, which is its path or its `.apk-new` name

@@ -49,6 +49,7 @@ DiffersFromOldEntry change path entry =
 
 -- a write is an element of the plan: a listed file is written under its name
 pub record IsPlannedWrite (change : FileChange) (files : Files) (write : FileWrite) : Type 0 where
+  -- the file as a member lists it
   pub listing : Listing
   -- this listing is written under the name of the write
   pub written : listing_written_under_name change files write.name ≡ Some listing

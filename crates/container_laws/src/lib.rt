@@ -23,10 +23,10 @@ pub fn the_first_fault_of_a_header_is_reported()
 /// header, the schema, the first block, the head of its payload, the shapes of the values, their
 /// texts, repeated names, and the further blocks.
 pub fn the_first_fault_of_a_container_is_reported()
-    // Of a file that has to have one table at its root.
+    // For a file that must have a certain table at its root.
     ensures table { (which : Which) (file : List ℕ) (c : Cause)
         → container_fault_of_table which file ≡ Some c → IsFaultOfTable which file c }
-    // Of a file of any of the four schemas.
+    // For a file with any of the four schemas.
     ensures any { (file : List ℕ) (c : Cause)
         → container_fault file ≡ Some c → IsContainerFault file c }
 {}

@@ -16,15 +16,22 @@ use Rattle.db_core.specs.OwnedListings.{HaveAtMostOneOwner}
 
 -- a package is one of the value of a sound database
 pub record IsOfSoundDatabase (pkg : Plain) : Type 0 where
+  -- the value of a database
   pub database : Plain
+  -- the value obeys the rules of a database
   pub sound : IsSoundValue Idb database
+  -- the value is normalised
   pub normal : IsNormal database
+  -- the package is one of the database's packages
   pub listed : IsIn pkg (entries_at IDB_PACKAGES database)
 
 -- a package is the value of a sound package, whose id is a digest
 pub record IsSoundPackageAndDigest (pkg : Plain) (id : List ℕ) : Type 0 where
+  -- the value obeys the rules of a package
   pub sound : IsSoundValue Package pkg
+  -- the value is normalised
   pub normal : IsNormal pkg
+  -- the id has the length of a digest
   pub digest : is_digest_length (length id) ≡ true
 
 -- the value of a database, if there is one, is sound
@@ -50,5 +57,7 @@ NoneReserved (path ∷ paths) = (is_reserved path ≡ false) × NoneReserved pat
 
 -- listings that a database may have: each path has one owner, and none is reserved
 pub record MayBeInDatabase (listings : List Listing) : Type 0 where
+  -- no path has more than one owner
   pub one_owner : HaveAtMostOneOwner listings
+  -- no path is one of the package manager's own files
   pub free : NoneReserved (map (λ l. l.path) listings)

@@ -33,7 +33,9 @@ pub fn spelled_texts_are_read()
 
 /// The text that a dependency is written as is one of its texts, and is read as that dependency.
 pub fn texts_are_read_back()
+    // The written text is one of the dependency's texts.
     ensures spelled { (d : Dependency) → IsDependency d → SpellsDependency (dep_text d) d }
+    // The written text is read as this dependency.
     ensures read { (d : Dependency) → IsDependency d → dependency_of (dep_text d) ≡ Some d }
 {
     versions_have_version_bytes();

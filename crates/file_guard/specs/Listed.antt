@@ -9,8 +9,11 @@ use Rattle.file_guard.specs.declared.compare.ListedFile.{ListedFile}
 
 -- a `ListedFile` says of the bytes what the entry says
 pub record DescribesEntry (listed : ListedFile) (entry : Plain) : Type 0 where
+  -- the size is the entry's
   pub size : listed.size ≡ file_size entry
+  -- the digest is the entry's
   pub hash : listed.hash.now ≡ file_hash entry
+  -- the link target is the entry's
   pub target : listed.target.now ≡ file_target entry
 
 -- whether bytes are as a `ListedFile` describes; without one, none are

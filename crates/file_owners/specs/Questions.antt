@@ -52,6 +52,9 @@ pub record IsQuestionIn (members : List Member) (payload : List ℕ) (q : Questi
 -- two questions are the same: they are about one member, and have the same version word and the
 -- same operator
 pub record AreSameQuestion (one other : Question) : Type 0 where
+  -- both are about the same member
   pub place : one.place ≡ other.place
+  -- both have the same word (32-bit reference) for the version
   pub version : one.version ≡ other.version
+  -- both have the same match bits
   pub matching : one.matching ≡ other.matching

@@ -59,8 +59,11 @@ impl<'m, 'a> Contest for Claimants<'m, 'a> {
 /// Whether the member at the first place takes over the files of that at the second; `named` has
 /// the places that each member names.
 fn member_beats(members: &Members<'_>, named: &[Vec<u32>], one: u32, other: u32) -> bool
+    // The first place is one of the members,
     requires one { one < length (members_of members.now) }
+    // and so is the second.
     requires other { other < length (members_of members.now) }
+    // `named` has, for each member, the places of the members that it names.
     requires each { ArePlacesNamedByEachMember (members_of members.now) (map
         (λ v. v.items) named.now) }
     ensures { result ≡ member_beats (members_of members.now) one other }
@@ -102,6 +105,7 @@ pub fn owners_of_files<'a>(alloc: Global, members: &Members<'a>) -> Result<Owner
 
 /// Whether an entry of a `replaces` is no conflict, and is met by a name and a version.
 fn is_replaced(dep: &DepView<'_>, name: &[u8], version: &Version<'_>) -> bool
+    // The entry obeys the rules of a dependency.
     requires { IsSoundDependency (dependency_value dep.now) }
     ensures { result
         ≡ is_replaced_by (dependency_in (dependency_value dep.now)) name.now version.now }
@@ -116,7 +120,9 @@ fn is_replaced(dep: &DepView<'_>, name: &[u8], version: &Version<'_>) -> bool
 /// the version of that package meet it. Name and version are not validated, since the packages are
 /// from sound containers.
 pub(crate) fn replaces_entry_names(entry: &DepView<'_>, pkg: &PackageView<'_>) -> bool
+    // The entry obeys the rules of a dependency.
     requires entry { IsSoundDependency (dependency_value entry.now) }
+    // The package's version is valid.
     requires version { is_version (package_version_text (package_value pkg.now)) ≡ true }
     ensures { result ≡ replaces_entry_names (dependency_value entry.now) (package_value pkg.now) }
 {

@@ -22,8 +22,11 @@ HasFilesExceptStaged files w = (q : List ℕ) → is_staged q ≡ false → file
 -- an intent is under its name, and a recovery leaves the new files; each name outside the staging
 -- area has its old bytes or its new ones
 pub record RecoversByIntent (new old : Files) (w : TreeState) : Type 0 where
+  -- the name of the intent leads to a file
   pub intent : IsSome (w.names intent_name)
+  -- recovery of the files as read leaves the new files
   pub leads : unstaged_files (files_of w) ≡ new
+  -- each name outside the staging area has its old bytes or its new ones
   pub bytes : HasOldOrNewBytes old new w
 
 -- the files as read are the old ones, except for staged files; or an intent that is read leads to the
@@ -81,7 +84,11 @@ pub record IsStagingRun (v : TreeState) (old now : List TreeState) : Type 0 wher
 -- staged, and, if there is a file that is begun, one with its bytes
 pub record IsStaging (stage : Staging) (contents : List (List ℕ)) (begun : Option (List ℕ))
     (v : TreeState) (old now : List TreeState) : Type 0 where
+  -- `v` is the newest state at the start of staging
   pub start : HoldsNow old (λ w. w ≡ v)
+  -- nothing was staged then
   pub empty : IsEmptyStage (files_of v)
+  -- the moments since then are those of a staging run
   pub run : IsStagingRun v old now
+  -- the newest state has the staged files
   pub waiting : HoldsNow now (IsStaged stage contents begun (files_of v))

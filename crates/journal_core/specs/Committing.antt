@@ -45,18 +45,22 @@ pub record IsReadyToPublish (intent : Intent) (base : Files) (made : ℕ) (v : T
   pub reads : (q : List ℕ) → q ≢ stage_name 0 → files_of v q ≡ base q
   -- these bytes encode the intent
   pub bytes : List ℕ
+  -- the bytes are read as this intent
   pub spells : read_intent bytes ≡ Some intent
   -- the staged file of the intent has these bytes, is synced, and was made since then
   pub number : ℕ
+  -- the file's number is not below the number of files made before
   pub later : made ≤ number
+  -- the name of the staged intent leads to this file
   pub there : v.names (stage_name 0) ≡ Some number
+  -- the file has exactly these bytes, and is synced
   pub holds : v.files number ≡ synced_file bytes
   -- the staged file of each write is synced; the writes are numbered from 1
   pub synced : (k n : ℕ) → 1 ≤ k → k < 1 + length intent.writes → v.names (stage_name k) ≡ Some n
       → (v.files n).synced ≡ true
-  -- its writes can be numbered in 64 bits, and its actions do not change the intent and the staging
-  -- area
+  -- its writes can be numbered in 64 bits
   pub few : length intent.writes < 2 ^ 63
+  -- no action changes the journal, no name is written twice, and none is both written and removed
   pub free : HasFreeDistinctNames intent
 
 -- a moment of the commit, at which the intent may have been moved to its name: a crash leaves a
@@ -77,7 +81,9 @@ pub record IsCommitting (ignored : List ℕ → Bool) (files : Files) (number : 
 -- its name
 pub record HasCommittedIntent (ignored : List ℕ → Bool) (files : Files) (made : ℕ)
     (v : TreeState) : Type 0 where
+  -- each crash leaves the state of these files
   pub settled : EachCrashLeaves ignored files v
+  -- the intent is under its name, in a file made after the given number of files
   pub publishes : IsCommittedFor ignored files made v
 
 -- only the intent's name, and that under which the intent is written, have changed
@@ -103,6 +109,7 @@ pub record PublishesIntent {T E : Type 0} (stage : Staging) (old now : List Tree
       → IsDurable (StateDependsOn ignored) v → IsStaged stage contents None base v
       → SinceGivenEarlier (IsOldUntilCommit ignored (files_after_actions stage.intent (files_of v)) v)
       old now)
+  -- once it has returned Ok, the change is committed by an intent of this call
   pub published : IfObservable old (λ v. (ignored : List ℕ → Bool) (contents : List (List ℕ)) (base : Files)
       → IsDurable (StateDependsOn ignored) v → IsStaged stage contents None base v
       → OnOk result (CommittedBy ignored (files_after_actions stage.intent (files_of v)) v old now))

@@ -49,7 +49,9 @@ KeepsOldOrNewBytes files v old new =
 
 -- the intent is as it was at the start, and each staged file is unchanged or gone
 pub record KeepsIntent (start v : TreeState) : Type 0 where
+  -- the intent's name leads to the same file as at the start
   pub intent : v.names intent_name ≡ start.names intent_name
+  -- each file of the journal and the staging area is unchanged or gone
   pub waiting : JournalOnlyShrinks start v
 
 -- ---- the maps of names
@@ -86,5 +88,7 @@ KeepsCrashMapsExcept these start v = (map : NameMap) → IsCrashMap v map
 -- there is one map of names, so no crash undoes a change of them; and the file under this name is
 -- synced
 pub record IsSyncedAt (name : List ℕ) (v : TreeState) : Type 0 where
+  -- there is no older map of names
   pub one_map : v.older ≡ []
+  -- the file under the name, if there is one, is synced
   pub file : (n : ℕ) → v.names name ≡ Some n → (v.files n).synced ≡ true

@@ -17,10 +17,15 @@ use Rattle.journal_core.specs.Quiet.{EachCrashLeavesOld}
 -- a stage for its calls: its actions, how many of its writes have their staged files, whether the next
 -- one's file is begun, whether the intent is published, and how many actions are done
 pub record Staging : Type 0 where
+  -- the removals and moves of the change
   pub intent : Intent
+  -- how many of the writes have a complete staged file
   pub staged : ℕ
+  -- whether the staged file of the next write is begun
   pub is_open : Bool
+  -- whether the intent is under its final name
   pub published : Bool
+  -- how many actions are done
   pub acted : ℕ
 
 -- how many actions an intent has: its removals and its writes
@@ -60,6 +65,7 @@ files_with_begun_file k (Some bytes) files = put_name files (stage_name k) bytes
 -- a file is under the name, and under no other name in any map; and in none of these maps an action of
 -- the intent uses it
 pub record IsOnlyNameOfFile (name : List ℕ) (v : TreeState) : Type 0 where
+  -- the number of the file
   pub number : ℕ
   -- the name leads to the file with this number
   pub there : v.names name ≡ Some number
@@ -212,6 +218,7 @@ pub record AreJournalPathsFree (files : Files) : Type 0 where
 pub record AreStagingPathsFree (files : Files) : Type 0 where
   -- nothing is staged yet
   pub empty : IsEmptyStage files
+  -- no name becomes a folder of another if the intent and all staged files are added
   pub beside : AreJournalPathsFree files
 
 -- if an intent is found, the paths of its actions are free

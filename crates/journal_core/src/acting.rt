@@ -68,6 +68,7 @@ pub(crate) fn act<T: Tree>(
 /// Does the removal with this index, if the removals before it are done. The clauses are those of
 /// `act`, for a removal.
 fn remove_one<T: Tree>(intent: &PreparedIntent, i: usize, tree: &mut T) -> Result<(), Disk>
+    // The index is that of an element.
     requires { i < length intent.now.removals }
     // If the actions that are counted are done at the start, the state is unchanged at each moment.
     ensures actions { CarriesOutActions (stage_with_actions_done intent.now i)
@@ -102,7 +103,9 @@ fn move_one<T: Tree>(
     acted: usize,
     tree: &mut T,
 ) -> Result<(), Disk>
+    // The index is that of one of the writes.
     requires within { j < length intent.now.writes }
+    // `acted` counts all removals and the first `j` writes.
     requires behind { acted ≡ length intent.now.removals + j }
     // If the actions that are counted are done at the start, the state is unchanged at each moment.
     ensures actions { CarriesOutActions (stage_with_actions_done intent.now acted)

@@ -50,7 +50,9 @@ pub(crate) fn publish_intent<T: Tree>(tree: &mut T, intent: &PreparedIntent) -> 
 /// Makes the staged file 0 with these bytes, and syncs it, so that no crash leaves other bytes
 /// under the intent's name.
 fn write_waiting<T: Tree>(tree: &mut T, place: &Name, bytes: &[u8]) -> Result<(), Disk>
+    // The name is that of the staged file 0.
     requires { place.now ≡ stage_name 0 }
+    // From a durable tree without an intent on, each moment is durable, and the state is unchanged.
     ensures moments { IfObservable (T.history tree.old) (λ v. (ignored : List ℕ → Bool)
         → IsDurable (StateDependsOn ignored) v → files_of v intent_name ≡ None
         → Since (StateIsUnchanged ignored v) (T.history tree.old) (T.history tree.new)) }
@@ -88,8 +90,11 @@ fn write_waiting<T: Tree>(tree: &mut T, place: &Name, bytes: &[u8]) -> Result<()
 /// intent without one of its staged files, and after, so that no crash undoes the publishing. The
 /// clauses are those of `publish_intent`, from the moment at which all files are staged.
 fn enter<T: Tree>(tree: &mut T, place: &Name, name: &Name) -> Result<(), Disk>
+    // The source is the staged file 0.
     requires place { place.now ≡ stage_name 0 }
+    // The target is the intent's name.
     requires name { name.now ≡ intent_name }
+    // From a tree that is ready to publish on, each moment is one of the commit.
     ensures moments { IfObservable (T.history tree.old) (λ v. (ignored : List ℕ → Bool)
         (intent : Intent) (base : Files) (made : ℕ) → IsDurable (StateDependsOn ignored) v
         → IsReadyToPublish intent base made v

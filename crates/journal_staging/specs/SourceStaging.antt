@@ -18,6 +18,7 @@ pub record IsFaultExplainedByCounts {T F : Type 0} (failed : F) (before now : Co
   pub disk : IsErrOf result failed → IsFaultCountedWithCause before now
   -- with any other result no fault was counted
   pub kept : OnOk result (CountsNoNewFault before now)
+  -- with any other error no fault was counted
   pub others : IfErr result (λ fault. (fault ≡ failed → ⊥) → CountsNoNewFault before now)
 
 -- A call that stages the file of one write, and changes the stage to `next`. `Denotes` says which bytes
@@ -25,7 +26,7 @@ pub record IsFaultExplainedByCounts {T F : Type 0} (failed : F) (before now : Co
 -- state then, and `contents` the files staged before.
 pub record StagesSource {T F : Type 0} (stage next : Staging) (Denotes : Files → List ℕ → Type 0)
     (failed : F) (old now : List TreeState) (before after : Counts) (result : Result T F) : Type 0 where
-  -- whatever the tree returns for the source, and whatever is returned, only staged files have changed at
+  -- whatever bytes the source has, and whatever the call returns, only staged files have changed at
   -- each moment
   pub run : (contents : List (List ℕ)) (v : TreeState) (first : List TreeState)
       → IsStaging stage contents None v first old → IsStagingRun v first now

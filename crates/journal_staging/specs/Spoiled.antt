@@ -42,7 +42,11 @@ IsSpoiledAt member cause (File f) = (f.member ≡ member) × IsSpoiledForEachTes
 
 -- one of the writes is a file of the package at this place, which is spoiled with this cause
 pub record HasSpoiledFile (member : ℕ) (cause : Cause) (writes : List StagedWrite) : Type 0 where
+  -- the number of the write, counted from 0
   pub number : ℕ
+  -- the write whose source is spoiled
   pub write : StagedWrite
+  -- the write has this number
   pub at : slice_get writes number ≡ Some write
+  -- its source is a file of the package, and is spoiled with this cause
   pub is : IsSpoiledAt member cause write.source

@@ -31,30 +31,40 @@ fn stage_each<T: Tree>(
     writes: &[StagedWrite<'_>],
     piece: &mut Piece,
 ) -> Result<(), StageFault>
+    // No staged file is begun.
     requires closed { stage.old.is_open ≡ false }
+    // No file is staged yet.
     requires none { stage.old.staged ≡ 0 }
+    // There is a source for each write of the intent.
     requires same { length writes.now ≡ length stage.old.intent.writes }
+    // Whatever it returns, the moments are those of a staging run.
     ensures run { (v : TreeState) (first : List TreeState)
         → IsStaging stage.old [] None v first (T.history tree.old)
         → IsStagingRun v first (T.history tree.new) }
+    // On Ok, the staged files have the bytes of their sources.
     ensures staging { (contents : List (List ℕ)) (v : TreeState) (first : List TreeState)
         → IsStaging stage.old [] None v first (T.history tree.old)
         → EachDenotes (files_of v) writes.now contents
         → OnOk result (IsStaging stage.new contents None v first (T.history tree.new)) }
+    // If each source has its bytes, an error is a fault of the tree.
     ensures good { (contents : List (List ℕ)) (v : TreeState) (first : List TreeState)
         → IsStaging stage.old [] None v first (T.history tree.old)
         → EachDenotes (files_of v) writes.now contents
         → IfErr result (λ fault. fault ≡ DiskFault) }
+    // On Ok, the staged files have some bytes that their sources may denote.
     ensures listed { (v : TreeState) (first : List TreeState)
         → IsStaging stage.old [] None v first (T.history tree.old)
         → OnOk result ((contents : List (List ℕ)) × EachMayDenote writes.now contents
         × IsStaging stage.new contents None v first (T.history tree.new)) }
+    // A refusal says that a file of the package at this place is spoiled.
     ensures bad { (member : ℕ) (cause : Cause) → IsErrOf result (Bad member cause)
         → HasSpoiledFile member cause writes.now }
+    // On Ok, all writes have their staged files.
     ensures view { OnOk result (stage.new ≡ record stage.old { staged = length writes.now }) }
     // How the tree's counts explain the result.
     ensures counts { IsFaultExplainedByCounts DiskFault
         (T.counts tree.old) (T.counts tree.new) result }
+    // If each source has its bytes and the journal's paths are free, no call is a misuse.
     ensures proper { (contents : List (List ℕ)) (v : TreeState) (first : List TreeState)
         → IsStaging stage.old [] None v first (T.history tree.old)
         → EachDenotes (files_of v) writes.now contents → AreJournalPathsFree (files_of v)
@@ -80,7 +90,9 @@ pub fn carry_out<T: Tree>(
     writes: &[StagedWrite<'_>],
     piece: &mut Piece,
 ) -> Result<(), StageFault>
+    // Nothing is staged yet.
     requires new { stage.old ≡ new_stage stage.old.intent.removals stage.old.intent.writes }
+    // There is a source for each write of the intent.
     requires same { length writes.now ≡ length stage.old.intent.writes }
 
     // If no intent is read, nothing is staged, and each write's source denotes these bytes, the
@@ -118,6 +130,7 @@ pub fn carry_out<T: Tree>(
     // returned only if it accepts them.
     ensures asked { (T.history tree.new ≡ T.history tree.old)
         ⊎ AreAccepted T.accepts stage.old.intent }
+    // On Ok, the tree has accepted each target of the change.
     ensures accepted { OnOk result (AreAccepted T.accepts stage.old.intent) }
     // So at each moment the tree accepts each name to which a recovery gives other bytes.
     ensures promised { TargetsAreAccepted T.accepts (T.history tree.old) (T.history tree.new) }
@@ -133,6 +146,7 @@ pub fn carry_out<T: Tree>(
         → IsFaultCountedWithCause (T.counts tree.old) (T.counts tree.new) }
     // Ok is returned only if no fault was counted.
     ensures kept { OnOk result (CountsNoNewFault (T.counts tree.old) (T.counts tree.new)) }
+    // With another error than one of the tree, no fault was counted.
     ensures others { IfErr result (λ fault. (fault ≡ DiskFault → ⊥)
         → CountsNoNewFault (T.counts tree.old) (T.counts tree.new)) }
     // No call is a misuse if the paths of the stage are free, before and after the change.

@@ -24,7 +24,9 @@ pub(crate) fn stage_file<T: Tree>(
     mut file: FilePieces<'_>,
     piece: &mut Piece,
 ) -> Result<(), PieceFault>
+    // No staged file is begun.
     requires closed { stage.old.is_open ≡ false }
+    // A write is left whose file is not staged.
     requires more { stage.old.staged < length stage.old.intent.writes }
 
     // Whatever the tree returns for the package, and whatever this call returns, only staged files

@@ -29,11 +29,15 @@ fn stage_packaged<T: Tree>(
     f: &PackagedFile<'_>,
     piece: &mut Piece,
 ) -> Result<(), StageFault>
+    // No staged file is begun.
     requires closed { stage.old.is_open ≡ false }
+    // A write is left whose file is not staged.
     requires more { stage.old.staged < length stage.old.intent.writes }
+    // The file is staged with the bytes of its source.
     ensures source { StagesSource stage.old stage.new
         (λ files bytes. IsFileSource files f.now bytes) DiskFault
         (T.history tree.old) (T.history tree.new) (T.counts tree.old) (T.counts tree.new) result }
+    // On Ok, the file has the contents that the package lists.
     ensures listed { (contents : List (List ℕ)) (v : TreeState) (first : List TreeState)
         → IsStaging stage.old contents None v first (T.history tree.old)
         → OnOk result ((bytes : List ℕ) × AreListedContentsOf f.now bytes
@@ -64,7 +68,9 @@ pub(crate) fn stage_write<T: Tree>(
     source: &Source<'_>,
     piece: &mut Piece,
 ) -> Result<(), StageFault>
+    // No staged file is begun.
     requires closed { stage.old.is_open ≡ false }
+    // A write is left whose file is not staged.
     requires more { stage.old.staged < length stage.old.intent.writes }
     // Whatever is returned, only staged files have changed at each moment. If the source denotes
     // bytes, these are staged then, after those that were staged before, and only the tree may fail.

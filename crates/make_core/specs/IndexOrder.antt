@@ -32,7 +32,11 @@ AreSoundPackages read n (o ∷ operands) (file ∷ files) =
 -- are numbered from 0
 pub record HasPackagesInOrder (read : Reads) (operands : List Operand) (index : Plain) :
     Type 0 where
+  -- the bytes of the operands' files
   pub files : List (List ℕ)
+  -- each read of an operand gives its file, which is a sound package
   pub sound : AreSoundPackages read 0 operands files
+  -- the entries of the index are those of these packages, in some order
   pub same : IsPermutation (map entry_of_package files) (packages_in index)
+  -- the entries are in the order of their names, versions and ids
   pub sorted : IsSorted entry_cmp (packages_in index)

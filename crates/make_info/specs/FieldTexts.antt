@@ -20,7 +20,9 @@ use Rattle.make_info.specs.Fields.{field_of, field_word}
 
 -- a field, and the value that is given for it
 pub record FieldText : Type 0 where
+  -- the field that the option names
   pub field : Field
+  -- the text after the field's name and the separator
   pub value : List ℕ
 
 -- the field and the value of a text, given how many bytes are before its first `:`

@@ -16,7 +16,9 @@ use Rattle.make_info.specs.Values.{number_value, size_value}
 -- An item of an information: a field with a value. An information is the list of all of them, in the
 -- order given: of a list field one item for each part of each text, of another field one item.
 pub record FieldWithValue : Type 0 where
+  -- which field of the information
   pub field : Field
+  -- one value of this field
   pub value : FieldValue
 
 -- an item by its parts

@@ -87,7 +87,9 @@ pub fn read_information<'a>(
     alloc: Global,
     command: &'a Command,
 ) -> Result<Information<'a>, MakeFault>
+    // On Ok, the information is the one that the command describes.
     ensures ok { IfOk result (λ info. information command.entry.now ≡ Ok info) }
+    // An error is that of the definition, or out of memory.
     ensures err { IfErr result (λ fault. IsInfoFault fault (information command.entry.now)) }
 {
     read_values(alloc, command.values(), command.behind())
@@ -101,7 +103,9 @@ fn read_values<'a>(
     values: &'a Values,
     behind: u32,
 ) -> Result<Information<'a>, MakeFault>
+    // On Ok, the information is the one that the values describe.
     ensures ok { IfOk result (λ info. information_of values.entry.now behind ≡ Ok info) }
+    // An error is that of the definition, or out of memory.
     ensures err { IfErr result (λ fault. IsInfoFault fault
         (information_of values.entry.now behind)) }
 {
@@ -349,9 +353,11 @@ pub fn an_option_gives_the_field_of_its_name()
 /// allowed, it is a second one of its field, or it is the version that makes the output's name too
 /// long. If none is reported, none offends.
 pub fn the_first_value_that_offends_is_reported()
+    // A reported value is the first that is refused.
     ensures offends { (too_long : Bool) (values : List OptionValue) (place : ℕ)
         → first_offence too_long [] values ≡ Some place
         → IsFirstOffence too_long values place }
+    // If none is reported, none is refused.
     ensures allowed { (too_long : Bool) (values : List OptionValue)
         → first_offence too_long [] values ≡ None → NoneOffends too_long values }
 {}

@@ -23,8 +23,11 @@ use Rattle.make_laws.specs.NamedFields.{IsAccessOfRoot, entries_named, field_nam
 -- `mkpkg` makes these bytes, fewer than 2^64, from names below the given folder
 pub record IsMadePackage (command : CommandLine) (names : List (List ℕ)) (read : Reads)
     (bytes : List ℕ) : Type 0 where
+  -- the names are below the folder of the option `-F`
   pub below : AreNamesBelowFirstFolder (values_of_letter FILES command.values) names
+  -- `mkpkg` answers Ok with these bytes
   pub made : made_package command names read ≡ Ok bytes
+  -- the length of the package is below 2^64
   pub short : length bytes < 2 ^ 64
 
 -- the value of the package in a container
@@ -35,7 +38,9 @@ package_in_container bytes = root_value Package (payload_in bytes)
 
 -- the folders of a package are in byte order of their names, each once, and so are the files of each
 pub record IsInByteOrder (pkg : Plain) : Type 0 where
+  -- the names of the folders are in byte order, each once
   pub folders : AreSortedDistinctNames (map name_of (folders_in pkg))
+  -- the names of the files of each folder are in byte order, each once
   pub files : All (λ folder. AreSortedDistinctNames (map name_of (files_in folder))) (folders_in pkg)
 
 -- the folder is above the path: it is the root, or the path is below it, at any depth
@@ -85,7 +90,9 @@ IsReadableFile file = IsAccessOfRoot READABLE_FILE_MODE (field_named File (codes
 
 -- a folder may be entered by all, and its files be read
 pub record IsEnterableFolder (folder : Plain) : Type 0 where
+  -- the folder's access list gives the mode of an enterable folder, and `root` as user and group
   pub itself : IsAccessOfRoot ENTERABLE_FOLDER_MODE (field_named Dir (codes "acl") folder)
+  -- each file directly in the folder may be read by all
   pub files : All IsReadableFile (files_in folder)
 
 -- ---- triggers and sizes

@@ -31,6 +31,7 @@ pub(crate) fn list_names<T: Tree>(
 ) -> Result<Names, MakeFault>
     // The values are those that `mkpkg` may have.
     requires { IsTrue (are_allowed_values (value_rules Mkpkg) values.now) }
+    // The tree is only read: no file changes, no I/O error is hidden, and no call is a misuse.
     ensures tree { OnlyReads MakeFault.Disk (T.history tree.old) (T.history tree.new)
         (T.counts tree.old) (T.counts tree.new) result }
     // A listing can fail only by an I/O error of the tree or out of memory.
@@ -59,8 +60,11 @@ pub(crate) fn pack_below<'a, T: Tree>(
     values: &Values,
     names: &'a Names,
 ) -> Result<Packing<'a>, MakeFault>
+    // The tree is only read: no file changes, no I/O error is hidden, and no call is a misuse.
     ensures tree { OnlyReads MakeFault.Disk (T.history tree.old) (T.history tree.new)
         (T.counts tree.old) (T.counts tree.new) result }
+    // There are results of reads that give this result; if the tree is observable, they are its
+    // files.
     ensures read { (n : ℕ) → IsExplainedBySomeReads (T.history tree.old) (λ read.
         AgreesOrIsFault IsPacking result (folders_below read n
         (values_of_letter FILES values.now) names.now)) }
@@ -90,9 +94,13 @@ pub(crate) fn read_scripts<'a, T: Tree>(
     tree: &mut T,
     values: &'a Values,
 ) -> Result<Vec<Script<'a>>, MakeFault>
+    // Each value is one that `mkpkg` allows.
     requires { IsTrue (are_allowed_values (value_rules Mkpkg) values.now) }
+    // The tree is only read: no file changes, no I/O error is hidden, and no call is a misuse.
     ensures tree { OnlyReads MakeFault.Disk (T.history tree.old) (T.history tree.new)
         (T.counts tree.old) (T.counts tree.new) result }
+    // There are results of reads that give this result; if the tree is observable, they are its
+    // files.
     ensures read { (n : ℕ) → IsExplainedBySomeReads (T.history tree.old) (λ read.
         AgreesOrIsFault AreScripts result (scripts_from read n
         (values_of_letter SCRIPT values.entry.now))) }
@@ -125,9 +133,13 @@ fn read_script<'a, T: Tree>(
     value: &'a OptionValue,
     file: &Name,
 ) -> Result<Script<'a>, MakeFault>
+    // The name is that of the file in the value of `-s`.
     requires { file.now ≡ without_dot_slash (script_file value.now.text) }
+    // The tree is only read: no file changes, no I/O error is hidden, and no call is a misuse.
     ensures tree { OnlyReads MakeFault.Disk (T.history tree.old) (T.history tree.new)
         (T.counts tree.old) (T.counts tree.new) result }
+    // There are results of reads that give this result; if the tree is observable, they are its
+    // files.
     ensures read { (n : ℕ) → IsExplainedBySomeReads (T.history tree.old) (λ read.
         AgreesOrIsFault IsScript result (script_at read n value.entry.now)) }
 {

@@ -64,7 +64,9 @@ sorted_names_without_repeats names = with_folders_inserted [] names
 
 -- a folder of a package: its name in the package, and the names in the tree of its files
 pub record FolderListing : Type 0 where
+  -- the folder's name in the package
   pub name : List ℕ
+  -- the names in the tree of the files directly in this folder
   pub files : List (List ℕ)
 
 -- the path, relative to a folder, of a name below it: the name without the folder and the slash

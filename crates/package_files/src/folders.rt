@@ -75,6 +75,7 @@ impl<'a> FolderNames<'a> {
 
     /// The folder at a place, counted from 0.
     pub(crate) fn get(&self, i: usize) -> &'a [u8]
+        // The index is that of an element.
         requires { i < length self.now }
         ensures { slice_get self.now i ≡ Some result.now }
     {
@@ -158,7 +159,9 @@ pub(crate) fn last_part_of(path: &[u8]) -> &[u8]
 
 /// The offset at which the last part of a path begins: after its last `/`, or 0.
 fn part_start(path: &[u8]) -> usize
+    // The offset is the path's length, less the length of its last part.
     ensures value { result ≡ length path.now - suffix_len (λ b. not (is_slash b)) path.now }
+    // The result is at most the length.
     ensures within { result ≤ length path.now }
 {
     let mut start = 0;

@@ -59,12 +59,17 @@ position_after_front front file = record {
 -- a front is that of this file: it has the file's schema, length and first block, which begins at
 -- offset 8, and no test of the front fails
 pub record IsFrontOf (schema : ℕ) (file : List ℕ) (front : Front) : Type 0 where
+  -- the file's header is valid and has the wanted schema
   pub header : header_of file ≡ Ok schema
+  -- the front has the wanted schema
   pub same_schema : front.schema ≡ schema
+  -- the front has the length of the file
   pub long : length file ≡ front.len
+  -- the first block of the file is the front's block of values, at offset 8
   pub blocks : block_stream_from (first_block_position schema file)
       ≡ more (record { kind = Adb; payload = front_payload front }) 8
       (block_stream_from (position_after_front front file))
+  -- the head of the first payload passes its tests
   pub head : payload_head_fault (front_payload front) ≡ None
 
 -- the result of reading a front, for a file or for none; an I/O error of the tree and running out of

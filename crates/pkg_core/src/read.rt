@@ -81,6 +81,7 @@ impl Header {
     /// Reads the first bytes of a file of this length.
     #[tactic(auto, using(crate::proofs::SeenBytes::seen_by_read, crate::proofs::SeenBytes::proper_where_long))]
     fn read<T: Tree>(tree: &mut T, name: &Name, len: u64) -> Result<Header, FrontFault>
+        // At most 8 bytes are read, or as many as the file has.
         ensures len { IfOk result (λ header. length header ≡ min len 8) }
         // These are the first bytes of the file.
         ensures seen { IfOk result (λ header. (file_len : ℕ)
@@ -116,6 +117,7 @@ fn read_payload<T: Tree>(
     at: u64,
     len: u64,
 ) -> Result<Vec<u8>, FrontFault>
+    // On Ok, the result has this many bytes.
     ensures len { IfOk result (λ payload. length payload.items ≡ len) }
     // These bytes were read at this offset of the file.
     ensures seen { IfOk result (λ payload. (file_len : ℕ)
@@ -142,7 +144,7 @@ fn read_present<T: Tree>(
     schema: u32,
 ) -> Result<Front, FrontFault>
     ensures len { IfOk result (λ front. front.len ≡ len) }
-    // For each file of this length that has the bytes that were read.
+    // The result is right for each file of this length that has the bytes that were read.
     ensures front { (seen : List ℕ) × IsSeenIn (T.history tree.old) name.now len 0 seen
         × ((file : List ℕ) → length file ≡ len → HasBytesAtOffset file 0 seen
         → IsFrontReadOfFile schema result (length seen) file) }

@@ -33,8 +33,11 @@ pub record IsSafeSkip (bytes : List ℕ) (from to : Place) : Type 0 where
 -- a version with this end that is at the first place reaches the second. So does each other version,
 -- unless the second place is the end, which may be within a token of another version
 pub record IsNextPlace (bytes : List ℕ) (end : ℕ) (from to : Place) : Type 0 where
+  -- the second place is after the first
   pub forth : from.at < to.at
+  -- the second place is not after the version's end
   pub within : to.at ≤ end
+  -- the rest of a version can follow at the one place exactly if it can at the other
   pub same : can_rest_follow_place bytes from end ≡ can_rest_follow_place bytes to end
   -- unless the second place is the end, the first leads to it for each end
   pub leads : to.at < end → IsSafeSkip bytes from to

@@ -82,7 +82,9 @@ is_unmarked text = list_all (λ b. not (is_token_mark b)) text
 
 -- the last byte of a text that begins a token wherever it occurs has this index
 pub record IsLastMark (text : List ℕ) (at : ℕ) : Type 0 where
+  -- the byte at this index begins a token
   pub mark : begins_with_mark (drop at text) ≡ true
+  -- no byte after it begins a token wherever it occurs
   pub last : is_unmarked (drop (at + 1) text) ≡ true
 
 -- the most bytes of a version in a row, outside of a hash, that begin no token wherever they occur: the
@@ -96,20 +98,29 @@ HasUnmarkedEnd text = is_unmarked (drop (length text - (MOST_UNMARKED + 1)) text
 
 -- the first `len` bytes of two texts are the same
 pub record AreEqualUpTo (left right : List ℕ) (len : ℕ) : Type 0 where
+  -- each text has at least this many bytes
   pub within : (len ≤ length left) × (len ≤ length right)
+  -- the first bytes are the same in both
   pub same : take len left ≡ take len right
 
 -- two texts are equal up to a place, and the last mark before it is at this offset
 pub record AreEqualUpToMark (left right : List ℕ) (at : ℕ) : Type 0 where
+  -- the length up to which the texts are equal
   pub len : ℕ
+  -- they are equal up to it
   pub equal : AreEqualUpTo left right len
+  -- the last mark before it is at this index
   pub last : IsLastMark (take len left) at
 
 -- two texts are equal up to this offset, and the last mark before it is that of a hash, `~`
 pub record AreEqualUpToPlaceInHash (left right : List ℕ) (len : ℕ) : Type 0 where
+  -- the index of the last mark
   pub at : ℕ
+  -- the texts are equal up to the length `len`
   pub equal : AreEqualUpTo left right len
+  -- the last mark before it is at this index
   pub last : IsLastMark (take len left) at
+  -- the mark is the byte `~`
   pub tilde : slice_index_or left at 0 ≡ 126
 
 -- two texts are equal before the place from which they are read

@@ -33,7 +33,9 @@ pub enum Parting {
 
 /// The order of two versions: the first tokens that differ decide.
 pub fn compare(left: &[u8], right: &[u8]) -> Ordering
+    // The first version is valid,
     requires left { IsTrue (is_version left.now) }
+    // and so is the second.
     requires right { IsTrue (is_version right.now) }
     ensures { result ≡ version_cmp left.now right.now }
 {
@@ -48,6 +50,7 @@ pub fn compare(left: &[u8], right: &[u8]) -> Ordering
 
 /// The place from which two versions have to be read. Their common prefix is skipped.
 pub fn parting_of(left: &[u8], right: &[u8]) -> Parting
+    // The first version is valid.
     requires { IsTrue (is_version left.now) }
     ensures { AreEqualUpToParting left.now right.now result }
 {
@@ -64,7 +67,9 @@ pub fn parting_of(left: &[u8], right: &[u8]) -> Parting
 /// Does the same as `parting_of` for two versions with the same first `len` bytes, the last of
 /// which have no mark. These bytes are few, or they end within the hash of each version.
 fn parting_without_mark(left: &[u8], right: &[u8], len: usize) -> Parting
+    // The first version is valid.
     requires version { IsTrue (is_version left.now) }
+    // The first `len` bytes of both versions are equal.
     requires equal { AreEqualUpTo left.now right.now len }
     requires unmarked { HasUnmarkedEnd (take len left.now) }
     ensures { AreEqualUpToParting left.now right.now result }
@@ -77,6 +82,7 @@ fn parting_without_mark(left: &[u8], right: &[u8], len: usize) -> Parting
 
 /// The tokens of a version from a mark on. They do not depend on the token before the mark.
 pub fn tokens_from_mark(text: &[u8], at: usize) -> Tokens<'_>
+    // The offset is within the text.
     requires { at ≤ length text.now }
     ensures { tokens_left result
         ≡ tokens_after_class (Some Component) 0 (drop at text.now) }

@@ -159,9 +159,11 @@ impl<'a> Tokens<'a> {
     /// Takes the next token. No token may be taken after the last one, which is the end or a stray
     /// one.
     pub fn next(&mut self) -> TokenAt<'a>
+        // The tokens that were left are the result and those that are left now.
         ensures tokens { tokens_left self.old
             ≡ token_view result ∷
             (if is_last_token_class result.class then [] else tokens_left self.new) }
+        // Fewer bytes are left than before, so that a loop ends.
         ensures shorter { is_last_token_class result.class ≡ false
             → bytes_left self.new < bytes_left self.old }
     {
