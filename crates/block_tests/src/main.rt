@@ -76,10 +76,12 @@ fn add_blocks(alloc: Global, file: &[u8], answer: &mut Vec<u8>) -> Result<(), Al
     let text = format!(in alloc; "{schema:08x}")?;
     add_word(answer, text.as_bytes())?;
     for _ in 0..MOST_BLOCKS {
+        // The offset that is announced for the next block.
         let at = blocks.next_at();
         let next = blocks.next();
         match next {
             Ok(Some(block)) => add_block(alloc, at, &block, answer)?,
+            // The end of the container, or an error.
             _ => return add_end(alloc, &mut blocks, fault_of(next), answer),
         }
     }

@@ -76,6 +76,7 @@ fn write_folder(
     }
     let name = writer.blob(name)?;
     let files = writer.arr(&files)?;
+    // The second field of a folder, mode and owner, is null.
     let fields = [name, Val::of(0), files];
     writer.obj(&fields)
 }

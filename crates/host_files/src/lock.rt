@@ -92,9 +92,11 @@ fn try_lock_root<R: Host>(rt: &R, lock: Lock) -> Result<Try, HostFault> {
         Err(e) if e.kind() == ErrorKind::NotFound => match make_lock_folder(rt) {
             Ok(()) => Ok(Try::Changed),
             Err(e) if e.kind() == ErrorKind::AlreadyExists => see_lock_folder(rt),
+            // With the lock on the root itself, this run may write only if the reason lasts.
             Err(e) => try_lock(fs::open(rt, ".")?, lock, is_lasting(e.kind())),
         },
         Err(e) if e.kind() == ErrorKind::PermissionDenied => {
+            // `true`: with the lock on the root itself, this run may write.
             try_lock(fs::open(rt, ".")?, lock, true)
         }
         Err(e) => Err(HostFault::host_at(rt.alloc(), e, LOCK_FOLDER.as_bytes())),
@@ -128,6 +130,7 @@ fn see_lock_folder<R: Host>(rt: &R) -> Result<Try, HostFault> {
 /// opened, the lock does not count.
 fn try_lock_folder<R: Host>(rt: &R, folder: File, lock: Lock) -> Result<Try, HostFault> {
     let opened = folder.metadata()?;
+    // `true`: with the lock on the lock's folder, this run may write.
     let tried = try_lock(folder, lock, true)?;
     match fs::symlink_metadata(rt, LOCK_FOLDER) {
         Ok(found) if found.is_dir() && is_same(&found, &opened) => Ok(tried),

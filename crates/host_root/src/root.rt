@@ -263,6 +263,7 @@ impl<'a, R: Host> Root<'a, R> {
         self.forget(to);
         let replaced = self.folders.make_room(self.rt, to)?;
         self.keep_rights(from, moved, to, replaced)?;
+        // Names change in both folders, so both are noted for the next sync.
         self.folders.note(parent_of(from))?;
         self.folders.note(parent_of(to))?;
         let target = Vec::from_slice(self.alloc, to)?;

@@ -79,6 +79,7 @@ pub fn compare(
     }
     let at = first_difference(found, wanted);
     let place = digits(alloc, at as u64)?;
+    // The report shows both texts around the first byte that differs.
     let found = shown(alloc, found, at)?;
     let wanted = shown(alloc, wanted, at)?;
     let pieces: [&[u8]; 7] = [

@@ -31,10 +31,15 @@ enum Form {
 /// For the prefix of a part: the number of its field in the table of package information, counted
 /// from 0, and how the value of the field is written.
 const FIELDS: [(&[u8], (usize, Form)); 5] = [
+    // Depends.
     (b"d:", (14, Form::Dependencies)),
+    // Provides.
     (b"p:", (15, Form::Dependencies)),
+    // Install-if.
     (b"i:", (17, Form::Dependencies)),
+    // Provider priority.
     (b"k:", (13, Form::Number)),
+    // The id of the package.
     (b"h:", (2, Form::Bytes)),
 ];
 
@@ -47,6 +52,7 @@ pub(crate) fn index_payload(alloc: Global, text: &[u8]) -> Result<Vec<u8>, Alloc
         add_packages(alloc, &mut writer, &mut packages, part)?;
     }
     let list = writer.arr(packages.as_slice())?;
+    // The first field of an index, its description, is null.
     let root = writer.obj(&[Val::of(0), list])?;
     match writer.finish(root) {
         Ok(payload) => Ok(payload),
@@ -82,6 +88,7 @@ fn package_value(alloc: Global, writer: &mut Writer, part: &[u8]) -> Result<Val,
     if part.is_empty() {
         return Ok(Val::of(0));
     }
+    // The id of a package whose text has no id.
     fields[2] = writer.blob(b"01234567890123456789")?;
     for word in part.split(|byte| *byte == b' ') {
         add_field(alloc, writer, &mut fields, word)?;

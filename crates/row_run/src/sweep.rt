@@ -249,6 +249,7 @@ impl<'a, P: Program> Swept<'a, P> {
         if found.before {
             check_streams(alloc, self.program, self.step, second)?;
         } else {
+            // The second run found the files that the command line leaves.
             self.check_again(alloc, call, second)?;
         }
         self.sides

@@ -370,6 +370,7 @@ impl Reader {
             Word::Status => set_once(&mut step.status, number),
             Word::Calls => set_once(&mut step.calls, number),
             Word::Writes => set_once(&mut step.writes, number),
+            // `Word::Reads`: the callers pass no other word.
             _ => set_once(&mut step.reads, number),
         }
     }

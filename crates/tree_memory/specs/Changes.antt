@@ -59,8 +59,8 @@ abbrev pub state_after_changes : List (List ℕ) → TreeState → List Change �
 state_after_changes contents v [] = v
 state_after_changes contents v (c ∷ cs) = state_after_changes contents (step contents c v) cs
 
--- the states through which a record leads from the state `v`, the newest first: not the last state, but `v`, followed
--- by the states `earlier` that were before `v`
+-- all states before the one to which a record leads from the state `v`, the newest first: those that the record
+-- passes, then `v`, then the states `earlier` that were before `v`
 abbrev pub earlier_states : List (List ℕ) → TreeState → List TreeState → List Change → List TreeState
 earlier_states contents v earlier [] = earlier
 earlier_states contents v earlier (c ∷ cs) = earlier_states contents (step contents c v) (v ∷ earlier) cs

@@ -43,6 +43,7 @@ impl Plan {
 
     /// The plan by which the calls with these numbers are to fail.
     pub fn at(alloc: Global, calls: &[u64]) -> Result<Plan, AllocError>
+        // On success the plan has these numbers, and no stop.
         ensures { OnOk result (result ≡ Ok (record { listed = calls.now; stop = None })) }
     {
         let listed = Vec::from_slice(alloc, calls)?;

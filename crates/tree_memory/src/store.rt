@@ -21,7 +21,7 @@ pub struct Store {
     pub alloc: Global,
     /// The record: all changes since the tree was empty, the oldest first.
     pub changes: Vec<Change>,
-    /// The names as read now.
+    /// The current names, each with the number of its file.
     pub names: NameTable,
     /// All files that were made, by their numbers, including those that no name leads to any more.
     pub files: Vec<Stored>,
