@@ -79,6 +79,7 @@ impl Targets {
         let probe = below(self.alloc, folder, PROBE)?;
         let moved = below(self.alloc, source, PROBE)?;
         make_probe(rt, &probe)?;
+        // The probe is under `moved` afterwards, also if both folders are the same.
         if folder != source {
             rename_probe(rt, &probe, &moved)?;
         }

@@ -146,7 +146,8 @@ impl Reader {
     /// Reads all lines of a text. After a fault, `self.line` is the number of the line with the
     /// fault.
     fn read_text(&mut self, text: &[u8]) -> Result<(), Trouble> {
-        // The last part of the text, after the last line end: it has to be empty.
+        // The part of the text before this one, which is a line once a line end follows it. The
+        // last part is no line, and has to be empty.
         let mut rest = None;
         for line in text.split(|byte| *byte == b'\n') {
             if let Some(line) = rest {
@@ -277,8 +278,8 @@ impl Reader {
         Ok(())
     }
 
-    /// Takes `from NAME`: the row begins with the files that an earlier row leaves. A row with this
-    /// line has no files of its own.
+    /// Takes `from NAME`: the row begins with the files that an earlier row leaves. No line `file`
+    /// of the row may be before this line.
     fn begin_with(&mut self, rest: &[u8]) -> Result<(), Trouble> {
         let Some(number) = self.number_of(rest) else {
             return Err(Trouble::NoSuchRow);
