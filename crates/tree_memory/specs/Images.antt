@@ -60,12 +60,12 @@ abbrev pub crash_bytes : ℕ → File → List ℕ
 crash_bytes way file = if file.synced || way == 0 then file.bytes else
     (if way == 1 then [] else replicate (length file.bytes) 255)
 
--- how many numbers pick a map of names of this state
+-- how many numbers pick a map of names that a crash at this state may leave: the numbers below the result
 abbrev pub crash_image_count_of : TreeState → ℕ
 crash_image_count_of v = crash_image_count (length v.older)
 
--- the map of names of the image that a number picks: the picked one, or that as read if the picked
--- one has a file as a folder, which no tree has
+-- the map of names of the image that a number picks: the picked one, or the current one of the state
+-- if the picked one has a file as a folder, which no tree has
 pub record IsPickedImageMap (pick : ℕ) (v : TreeState) (map : NameMap) : Type 0 where
   -- if in the picked map no name is a folder of another, the map is the picked one
   pub fits : HasNoFileAsFolder (picked_crash_map pick v) → map ≡ picked_crash_map pick v

@@ -64,7 +64,7 @@ impl Plan {
     pub fn pass(&mut self) -> bool
         // True exactly if the next call is to fail.
         ensures planned { result ≡ is_next_call_to_fail self.old }
-        // The plan is then that after one call.
+        // The plan is then counted from the call after this one.
         ensures nearer { self.new ≡ plan_after_one_call self.old }
     {
         let listed = pass(&mut self.listed);
@@ -83,7 +83,7 @@ impl Plan {
 fn pass(plan: &mut Vec<u64>) -> bool
     // True exactly if the next call is on the list.
     ensures planned { result ≡ is_next_call_listed plan.old.items }
-    // The list is then that after one call.
+    // The list is then counted from the call after this one.
     ensures nearer { plan.new.items ≡ listed_calls_after_one_call plan.old.items }
 {
     let planned = plan.contains(&1);
@@ -140,7 +140,7 @@ impl Tally {
 
     /// Counts the call as one that failed.
     pub fn fault(&mut self)
-        // How the counts change.
+        // One more fault is counted, up to 2^64 - 1.
         ensures is { self.new ≡ with_fault self.old }
         // No count of failures falls.
         ensures grown { HasNotFallen self.old self.new }
@@ -150,7 +150,7 @@ impl Tally {
 
     /// Counts the call as a misuse, which is a fault too.
     pub fn misuse(&mut self)
-        // How the counts change.
+        // One more fault and one more misuse are counted, each up to 2^64 - 1.
         ensures is { self.new ≡ with_misuse self.old }
         // No count of failures falls.
         ensures grown { HasNotFallen self.old self.new }
@@ -161,7 +161,7 @@ impl Tally {
 
     /// Counts the call as one that ran out of memory, which is a fault too.
     pub fn want(&mut self)
-        // How the counts change.
+        // One more fault and one more lack of memory are counted, each up to 2^64 - 1.
         ensures is { self.new ≡ with_memory_fault self.old }
         // No count of failures falls.
         ensures grown { HasNotFallen self.old self.new }
@@ -197,7 +197,7 @@ impl Calls {
     /// Counts a call, at its start. It fails if it is a misuse (`can` is false), or if its failure
     /// is planned.
     pub fn begin(&mut self, can: bool) -> Result<(), Disk>
-        // The planned failures are one call nearer.
+        // The plan of failures is then counted from the call after this one.
         ensures plan { self.new.plan ≡ plan_after_one_call self.old.plan }
         // The call is counted, with its failure if it has one.
         ensures tally { self.new.tally ≡ with_begun_call can
@@ -223,7 +223,7 @@ impl Calls {
     /// Counts a call that writes, at its start. It fails if it is a misuse (`can` is false), or if
     /// its failure is planned.
     pub fn begin_write(&mut self, can: bool) -> Result<(), Disk>
-        // The planned failures are one call nearer.
+        // The plan of failures is then counted from the call after this one.
         ensures plan { self.new.plan ≡ plan_after_one_call self.old.plan }
         // The call is counted, with its failure if it has one.
         ensures tally { self.new.tally ≡ with_begun_call can (is_next_call_to_fail self.old.plan)

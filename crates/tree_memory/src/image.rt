@@ -71,6 +71,7 @@ impl Store {
     fn image_names(&self, alloc: Global, changes: u64, pick: u64) -> Result<NameTable, AllocError>
         // Each change of names since the last sync of the names left one older map.
         requires { changes ≡ length (store_state self.now).older }
+        // The result has the names of the image of the specification.
         ensures { IfOk result (λ names.
             HasImageNames pick (store_state self.now) names.entries.items) }
     {
@@ -87,6 +88,7 @@ impl Store {
     fn picked_names(&self, alloc: Global, changes: u64, pick: u64) -> Result<NameTable, AllocError>
         // Each change of names since the last sync of the names left one older map.
         requires { changes ≡ length (store_state self.now).older }
+        // Each name leads where it leads in the picked map of the specification.
         ensures { IfOk result (λ names. (q : List ℕ) → lookup names.entries.items q
             ≡ picked_crash_map pick (store_state self.now) q) }
     {
@@ -309,6 +311,7 @@ fn lead(
     name: &Name,
     file: Option<usize>,
 ) -> Result<(), AllocError>
+    // The name is changed so in the picked names, and all other picked names are as before.
     ensures { OnOk result ((q : List ℕ) → lookup picked.new.entries.items q
         ≡ (if bytes_eq q name.now then
         (if lead_to_same_file (lookup names.now.entries.items name.now) file then

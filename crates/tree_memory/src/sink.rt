@@ -142,7 +142,8 @@ impl Sink for MemorySink {
 
     /// Takes a prefix of a piece, as long as it can, and returns how many bytes that is.
     fn write(&mut self, piece: &[u8]) -> Result<usize, SinkFault>
-        // The returned number is a possible one for this piece: at most its length.
+        // The returned number is at most the length of the piece, and not 0 unless the piece is
+        // empty.
         ensures taken { IfOk result (λ n. IsWriteCount n piece.now) }
         // A write of no bytes succeeds.
         ensures empty { piece.now ≡ [] → IsOk result }

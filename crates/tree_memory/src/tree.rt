@@ -251,7 +251,7 @@ impl Tree for MemoryTree {
     fn size(&mut self, name: &Name) -> Result<Option<u64>, Disk>
         // The call adds no state to the history.
         ensures same { history_of self.new ≡ history_of self.old }
-        // How the counts change; the call is a misuse in the states that do not allow it.
+        // How the counts change; each state allows the call, so that it is no misuse.
         ensures counts { IsCounted IsAlwaysAllowed (history_of self.old) (counts_of self.old)
             (counts_of self.new) result }
         // What is returned, if the history is observable.
@@ -387,7 +387,7 @@ impl Tree for MemoryTree {
         ensures moves { ChangesHistory IsAlwaysAllowed (after_remove name.now) (after_remove
             name.now)
             (history_of self.old) (history_of self.new) result }
-        // How the counts change; the call is a misuse in the states that do not allow it.
+        // How the counts change; each state allows the call, so that it is no misuse.
         ensures counts { IsCounted IsAlwaysAllowed (history_of self.old) (counts_of self.old)
             (counts_of self.new) result }
         // What is counted of the call, and why it fails.
@@ -404,7 +404,7 @@ impl Tree for MemoryTree {
         // Which state is added to the history: on success, and on an error.
         ensures moves { ChangesHistory IsAlwaysAllowed after_sync_names unchanged_after_failed_call
             (history_of self.old) (history_of self.new) result }
-        // How the counts change; the call is a misuse in the states that do not allow it.
+        // How the counts change; each state allows the call, so that it is no misuse.
         ensures counts { IsCounted IsAlwaysAllowed (history_of self.old) (counts_of self.old)
             (counts_of self.new) result }
         // What is counted of the call, and why it fails.
@@ -441,7 +441,7 @@ impl Tree for MemoryTree {
 
         // The call fails with an I/O error exactly if its failure is planned.
         ensures when { IsErrOf result DiskFault ↔ (is_next_call_to_fail (plan_of self.old) ≡ true) }
-        // The planned failures are one call nearer.
+        // The plan of failures is counted from the next call on.
         ensures plan { plan_of self.new ≡ plan_after_one_call (plan_of self.old) }
         // One more call was made.
         ensures calls { calls_of self.new ≡ saturating_increment (calls_of self.old) }
@@ -470,7 +470,7 @@ impl Tree for MemoryTree {
     fn check_target(&mut self, name: &Name, source: Option<&Name>) -> Result<(), Disk>
         // The call adds no state to the history.
         ensures same { history_of self.new ≡ history_of self.old }
-        // How the counts change; the call is a misuse in the states that do not allow it.
+        // How the counts change; each state allows the call, so that it is no misuse.
         ensures counts { IsCounted IsAlwaysAllowed (history_of self.old) (counts_of self.old)
             (counts_of self.new) result }
 
