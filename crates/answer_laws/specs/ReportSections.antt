@@ -37,8 +37,10 @@ IsSumOf (n ∷ numbers) sum = (rest : ℕ) × IsSumOf numbers rest × (sum ≡ n
 
 -- a text is a line with the sum of some sizes, and how many they are
 pub record IsSumLine (sizes : List ℕ) (text : List ℕ) : Type 0 where
+  -- the sum of the sizes
   pub sum : ℕ
   pub sum_is : IsSumOf sizes sum
+  -- the text is the line with the sum and the number of sizes
   pub text_is : text
       ≡ codes "OK: " ++ decimal sum ++ codes " bytes in " ++ decimal (length sizes)
       ++ codes " packages\n"

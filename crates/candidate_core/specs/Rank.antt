@@ -21,8 +21,11 @@ pub data UpgradedNames : Type 0 where
 -- the candidates that a selection is made of, the world that it is to satisfy, and the names that
 -- the command upgrades
 pub record SealedPool : Type 0 where
+  -- the packages to choose from
   pub candidates : List Candidate
+  -- the dependencies that a selection has to satisfy
   pub world : List Dependency
+  -- the names that the command upgrades
   pub upgraded : UpgradedNames
 
 -- a sealed pool from its parts

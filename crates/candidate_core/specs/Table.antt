@@ -13,7 +13,9 @@ use Rattle.candidate_core.specs.Options.{places_offering}
 -- names, each with the places of its candidates: in `lists` those of names that several offer, in
 -- `singles` the first of each name
 pub record Offered : Type 0 where
+  -- for each name, the place of the first candidate that offers it
   pub singles : List (List ℕ × List ℕ)
+  -- for each name that several candidates offer, the places of all of them
   pub lists : List (List ℕ × List ℕ)
 
 -- the table of two maps: of names with the place of one candidate, and of names with a list of places

@@ -44,9 +44,13 @@ package_file_of repositories c = by_number c.repository
 -- an added package, as its file has it: the file's bytes, its value, its identity, and the contents of
 -- its files
 pub record AddedPackage : Type 0 where
+  -- the bytes of the package's file
   pub file : List ℕ
+  -- the package as a plain value
   pub value : Plain
+  -- the identity (hash) of the package
   pub id : List ℕ
+  -- the contents of its files
   pub contents : List Contents
 
 -- the package in a container

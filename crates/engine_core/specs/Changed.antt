@@ -22,7 +22,9 @@ use Rattle.engine_core.specs.Wishes.{names_to_reinstall, unknown_operand_place, 
 
 -- what is read, and the packages before with the candidates that are to replace them
 pub record InputsAndReplacement : Type 0 where
+  -- what was read of the root
   pub inputs : Inputs
+  -- the packages before, and the selected candidates
   pub replacement : Replacement
 
 -- what is selected by a choice of candidates; without a choice no selection satisfies the new world,

@@ -19,15 +19,22 @@ use Rattle.candidate_core.specs.declared.versions.VersionKind.TheVariants.{Under
 -- the needed name, whether it is installed and kept; `under` is the version under which it meets the
 -- need, `version` its own; `place` counts from 0
 pub record Ranking : Type 0 where
+  -- keys 1 to 4, each a test that an option passes or not
   pub pinned : Bool
   pub untagged : Bool
   pub named : Bool
   pub kept : Bool
+  -- key 5: the version under which the option meets the need
   pub under : RankedVersion
+  -- key 6: the `provider-priority`
   pub priority : ℕ
+  -- key 7: the name
   pub name : List ℕ
+  -- keys 8 and 9: the option's own version
   pub version : RankedVersion
+  -- key 10: the repository, counted from 1, if there is one
   pub repository : Option ℕ
+  -- key 11: the place in the list of candidates, counted from 0
   pub place : ℕ
 
 -- a ranking from its parts

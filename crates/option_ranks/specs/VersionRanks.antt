@@ -20,8 +20,11 @@ use Rattle.candidate_core.specs.declared.versions.VersionKind.TheVariants.{Under
 
 -- both are versions, or neither is, and their texts are at one place: the same word in the same source
 pub record HaveSamePlace (one other : RankedVersion) : Type 0 where
+  -- both are versions, or neither is
   pub version : is_some one.version ≡ is_some other.version
+  -- both texts are in the same source
   pub source : one.source ≡ other.source
+  -- both texts have the same word (32-bit value) there
   pub word : one.word ≡ other.word
 
 -- A ranking has the candidate's own version (`version`), and the version under which the candidate
@@ -97,16 +100,23 @@ AreReadTogether kind versions rankings = (text : ℕ → ℕ → List ℕ)
 -- the rankings `after` are those `before` in some order, each with the rank of its version among some
 -- that include the versions of all
 pub record AreRankedFrom (kind : VersionKind) (before after : List Ranking) : Type 0 where
+  -- the versions among which those of the options are ranked
   pub versions : List (Option (List ℕ))
+  -- the options in the order after the call, with the ranks before it
   pub moved : List Ranking
+  -- they are the options before the call, in some order
   pub permutation : IsPermutation before moved
+  -- the version of each option is among the ranked ones
   pub listed : All (IsVersionAmong kind versions) moved
+  -- each option then gets the rank of its version
   pub ranked : after ≡ map (with_rank_among kind versions) moved
 
 -- the rankings `after` are those `before` in some order, each with the ranks of both its versions
 pub record AreRankedTwice (before after : List Ranking) : Type 0 where
+  -- the options after the first ranking, by the versions under which the need is met
   pub between : List Ranking
   pub under : AreRankedFrom Under before between
+  -- the second ranking is by the options' own versions
   pub own : AreRankedFrom Own between after
 
 -- the rankings `after` are those `before`, and may be compared by a key: both versions of each are

@@ -48,7 +48,7 @@ pub fn a_refused_input_has_its_fault()
     // The refusal is true.
     ensures fault { (command : CommandLine) (read : Reads) (refusal : Refusal)
         → inputs_of command read ≡ Err refusal → IsFaultOfInput command read refusal }
-    // What precedes it in this order was read.
+    // The inputs that precede the refused one in this order were read, and have no fault.
     ensures order { (command : CommandLine) (read : Reads) (refusal : Refusal)
         → inputs_of command read ≡ Err refusal → HasReadBefore command read refusal }
 {}
