@@ -161,6 +161,7 @@ fn read_name<T: Tree>(
     repositories: &Repos,
     no_scripts: bool,
 ) -> Result<Option<MemberRead>, Refused>
+    // The result is that of the definition, with the file that was found.
     ensures found { IsAnswerByRead (IsNameRead (T.history tree.old) (packages_of db.now))
         (T.history tree.old) (member_of_name_by_read
         (packages_of db.now) pool.now repositories.now no_scripts

@@ -50,9 +50,11 @@ pub fn each_due_trigger_has_a_line()
 /// If scripts may not be left out, a change is accepted exactly if no trigger is due; a refusal
 /// names the first package whose trigger is due.
 pub fn a_due_trigger_refuses_the_change()
+    // The change is accepted exactly if no trigger is due.
     ensures accepted { (paths : List (List ℕ)) (members : List Member)
         → (unless_trigger_due false paths members ≡ Ok true)
         ↔ ((m : Member) → IsIn m members → (folder : List ℕ) → IsTriggerDueFor paths m folder → ⊥) }
+    // The refusal names the first package whose trigger is due.
     ensures named { (paths : List (List ℕ)) (members : List Member) (name : List ℕ)
         → unless_trigger_due false paths members ≡ Err (TriggerNeeded name)
         → IsFirstPackageWithDueTrigger paths members name }

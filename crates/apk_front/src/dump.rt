@@ -33,6 +33,7 @@ pub(crate) fn adbdump<T: Tree>(
 ) -> Result<Verdict, TreeFault>
     requires one { length operands.now ≡ 1 }
     requires files { IsTrue (are_files operands.now) }
+    // The verdict is that of the specification, and the tree is only read.
     ensures { IsReadingRun (λ read files. adbdump read files operands.now)
         (T.history tree.old) (T.history tree.new) (T.counts tree.old) (T.counts tree.new) result }
 {

@@ -24,6 +24,7 @@ pub(crate) fn adbgen<T: Tree>(
 ) -> Result<Verdict, TreeFault>
     requires one { length operands.now ≡ 1 }
     requires files { IsTrue (are_files operands.now) }
+    // The verdict is that of the specification, and the tree is only read.
     ensures { IsReadingRun (λ read files. adbgen read files operands.now)
         (T.history tree.old) (T.history tree.new) (T.counts tree.old) (T.counts tree.new) result }
 {

@@ -245,6 +245,7 @@ fn write<T: Tree>(
 
 // The verdict if no container was made: its refusal, or the fault that stopped the making.
 fn refuse(alloc: Global, command: &Command, fault: MakeFault) -> Result<Verdict, TreeFault>
+    // The verdict is that of the outcome, whatever the files and the report are.
     ensures reported { IfOk result (λ verdict. (files : Files) (report : List ℕ)
         → Reports verdict (make_outcome files (output_name command.now) report (Err fault))) }
     // A verdict of this function is a refusal.
@@ -263,6 +264,7 @@ fn refuse(alloc: Global, command: &Command, fault: MakeFault) -> Result<Verdict,
 // Why no container was made: the refusal, or the fault that stopped the making. A reserved name is
 // refused before a result that is too large. The clauses are those of `refuse`.
 fn refusal_of(alloc: Global, command: &Command, fault: MakeFault) -> Result<Refusal, TreeFault>
+    // The refusal is that of the outcome, whatever the files and the report are.
     ensures reported { IfOk result (λ refusal. (files : Files) (report : List ℕ)
         → make_outcome files (output_name command.now) report (Err fault)
         ≡ just_refusal files refusal) }

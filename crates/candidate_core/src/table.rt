@@ -84,6 +84,8 @@ impl<'a> Table<'a> {
 
     // Adds a candidate to the name of each entry of its provides.
     fn add_provided(&mut self, provides: &Deps<'a>, id: CandId) -> Result<(), AllocError>
+        // The place is added to each name that an entry of these provides, which is no conflict,
+        // has.
         ensures { OnOk result (HasPlaceAdded (λ name. list_any
             (λ (p : Dependency). not p.conflict && bytes_eq name p.name) provides.now) id
             self.old self.new) }
@@ -96,6 +98,7 @@ impl<'a> Table<'a> {
 
     // Adds a candidate to the name of an entry of its provides, unless the entry is a conflict.
     fn add_entry(&mut self, entry: &Dep<'a>, id: CandId) -> Result<(), AllocError>
+        // The place is added to the name of the entry, unless the entry is a conflict.
         ensures { OnOk result (HasPlaceAdded (λ name. not (dependency entry.now).conflict
             && bytes_eq name (dependency entry.now).name) id self.old self.new) }
     {

@@ -128,6 +128,7 @@ fn read_index_file<T: Tree>(
     path: &Name,
     tree: &mut T,
 ) -> Result<Vec<u8>, Refused>
+    // The result is that of the file which is found under the path.
     ensures found { (found : Option (List ℕ))
         × IsFileFoundInTree (T.history tree.old) path.now found
         × AgreesUnlessDisk (λ file. file.items) result (index_file number found) }

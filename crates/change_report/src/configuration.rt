@@ -47,6 +47,7 @@ fn push_notices<'p>(
     paths: &'p Names,
     is_kept: bool,
 ) -> Result<(), AllocError>
+    // A line for each of these paths is appended: the file was kept, or a new one lies beside it.
     ensures { OnOk result (map notice_seen notices.new.items ≡ map notice_seen notices.old.items
         ++ map (path_line (if is_kept then kept_config_line else apk_new_line)) paths.entry.now) }
 {

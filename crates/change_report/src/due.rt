@@ -23,6 +23,7 @@ use std::marker::PhantomData;
 /// are those of the files that the change writes and removes. A package without a trigger script
 /// costs a look at its scripts.
 pub fn first_due(members: &Members<'_>, folders: &[&[u8]]) -> Option<usize>
+    // The result is the first package whose trigger is due, by the folders of the touched paths.
     ensures needed { (paths : List (List ℕ)) → map (λ f. f.now) folders.now ≡ folders_of_paths paths
         → unless_trigger_due false paths (members_of members.now)
         ≡ refusal_if_trigger_due (members_of members.now) result }
@@ -46,6 +47,7 @@ pub fn push_trigger_lines(
     members: &Members<'_>,
     folders: &[&[u8]],
 ) -> Result<(), AllocError>
+    // The lines about due triggers are appended, by the folders of the touched paths.
     ensures { OnOk result ((paths : List (List ℕ))
         → map (λ f. f.now) folders.now ≡ folders_of_paths paths
         → report.new ≡ report.old ++ trigger_lines paths (members_of members.now)) }
@@ -95,6 +97,7 @@ fn push_line_if_watched(
     pkg: &PackageView<'_>,
     folder: &[u8],
 ) -> Result<(), AllocError>
+    // One line is appended if the package watches the folder.
     ensures { OnOk result (report.new
         ≡ report.old ++ (if watches_folder (package_value pkg.now) folder.now
         then due_trigger_line (package_value pkg.now) folder.now else [])) }
@@ -145,6 +148,7 @@ fn push_written_folders<'p>(
     folders: &mut Vec<&'p [u8]>,
     writes: &'p Writes,
 ) -> Result<(), AllocError>
+    // The folder of each written file is appended.
     ensures { OnOk result (map (λ f. f.now) folders.new.items ≡ map (λ f. f.now) folders.old.items
         ++ map folder_of (map (λ w. w.name) (writes_in writes.entry.now))) }
 {

@@ -248,6 +248,7 @@ pub fn a_command_has_what_its_applet_may_have()
         IsTrue (are_allowed_operands (operand_rule c.applet c.flags) c.operands) }
     ensures values { (c : CommandLine) → IsValidCommand c →
         IsTrue (are_allowed_values (value_rules c.applet) c.values) }
+    // The option that the applet requires is given.
     ensures needed { (c : CommandLine) (letter : ℕ) → IsValidCommand c →
         required_option_letter c.applet ≡ Some letter → IsTrue (is_given letter c.values) }
 {}
@@ -262,6 +263,7 @@ pub fn file_operands_are_files()
 /// Each value is one of its option's kind: that of `--output` is a file of at most 1,016 bytes,
 /// that of `--files` a file, and each of `--script` is TYPE:FILE.
 pub fn values_are_of_their_kind()
+    // Each value is one that its option may have.
     ensures each { (c : CommandLine) (i : ℕ) (v : OptionValue) → IsValidCommand c →
         slice_get c.values i ≡ Some v →
         IsTrue (is_allowed_value (rule_for (value_rules c.applet) v.letter) v.text) }
@@ -269,6 +271,7 @@ pub fn values_are_of_their_kind()
         first_value OUTPUT c.values ≡ Some v → IsTrue (is_output_argument v.text) }
     ensures folder { (c : CommandLine) (v : OptionValue) → IsValidCommand c →
         first_value FILES c.values ≡ Some v → IsTrue (is_file_argument v.text) }
+    // Each value of `--script` is TYPE:FILE.
     ensures script { (c : CommandLine) (i : ℕ) (v : OptionValue) → IsValidCommand c →
         slice_get c.values i ≡ Some v → v.letter ≡ SCRIPT → IsTrue (is_script_argument v.text) }
 {}

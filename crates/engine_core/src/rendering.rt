@@ -89,6 +89,7 @@ fn journal_entry(
         × AreWritesOf plan.now records writes.now }
     ensures stage { IfOk result
         (IsStageOf (removals_of_plan plan.now) (map name_of_write writes.now)) }
+    // Refused exactly if the value of the intent exceeds a limit of the writer.
     ensures told { Agrees (λ _. true) result (unless_overflow (overflow_of (value_of_intent
         (intent_of_lists (removals_of_plan plan.now) (map name_of_write writes.now)))) true) }
 {
@@ -124,6 +125,7 @@ pub(crate) struct NewRecords {
 ///
 /// `ResultTooLarge` if the database exceeds a limit of the writer, or `Memory`.
 pub(crate) fn new_records(alloc: Global, plan: &Plan<'_, '_, '_>) -> Result<NewRecords, Refused>
+    // The bytes of the new database, or the refusal if it exceeds a limit of the writer.
     ensures told { Agrees (λ records. records.database.items) result
         (or_result_too_large (database_of (members_of plan.now.members) plan.now.files.owned)) }
     ensures records { IfOk result (AreNewRecordsOf (inputs_of_plan plan.now)) }

@@ -114,6 +114,7 @@ fn push_owner(report: &mut Vec<u8>, path: &[u8], pkg: &PackageView<'_>) -> Resul
 // Adds a line that begins with a package's name and version, `NAME-VERSION`, and ends with the
 // rest.
 fn push_heading(report: &mut Vec<u8>, pkg: &PackageView<'_>, rest: &[u8]) -> Result<(), AllocError>
+    // The line `NAME-VERSION`, followed by `rest`, is appended.
     ensures { OnOk result (report.new.items ≡ report.old.items
         ++ report_line (name_dash_version (package_name (package_value pkg.now))
         (package_version_text (package_value pkg.now)) ++ rest.now)) }
@@ -143,6 +144,7 @@ pub(crate) fn push_dependencies<'a>(
 
 // Adds the line of an entry, unless its value breaks the rule of dependencies.
 fn push_entry(alloc: Global, report: &mut Vec<u8>, entry: &DepView<'_>) -> Result<(), AllocError>
+    // The line of this dependency is appended; none if the entry is no dependency.
     ensures { OnOk result (report.new.items ≡ report.old.items
         ++ option_map_or (λ d. report_line (dep_text d))
         (dependency_in (dependency_value entry.now)) []) }

@@ -89,9 +89,11 @@ pub fn an_outcome_over_files_is_unique()
 
 /// A command that only reads leaves the files unchanged, and commits nothing.
 pub fn a_command_that_reads_leaves_the_files()
+    // All files are unchanged.
     ensures files { (words : List (List ℕ)) (files : Files) (o : Outcome)
         → IsTrue (reads_only (command_of words)) → IsOutcome (command_of words) files o
         → o.files ≡ files }
+    // The outcome commits nothing.
     ensures commits { (words : List (List ℕ)) (files : Files) (o : Outcome)
         → IsTrue (reads_only (command_of words)) → IsOutcome (command_of words) files o
         → o.commits ≡ false }
@@ -102,8 +104,10 @@ pub fn a_command_that_reads_leaves_the_files()
 // `a_command_that_reads_leaves_the_files` for each command except `demo`, once its arguments are
 // parsed.
 fn reading_leaves_the_files()
+    // All files are unchanged.
     ensures files { (read : Result CommandLine ℕ) (files : Files) (o : Outcome)
         → IsTrue (reads_only read) → IsOutcomeWithoutDemo read files o → o.files ≡ files }
+    // The outcome commits nothing.
     ensures commits { (read : Result CommandLine ℕ) (files : Files) (o : Outcome)
         → IsTrue (reads_only read) → IsOutcomeWithoutDemo read files o → o.commits ≡ false }
 {}
@@ -111,9 +115,11 @@ fn reading_leaves_the_files()
 /// A command that recovers and then only reads commits nothing. It leaves the recovered files, or
 /// the old ones if it cannot recover.
 pub fn a_reporting_command_leaves_the_files()
+    // The files are the old ones, or those that recovery leaves.
     ensures files { (words : List (List ℕ)) (files : Files) (o : Outcome)
         → effect_of_arguments (command_of words) ≡ AsksRoot → IsOutcome (command_of words) files o
         → (o.files ≡ files) ⊎ (o.files ≡ files_recovered_if_needed AsksRoot files) }
+    // The outcome commits nothing.
     ensures commits { (words : List (List ℕ)) (files : Files) (o : Outcome)
         → effect_of_arguments (command_of words) ≡ AsksRoot → IsOutcome (command_of words) files o
         → o.commits ≡ false }

@@ -67,6 +67,7 @@ fn push_lines_of_names(
     trace: &Trace,
     names: &[&[u8]],
 ) -> Result<(), AllocError>
+    // The lines of the names that were installed are appended.
     ensures { OnOk result (report.new ≡ report.old
         ++ flat_map (still_needed_lines_of_name (candidates_at pool.now trace.now))
         (filter (was_installed (packages_of db.now)) (map (λ n. n.now) names.now))) }
@@ -86,6 +87,7 @@ fn push_lines_of_name(
     trace: &Trace,
     name: &[u8],
 ) -> Result<(), AllocError>
+    // The lines of this name are appended, if it was installed.
     ensures { OnOk result (report.new ≡ report.old
         ++ (if was_installed (packages_of db.now) name.now
         then still_needed_lines_of_name (candidates_at pool.now trace.now) name.now else [])) }
@@ -129,6 +131,7 @@ fn push_line_of(
     id: CandId,
     name: &[u8],
 ) -> Result<(), AllocError>
+    // A line is appended if the candidate at the place has the name.
     ensures { OnOk result (report.new ≡ report.old
         ++ flat_map (λ (c : Candidate). report_line (still_needed_text name.now
         (names_needing_candidate (candidates_at pool.now trace.now) c)))
@@ -152,6 +155,7 @@ fn push_line_if_named(
     details: &Details<'_>,
     name: &[u8],
 ) -> Result<(), AllocError>
+    // A line is appended if the candidate has the name.
     ensures { OnOk result (report.new ≡ report.old
         ++ (if is_candidate_named name.now details.now then report_line (still_needed_text name.now
         (names_needing_candidate (candidates_at pool.now trace.now) details.now)) else [])) }
@@ -186,6 +190,7 @@ fn push_names_in_need<'a>(
     trace: &Trace,
     needed: &Details<'_>,
 ) -> Result<(), AllocError>
+    // The names of the selected candidates that need the other one are appended.
     ensures { OnOk result (map (λ n. n.now) names.new.items ≡ map (λ n. n.now) names.old.items
         ++ map (λ (c : Candidate). c.name)
         (filter (is_other_candidate_needing needed.now) (candidates_at pool.now trace.now))) }
@@ -203,6 +208,7 @@ fn push_name_if_it_needs<'a>(
     id: CandId,
     needed: &Details<'_>,
 ) -> Result<(), AllocError>
+    // The name of the candidate at the place is appended, if it needs the other one.
     ensures { OnOk result (map (λ n. n.now) names.new.items ≡ map (λ n. n.now) names.old.items
         ++ map (λ (c : Candidate). c.name)
         (filter (is_other_candidate_needing needed.now) (option_to_list

@@ -41,6 +41,7 @@ pub(crate) fn eligible_marks(
     conflicts: &[Dep<'_>],
 ) -> Result<Vec<bool>, AllocError>
     requires { HasPlacesOfEachName table.now (candidates_of_packages packages.now) }
+    // A candidate's mark is true if it is allowed and not barred.
     ensures { IfOk result (λ marks. marks.items ≡ map (λ one.
         is_allowed (map dependency tagged.now) one
         && not (is_barred_by (map dependency conflicts.now) one))
@@ -127,6 +128,7 @@ fn mark_affected(
     requires leads { HasPlacesOfEachName table.now (candidates_of_packages packages.now) }
     // There is one mark for each candidate.
     requires each { length marks.old.items ≡ length (candidates_of_packages packages.now) }
+    // The marks that become true are those of the candidates on which an entry has the effect.
     ensures { OnOk result (marks.new.items
         ≡ with_marks_set (is_affected effect (map dependency entries.now))
         marks.old.items (candidates_of_packages packages.now)) }
@@ -152,6 +154,7 @@ fn mark_among(
         ≡ places_offering (dependency entry.now).name (candidates_of_packages packages.now) }
     // There is one mark for each candidate.
     requires each { length marks.old.items ≡ length (candidates_of_packages packages.now) }
+    // The marks that become true are those of the candidates on which the entry has the effect.
     ensures { OnOk result (marks.new.items ≡ with_marks_set (affects effect (dependency entry.now))
         marks.old.items (candidates_of_packages packages.now)) }
 {
@@ -178,6 +181,7 @@ fn mark_one(
     // The remembered results are right for the entry.
     requires known { AreRememberedMatchesOf (source_text packages.now.sources.items)
         (dependency entry.now) known.old }
+    // Only the mark at the place may become true, if the entry has the effect there.
     ensures marks { OnOk result (marks.new.items
         ≡ with_mark_set_at (affects effect (dependency entry.now)) id
         marks.old.items (candidates_of_packages packages.now)) }
@@ -247,6 +251,7 @@ fn bars(
 // Whether an entry of world pins a candidate's name to its tag: the entry has this name and this
 // tag. It may be a conflict.
 fn pins(entry: &Dep<'_>, one: &Details<'_>) -> bool
+    // The candidate has a tag, and the entry has the candidate's name and this tag.
     ensures { result ≡ option_map_or (λ tag. bytes_eq one.now.name (dependency entry.now).name
         && option_map_or (bytes_eq tag) (dependency entry.now).tag false) one.now.tag false }
 {

@@ -303,6 +303,7 @@ impl<'a> Sealed<'a> {
         known: &mut KnownMatches,
     ) -> Result<Vec<CandId>, AllocError>
         requires { AreMatchesInPool self.now (need_of_ref need.now) packages.now known.old }
+        // Of the places, those whose candidates may be selected and meet the need.
         ensures places { IfOk result (λ ids. ids.items
             ≡ filter (λ id. candidate_at_passes self.now (is_eligible_for_need self.now
             (need_of_ref need.now)) id) places.now) }
@@ -397,6 +398,7 @@ pub(crate) fn seal_list<'a>(
     upgrade: Upgrade<'a>,
 ) -> Result<Sealed<'a>, AllocError>
     requires { IsCandidateList list }
+    // The pool has these candidates, this world and these names to upgrade.
     ensures { IfOk result (λ sealed. sealed
         ≡ sealed_pool_from_parts (candidates_of_packages list.entry.packages) world.entry.now
         (names_upgraded_by upgrade.entry)) }

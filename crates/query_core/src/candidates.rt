@@ -60,6 +60,7 @@ pub(crate) fn report(
     form: LineForm,
 ) -> Result<Text, AllocError>
     requires { All (λ place. place < length pool.now.candidates) places.now }
+    // The lines of the candidates at these places, in the order of queries.
     ensures { IfOk result (λ report. report ≡ flat_map (line_in_form form)
         (filter_map (slice_get pool.now.candidates)
         (sorted_by (query_cmp pool.now.candidates) places.now))) }
@@ -84,6 +85,7 @@ fn put_lines<O: ReportOut>(
     form: LineForm,
 ) -> Result<(), AllocError>
     requires { All (λ r. r.place < length pool.now.candidates) rankings.now }
+    // The lines of the ranked candidates are appended to the output, in this order.
     ensures { OnOk result (Appends O.holds out.old out.new (flat_map (line_in_form form)
         (filter_map (slice_get pool.now.candidates) (map (λ r. r.place) rankings.now)))) }
 {

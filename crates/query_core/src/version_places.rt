@@ -128,6 +128,7 @@ fn end_of_version(rankings: &[RankedOption<'_>], key: VersionKey, start: usize) 
     requires { start < length rankings.now }
     ensures after { start < result }
     ensures within { result ≤ length rankings.now }
+    // The rankings from `start` to the result have the same version.
     ensures one { (i : ℕ) (a b : Ranking) → start ≤ i → i < result
         → slice_get rankings.now start ≡ Some a → slice_get rankings.now i ≡ Some b
         → have_same_version key a b ≡ true }
@@ -172,6 +173,7 @@ fn placed_version<'a>(
 ) -> Result<PlacedVersion<'a>, AllocError>
     requires some { 0 < length rankings.now }
     requires within { All (λ r. r.place < length pool.now.candidates) rankings.now }
+    // The version is that of the first of these candidates.
     ensures version { IfOk result (λ placed. (c : Candidate)
         → slice_get (filter_map (λ r. slice_get pool.now.candidates r.place) rankings.now) 0
         ≡ Some c → placed.version ≡ c.version) }

@@ -59,6 +59,7 @@ fn in_byte_order(alloc: Global, pool: &Sealed<'_>) -> Result<Vec<CandId>, AllocE
         has_usable_install_if_at pool.now k ≡ true) }
     ensures each { IfOk result (λ ids. (k : ℕ) → has_usable_install_if_at pool.now k ≡ true →
         IsIn k ids.items) }
+    // No name in the list is less, in byte order, than one before it.
     ensures rising { IfOk result (λ ids. (i j d : ℕ) → i ≤ j → j < length ids.items →
         has_lesser_name pool.now (get_or ids.items j d) (get_or ids.items i d) ≡ false) }
 {

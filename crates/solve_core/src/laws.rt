@@ -11,6 +11,7 @@ use search_choices::rank_is_total;
 
 /// The walk of a satisfying selection satisfies too, and is its own walk.
 pub fn walks_satisfy()
+    // The walk of a satisfying selection is a satisfying selection too.
     ensures satisfies { (pool : SealedPool) (selection walk : List ℕ) →
         IsSatisfying pool selection → IsWalkOfSelection pool selection walk
         → IsSatisfying pool walk }
@@ -25,6 +26,7 @@ pub fn walks_satisfy()
 pub fn each_selection_has_one_walk()
     ensures some { (pool : SealedPool) (selection : List ℕ) →
         IsSatisfying pool selection → (walk : List ℕ) × IsWalkOfSelection pool selection walk }
+    // A selection has at most one walk.
     ensures one { (pool : SealedPool) (selection walk other : List ℕ) →
         IsWalkOfSelection pool selection walk → IsWalkOfSelection pool selection other → walk
         ≡ other }
@@ -36,6 +38,7 @@ pub fn each_selection_has_one_walk()
 /// The walks of satisfying selections have one order. Of two different ones, one is preferred to
 /// the other, at a place where both choose, and not the other way round. The order is transitive.
 pub fn walks_have_one_order()
+    // Of the walks of two satisfying selections, one is preferred to the other, or they are equal.
     ensures one_of { (pool : SealedPool) (selection other walk second : List ℕ) →
         IsSatisfying pool selection → IsSatisfying pool other →
         IsWalkOfSelection pool selection walk → IsWalkOfSelection pool other second →

@@ -132,6 +132,7 @@ impl<'p> Search<'p> {
         // The options that are left are fewer than the base of the measure's digits (*base* of
         // `Measure`).
         ensures few { IfOk result (λ found. IfSome found (λ frame. length frame.1 < 2 ^ 64)) }
+        // None: no need is left. Otherwise: the frame of the next need.
         ensures frame { IfOk result (λ found. MatchOption found (next_need
             (pool_of self.new.chosen) (choices_of self.new.chosen)
             ≡ None) (λ frame. IsFrameOf (pool_of self.new.chosen)

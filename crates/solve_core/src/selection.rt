@@ -26,6 +26,7 @@ pub(crate) fn options_are_as_promised()
 /// None is returned only if no selection satisfies it; out of memory is possible in both cases.
 pub fn solve(alloc: Global, pool: &Sealed<'_>, world: &World) -> Result<Option<Trace>, AllocError>
     requires { world.now ≡ pool.now.world }
+    // None: no selection satisfies world. Otherwise: the preferred selection.
     ensures { IfOk result (λ found. MatchOption found
         ((selection : List ℕ) → IsSatisfying pool.now selection → ⊥)
         (λ trace. IsFirstPreferredSelection pool.now trace)) }
@@ -41,6 +42,7 @@ fn first_selection(alloc: Global, search: &mut Search<'_>) -> Result<Option<Trac
     requires search { IsSearch search.old.chosen search.old.turns.items }
     requires matches { AreMatchesAmong (pool_of search.old.chosen).candidates search.old.matches }
     requires known { search.old.known ≡ pool_of search.old.chosen }
+    // None: no selection satisfies world. Otherwise: the preferred selection.
     ensures { IfOk result (λ found. MatchOption found ((selection : List ℕ) →
         IsSatisfying (pool_of search.old.chosen) selection → ⊥)
         (λ trace. IsFirstPreferredSelection (pool_of search.old.chosen) trace)) }
