@@ -68,7 +68,7 @@ fn run_command<T: Tree>(
         (IsPossibleOutcome (Ok command.now)) (effect_of command.now.applet)
         (output_name_for_effect (effect_of command.now.applet) command.now)
         (T.history tree.old) (T.history tree.new) (T.counts tree.old) (T.counts tree.new) result }
-    // A command that ignores files has the same verdict over all files, and leaves the tree as it is.
+    // A command that ignores files has one verdict over all files, and leaves the tree as it is.
     ensures by_arguments { IsTrue (ignores_files (effect_of command.now.applet))
         → IsRunByArguments (IsOutcome (Ok command.now)) tree.old tree.new result }
     ensures same { IsTrue (does_only_read (effect_of command.now.applet))
@@ -91,7 +91,7 @@ pub(crate) fn run<T: Tree>(
         (IsPossibleOutcomeWithoutDemo command.now) (effect_of command.now.applet)
         (output_name_for_effect (effect_of command.now.applet) command.now)
         (T.history tree.old) (T.history tree.new) (T.counts tree.old) (T.counts tree.new) result }
-    // A command that ignores files has the same verdict over all files, and leaves the tree as it is.
+    // A command that ignores files has one verdict over all files, and leaves the tree as it is.
     ensures by_arguments { IsTrue (ignores_files (effect_of command.now.applet))
         → IsRunByArguments
         (λ files outcome. outcome ≡ read_only_outcome command.now (reads_in files) files)
@@ -111,7 +111,7 @@ fn look<T: Tree>(alloc: Global, command: &Command, tree: &mut T) -> Result<Verdi
     requires { IsTrue (does_only_read (effect_of command.now.applet)) }
     ensures run { IsReadingRun (read_only_outcome command.now)
         (T.history tree.old) (T.history tree.new) (T.counts tree.old) (T.counts tree.new) result }
-    // A command that ignores files has the same verdict over all files, and leaves the tree as it is.
+    // A command that ignores files has one verdict over all files, and leaves the tree as it is.
     ensures by_arguments { IsTrue (ignores_files (effect_of command.now.applet))
         → IsRunByArguments
         (λ files outcome. outcome ≡ read_only_outcome command.now (reads_in files) files)

@@ -124,6 +124,7 @@ impl<'a> Table<'a> {
     // Adds a candidate to those of a name that has no list: it has one candidate at most.
     fn add_to_single(&mut self, name: &'a [u8], id: CandId) -> Result<(), AllocError>
         requires { first_entry_under_name self.old.lists name.now ≡ None }
+        // The place is added to the places of this name, and to no other name.
         ensures { OnOk result (HasPlaceAdded (λ other. bytes_eq other name.entry.now) id
             self.old self.new) }
     {

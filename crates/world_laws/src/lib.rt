@@ -83,6 +83,8 @@ pub fn a_simulation_predicts_the_change()
 
 /// If a simulation is refused, the command without `--simulate` is refused in the same way.
 pub fn a_refused_simulation_refuses_the_change()
+    // `expected` is the selection of the simulation, and `other` its first clash; `chosen` and
+    // `clash` are those of the command without `--simulate`.
     ensures { (command : CommandLine) (read : Reads) (files : Files)
         (expected chosen : Option (List ℕ)) (other clash : Option NamePair) (refusal : Refusal)
         → IsChoiceFrom (pool_of_command (with_simulation command) read) expected
