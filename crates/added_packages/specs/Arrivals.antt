@@ -67,12 +67,12 @@ members_of_read_packages before reads = filter_map (member_of_read_package befor
 
 -- ---- as members
 
--- a package that was read is placed: if it is kept, its place is one of the database
+-- if the package is kept, its place is one of the database
 abbrev pub HasPlaceIfKept : List Plain → MemberRead → Type 0
 HasPlaceIfKept before (Stays place) = place < length before
 HasPlaceIfKept before (Comes pkg) = Unit {0}
 
--- each of some packages that were read is placed
+-- each kept package of the list has a place in the database
 abbrev pub HavePlacesIfKept : List Plain → List MemberRead → Type 0
 HavePlacesIfKept before [] = Unit {0}
 HavePlacesIfKept before (r ∷ reads) = HasPlaceIfKept before r × HavePlacesIfKept before reads

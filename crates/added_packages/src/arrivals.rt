@@ -138,7 +138,7 @@ pub fn read_arrivals<T: Tree>(
     Ok(Arrivals { members })
 }
 
-/// Adds a package to the others, if there is one.
+/// Appends a package to those read before, if there is one.
 fn push_member(members: &mut Vec<MemberRead>, member: Option<MemberRead>) -> Result<(), AllocError>
     ensures { OnOk result (members.new.items ≡ members.old.items ++ option_to_list member) }
 {

@@ -30,12 +30,12 @@ size_when_installed info = int_in (field_named PkgInfo (codes "installed-size") 
 abbrev pub member_info : Member → Plain
 member_info m = field_named Package (codes "info") m.pkg
 
--- a number is the sum of some numbers
+-- the number is the sum of the numbers in the list
 abbrev pub IsSumOf : List ℕ → ℕ → Type 0
 IsSumOf [] sum = sum ≡ 0
 IsSumOf (n ∷ numbers) sum = (rest : ℕ) × IsSumOf numbers rest × (sum ≡ n + rest)
 
--- a text is a line with the sum of some sizes, and how many they are
+-- the text is a line with the sum of these sizes, and with their number
 pub record IsSumLine (sizes : List ℕ) (text : List ℕ) : Type 0 where
   -- the sum of the sizes
   pub sum : ℕ

@@ -26,6 +26,7 @@ pub fn a_pattern_matches_a_folder_part_by_part()
     ensures root { (pattern : List ℕ)
         → (is_folder_matched [] pattern ≡ true) ↔ (pattern ≡ codes "/") }
 {
+    // A law that the proof needs; it has no effect at run time.
     a_pattern_matches_what_its_stars_are_filled_to();
 }
 
@@ -67,5 +68,6 @@ pub fn the_changed_files_are_those_written_or_removed()
         → IsIn path (touched_paths change files)
         ↔ ((is_written change files path ≡ true) ⊎ (is_removed change files path ≡ true)) }
 {
+    // A law that the proof needs; it has no effect at run time.
     the_lists_of_a_plan_hold_just_its_names();
 }

@@ -24,8 +24,8 @@ use pkg_core::table_of_schema;
 use report_core::Refusal;
 use std::alloc::{AllocError, Global};
 
-/// Prints the text of the file that the one operand names: on an observable tree the text of that
-/// file, on every tree that of some bytes.
+/// Prints the dump text of the file that the operand names. On a tree that is not observable it is
+/// the text of some bytes.
 pub(crate) fn adbdump<T: Tree>(
     alloc: Global,
     operands: &Operands,

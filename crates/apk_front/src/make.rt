@@ -59,7 +59,7 @@ pub(crate) fn mkpkg<T: Tree>(
     // The effect of the run on the tree.
     ensures run { IsMakingRun (IsPackageOutcome command.now) (output_name command.now)
         (T.history tree.old) (T.history tree.new) result }
-    // A verdict has no new failed call behind it, and an error has its cause in the tree.
+    // If there is a verdict, the tree counted no failed call; an I/O error has its cause there.
     ensures counts { IsVerdictExplainedByCounts (T.counts tree.old) (T.counts tree.new) result }
     // No call is a misuse if the paths of the output and its scratch name are free.
     // No call is a misuse if the paths of the output and its scratch name are free.
@@ -88,14 +88,15 @@ pub(crate) fn mkndx<T: Tree>(
     requires applet { command.now.applet ≡ Mkndx }
     ensures found { IfOk result (λ verdict. IfObservable (T.history tree.old) (λ v.
         ReportsOneOfOutcomes (IsIndexOutcome command.now (files_of v)) verdict)) }
-    // On every tree, for some contents at each read; the files are not used, so none are given.
+    // On every tree the verdict is the specification's, for some contents at each read. The files
+    // are not used, so `no_names` stands for them.
     ensures by_reads { IfOk result (λ verdict. (read : Reads)
         × FindOnlyFiles read 0 command.now.operands
         × Reports verdict (mkndx read no_names command.now)) }
     // The effect of the run on the tree.
     ensures run { IsMakingRun (IsIndexOutcome command.now) (output_name command.now)
         (T.history tree.old) (T.history tree.new) result }
-    // A verdict has no new failed call behind it, and an error has its cause in the tree.
+    // If there is a verdict, the tree counted no failed call; an I/O error has its cause there.
     ensures counts { IsVerdictExplainedByCounts (T.counts tree.old) (T.counts tree.new) result }
     // No call is a misuse if the paths of the output and its scratch name are free.
     ensures proper { IfObservable (T.history tree.old) (λ v.
@@ -183,9 +184,9 @@ fn finish<T: Tree>(
     ensures disk { IsErrOf result TreeFault.Disk
         → IsErrOf container MakeFault.Disk
         ⊎ IsFaultCountedWithCause (T.counts tree.old) (T.counts tree.new) }
-    // If there is a verdict, no call on the tree failed here.
+    // If there is a verdict, the tree counted no failed call here.
     ensures kept { OnOk result (CountsNoNewFault (T.counts tree.old) (T.counts tree.new)) }
-    // If memory ran out, no call on the tree failed here by an I/O error.
+    // If memory ran out, the tree counted no failed call here.
     ensures memory { IsErrOf result TreeFault.Memory
         → CountsNoNewFault (T.counts tree.old) (T.counts tree.new) }
     // An I/O error while the container was made is not answered as out of memory.
@@ -221,7 +222,7 @@ fn write<T: Tree>(
     ensures run { IsMakingRun (λ files outcome. outcome
         ≡ make_outcome files (output_name command.now) report (Ok file.now))
         (output_name command.now) (T.history tree.old) (T.history tree.new) result }
-    // A verdict has no new failed call behind it, and an error has its cause in the tree.
+    // If there is a verdict, the tree counted no failed call; an I/O error has its cause there.
     ensures counts { IsVerdictExplainedByCounts (T.counts tree.old) (T.counts tree.new) result }
     // No call is a misuse if the paths of the output and its scratch name are free.
     ensures proper { IfObservable (T.history tree.old) (λ v.

@@ -25,7 +25,7 @@ pub record IsRecordOfPackages (packages : List Plain) (r : PathAndEntry) : Type 
   -- the record is one of this package
   pub listed : IsIn r (package_records pkg)
 
--- what is found under a path differs so from the entry
+-- what is found under a path differs from the entry in this way
 abbrev pub DiffersFromEntry : Difference → Plain → Option (List ℕ) → Type 0
 DiffersFromEntry Missing entry found = found ≡ None
 DiffersFromEntry Changed entry found = IsSomeAnd found (λ bytes. is_as_listed entry bytes ≡ false)

@@ -36,11 +36,11 @@ abbrev pub places_of_name : Offered → List ℕ → List ℕ
 places_of_name table name = unwrap_or (first_entry_under_name table.lists name)
     (unwrap_or (first_entry_under_name table.singles name) [])
 
--- whether the last of some places is this one
+-- whether this place is the last of the list
 abbrev pub is_last_place : ℕ → List ℕ → Bool
 is_last_place id ids = option_map_or (λ last. last == id) (last_or None ids) false
 
--- places with one more after the others, unless it is the last of them
+-- the list with this place appended, unless the place is the last one already
 abbrev pub with_place_unless_last : List ℕ → ℕ → List ℕ
 with_place_unless_last ids id = if is_last_place id ids then ids else ids ++ id ∷ []
 

@@ -188,8 +188,8 @@ impl<'a> CandidateList<'a> {
     }
 }
 
-// Marks each of some candidates as installed if it is the installed package, and returns whether
-// one is.
+// Of the candidates at these places, marks as installed each one that is the installed package.
+// Returns whether there is one.
 fn mark_among<'a>(packages: &mut Packages<'a>, ids: &[CandId], installed: &Details<'a>) -> bool
     requires { ids.now
         ≡ places_offering installed.now.name (candidates_of_packages packages.old) }

@@ -81,7 +81,7 @@ fn has_sound_entries(judged: &mut Judged<'_>, word: Val, field: usize) -> Result
     are_dependencies(judged, words)
 }
 
-// Whether each of some words is that of a dependency.
+// Whether each of these words (32-bit values) refers to a dependency.
 #[tactic(auto, using(adb_fields::proofs::FieldReads::entry_sound))]
 fn are_dependencies<'a>(judged: &mut Judged<'a>, words: Arr<'a>) -> Result<bool, AllocError>
     requires { are_all_sound (payload_of judged.old.adb) (Kinds.Obj Tables.Dep)
@@ -100,7 +100,7 @@ fn are_dependencies<'a>(judged: &mut Judged<'a>, words: Arr<'a>) -> Result<bool,
     Ok(true)
 }
 
-// The dependency of the object with a word, if it is one.
+// The dependency to which a word (32-bit value) refers, if the object there is a dependency.
 #[tactic(auto, unfolding(dep_core::specs::ValueReading::dependency_of_value))]
 fn read_entry<'a>(judged: &mut Judged<'a>, word: Val) -> Result<Option<Dep<'a>>, AllocError>
     requires { is_sound (payload_of judged.old.adb) (Kinds.Obj Tables.Dep) word ≡ true }

@@ -62,7 +62,7 @@ impl<'a> Table<'a> {
         }
     }
 
-    // The candidate of a name that one candidate at most offers.
+    // The places of the candidates of a name that at most one candidate offers.
     fn single(&self, name: &[u8]) -> &[CandId]
         ensures { result.now ≡ unwrap_or (first_entry_under_name self.now.singles name.now) [] }
     {
@@ -200,7 +200,7 @@ fn push_once(ids: &mut Vec<CandId>, id: CandId) -> Result<(), AllocError>
     Ok(())
 }
 
-// Whether the last of some places is this one.
+// Whether this place is the last of the list.
 fn is_last_place(ids: &[CandId], id: CandId) -> bool
     ensures { result ≡ is_last_place id ids.now }
 {

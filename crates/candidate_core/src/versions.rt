@@ -264,8 +264,8 @@ pub fn same_version<'a>(version: &Option<Version<'a>>) -> Option<Version<'a>>
     }
 }
 
-// The dependency of an entry of a list, if it is one; if the source's texts obey their rules, each
-// entry is.
+// The dependency that an entry of a list is; None if it is none. If the source's texts obey their
+// rules, each entry is a dependency.
 fn read_entry<'a>(source: &Source<'a>, entry: Val) -> Option<Dep<'a>>
     requires { IsDependencyEntryWordOf source.now entry }
     ensures { option_map dependency result ≡ dependency_in (entry_in_source source.now entry) }

@@ -112,7 +112,7 @@ pub(crate) fn read_index_files<T: Tree>(
     Ok(files)
 }
 
-// Adds a file's bytes after those of the earlier repositories.
+// Appends the bytes of an index to those of the earlier repositories.
 fn push_file(files: &mut Vec<Vec<u8>>, file: Vec<u8>) -> Result<(), AllocError>
     ensures { OnOk result (bytes_of_each files.new.items
         ≡ bytes_of_each files.old.items ++ file.items ∷ []) }

@@ -117,7 +117,7 @@ impl Loaded {
         &self.root.worlds.before
     }
 
-    /// World as the command asks for it.
+    /// World after the command has added or removed its entries.
     pub fn new_world(&self) -> &World
         ensures { result.now ≡ (inputs_seen self.now).root.new_world }
     {

@@ -96,7 +96,7 @@ script_of pkg number = text_in (entry_in (entry_in pkg PACKAGE_SCRIPTS) (number 
 abbrev pub has_script_of : Plain → ℕ → Bool
 has_script_of pkg number = not (length (script_of pkg number) == 0)
 
--- the first of some scripts that the package has
+-- of the scripts with these numbers, the first that the package has
 abbrev pub first_script_of : Plain → List ℕ → Option ℕ
 first_script_of pkg [] = None
 first_script_of pkg (number ∷ numbers) =

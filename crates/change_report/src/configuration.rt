@@ -41,7 +41,8 @@ pub(crate) fn push_configuration_lines(
     Ok(())
 }
 
-/// Adds a notice for each of some paths, all kept or all with a file beside them.
+/// Adds a notice for each of these paths. `is_kept` says whether the user's file is kept there, or
+/// a new file is laid beside it.
 fn push_notices<'p>(
     notices: &mut Vec<Notice<'p>>,
     paths: &'p Names,

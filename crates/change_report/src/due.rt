@@ -58,7 +58,7 @@ pub fn push_trigger_lines(
     Ok(())
 }
 
-/// Whether the trigger of a package is due for one of some folders.
+/// Whether the trigger of a package is due for one of these folders.
 fn has_due_trigger(pkg: &PackageView<'_>, folders: &[&[u8]]) -> bool
     ensures { result ≡ has_due_trigger (map (λ f. f.now) folders.now) (package_value pkg.now) }
 {
@@ -73,7 +73,7 @@ fn has_due_trigger(pkg: &PackageView<'_>, folders: &[&[u8]]) -> bool
     false
 }
 
-/// Adds a line for each of some folders for which the trigger of a package is due.
+/// Adds a line for each of these folders for which the trigger of the package is due.
 fn push_due_lines(
     report: &mut Report,
     pkg: &PackageView<'_>,

@@ -25,7 +25,7 @@ all_flags =
     AllowUntrusted ∷ (NoScripts ∷ (Initdb ∷ (Simulate ∷ (Purge ∷
     (Installed ∷ (Contents ∷ (Depends ∷ (WhoOwns ∷ (Test ∷ (Check ∷ []))))))))))
 
--- whether of some flags at most one was given
+-- whether at most one of these flags was given
 abbrev pub has_at_most_one : List Flag → Flags → Bool
 has_at_most_one [] flags = true
 has_at_most_one (flag ∷ others) flags =

@@ -113,7 +113,7 @@ fn push_package(words: &mut Words, alloc: Global, i: u16) -> Result<(), AllocErr
     Ok(())
 }
 
-/// The words that add those of n packages on which no other depends.
+/// The command line of `add` with the names of those of n packages on which no other one depends.
 pub fn add_words(alloc: Global, n: u16) -> Result<Words, AllocError>
     ensures { IfOk result (λ words. words ≡ add_words n) }
 {

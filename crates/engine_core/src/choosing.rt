@@ -103,6 +103,7 @@ pub fn a_choice_exists()
     ensures { (pool : Result SealedPool Refusal) →
         (chosen : Option (List ℕ)) × IsChoiceFrom pool chosen }
 {
+    // A law that the proof needs; it has no effect at run time.
     options_are_the_best_first();
 }
 
@@ -111,5 +112,6 @@ pub fn a_choice_is_unique()
     ensures { (pool : Result SealedPool Refusal) (a b : Option (List ℕ)) →
         IsChoiceFrom pool a → IsChoiceFrom pool b → a ≡ b }
 {
+    // A law that the proof needs; it has no effect at run time.
     the_first_selection_is_unique();
 }

@@ -88,6 +88,7 @@ pub fn apk_as_promised<T: Tree, O: Sink, E: Sink>(
     ensures same { IsTrue (reads_only (command_of words.now))
         → T.history tree.new ≡ T.history tree.old }
 {
+    // Laws that the proof needs; they have no effect at run time.
     the_sentence_holds();
     a_run_is_safe_after_any_events();
     apk(alloc, words, tree, out, err)

@@ -113,7 +113,7 @@ merit_ranking_cmp key =
 abbrev pub repository_ranking_cmp : Ranking → Ranking → Ordering
 repository_ranking_cmp = on (λ (r : Ranking). r.repository) earlier_repository
 
--- keys 2 to 10, of two options that world pins both, or neither
+-- the order of two options by keys 2 to 10, if world pins both of them, or neither of them
 abbrev pub unpinned_ranking_cmp : VersionKey → Ranking → Ranking → Ordering
 unpinned_ranking_cmp key =
     then_cmp quality_ranking_cmp (then_cmp (merit_ranking_cmp key) repository_ranking_cmp)
@@ -122,6 +122,6 @@ unpinned_ranking_cmp key =
 abbrev pub candidate_ranking_cmp : VersionKey → Ranking → Ranking → Ordering
 candidate_ranking_cmp key = then_cmp (truth_first (λ r. r.pinned)) (unpinned_ranking_cmp key)
 
--- all eleven keys: the place decides if the others are equal
+-- the order of two options by all eleven keys: the place decides if keys 1 to 10 are equal
 unfoldable pub ranking_cmp : VersionKey → Ranking → Ranking → Ordering
 ranking_cmp key = then_cmp (candidate_ranking_cmp key) (on (λ (r : Ranking). r.place) nat_cmp)

@@ -35,7 +35,7 @@ HasVersionTextsOfSources sources r =
 
 -- ---- ranks
 
--- the version of an option by a kind: the one under which it meets the need, or its own
+-- one of the two versions of an option, as the kind says: the one under which it meets the need, or its own
 abbrev pub version_of : VersionKind → Ranking → RankedVersion
 version_of Under r = r.under
 version_of Own r = r.version
@@ -77,7 +77,7 @@ abbrev pub IsRankAt : List RankedVersion → RankedVersion → ℕ → Type 0
 IsRankAt versions other rank = (v : RankedVersion)
     × (IsIn v versions × (HaveSamePlace v other × (v.rank ≡ rank)))
 
--- the ranking's version of a kind is one of the list
+-- the version of the ranking that the kind says is in the list
 abbrev pub IsVersionAmong : VersionKind → List (Option (List ℕ)) → Ranking → Type 0
 IsVersionAmong kind versions r = IsIn (version_of kind r).version versions
 

@@ -56,8 +56,8 @@ fn has_long_version(options: &[RankedOption<'_>]) -> bool {
     false
 }
 
-// Ranks one version of each option, that of a kind, among those of all, and may reorder the
-// options.
+// Ranks one of the two versions of each option, the one that the kind says, among those of all
+// options. It may reorder the options.
 fn rank_versions<'a>(
     alloc: Global,
     options: &mut Vec<RankedOption<'a>>,
@@ -66,6 +66,7 @@ fn rank_versions<'a>(
     requires { HaveVersionsFromSameTexts kind options.old.items }
     ensures { OnOk result (AreRankedFrom kind options.old.items options.new.items) }
 {
+    // A law that the proof needs; it has no effect at run time.
     order_is_total();
     // After this sort, options that refer to the same text are adjacent.
     options.sort_by(|one, other| by_place(one.version_of(kind), other.version_of(kind)))?;
@@ -161,6 +162,7 @@ fn rank_sorted(versions: &mut Vec<RankedVersion<'_>>, kind: VersionKind)
     ensures { versions.new.items
         ≡ map (version_with_rank_among kind (versions_in versions.old.items)) versions.old.items }
 {
+    // A law that the proof needs; it has no effect at run time.
     order_is_total();
     for i in 0..versions.len() {
         let rank = if equals_the_one_before(versions, i, kind) {

@@ -78,7 +78,7 @@ impl<'a> Changes<'a> {
     }
 }
 
-/// Adds the change of a name to the others, if there is one.
+/// Appends the change of a name to the list of changes, if the name has a change.
 fn push_change<'a>(
     list: &mut Vec<PlacedChange<'a>>,
     name: &PlacedName<'a>,

@@ -42,7 +42,7 @@ pub fn push_stay_lines(
     Ok(())
 }
 
-/// Those of some names that a selected candidate has, in their order.
+/// Of these names, those that a selected candidate has, in the same order.
 fn selected_among<'n>(
     alloc: Global,
     names: &[&'n [u8]],
@@ -201,7 +201,7 @@ fn push_names_in_need<'a>(
     Ok(())
 }
 
-/// Adds the name of the candidate at a place, if there is one and it needs another one.
+/// Adds the name of the candidate at a place, if there is one, and it needs the candidate `needed`.
 fn push_name_if_it_needs<'a>(
     names: &mut Vec<&'a [u8]>,
     pool: &Sealed<'a>,
@@ -227,7 +227,7 @@ fn push_name_if_it_needs<'a>(
     }
 }
 
-/// Adds a name to a list if it is wanted.
+/// Adds the name to the list if `is_wanted` is true.
 fn push_name_if<'a>(
     names: &mut Vec<&'a [u8]>,
     name: &'a [u8],

@@ -22,6 +22,7 @@ pub fn rank_is_total()
     ensures strict { (pool : SealedPool) (need : Need) (a b : ℕ) →
         rank_cmp pool need a b ≡ Equal → a ≡ b }
 {
+    // A law that the proof needs; it has no effect at run time.
     order_is_total();
 }
 
@@ -37,6 +38,7 @@ pub fn options_are_the_best_first()
     ensures best_first { (pool : SealedPool) (need : Need) →
         IsSortedBestFirst (is_better pool need) (options_for pool need) }
 {
+    // A law that the proof needs; it has no effect at run time.
     rank_is_total();
 }
 

@@ -114,8 +114,8 @@ fn opposite_marks(alloc: Global, marks: &[bool]) -> Result<Vec<bool>, AllocError
     marks.iter().map(|mark| !*mark).collect(alloc)
 }
 
-// Sets the mark of each candidate on which one of some entries of world has an effect. Other marks
-// are unchanged.
+// Sets the mark of each candidate on which an entry of the list, which is of world, has the effect.
+// Other marks are unchanged.
 fn mark_affected(
     alloc: Global,
     marks: &mut Vec<bool>,
@@ -296,7 +296,7 @@ fn uses_tag(tagged: &[Dep<'_>], tag: &[u8]) -> bool
     any_has_tag(tagged, tag)
 }
 
-// Whether one of some entries has this tag; the clause is about the entries as values of the
+// Whether an entry of the list has this tag. The clause is about the entries as values of the
 // program.
 fn any_has_tag(tagged: &[Dep<'_>], tag: &[u8]) -> bool
     ensures { result ≡ list_any

@@ -201,6 +201,7 @@ impl<'a> Sealed<'a> {
         requires matches { AreMatchesInPool self.now (need_of_ref need.now) packages.now known.now }
         ensures { IfOk result (λ options. options ≡ options_for self.now (need_of_ref need.now)) }
     {
+        // Laws that the proof needs; they have no effect at run time.
         rank_is_total();
         order_is_total();
         let mut rankings = self.rankings(alloc, need, ids, packages, known)?;

@@ -17,7 +17,7 @@ use dep_core::{Dep, World};
 use option_ranks::{CandId, CandidateList, Details, Packages};
 use std::alloc::{AllocError, Global};
 
-/// The kinds of entries of world that affect candidates; an entry can be of both.
+/// The kinds of entries of world that affect candidates. An entry can be of both kinds.
 #[derive(Clone, Copy)]
 enum EntryKind {
     /// The entry is a conflict: it bars the candidates that meet it.

@@ -48,6 +48,7 @@ pub fn the_order_of_queries_is_total()
         → slice_get cs a ≡ Some x → slice_get cs b ≡ Some y → x.name ≡ y.name
         → x.version ≡ y.version → a < b → query_cmp cs a b ≡ Less }
 {
+    // A law that the proof needs; it has no effect at run time.
     order_is_total();
 }
 
@@ -64,6 +65,7 @@ pub fn a_query_selects_what_passes_its_test()
     ensures order { (test : Candidate → Bool) (cs : List Candidate)
         → AreInOrderBy (query_cmp cs) (sorted_places_passing test cs) }
 {
+    // A law that the proof needs; it has no effect at run time.
     order_is_total();
 }
 
@@ -75,6 +77,7 @@ pub fn list_prints_what_is_asked_for()
         ↔ (((patterns ≡ []) ⊎ MatchesNamePattern patterns c.name)
         × (installed_only ≡ true → c.installed ≡ true)) }
 {
+    // A law that the proof needs; it has no effect at run time.
     a_pattern_matches_what_its_stars_are_filled_to();
 }
 
@@ -86,6 +89,7 @@ pub fn search_prints_what_is_asked_for()
         ↔ ((is_some c.repository ≡ true)
         × ((name : List ℕ) × (IsOwnOrProvidedName c name × MatchesPartOfName patterns name))) }
 {
+    // A law that the proof needs; it has no effect at run time.
     a_pattern_matches_what_its_stars_are_filled_to();
 }
 
@@ -107,6 +111,7 @@ pub fn policy_prints_each_version_once()
         → ((version : Option (List ℕ)) → IsVersionOfName cs name version → ⊥)
         → name_policy cs repositories name ≡ policy_heading name }
 {
+    // A law that the proof needs; it has no effect at run time.
     order_is_total();
 }
 

@@ -108,8 +108,8 @@ fn put_version_heading<O: ReportOut>(out: &mut O, version: &[u8]) -> Result<(), 
     out.put(b":\n")
 }
 
-// Puts a line for each of some repositories, by their numbers, and none twice: of equal numbers,
-// which are side by side, the first one alone.
+// Writes a line for each of these repositories, by their numbers, and none twice. Equal numbers are
+// side by side, and only the first of them has a line.
 fn put_repositories<O: ReportOut>(
     out: &mut O,
     repositories: &Repos,

@@ -66,7 +66,7 @@ fn named_places(alloc: Global, pool: &Sealed<'_>, name: &[u8]) -> Result<Vec<Can
     Ok(places)
 }
 
-// Those of some places whose candidates have a name of their own.
+// Of these places, those whose candidates have the name as their own.
 fn named_among(
     alloc: Global,
     pool: &Sealed<'_>,
@@ -111,6 +111,7 @@ fn grouped<'a>(
     ensures places { IfOk result (λ versions.
         All (ListsPlacesOfVersion pool.now.candidates name.now) versions.items) }
 {
+    // A law that the proof needs; it has no effect at run time.
     order_is_total();
     let rankings = ordered.rankings.as_slice();
     let mut versions = Vec::new(alloc);
@@ -123,7 +124,8 @@ fn grouped<'a>(
     Ok(versions)
 }
 
-// The first index after `start` at which the version is another one than at `start`, or the length.
+// The first index after `start` at which the version is not that at `start`; the length of the list
+// if there is none.
 fn end_of_version(rankings: &[RankedOption<'_>], key: VersionKey, start: usize) -> usize
     requires { start < length rankings.now }
     ensures after { start < result }

@@ -38,7 +38,7 @@ abbrev pub IsFoundInstalled : CommandLine → List Plain → List ℕ → Type 0
 IsFoundInstalled command packages text =
     (pkg : Plain) × IsIn pkg packages × IsPackageAskedFor command.flags.who_owns text pkg
 
--- what each of some operands asks for is installed
+-- what each of these operands asks for is installed
 abbrev pub AreFoundInstalled : CommandLine → List Plain → List Operand → Type 0
 AreFoundInstalled command packages operands =
     (o : Operand) → IsIn o operands → IsFoundInstalled command packages o.text

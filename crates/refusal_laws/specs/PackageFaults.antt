@@ -36,17 +36,17 @@ pub record IsFileBad (inputs : Inputs) (r : Replacement) (read : Reads) (name ve
 
 -- ---- another package
 
--- the wanted id is the index's, the other that of the package's file, and they differ
+-- the first id is that in the index, the second is that in the package's file, and they differ
 abbrev pub HasOtherId : Candidate → AddedPackage → List ℕ → List ℕ → Type 0
 HasOtherId c pkg wanted found =
     (wanted ≡ c.id) × (found ≡ pkg.id) × (is_same_id wanted found ≡ false)
 
--- the wanted name is the index's, the other that of the package's file
+-- the first name is that in the index, and the second is that in the package's file
 abbrev pub HasOtherName : Candidate → AddedPackage → List ℕ → List ℕ → Type 0
 HasOtherName c pkg wanted found =
     (wanted ≡ c.name) × (found ≡ package_name pkg.value) × (wanted ≡ found → ⊥)
 
--- the wanted version is the index's, the other that of the package's file
+-- the first version is that in the index, and the second is that in the package's file
 abbrev pub HasOtherVersion : Candidate → AddedPackage → List ℕ → List ℕ → Type 0
 HasOtherVersion c pkg wanted found =
     (wanted ≡ candidate_version_text c) × (found ≡ package_version_text pkg.value) × (wanted ≡ found → ⊥)

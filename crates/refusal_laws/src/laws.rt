@@ -115,6 +115,7 @@ pub fn a_refused_run_has_its_fault()
         → effect_of command.applet ≡ Changes → IsOutcome (command_of words) files o
         → o.refusal ≡ Some refusal → IsFaultOfRun command files refusal }
 {
+    // A law that the proof needs; it has no effect at run time.
     a_command_recovers();
 }
 
@@ -193,6 +194,7 @@ pub fn the_packages_after_a_run_are_those_of_the_first_selection()
         → o.refusal ≡ None
         → command.flags.simulate ≡ false → HasFaultlessFirstPreferredSelection command files }
 {
+    // A law that the proof needs; it has no effect at run time.
     a_change_takes_the_first_selection_or_is_refused();
 }
 

@@ -80,6 +80,7 @@ pub fn a_run_is_safe_after_any_events()
     // If each crash leaves one state before the next run, this run is all or nothing.
     ensures atomic { (v : TreeState) (run : Run) → IsRunFrom v run → IsAtomicAfterAnyEvents v run }
 {
+    // Laws that the proof needs; they have no effect at run time.
     a_crash_leaves_a_durable_settled_tree();
     more_names_may_be_ignored();
     an_outcome_is_unique();
@@ -121,6 +122,7 @@ pub fn a_root_that_commits_nothing_keeps_its_state()
         → AnswersOutcome run.answer → HasOutcomeWithoutCommit (IsOutcomeFrom v run)
         → HoldsNow run.now (λ w. files_of w ≡ unstaged_files (files_of v)) }
 {
+    // Laws that the proof needs; they have no effect at run time.
     a_crash_leaves_a_durable_settled_tree();
     an_outcome_is_unique();
     a_command_that_reads_leaves_the_files();
@@ -148,6 +150,7 @@ pub fn each_name_keeps_old_recovered_or_new_bytes()
         → ReachesByRuns (LeavesTrueAt test q) first events w
         → IsTrueAt test q (files_of w) }
 {
+    // Laws that the proof needs; they have no effect at run time.
     a_command_that_reads_leaves_the_files();
     a_reporting_command_leaves_the_files();
     a_change_keeps_paths_free();
@@ -176,6 +179,7 @@ pub fn the_actions_of_an_intent_are_durably_done()
         → (q : List ℕ) → IsOrdinaryName (ignored_after ignored events) run q
         → IsDurablyDone v run m q }
 {
+    // Laws that the proof needs; they have no effect at run time.
     a_crash_leaves_a_durable_settled_tree();
     more_names_may_be_ignored();
     an_outcome_is_unique();
@@ -200,6 +204,7 @@ pub fn no_events_leave_a_bad_intent()
         → does_recover (effect_of_arguments (command_of run.words)) ≡ true → LeavesNoBadIntent v
         → IsNotRefusedForIntent run }
 {
+    // Laws that the proof needs; they have no effect at run time.
     a_crash_leaves_a_durable_settled_tree();
     more_names_may_be_ignored();
     a_state_shows_a_bad_intent();
@@ -245,6 +250,7 @@ pub fn a_stopped_run_is_recovered()
         → HasStateOfCrashBeforeOrOutcome ignored v run files
         → HasStateAsReadOrOutcome ignored v run files }
 {
+    // Laws that the proof needs; they have no effect at run time.
     a_crash_leaves_a_durable_settled_tree();
     more_names_may_be_ignored();
     a_state_shows_a_bad_intent();

@@ -13,7 +13,7 @@ use Rattle.pool_core.specs.candidate_core.Rank.{SealedPool, bytes_cmp, candidate
 use Rattle.search_tables.specs.NameTable.{items_under_name}
 use Rattle.search_tables.specs.Selection.{is_met, is_unmet}
 
--- whether a choice meets each of some dependencies
+-- whether each of these dependencies is met by a choice
 abbrev pub all_met : SealedPool → List ℕ → List Dependency → Bool
 all_met pool chosen deps = list_all (λ (d : Dependency). is_met pool chosen (entry d)) deps
 

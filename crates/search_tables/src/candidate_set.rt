@@ -54,7 +54,7 @@ impl CandidateSet {
         }
     }
 
-    /// Puts a candidate after the others of the set, unless the set has it.
+    /// Appends a candidate to the set, unless the set has it.
     pub fn add(&mut self, id: CandId) -> Result<(), AllocError>
         ensures { OnOk result (HasSameMembers self.new (self.old ++ id ∷ [])) }
     {
@@ -65,7 +65,7 @@ impl CandidateSet {
         Ok(())
     }
 
-    /// Appends those of some candidates that are not in the set.
+    /// Appends each of these candidates that is not in the set.
     pub fn add_all(&mut self, ids: &[CandId]) -> Result<(), AllocError>
         ensures { OnOk result (HasSameMembers self.new (self.old ++ ids.now)) }
     {

@@ -84,8 +84,8 @@ impl<'p> Conflicts<'p> {
         }
     }
 
-    /// Adds the conflicts that are among a candidate's dependencies, after the others of their
-    /// names.
+    /// Adds the conflicts that are among the dependencies of the candidate `by`. Under each name
+    /// they are appended.
     pub fn add(&mut self, depends: &Deps<'p>, by: CandId) -> Result<(), AllocError>
         // Under each name, the conflicts of these dependencies that have the name are appended.
         ensures conflicts { OnOk result ((name : List ℕ) → conflicts_in self.new.by_name name

@@ -8,7 +8,8 @@ use pool_core::CandId;
 use std::alloc::{AllocError, Global};
 use std::marker::Model;
 
-/// An option that is ruled out, and why: no satisfying selection contains it and all of the others.
+/// An option that is ruled out, and why: no satisfying selection contains it and all of the
+/// candidates `others`.
 #[derive(Drop)]
 pub struct RuledOutOption {
     /// The option.

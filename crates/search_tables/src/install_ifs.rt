@@ -85,7 +85,8 @@ fn name_at<'a>(pool: &'a Sealed<'_>, id: CandId) -> &'a [u8]
     }
 }
 
-// Appends the rank of a candidate to those of the name of each entry of its install-if.
+// For each entry of a candidate's install-if: appends the candidate's index in the list of
+// install-ifs (its rank) under the name of the entry.
 fn add_install_if<'p>(
     waiting: &mut NameTable<'p, usize>,
     pool: &'p Sealed<'p>,
@@ -104,7 +105,7 @@ fn add_install_if<'p>(
     Ok(())
 }
 
-// Appends a rank to those of the name of each of some dependencies.
+// Appends a rank under the name of each of these dependencies.
 fn add_entries<'p>(
     waiting: &mut NameTable<'p, usize>,
     deps: &Deps<'p>,

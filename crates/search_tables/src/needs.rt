@@ -127,7 +127,7 @@ pub fn is_met_by_latest_or_other(
     is_met(pool, choices, need)
 }
 
-// Whether the latest choice meets the need. If not, another one may.
+// Whether the latest choice meets the need. If it does not, an earlier choice may still meet it.
 fn latest_meets(pool: &Sealed<'_>, choices: &[CandId], need: &NeedRef<'_>) -> bool
     ensures { result ≡ true → is_met pool.now choices.now (need_of_ref need.now) ≡ true }
 {
@@ -159,7 +159,7 @@ fn wants(pool: &Sealed<'_>, choices: &CandidateSet, details: &Details<'_>) -> bo
     !is_met(pool, choices, &NeedRef::Named(details.name()))
 }
 
-// Whether a choice meets each of some dependencies.
+// Whether each of these dependencies is met by a choice.
 fn all_met(pool: &Sealed<'_>, choices: &CandidateSet, deps: &Deps<'_>) -> bool
     ensures { result ≡ all_met pool.now choices.now deps.now }
 {
@@ -235,7 +235,7 @@ pub fn occupant(pool: &Sealed<'_>, choices: &CandidateSet, name: &[u8]) -> Optio
     occupant_among(pool, choices, offers, name)
 }
 
-// The first of some candidates that is a choice and occupies a name.
+// The first of the candidates `ids` that is a choice and occupies the name.
 fn occupant_among(
     pool: &Sealed<'_>,
     choices: &CandidateSet,

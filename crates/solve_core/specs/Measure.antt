@@ -29,7 +29,7 @@ weight b room [] = 0
 weight b zero (d ∷ ds) = 0
 weight b (suc room) (d ∷ ds) = d * power b room + weight b room ds
 
--- the digits of the frames of some turns, the lowest frame's first
+-- the digits of the frames of these turns, the first turn's digit first
 abbrev pub digits : List (FrameValue × ℕ) → List ℕ
 digits [] = []
 digits (turn ∷ turns) = digit turn.0 ∷ digits turns

@@ -18,6 +18,7 @@ pub fn walks_satisfy()
     ensures walked { (pool : SealedPool) (selection walk : List ℕ) →
         IsWalkOfSelection pool selection walk → IsWalkOfSelection pool walk walk }
 {
+    // Laws that the proof needs; they have no effect at run time.
     options_are_as_promised();
     rank_is_total();
 }
@@ -31,6 +32,7 @@ pub fn each_selection_has_one_walk()
         IsWalkOfSelection pool selection walk → IsWalkOfSelection pool selection other → walk
         ≡ other }
 {
+    // Laws that the proof needs; they have no effect at run time.
     options_are_as_promised();
     rank_is_total();
 }
@@ -49,6 +51,7 @@ pub fn walks_have_one_order()
     ensures transitive { (pool : SealedPool) (a b c : List ℕ) →
         IsWalkPreferredTo pool a b → IsWalkPreferredTo pool b c → IsWalkPreferredTo pool a c }
 {
+    // Laws that the proof needs; they have no effect at run time.
     options_are_as_promised();
     rank_is_total();
 }
@@ -59,6 +62,7 @@ pub fn the_first_selection_is_unique()
         IsFirstPreferredSelection pool trace → IsFirstPreferredSelection pool other → trace
         ≡ other }
 {
+    // Laws that the proof needs; they have no effect at run time.
     options_are_as_promised();
     rank_is_total();
 }
@@ -69,6 +73,7 @@ pub fn a_first_selection_exists()
     ensures { (pool : SealedPool) (selection : List ℕ) →
         IsSatisfying pool selection → (trace : List ℕ) × IsFirstPreferredSelection pool trace }
 {
+    // Laws that the proof needs; they have no effect at run time.
     options_are_as_promised();
     rank_is_total();
 }
@@ -81,6 +86,7 @@ pub fn each_choice_is_the_best_that_can_be_completed()
         IsSatisfying pool selection → AreAllMembersOf (front ++ o ∷ []) selection →
         meets_at pool o need ≡ true → (o ≡ c) ⊎ (is_better pool need c o ≡ true) }
 {
+    // Laws that the proof needs; they have no effect at run time.
     options_are_as_promised();
     rank_is_total();
 }

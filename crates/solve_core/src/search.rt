@@ -263,6 +263,7 @@ impl<'p> Search<'p> {
         ensures fewer { IfOk result (λ found. MatchOption found
             (length top.new.1 ≤ length top.old.1) (λ _. length top.new.1 < length top.old.1)) }
     {
+        // A law that the proof needs; it has no effect at run time.
         options_are_as_promised();
         while let Some(id) = top.take_next() {
             match self.reason_against(id)? {
@@ -325,6 +326,7 @@ impl<'p> Search<'p> {
             (λ frame. search_measure self.new.turns.items frame < search_measure self.old.turns.items
             spent)) }
     {
+        // A law that the proof needs; it has no effect at run time.
         options_are_as_promised();
         let last = std::mem::replace(&mut self.reason, CandidateSet::new(self.alloc));
         self.reason = reason_of(last, &spent)?;

@@ -19,6 +19,7 @@ use std::alloc::{AllocError, Global};
 pub(crate) fn options_are_as_promised()
     ensures { (pool : SealedPool) (need : Need) → HasOptions pool need }
 {
+    // A law that the proof needs; it has no effect at run time.
     options_are_the_best_first();
 }
 
@@ -47,6 +48,7 @@ fn first_selection(alloc: Global, search: &mut Search<'_>) -> Result<Option<Trac
         IsSatisfying (pool_of search.old.chosen) selection → ⊥)
         (λ trace. IsFirstPreferredSelection (pool_of search.old.chosen) trace)) }
 {
+    // A law that the proof needs; it has no effect at run time.
     options_are_as_promised();
     let Some(frame) = search.next_frame()? else {
         return Ok(Some(search.trace(alloc)?));

@@ -14,12 +14,12 @@ IsMetByChoice pool chosen need = (c : ℕ) × IsIn c chosen × (meets_at pool c 
 
 -- ---- dependencies
 
--- each of some dependencies that is no conflict is met
+-- each dependency of the list that is no conflict is met by a choice
 abbrev pub AreMetByChoices : SealedPool → List ℕ → List Dependency → Type 0
 AreMetByChoices pool chosen deps = (d : Dependency) → IsIn d deps → d.conflict ≡ false
     → IsMetByChoice pool chosen (entry d)
 
--- a dependency is the first of some that is no conflict and is not met
+-- the dependency is the first of the list that is no conflict and that no choice meets
 pub record IsFirstUnmet (pool : SealedPool) (chosen : List ℕ) (deps : List Dependency)
     (d : Dependency) : Type 0 where
   -- the dependencies before it, and those after it

@@ -77,6 +77,7 @@ pub fn a_simulation_predicts_the_change()
         → change_of_command command read files chosen clash ≡ Ok done
         → IsReportPredicted simulation.report done.report }
 {
+    // Laws that the proof needs; they have no effect at run time.
     a_change_that_is_made_passes_each_test();
     a_choice_is_unique();
 }
@@ -92,6 +93,7 @@ pub fn a_refused_simulation_refuses_the_change()
         → change_of_command (with_simulation command) read files expected other ≡ Err refusal
         → change_of_command command read files chosen clash ≡ Err refusal }
 {
+    // A law that the proof needs; it has no effect at run time.
     a_choice_is_unique();
 }
 
