@@ -72,7 +72,7 @@ fn test_own_scripts(
 {
     let contents = pkg.contents();
     let view = contents.view();
-    // The last argument only names the view's lifetime.
+    // The last argument has no value: it only gives the view's type a lifetime.
     test_scripts(alloc, no_scripts, name, change, &view, PhantomData)
 }
 

@@ -76,8 +76,8 @@ fn audit_records<T: Tree>(
     Ok(report)
 }
 
-// Adds the line of a file, if it differs from its record. The file is read into the piece; what
-// this has before does not matter.
+// Adds the line of a file, if it differs from its record. The file is read into the buffer `piece`,
+// whose contents before do not matter.
 fn audit_record<T: Tree>(
     alloc: Global,
     report: &mut Vec<u8>,

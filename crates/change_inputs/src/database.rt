@@ -151,12 +151,12 @@ impl DatabaseFile {
     /// `TooMany` if there are more candidates than a pool can have, or `Memory`.
     pub(crate) fn add_to<'a>(&'a self, pool: &mut Pool<'a>) -> Result<(), PoolFault>
         requires { length pool.old ≤ MOST_CANDIDATES }
-        // The pool still has no more than it may.
+        // The pool still has no more candidates than it may have.
         ensures fits { OnOk result (length pool.new ≤ MOST_CANDIDATES) }
         // The installed packages are then in the pool: each is marked or appended as a candidate.
         ensures ok { OnOk result (pool.new
             ≡ with_all_installed pool.old (database_seen self.entry.now).packages) }
-        // It is refused only for its count, or if out of memory.
+        // The only errors are too many candidates, and a lack of memory.
         ensures fault { IfErr result (λ fault. IsPoolFault fault (length
             (with_all_installed pool.old (database_seen self.entry.now).packages))) }
     {
@@ -220,12 +220,12 @@ fn add_packages<'a>(
     packages: &List<'a, PackageView<'a>>,
 ) -> Result<(), PoolFault>
     requires { length pool.old ≤ MOST_CANDIDATES }
-    // The pool still has no more than it may.
+    // The pool still has no more candidates than it may have.
     ensures fits { OnOk result (length pool.new ≤ MOST_CANDIDATES) }
     // It has these packages then, each once.
     ensures ok { OnOk result (pool.new
         ≡ with_all_installed pool.old (list_of (entries_in (list_value packages.now)))) }
-    // It is refused only for its count, or if out of memory.
+    // The only errors are too many candidates, and a lack of memory.
     ensures fault { IfErr result (λ fault. IsPoolFault fault (length
         (with_all_installed pool.old (list_of (entries_in (list_value packages.now)))))) }
 {

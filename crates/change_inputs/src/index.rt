@@ -31,7 +31,7 @@ use std::alloc::{AllocError, Global};
 pub(crate) struct IndexFiles {
     /// The bytes of each file, in the order of the repositories.
     pub(crate) files: Vec<Vec<u8>>,
-    // No test of a file as an index fails.
+    // Each file passes each test of an index.
     ghost sound: { are_indexes (bytes_of_each files.items) ≡ true },
 }
 

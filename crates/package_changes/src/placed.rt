@@ -58,9 +58,9 @@ pub struct PlacedNames<'a> {
 }
 
 impl<'a> PlacedNames<'a> {
-    /// What happens to each package if the candidates of a selection replace the packages of a
-    /// database, and some names are to be installed again. It takes time in proportion to n log n
-    /// in the number of packages, candidates and names to be installed again.
+    /// The change of each package, if the candidates of a selection replace the packages of a
+    /// database, and the names `again` are to be installed again. It takes time in proportion to n
+    /// log n in the number of packages, candidates and names to be installed again.
     pub fn of(
         alloc: Global,
         db: &Db<'a>,

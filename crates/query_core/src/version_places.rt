@@ -26,8 +26,8 @@ pub(crate) struct PlacedVersion<'a> {
     pub(crate) version: Option<Version<'a>>,
     /// Whether a candidate with this version is installed.
     pub(crate) is_installed: bool,
-    /// The numbers of the repositories that have one, counted from 1; none is less than those
-    /// before it.
+    /// The numbers of the repositories with such a candidate, counted from 1. No number is less
+    /// than one before it.
     pub(crate) repositories: Vec<u64>,
 }
 
@@ -84,7 +84,7 @@ fn named_among(
     Ok(places)
 }
 
-// Whether there is a candidate at a place that has a name of its own.
+// Whether there is a candidate at the place whose own name is this one.
 fn is_named_at(pool: &Sealed<'_>, place: CandId, name: &[u8]) -> bool
     ensures { result ≡ candidate_at_passes pool.now (has_own_name name.now) place }
 {
@@ -145,7 +145,7 @@ fn end_of_version(rankings: &[RankedOption<'_>], key: VersionKey, start: usize) 
     rankings.len()
 }
 
-// Whether two candidates have one version.
+// Whether two candidates have the same version.
 fn have_same_version(one: &RankedOption<'_>, other: &RankedOption<'_>, key: VersionKey) -> bool
     ensures { result ≡ have_same_version key one.now other.now }
 {
@@ -155,7 +155,7 @@ fn have_same_version(one: &RankedOption<'_>, other: &RankedOption<'_>, key: Vers
     }
 }
 
-// Whether two versions have one text, or neither is one.
+// Whether two versions have the same text, or both are absent.
 fn is_same_version(one: &Option<Version<'_>>, other: &Option<Version<'_>>) -> bool
     ensures { result ≡ is_same_version one.now other.now }
 {
@@ -167,7 +167,8 @@ fn is_same_version(one: &Option<Version<'_>>, other: &Option<Version<'_>>) -> bo
     }
 }
 
-// A version, of which these are the candidates, and where they are.
+// The version that all these candidates have, and the places at which they are: the database and
+// repositories.
 fn placed_version<'a>(
     alloc: Global,
     pool: &Sealed<'a>,

@@ -123,7 +123,8 @@ fn write_hex<S: Sink>(bytes: &[u8], sink: &mut S) -> Result<(), SinkFault>
 {
     for byte in bytes {
         let mut digits = [0; 2];
-        // A byte has two hexadecimal digits, as many as `digits` has room for.
+        // A byte gives two hexadecimal digits, which is the length of `digits`: the call cannot
+        // fail.
         let _ = hex::encode_to_slice([*byte], &mut digits);
         write_all(sink, &digits)?;
     }
