@@ -18,8 +18,9 @@ use change_outcome::{
     a_pattern_matches_what_its_stars_are_filled_to, the_lists_of_a_plan_hold_just_its_names,
 };
 
-/// A pattern matches a folder exactly if both have as many parts and the stars of each part of the
-/// pattern can be filled to the folder's part. The root is matched by `/` alone.
+/// A pattern matches a folder exactly if both have the same number of parts, and bytes can replace
+/// the stars of each part of the pattern so that it reads as the folder's part. The root is matched
+/// by `/` alone.
 pub fn a_pattern_matches_a_folder_part_by_part()
     ensures below { (folder pattern : List ℕ) → (folder ≡ [] → ⊥)
         → (is_folder_matched folder pattern ≡ true) ↔ MatchesFolderByParts pattern folder }

@@ -120,7 +120,7 @@ fn shape_payload<'a>(payload: &'a [u8], which: Which) -> Result<Shaped<'a>, Caus
     shape(adb, which)
 }
 
-// Tests the framing of the blocks after the first.
+// Tests the block headers (kind and lengths) of the blocks after the first one.
 fn check_framing(blocks: &mut Blocks<'_>) -> Result<(), Cause>
     ensures { result_err result ≡ framing_fault (block_stream_from blocks.old) }
 {

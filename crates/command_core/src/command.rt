@@ -248,7 +248,6 @@ fn version_operand_rule(flags: Flags) -> Option<OperandRule>
 /// What a command line asks for.
 #[derive(Drop)]
 pub struct Command {
-
     /// What the command does.
     applet: Applet,
     /// The options without a value that were given.

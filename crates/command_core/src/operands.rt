@@ -152,6 +152,7 @@ pub struct Operand {
 // An operand, with the name of the file that its text is, if it is one.
 #[derive(Drop)]
 struct OperandEntry {
+    /// The operand.
     operand: Operand,
     // Read when the operand is added, so that lending it allocates no memory.
     file: Option<Name>,
@@ -160,7 +161,9 @@ struct OperandEntry {
 /// The operands of a command, in the order given.
 #[derive(Drop)]
 pub struct Operands {
+    /// The allocator.
     alloc: Global,
+    /// The operands, each with the name of its file, if it is one.
     entries: Vec<OperandEntry>,
 }
 

@@ -108,7 +108,6 @@ impl OptionValue {
 // A value, with the name of the file in it if there is one.
 #[derive(Drop)]
 struct ValueEntry {
-
     /// The value that the option was given.
     value: OptionValue,
     // The name of the file in the value. It is read when the value is added, so that lending it
@@ -119,7 +118,9 @@ struct ValueEntry {
 /// The values that the options of a command were given, in the order given.
 #[derive(Drop)]
 pub struct Values {
+    /// The allocator.
     alloc: Global,
+    /// The values, each with the name of the file in it, if there is one.
     entries: Vec<ValueEntry>,
 }
 

@@ -40,17 +40,17 @@ abbrev pub version_of : VersionKind → Ranking → RankedVersion
 version_of Under r = r.under
 version_of Own r = r.version
 
--- the rank of a version among some: how many of them precede it
+-- the rank of a version among the versions of a list: how many of them precede it in the order of the kind
 abbrev pub rank_among : VersionKind → List (Option (List ℕ)) → Option (List ℕ) → ℕ
 rank_among kind versions version =
     length (filter (λ one. is_lt (version_order kind one version)) versions)
 
--- a ranking in which the version of a kind has this rank
+-- the ranking, with this rank for one of its versions: the one that the kind says
 abbrev pub with_version_rank : VersionKind → ℕ → Ranking → Ranking
 with_version_rank Under n r = record r { under = record r.under { rank = n } }
 with_version_rank Own n r = record r { version = record r.version { rank = n } }
 
--- a ranking in which the version of a kind has its rank among these
+-- the ranking, in which one version gets its rank among these: the one that the kind says
 abbrev pub with_rank_among : VersionKind → List (Option (List ℕ)) → Ranking → Ranking
 with_rank_among kind versions r =
     with_version_rank kind (rank_among kind versions (version_of kind r).version) r

@@ -216,8 +216,8 @@ pub(crate) fn compare_versions(
     }
 }
 
-// The order of two versions: the greater first, and of equal ones the byte-lesser text. Only then
-// are texts read, since they may be long.
+// The order of two versions: the greater first. Equal versions are ordered by the bytes of their
+// texts, which are compared only then, since they may be long.
 fn by_version_and_text(one: &Option<Version<'_>>, other: &Option<Version<'_>>) -> Ordering
     ensures { result ≡ then_cmp greater_version (option_cmp bytes_cmp) one.now other.now }
 {

@@ -149,10 +149,10 @@ pub fn a_refusal_commits_nothing()
 
 /// A command that commits nothing leaves the files unchanged, or as recovery leaves them.
 pub fn a_command_that_commits_nothing_leaves_the_files()
-    // Of a command over the files on which it works.
+    // For a command, and the files on which it works after recovery.
     ensures over { (command : CommandLine) (files : Files) (o : Outcome)
         → IsOutcomeOverRecoveredFiles command files o → o.commits ≡ false → o.files ≡ files }
-    // Of a command line, which may first recover.
+    // For a command line, whose run may first recover.
     ensures words { (words : List (List ℕ)) (files : Files) (o : Outcome)
         → IsOutcome (command_of words) files o → o.commits ≡ false → (o.files ≡ files)
         ⊎ (o.files ≡ files_recovered_if_needed (effect_of_arguments (command_of words)) files) }
@@ -241,11 +241,11 @@ pub fn a_root_without_a_database_file_has_no_database()
 /// preferred solution) replaces the packages before. This is committed and reported, unless the
 /// packages have a stated fault.
 pub fn a_change_takes_the_first_selection_or_is_refused()
-    // Of a command over the files on which it works.
+    // For a command, and the files on which it works after recovery.
     ensures over { (command : CommandLine) (files : Files) (o : Outcome)
         → effect_of command.applet ≡ Changes → IsOutcomeOverRecoveredFiles command files o
         → IsChangeEnd command files o }
-    // Of a run, which first recovers.
+    // For a command line, whose run first recovers.
     ensures words { (words : List (List ℕ)) (command : CommandLine) (files : Files) (o : Outcome)
         → command_of words ≡ Ok command → effect_of command.applet ≡ Changes
         → IsOutcome (command_of words) files o → IsChangeEndOrIntentRefusal command files o }

@@ -145,6 +145,7 @@ fn digest_bytes(digest: &Digest) -> &[u8]
 /// What a command prints on standard output.
 #[derive(Drop)]
 pub struct Report {
+    /// The bytes so far.
     bytes: Vec<u8>,
 }
 

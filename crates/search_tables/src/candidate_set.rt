@@ -44,6 +44,7 @@ impl CandidateSet {
 
     /// Whether the set has a candidate.
     pub fn has(&self, id: CandId) -> bool
+        // True: the candidate is in the set. False: it is not.
         ensures { MatchBool result (IsIn id self.now) (IsIn id self.now → ⊥) }
     {
         let place = id.place as usize;

@@ -85,6 +85,7 @@ impl Frame {
     /// Takes the best option that is left, if there is one.
     pub fn take_next(&mut self) -> Option<CandId>
         ensures ruled_out { self.new.0 ≡ self.old.0 }
+        // None: no option was left. Otherwise the first of those left is taken from them.
         ensures left { MatchOption result ((self.old.1 ≡ []) × (self.new.1
             ≡ [])) (λ option. self.old.1 ≡ option ∷ self.new.1) }
         ensures by { self.new.2 ≡ self.old.2 }

@@ -12,7 +12,9 @@ use std::alloc::{AllocError, Global};
 /// The two watched literals of a clause; one literal twice if the clause has no other.
 #[derive(Clone, Copy)]
 struct Watch {
+    /// One watched literal.
     one: Literal,
+    /// The other one; the same literal if the clause has no other.
     other: Literal,
 }
 
