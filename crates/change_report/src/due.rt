@@ -20,8 +20,8 @@ use std::alloc::{AllocError, Global};
 use std::marker::PhantomData;
 
 /// The place of the first package after a change whose trigger is due, counted from 0. `folders`
-/// are those of the files that the change writes and removes. A package without a trigger script
-/// costs a look at its scripts.
+/// are those of the files that the change writes and removes. Of a package without a trigger script
+/// only the scripts are read.
 pub fn first_due(members: &Members<'_>, folders: &[&[u8]]) -> Option<usize>
     // The result is the first package whose trigger is due, by the folders of the touched paths.
     ensures needed { (paths : List (List ℕ)) → map (λ f. f.now) folders.now ≡ folders_of_paths paths

@@ -94,7 +94,7 @@ abbrev pub is_allowed_value : Option ValueRule → List ℕ → Bool
 is_allowed_value None text = false
 is_allowed_value (Some rule) text = is_value_of_kind rule.kind text
 
--- whether two values of one option exclude each other, by the option's rule
+-- whether two values of one option exclude each other, by the option's rule; None: there is no such option
 abbrev pub are_exclusive_values : Option ValueRule → List ℕ → List ℕ → Bool
 are_exclusive_values None a b = false
 are_exclusive_values (Some rule) a b = rule.single || excludes rule.kind a b

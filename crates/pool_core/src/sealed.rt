@@ -304,7 +304,7 @@ impl<'a> Sealed<'a> {
         known: &mut KnownMatches,
     ) -> Result<Vec<CandId>, AllocError>
         requires { AreMatchesInPool self.now (need_of_ref need.now) packages.now known.old }
-        // Of the places, those whose candidates may be selected and meet the need.
+        // The result has the places in `places` whose candidates may be selected and meet the need.
         ensures places { IfOk result (λ ids. ids.items
             ≡ filter (λ id. candidate_at_passes self.now (is_eligible_for_need self.now
             (need_of_ref need.now)) id) places.now) }

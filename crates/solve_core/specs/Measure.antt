@@ -23,7 +23,8 @@ most_digits = 2 ^ 64
 abbrev pub digit : FrameValue → ℕ
 digit f = suc (length f.1)
 
--- the number with these digits in a base, the first of `room` digits having the most weight
+-- the number with these digits in the base `b`. The first digit is the most significant one; the number has
+-- `room` digits, and those that are missing at the end count as 0
 unfoldable pub weight : ℕ → ℕ → List ℕ → ℕ
 weight b room [] = 0
 weight b zero (d ∷ ds) = 0

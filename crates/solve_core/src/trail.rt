@@ -121,7 +121,7 @@ impl Trail {
         Ok(())
     }
 
-    /// Begins the steps of a further choice (its level).
+    /// Begins the steps of a further choice (its level): stores how many steps were before it.
     pub(crate) fn begin_level(&mut self) -> Result<(), AllocError> {
         let steps = self.steps.len();
         self.levels.push(steps)?;
