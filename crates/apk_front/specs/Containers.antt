@@ -102,7 +102,7 @@ IsIndexOutcome command files outcome = outcome ≡ mkndx (reads_in files) files 
 
 -- the index that is made of a command by some reads, as on a tree that is not observable
 pub record IsIndexFound (command : CommandLine) (made : Result (List ℕ) MakeFault) : Type 0 where
-  -- some contents for each read; each operand is read as a file
+  -- some contents for each read; under an operand it finds nothing, or bytes that a file may have
   pub read : Reads
   pub files : FindOnlyFiles read 0 command.operands
   -- the index of these reads, or the reason for which none is made

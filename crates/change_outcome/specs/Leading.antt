@@ -13,7 +13,7 @@ write_limit = 2 ^ 63
 -- if these names are removed and written, and the others are unchanged, the files are `after`; the
 -- names are free, nothing is staged before, and the writes are below their limit
 pub record ActionsLeadToFiles (removals writes : List (List ℕ)) (files after : Files) : Type 0 where
-  -- no name is in the way of another or of the journal
+  -- the names are free; none is written twice, and none is both written and removed
   pub free : HasFreeDistinctNames (intent_of_lists removals writes)
   -- there are less writes than a stage can have
   pub few : length writes < write_limit

@@ -58,7 +58,7 @@ pub record IsListingChoiceAndClashFor (command : CommandLine) (read : Reads) (fi
     : Type 0 where
   -- the names that the command lists are those of the files
   pub names : IsListingFor command.applet command files given.names
-  -- the chosen candidates are the preferred selection, if there is one
+  -- for a change: the chosen candidates are the preferred selection; None if no selection satisfies world
   pub chosen : IsChosenFor (effect_of command.applet) command read given.chosen
   -- the clash is the first one of the change over these files, if there is one
   pub clash :
@@ -85,7 +85,7 @@ pub record MayBeListingChoiceAndClashFor (command : CommandLine) (read : Reads) 
     : Type 0 where
   -- some names that a tree may list
   pub names : MayBeListedFor command.applet command given.names
-  -- the chosen candidates are the preferred selection, if there is one
+  -- for a change: the chosen candidates are the preferred selection; None if no selection satisfies world
   pub chosen : IsChosenFor (effect_of command.applet) command read given.chosen
   -- a clash that is the first one over some files, if there is one
   pub clash :

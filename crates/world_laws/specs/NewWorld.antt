@@ -36,7 +36,7 @@ pub record IsAddedDependency (operands : List Operand) (d : Dependency) : Type 0
 -- world after `add`: an entry is one of the operands, or it was there before and no operand has its
 -- name
 pub record IsWorldAfterAdd (operands : List Operand) (before after : List Dependency) : Type 0 where
-  -- each name has at most one entry
+  -- the entries are dependencies in byte order of their names, each name once
   pub world : IsWorld after
   -- an entry is that of an operand, or it was there before and no operand has its name
   pub entries : (d : Dependency) → IsIn d after
@@ -50,7 +50,7 @@ IsNoOperand name operands = (o : Operand) → IsIn o operands → o.text ≢ nam
 
 -- world after `del`: an entry was there before, and no operand is its name
 pub record IsWorldAfterDel (operands : List Operand) (before after : List Dependency) : Type 0 where
-  -- each name has at most one entry
+  -- the entries are dependencies in byte order of their names, each name once
   pub world : IsWorld after
   -- an entry was there before, and no operand is its name
   pub entries : (d : Dependency) → IsIn d after ↔ (IsIn d before × IsNoOperand d.name operands)
