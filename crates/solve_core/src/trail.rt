@@ -220,8 +220,8 @@ impl Trail {
         }
     }
 
-    /// Whether at most one of the members has the greatest level that a member has. The level is the
-    /// number of choices made up to the step of the member; it is 0 if the member has no step.
+    /// Whether at most one of the members has the greatest level that a member has. The level is
+    /// the number of choices made up to the step of the member; it is 0 if the member has no step.
     pub(crate) fn is_last_alone(&self, members: &[CandId]) -> bool {
         let mut last = 0;
         let mut is_alone = true;

@@ -31,7 +31,7 @@ impl Watch {
     }
 }
 
-/// The indexes of the clauses that watch the literals of a candidate, and of some that no longer do.
+/// The indexes of the clauses that watch the literals of a candidate, and of some that did before.
 #[derive(Drop)]
 struct Watching {
     /// The clauses that watch the literal that the candidate is in the selection.
