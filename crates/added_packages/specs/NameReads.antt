@@ -30,7 +30,9 @@ FindsTreeFileOrFound (v ∷ earlier) read n found = (name : List ℕ) → read n
 -- are observable
 pub record IsByRead {B : Type 0} (history : List TreeState) (by : Reads → ℕ → B) (wanted : B) :
     Type 0 where
+  -- the bytes that are found, or none
   pub found : Option (List ℕ)
+  -- the definition has the value `wanted` for each map of reads that finds these bytes
   pub is : (read : Reads) (n : ℕ) → FindsTreeFileOrFound history read n found → by read n ≡ wanted
 
 -- a result denotes the value of a definition by a read, or is its refusal; an I/O error of the tree and

@@ -103,7 +103,8 @@ pub fn read_arrivals<T: Tree>(
     repositories: &Repos,
     no_scripts: bool,
 ) -> Result<Arrivals, Refused>
-    // For each selection, and names to be installed again, that these names are of.
+    // For each selection, and each list of names to be installed again, from which `names` were
+    // made: the packages read are those that the definition `members_after` finds with some reads.
     ensures found { (trace : List ℕ) (again : List (List ℕ))
         → placed_names_seen names.now
         ≡ placed_names_of (placed_replacement_from_parts db.now pool.now trace again)
@@ -137,7 +138,7 @@ pub fn read_arrivals<T: Tree>(
     Ok(Arrivals { members })
 }
 
-/// Adds a package to the others, if there is one.
+/// Appends a package to those read before, if there is one.
 fn push_member(members: &mut Vec<MemberRead>, member: Option<MemberRead>) -> Result<(), AllocError>
     ensures { OnOk result (members.new.items ≡ members.old.items ++ option_to_list member) }
 {
@@ -160,6 +161,7 @@ fn read_name<T: Tree>(
     repositories: &Repos,
     no_scripts: bool,
 ) -> Result<Option<MemberRead>, Refused>
+    // The result is that of the definition, with the file that was found.
     ensures found { IsAnswerByRead (IsNameRead (T.history tree.old) (packages_of db.now))
         (T.history tree.old) (member_of_name_by_read
         (packages_of db.now) pool.now repositories.now no_scripts
@@ -212,6 +214,7 @@ fn test_removed(
     name: &PlacedName<'_>,
     change: &Change<'_>,
 ) -> Result<(), Refused>
+    // Refused if the definition refuses the removed package; otherwise nothing is returned.
     ensures { Agrees (λ _. None) result (member_of_removed_name no_scripts (placed_name_seen
         name.now).name
         (change_seen change.now) (old_package (packages_of db.now) (placed_name_seen name.now))) }
@@ -245,18 +248,25 @@ pub fn members_of_change<'a>(
 
 /// Adds a package that was read to the members, at the end.
 fn push_read<'a>(members: &mut Members<'a>, read: &'a MemberRead) -> Result<(), AllocError>
+    // The package is after all members so far, in byte order of names.
     requires behind { (m : Member)
         → member_of_read_package (packages_of_old_database members.old) read.now ≡ Some m
         → is_after_members (member_name m) (members_of members.old) ≡ true }
+    // A kept package has a place in the database.
     requires placed { HasPlaceIfKept (packages_of_old_database members.old) read.now }
+    // There is room for one more member.
     requires few { length (members_of members.old) < MOST_MEMBERS }
+    // The package is appended as a member, if it was kept or added.
     ensures added { OnOk result (members_of members.new ≡ members_of members.old
         ++ option_to_list (member_of_read_package
         (packages_of_old_database members.old) read.entry.now)) }
+    // The packages of the old database are unchanged.
     ensures before { packages_of_old_database members.new ≡ packages_of_old_database members.old }
 {
     match read {
+        // The package is kept: its entry in the database is lent.
         MemberRead::Stays(place) => members.stays(*place),
+        // The package is added: what was read of its file is lent.
         MemberRead::Comes(pkg) => members.push_added_in_pieces(&pkg.contents()),
     }
 }
@@ -271,11 +281,13 @@ pub fn packages_that_were_read_are_those_found()
 /// The package that was read for the member at a place is that of the file whose contents the
 /// definition finds for it, and each added member has one.
 pub fn a_package_that_was_read_is_that_of_its_file()
+    // The package at a place is that of the file of this member.
     ensures file { (history : List TreeState) (before : List Plain) (reads : List MemberRead)
         (found : List MemberFound) → AreMembersRead history before reads found
         → (place : ℕ) (pkg : TestedPackage)
         → option_and_then package_in (slice_get reads place) ≡ Some pkg
         → IsFileOfMember history found place pkg }
+    // For each added member a package was read.
     ensures comes { (history : List TreeState) (before : List Plain) (reads : List MemberRead)
         (found : List MemberFound) → AreMembersRead history before reads found
         → (place : ℕ) (m : Member) → slice_get (found_members found) place ≡ Some m

@@ -24,8 +24,11 @@ target_given entry = text_in (field_named File (codes "target") entry)
 
 -- two entries give the same size, the same digest and the same target
 pub record GiveSameFields (a b : Plain) : Type 0 where
+  -- both give the same size, or none
   pub size : size_given a ≡ size_given b
+  -- both give the same digest, or none
   pub digest : digest_given a ≡ digest_given b
+  -- both give the same link target, or none
   pub target : target_given a ≡ target_given b
 
 -- the bytes of a file that represents a link: a mark, and the target without its first two bytes, which
@@ -36,6 +39,7 @@ RepresentsLink target bytes = bytes ≡ codes "!<symlink>" ++ drop 2 target
 -- The bytes have this digest. The length of the digest selects the function (FIPS 180-4). A digest of
 -- another length is not compared.
 pub record HasDigest (digest bytes : List ℕ) : Type 0 where
+  -- a digest of 20 bytes is SHA-1, one of 32 is SHA-256, and one of 64 is SHA-512
   pub of_20_bytes : length digest ≡ 20 → digest ≡ sha1 bytes
   pub of_32_bytes : length digest ≡ 32 → digest ≡ sha256 bytes
   pub of_64_bytes : length digest ≡ 64 → digest ≡ sha512 bytes

@@ -22,6 +22,9 @@ RunsScript (Replace name old new) n = IsUpgradeScript n
 
 -- the script with this number is the first, by number, of those that the change of a package runs
 pub record IsFirstScript (change : Change) (pkg : Plain) (n : ℕ) : Type 0 where
+  -- the change runs the script with this number
   pub runs : RunsScript change n
+  -- the package has this script
   pub present : has_script_of pkg n ≡ true
+  -- the package has no script with a lesser number that the change runs
   pub first : (m : ℕ) → m < n → RunsScript change m → has_script_of pkg m ≡ false

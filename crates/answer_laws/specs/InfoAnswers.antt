@@ -21,21 +21,28 @@ use Rattle.report_core.specs.Reports.{name_dash_version, report_lines}
 
 -- a text with a line for each package, its name, in byte order
 pub record HasSortedNames (packages : List Plain) (text : List ℕ) : Type 0 where
+  -- the names of the packages
   pub names : List (List ℕ)
   pub same : IsPermutation (map package_name packages) names
+  -- they are in byte order
   pub order : IsSorted bytes_cmp names
+  -- the text has a line for each of them
   pub text_is : text ≡ report_lines names
 
 -- the operand at this place has no package, in the form that the flags select, and each one before it
 -- has one
 pub record IsFirstAbsent (flags : Flags) (packages : List Plain) (operands : List Operand)
     (place : ℕ) : Type 0 where
+  -- the operands before it, the operand, and those after it
   pub front : List Operand
   pub operand : Operand
   pub rest : List Operand
   pub operands_are : operands ≡ front ++ operand ∷ rest
+  -- the operand has this place in the command line
   pub place_is : operand.place ≡ place
+  -- no package is meant by the operand
   pub absent : package_meant_by (form_of flags) packages operand.text ≡ None
+  -- a package is meant by each operand before it
   pub earlier : (o : Operand) → IsIn o front
       → is_some (package_meant_by (form_of flags) packages o.text) ≡ true
 

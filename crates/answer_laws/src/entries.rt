@@ -17,11 +17,14 @@ pub fn two_entries_agree_exactly_if_size_digest_and_target_are_equal()
 /// gives a target, and the bytes represent the link. It gives only a digest, and the bytes have it.
 /// It gives neither, its size is 0, and there are no bytes.
 pub fn a_file_is_as_listed_exactly_if_it_has_the_link_or_the_digest_of_its_entry()
+    // The entry has a link target.
     ensures link { (entry : Plain) (bytes : List ℕ) → target_given entry ≢ []
         → (is_as_listed entry bytes ≡ true) ↔ RepresentsLink (target_given entry) bytes }
+    // The entry has no link target, but a digest.
     ensures digest { (entry : Plain) (bytes : List ℕ) → target_given entry ≡ []
         → digest_given entry ≢ []
         → (is_as_listed entry bytes ≡ true) ↔ HasDigest (digest_given entry) bytes }
+    // The entry has neither: then only an empty file of size 0 is as listed.
     ensures neither { (entry : Plain) (bytes : List ℕ) → target_given entry ≡ []
         → digest_given entry ≡ []
         → (is_as_listed entry bytes ≡ true) ↔ ((size_given entry ≡ 0) × (bytes ≡ [])) }

@@ -46,6 +46,7 @@ pub fn info_prints_the_installed_operands()
 /// dependencies, both in the order of the database; without a flag its description; `-W` says that
 /// it owns the path.
 pub fn each_question_of_info_has_its_answer()
+    // With `--contents`: the paths of the package, in their order.
     ensures contents { (flags : Flags) (name : List ℕ) (pkg : Plain)
         → flags.who_owns ≡ false → flags.installed ≡ false → flags.contents ≡ true
         → package_info (form_of flags) name pkg
@@ -53,18 +54,21 @@ pub fn each_question_of_info_has_its_answer()
         (paths_in_order pkg) }
     ensures listed { (pkg : Plain) (path : List ℕ)
         → IsIn path (paths_in_order pkg) ↔ (lists_path path pkg ≡ true) }
+    // With `--depends`: the dependencies of the package.
     ensures depends { (flags : Flags) (name : List ℕ) (pkg : Plain)
         → flags.who_owns ≡ false → flags.installed ≡ false → flags.contents ≡ false
         → flags.depends ≡ true
         → package_info (form_of flags) name pkg
         ≡ section_lines (info_heading pkg (codes " depends on:"))
         (depends_in_order pkg) }
+    // Without one of these options: the description of the package.
     ensures description { (flags : Flags) (name : List ℕ) (pkg : Plain)
         → flags.who_owns ≡ false → flags.installed ≡ false → flags.contents ≡ false
         → flags.depends ≡ false
         → package_info (form_of flags) name pkg
         ≡ section_lines (info_heading pkg (codes " description:"))
         (text_in (info_field (codes "description") pkg) ∷ []) }
+    // With `--who-owns`: the package that has the path.
     ensures owner { (flags : Flags) (path : List ℕ) (pkg : Plain) → flags.who_owns ≡ true
         → package_info (form_of flags) path pkg
         ≡ report_line (owner_text (without_slash path) (package_name pkg)
@@ -76,12 +80,14 @@ pub fn each_question_of_info_has_its_answer()
 pub fn info_answers_each_operand_in_the_order_given()
     ensures none { (flags : Flags) (packages : List Plain)
         → operands_info (form_of flags) packages [] ≡ [] }
+    // An operand with a package has its lines at its place in the report.
     ensures found { (flags : Flags) (packages : List Plain) (front rest : List Operand)
         (o : Operand) (pkg : Plain) → package_meant_by (form_of flags) packages o.text ≡ Some pkg
         → operands_info (form_of flags) packages (front ++ o ∷ rest)
         ≡ operands_info (form_of flags) packages front
         ++ (package_info (form_of flags) o.text pkg
         ++ operands_info (form_of flags) packages rest) }
+    // An operand without a package has no lines.
     ensures absent { (flags : Flags) (packages : List Plain) (front rest : List Operand)
         (o : Operand) → package_meant_by (form_of flags) packages o.text ≡ None
         → operands_info (form_of flags) packages (front ++ o ∷ rest)

@@ -20,6 +20,7 @@ pub fn each_letter_gives_its_field()
         → record_with_lines empty_record lines ≡ Some r
         → HasValuesOfLines f lines (record_value r) }
 {
+    // Laws that the proof needs; they have no effect at run time.
     read_texts_are_spelled();
     spelled_texts_are_read();
 }

@@ -25,6 +25,7 @@ pub fn list_prints_a_line_for_each_candidate_that_is_asked_for()
         → HasLinesOfAsked (IsInListReport patterns installed_only) candidate_line candidates
         (list_report candidates patterns installed_only) }
 {
+    // Laws that the proof needs; they have no effect at run time.
     a_query_selects_what_passes_its_test();
     list_prints_what_is_asked_for();
 }
@@ -37,6 +38,7 @@ pub fn search_prints_a_line_for_each_candidate_that_is_asked_for()
         (λ (c : Candidate). search_line c.name (printed_version c.version)) candidates
         (search_report candidates patterns) }
 {
+    // Laws that the proof needs; they have no effect at run time.
     a_query_selects_what_passes_its_test();
     search_prints_what_is_asked_for();
 }

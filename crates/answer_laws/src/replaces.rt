@@ -24,9 +24,11 @@ pub fn of_two_packages_that_name_each_other_one_is_preferred()
     ensures unnamed { (x y : Plain) → replaces_names_package x y ≡ false → takes_over x y ≡ false }
     ensures alone { (x y : Plain) → replaces_names_package x y ≡ true
         → replaces_names_package y x ≡ false → takes_over x y ≡ true }
+    // The one with the greater priority takes the file over.
     ensures priority { (x y : Plain) → replaces_names_package x y ≡ true
         → replaces_names_package y x ≡ true
         → replacing_priority y < replacing_priority x → takes_over x y ≡ true }
+    // If the priorities are equal, the one with the later name in byte order takes it over.
     ensures later { (x y : Plain) → replaces_names_package x y ≡ true
         → replaces_names_package y x ≡ true
         → replacing_priority x ≡ replacing_priority y

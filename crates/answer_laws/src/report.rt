@@ -34,8 +34,10 @@ pub fn each_configuration_file_has_one_line()
 /// The sections of a report are in this order: the changes, the kept names, configuration,
 /// triggers, the sum. A simulated report has the first two and the last.
 pub fn a_report_has_its_sections_in_order()
+    // The report of a simulated change.
     ensures simulated { (r : Replacement) (to_remove : List (List ℕ)) → AreNamedOnce r.selected
         → HasSimulatedSections r to_remove (simulated_report r to_remove) }
+    // The report of a change that is made.
     ensures made { (r : Replacement) (wishes : ChangeWishes) (change : FileChange) (files : Files)
         → AreNamedOnce r.selected
         → HasSections r wishes change files (change_report r wishes change files) }

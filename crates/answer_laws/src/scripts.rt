@@ -46,6 +46,7 @@ pub fn a_script_is_run_only_if_it_has_text()
 pub fn the_first_script_that_has_text_is_taken()
     ensures first { (pkg : Plain) (numbers : List ℕ) (number : ℕ)
         → (first_script_of pkg numbers ≡ Some number) ↔ IsFirstWithText pkg numbers number }
+    // None is taken exactly if no script of the list has text.
     ensures none { (pkg : Plain) (numbers : List ℕ)
         → (first_script_of pkg numbers ≡ None)
         ↔ ((m : ℕ) → IsIn m numbers → script_text_by_number pkg m ≡ []) }

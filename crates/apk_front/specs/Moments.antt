@@ -35,7 +35,7 @@ abbrev pub IgnoresScratchOf : Option (List ℕ) → (List ℕ → Bool) → Type
 IgnoresScratchOf None ignored = Unit {0}
 IgnoresScratchOf (Some name) ignored = IgnoresScratch ignored name
 
--- the ignored names without an output and its scratch name
+-- whether a name is ignored, if the output and its scratch name are no longer ignored
 abbrev pub ignored_except_output : Option (List ℕ) → (List ℕ → Bool) → List ℕ → Bool
 ignored_except_output None ignored q = ignored q
 ignored_except_output (Some name) ignored q =
@@ -92,9 +92,13 @@ HasFilesExceptTemporaryOnes effect output files w =
 -- a change has committed its journal entry (intent), and recovery yields the new files; each name
 -- outside the staging area has its old bytes or its new ones
 pub record IsCommittedChange (effect : Effect) (new old : Files) (w : TreeState) : Type 0 where
+  -- the command changes what is installed
   pub changes : effect ≡ Changes
+  -- the intent is under its final name
   pub intent : IsSome (w.names intent_name)
+  -- recovery of the files in w yields the new files
   pub leads : unstaged_files (files_of w) ≡ new
+  -- each name outside the staging area has its old bytes or its new ones
   pub bytes : HasOldOrNewBytes old new w
 
 -- the files as read are the old ones, except under temporary names; or a change to the new files is
@@ -116,12 +120,13 @@ HasNothingToRecover effect v =
 abbrev pub CanRecover : Effect → TreeState → Type 0
 CanRecover effect v = (does_recover effect ≡ true) × IsSome (intent_of (files_of v))
 
--- recovery of the files as read yields what it yields of the old ones, apart from staged files; each
--- other name has its old bytes or its recovered ones; and the intent and each staged file is unchanged
--- or removed
+-- from state v to state w a recovery is in progress
 pub record IsRecovering (v w : TreeState) : Type 0 where
+  -- recovery yields of the files in w what it yields of those in v
   pub reads : unstaged_files (files_of w) ≡ unstaged_files (files_of v)
+  -- each name outside the staging area has its bytes in v or its recovered bytes
   pub bytes : HasOldOrNewBytes (files_of v) (unstaged_files (files_of v)) w
+  -- the intent and each staged file is unchanged or removed
   pub waiting : JournalOnlyShrinks v w
 
 -- in state `w` of a run the tree is being recovered from state `v`, if the command recovers; or `IsNext`,
@@ -162,7 +167,8 @@ MomentsLeadToFiles true ignored files v old now = Since (IsMomentOfReplacing ign
 MomentsLeadToFiles false ignored files v old now =
     SinceGivenEarlier (IsOldUntilCommit ignored files v) old now
 
--- The state is unchanged; or the run has an outcome that commits, and leads to its files.
+-- At each moment of the run the state is unchanged; or the run has an outcome that commits, and its moments
+-- lead to the files of this outcome. `makes` says whether the run makes one file.
 abbrev pub AreStatesOldOrLeadToOutcome :
     (Outcome → Type 0) → Bool → (List ℕ → Bool) → TreeState → List TreeState → List TreeState
     → Type 0
@@ -187,7 +193,9 @@ MustOutcomeBeDurable effect ignored v outcome = MustOutcomeBeDurableWithoutRecov
 
 -- the tree is durable, and each crash leaves these files
 pub record IsDurableState (ignored : List ℕ → Bool) (files : Files) (w : TreeState) : Type 0 where
+  -- no crash changes the bytes of a file on which recovery depends
   pub is_durable : IsDurable (StateDependsOn ignored) w
+  -- each crash leaves the state of these files
   pub settled : EachCrashLeaves ignored files w
 
 -- ---- the answer
@@ -204,7 +212,7 @@ IsRefusedOrOutOfMemory (Refused refusal) = Unit {0}
 IsRefusedOrOutOfMemory Memory = Unit {0}
 IsRefusedOrOutOfMemory other = ⊥
 
--- the outcome was answered, or a sink's fault in its place
+-- the answer is that of the outcome, or it is a fault of a sink
 abbrev pub AnswersOutcome : Answer → Type 0
 AnswersOutcome Ok = Unit {0}
 AnswersOutcome (Refused refusal) = Unit {0}

@@ -84,16 +84,20 @@ IsOutOfMemoryOrWithoutCommit IsOne judged = IsErrOf judged Memory ⊎ HasOutcome
 -- of *IsRunAfterRecovery* say, with the recovery before it.
 pub record IsRunWithRecovery (IsOne : Outcome → Type 0) (effect : Effect) (output : Option (List ℕ))
     (judged : Result Verdict TreeFault) (v : TreeState) (old now : List TreeState) : Type 0 where
+  -- at each moment the state is old, or the run leads to the files of an outcome that commits
   pub moments : (ignored : List ℕ → Bool)
       → IsDurable (StateDependsOn ignored) v → IgnoresScratchOf output ignored
       → AreStatesOldOrLeadToOutcome IsOne (is_some output) ignored v old now
+  -- a durable tree is durable after the run
   pub is_durable : (ignored : List ℕ → Bool)
       → IsDurable (StateDependsOn ignored) v → IgnoresScratchOf output ignored
       → HoldsNow now (IsDurable (StateDependsOn ignored))
+  -- if there is a verdict, each crash leaves the files of the outcome, if they must be durable
   pub settled : (ignored : List ℕ → Bool) (outcome : Outcome)
       → IsDurable (StateDependsOn ignored) v → IgnoresScratchOf output ignored
       → IsOne outcome → MustOutcomeBeDurable effect ignored v outcome
       → OnOk judged (HoldsNow now (EachCrashLeaves ignored outcome.files))
+  -- after an outcome that commits, each crash leaves its files, also under the output's name
   pub durable_state : (ignored : List ℕ → Bool) (outcome : Outcome)
       → IsDurable (StateDependsOn ignored) v → IgnoresScratchOf output ignored
       → IsOne outcome → outcome.commits ≡ true
@@ -101,10 +105,14 @@ pub record IsRunWithRecovery (IsOne : Outcome → Type 0) (effect : Effect) (out
   -- a run that commits nothing leaves the state, and writes nothing if there is nothing to recover
   pub left : IsOutOfMemoryOrWithoutCommit IsOne judged → (ignored : List ℕ → Bool)
       → IsDurable (StateDependsOn ignored) v → Since (StateIsUnchanged ignored v) old now
+  -- without anything to recover, a run that is out of memory or commits nothing leaves the tree unchanged
   pub idle : IsOutOfMemoryOrWithoutCommit IsOne judged → HasNothingToRecover effect v → now ≡ old
   -- nothing is written either if the intent is bad
   pub bad : IsSome (recovery_fault effect (files_of v)) → now ≡ old
+  -- which files are read at each moment of the run
   pub reads : AreFilesReadDuringRun IsOne effect output v old now
+  -- if there was an intent, crashes undo no change of a name from the moment at which no intent is read
   pub last : IsSome (v.names intent_name) → Since (NamesAreDurableWithoutIntentExcept output) old now
+  -- if there is a verdict, the files as read are those of the outcome
   pub leaves : (outcome : Outcome) → IsOne outcome
       → OnOk judged (HoldsNow now (λ w. files_of w ≡ outcome.files))

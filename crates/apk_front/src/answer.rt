@@ -87,6 +87,7 @@ pub(crate) fn show<O: Sink, E: Sink>(
     out: &mut O,
     err: &mut E,
 ) -> Answer
+    // The answer and the bytes printed are those of the verdict, unless a sink fails.
     ensures shown { IsVerdictPrinted judged result
         (sink_before_and_after O.bytes O.counts out.old out.new)
         (sink_before_and_after E.bytes E.counts err.old err.new) }
@@ -105,6 +106,7 @@ pub(crate) fn show<O: Sink, E: Sink>(
 // Prints the line of an I/O error of the file tree, or of running out of memory. Nothing is written
 // to `_out`; the clauses name it.
 fn print_fault<O: Sink, E: Sink>(fault: TreeFault, _out: &mut O, err: &mut E) -> Answer
+    // The line of the fault is printed on standard error, unless the sink fails.
     ensures shown { IsVerdictPrinted (Err fault) result
         (sink_before_and_after O.bytes O.counts _out.old _out.new)
         (sink_before_and_after E.bytes E.counts err.old err.new) }
@@ -127,6 +129,7 @@ fn print_fault<O: Sink, E: Sink>(fault: TreeFault, _out: &mut O, err: &mut E) ->
 
 // Prints the report, and then the line of the refusal.
 fn print_verdict<O: Sink, E: Sink>(verdict: Verdict, out: &mut O, err: &mut E) -> Answer
+    // The report and the refusal of the verdict are printed, unless a sink fails.
     ensures printed { (files : Files) → IsPrinted (as_outcome files verdict) result
         (sink_before_and_after O.bytes O.counts out.old out.new)
         (sink_before_and_after E.bytes E.counts err.old err.new) }

@@ -39,6 +39,7 @@ const REPOSITORIES: &[u8] = b"etc/apk/repositories";
 /// line. It fails only by running out of memory.
 pub(crate) fn demo(alloc: Global, operands: &Operands) -> Result<Verdict, TreeFault>
     requires { IsTrue (are_allowed_operands (Some (exactly 1 Number)) operands.now) }
+    // The verdict is that of an outcome of `demo`. The only fault is a lack of memory.
     ensures { MatchResult result
         (λ verdict. (files : Files)
         → IsDemoOutcome (demo_count operands.now) files (as_outcome files verdict))
@@ -55,6 +56,8 @@ pub(crate) fn demo(alloc: Global, operands: &Operands) -> Result<Verdict, TreeFa
 // The report on the last run: its refusal, or the line of `demo` with the last line of that run's
 // report.
 fn told(alloc: Global, count: u16, last: Verdict) -> Result<Verdict, TreeFault>
+    // The verdict is the line of `demo`, or the refusal of the last command. The only fault is a
+    // lack of memory.
     ensures { MatchResult result
         (λ verdict. (files : Files) → as_outcome files verdict
         ≡ report_unless files last.refusal (demo_line count last.report))

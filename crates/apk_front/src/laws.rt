@@ -28,6 +28,7 @@ pub fn a_crash_leaves_the_old_files_or_those_of_the_outcome()
         → IsOutcome (command_of words) (files_of v) outcome
         → Since (IsMomentOfReplacing ignored outcome.files v) old now }
 {
+    // Laws that the proof needs; they have no effect at run time.
     an_outcome_is_unique();
     quiet_then_old_or_new_is_old_or_new();
 }
@@ -46,6 +47,7 @@ pub fn what_is_carried_out_is_durable()
         → MustOutcomeBeDurable (effect_of_arguments (command_of words)) ignored v outcome
         → HoldsNow now (EachCrashLeaves ignored outcome.files) }
 {
+    // A law that the proof needs; it has no effect at run time.
     an_outcome_is_unique();
 }
 

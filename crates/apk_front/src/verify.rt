@@ -29,6 +29,7 @@ pub(crate) fn verify<T: Tree>(
     tree: &mut T,
 ) -> Result<Verdict, TreeFault>
     requires { IsTrue (are_files operands.now) }
+    // The verdict is that of the specification, and the tree is only read.
     ensures { IsReadingRun (λ read files. verify read files operands.now)
         (T.history tree.old) (T.history tree.new) (T.counts tree.old) (T.counts tree.new) result }
 {

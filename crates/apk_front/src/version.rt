@@ -36,6 +36,7 @@ pub(crate) fn version(
 // no version.
 fn compare(alloc: Global, operands: &Operands) -> Result<Verdict, AllocError>
     requires { length operands.now ≡ 2 }
+    // The verdict is that of the specification, whatever the files are.
     ensures { IfOk result (λ verdict. (files : Files) → as_outcome files verdict
         ≡ report_unless files (version_refusal operands.now) (version_order_report operands.now)) }
 {
@@ -66,6 +67,7 @@ fn order_line(order: Ordering) -> &'static [u8]
 // The verdict of `--check`: the operands that are no versions, and the refusal of the first of
 // them.
 fn check(alloc: Global, operands: &Operands) -> Result<Verdict, AllocError>
+    // The verdict is that of the specification, whatever the files are.
     ensures { IfOk result (λ verdict. (files : Files) → as_outcome files verdict
         ≡ outcome_of (version_refusal operands.now) (invalid_version_lines operands.now) files) }
 {

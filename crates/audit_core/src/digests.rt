@@ -84,6 +84,7 @@ fn push_folders<'a>(
     report: &mut Vec<u8>,
     folders: &List<'a, DirInfo<'a>>,
 ) -> Result<(), AllocError>
+    // The line of each file of these folders is appended.
     ensures { OnOk result (report.new.items ≡ report.old.items ++ flat_map manifest_line
         (flat_map folder_records (list_of (entries_in (list_value folders.now))))) }
 {
@@ -119,6 +120,7 @@ fn push_files<'a>(
     folder: &[u8],
     files: &List<'a, FileInfo<'a>>,
 ) -> Result<(), AllocError>
+    // The line of each of these files of the folder is appended.
     ensures { OnOk result (report.new.items ≡ report.old.items ++ flat_map manifest_line
         (map (file_record folder.now) (list_of (entries_in (list_value files.now))))) }
 {

@@ -24,8 +24,11 @@ use Rattle.root_laws.specs.RootLeft.{IsRootLeft, database_of_members}
 
 -- an entry of an empty file with the digest of other bytes, which no test of a package compares
 pub record IsEmptyWithOtherDigest (entry : Plain) : Type 0 where
+  -- the entry is that of an empty file
   pub no_contents : is_file_with_contents entry ≡ false
+  -- the entry has no link target
   pub no_link : has_target entry ≡ false
+  -- an empty file does not agree with the digest of the entry
   pub unlike : is_as_listed entry [] ≡ false
 
 -- the file under a path is configuration that the user changed
@@ -46,8 +49,10 @@ ExplainsDifference contents change files d l true =
 -- a file that differs after a change, of the package that owns its path
 pub record IsLeftDifferent (contents : ℕ → List Contents) (change : FileChange) (files : Files)
     (d : FileDifference) : Type 0 where
+  -- the listing of the file in the package that owns its path
   pub listing : Listing
   pub owner : owner_listing change d.path ≡ Some listing
+  -- the reason for which a change leaves such a difference
   pub left : ExplainsDifference contents change files d listing (is_added listing.member)
 
 -- ---- of the root that a command leaves

@@ -18,16 +18,22 @@ pub use Rattle.adb_schema.specs.Dependencies.{dependency_in}
 -- parts are read from it. The version is None only if the text is no version, which never happens in a
 -- tested container. Repositories count from 1; an installed package that no index has is from none
 pub record Candidate : Type 0 where
+  -- its information, as a plain value of its index or of the database
   pub info : Plain
+  -- its name, the text of its version (None: no version), and its id, which may be empty or a prefix
   pub name : List ℕ
   pub version : Option (List ℕ)
   pub id : List ℕ
+  -- its lists of dependencies, as `docs/formats.md` names these fields
   pub depends : List Dependency
   pub provides : List Dependency
   pub install_if : List Dependency
+  -- its `provider-priority`
   pub priority : ℕ
+  -- its repository, counted from 1, and the tag of this repository, if there are such
   pub repository : Option ℕ
   pub tag : Option (List ℕ)
+  -- whether it is installed
   pub installed : Bool
 
 -- ---- the parts of a package's information
@@ -90,7 +96,7 @@ is_same_id a b =
     nat_lt 0 (length a)
     && (nat_lt 0 (length b) && (starts_with nat_eq a b || starts_with nat_eq b a))
 
--- whether two versions have the same text, or neither is one
+-- whether two versions have the same text, or both are absent
 abbrev pub is_same_version : Option (List ℕ) → Option (List ℕ) → Bool
 is_same_version None None = true
 is_same_version None (Some b) = false
@@ -126,7 +132,9 @@ with_installed cs installed =
 
 -- what must be met: a dependency, or the name of a package whose install-if applies
 pub data Need : Type 0 where
+  -- a dependency
   entry : Dependency → Need
+  -- the name of a package whose install-if applies
   named : List ℕ → Need
 
 -- the name of a need

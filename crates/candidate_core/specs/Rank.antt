@@ -21,8 +21,11 @@ pub data UpgradedNames : Type 0 where
 -- the candidates that a selection is made of, the world that it is to satisfy, and the names that
 -- the command upgrades
 pub record SealedPool : Type 0 where
+  -- the packages to choose from
   pub candidates : List Candidate
+  -- the dependencies that a selection has to satisfy
   pub world : List Dependency
+  -- the names that the command upgrades
   pub upgraded : UpgradedNames
 
 -- a sealed pool from its parts
@@ -96,7 +99,7 @@ version_text_and_repository_cmp =
     then_cmp (on (λ (c : Candidate). c.version) (option_cmp bytes_cmp))
     (on (λ (c : Candidate). c.repository) earlier_repository)
 
--- keys 2 to 10, of two candidates that world pins both, or neither
+-- the order of two candidates by keys 2 to 10, if world pins both of them, or neither of them
 abbrev pub candidate_cmp_after_pinning : UpgradedNames → Need → Candidate → Candidate → Ordering
 candidate_cmp_after_pinning upgraded need =
     then_cmp (tag_name_kept_cmp upgraded need)

@@ -17,11 +17,15 @@ use Rattle.change_inputs.specs.World.{new_world, root_world, found_text_or_empty
 
 -- the contents of a root's files for a command
 pub record Root : Type 0 where
+  -- what is installed
   pub database : Database
   -- the text of world's file, world before the command, and the one that it asks for
   pub world_text : List ℕ
+  -- world before the command
   pub world : List Dependency
+  -- world with the entries that the command adds, and without those that it removes
   pub new_world : List Dependency
+  -- the listed repositories, in the order of the list
   pub repositories : List Repository
 
 -- a root by the contents of its files; the new world is what the command makes of the world
@@ -51,7 +55,9 @@ root_found command file text world_file repositories_file =
 
 -- all that a change reads: the contents of a root's files, and the value of each repository's index
 pub record Inputs : Type 0 where
+  -- what the files of the root say
   pub root : Root
+  -- the value of the index of each repository, in the same order
   pub indexes : List Plain
 
 -- inputs by their two parts

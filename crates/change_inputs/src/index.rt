@@ -31,7 +31,7 @@ use std::alloc::{AllocError, Global};
 pub(crate) struct IndexFiles {
     /// The bytes of each file, in the order of the repositories.
     pub(crate) files: Vec<Vec<u8>>,
-    // No test of a file as an index fails.
+    // Each file passes each test of an index.
     ghost sound: { are_indexes (bytes_of_each files.items) ≡ true },
 }
 
@@ -112,7 +112,7 @@ pub(crate) fn read_index_files<T: Tree>(
     Ok(files)
 }
 
-// Adds a file's bytes after those of the earlier repositories.
+// Appends the bytes of an index to those of the earlier repositories.
 fn push_file(files: &mut Vec<Vec<u8>>, file: Vec<u8>) -> Result<(), AllocError>
     ensures { OnOk result (bytes_of_each files.new.items
         ≡ bytes_of_each files.old.items ++ file.items ∷ []) }
@@ -128,6 +128,7 @@ fn read_index_file<T: Tree>(
     path: &Name,
     tree: &mut T,
 ) -> Result<Vec<u8>, Refused>
+    // The result is that of the file which is found under the path.
     ensures found { (found : Option (List ℕ))
         × IsFileFoundInTree (T.history tree.old) path.now found
         × AgreesUnlessDisk (λ file. file.items) result (index_file number found) }

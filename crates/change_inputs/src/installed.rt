@@ -18,7 +18,7 @@ use std::alloc::{AllocError, Global};
 /// The database of a root, which passed its tests. Its bytes are kept.
 #[derive(Drop)]
 pub struct Installed {
-    /// The database, or that one is begun.
+    /// The database of the root, or the mark that the command begins a new one.
     database: DatabaseFile,
 }
 

@@ -117,7 +117,7 @@ impl Loaded {
         &self.root.worlds.before
     }
 
-    /// World as the command asks for it.
+    /// World after the command has added or removed its entries.
     pub fn new_world(&self) -> &World
         ensures { result.now ≡ (inputs_seen self.now).root.new_world }
     {
@@ -174,6 +174,7 @@ impl Loaded {
         ensures ok { OnOk result (pool.new
             ≡ candidates_of_repositories_from 1 self.entry.now.root.repositories
             (indexes_seen self.entry.now.indexes)) }
+        // Too many candidates are refused by the number that the list would have.
         ensures fault { IfErr result (λ fault. IsPoolFault fault (length
             (candidates_of_repositories_from 1 self.entry.now.root.repositories
             (indexes_seen self.entry.now.indexes)))) }

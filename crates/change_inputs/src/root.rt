@@ -44,7 +44,7 @@ pub(crate) struct RootFiles {
 pub(crate) struct TestedRoot {
     /// What is installed before the command.
     pub(crate) database: DatabaseFile,
-    /// World before the command, and the one that it asks for.
+    /// World before the command, and world after the command has added or removed its entries.
     pub(crate) worlds: Worlds,
     /// The repositories that may be read.
     pub(crate) repositories: Repos,

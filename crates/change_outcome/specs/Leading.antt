@@ -13,10 +13,16 @@ write_limit = 2 ^ 63
 -- if these names are removed and written, and the others are unchanged, the files are `after`; the
 -- names are free, nothing is staged before, and the writes are below their limit
 pub record ActionsLeadToFiles (removals writes : List (List ℕ)) (files after : Files) : Type 0 where
+  -- the names are free; none is written twice, and none is both written and removed
   pub free : HasFreeDistinctNames (intent_of_lists removals writes)
+  -- there are less writes than a stage can have
   pub few : length writes < write_limit
+  -- nothing is staged in the files before
   pub empty : IsEmptyStage files
+  -- each written name has a file afterwards
   pub gives : (name : List ℕ) → IsOneOf name writes → IsSome (after name)
+  -- each removed name has no file afterwards
   pub removes : (name : List ℕ) → IsOneOf name removals → after name ≡ None
+  -- each other name has the same file, or none, as before
   pub keeps : (name : List ℕ) → IsNoneOf name removals → IsNoneOf name writes
       → after name ≡ files name

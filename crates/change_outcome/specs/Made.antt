@@ -19,6 +19,7 @@ pub record IsChangeMade (inputs : Inputs) (r : Replacement) (wishes : ChangeWish
     (clash : Option NamePair) (files : Files) (done : ChangeDone) : Type 0 where
   -- the packages after the change
   pub found : List MemberFound
+  -- the packages after the change are found
   pub members : members_after_change inputs r wishes read ≡ Ok found
   -- no added package lists a reserved path
   pub unreserved : first_reserved_path (found_members found) ≡ None
@@ -28,6 +29,7 @@ pub record IsChangeMade (inputs : Inputs) (r : Replacement) (wishes : ChangeWish
   pub uncontested : first_contested_path_of_members (found_members found) ≡ None
   -- the bytes of the new database, which exceeds no limit of the writer
   pub database : List ℕ
+  -- the database of these packages has these bytes
   pub new_database : database_of (found_members found) (owned_flags_of (found_members found))
       ≡ Ok database
   -- the journal entry (intent) exceeds no limit of the writer

@@ -19,8 +19,11 @@ use Rattle.change_outcome.specs.PackageFiles.{AddedPackage, package_file_of, add
 
 -- a package after the change; and for an added one its file, and the contents of its files
 pub record MemberFound : Type 0 where
+  -- the package, as one that is installed after the change
   pub member : Member
+  -- the bytes of an added package's file
   pub file : Option (List ℕ)
+  -- the contents of an added package's files
   pub contents : List Contents
 
 -- a kept package, whose files are not read

@@ -44,9 +44,13 @@ package_file_of repositories c = by_number c.repository
 -- an added package, as its file has it: the file's bytes, its value, its identity, and the contents of
 -- its files
 pub record AddedPackage : Type 0 where
+  -- the bytes of the package's file
   pub file : List ℕ
+  -- the package as a plain value
   pub value : Plain
+  -- the identity (hash) of the package
   pub id : List ℕ
+  -- the contents of its files
   pub contents : List Contents
 
 -- the package in a container
@@ -92,7 +96,7 @@ script_of pkg number = text_in (entry_in (entry_in pkg PACKAGE_SCRIPTS) (number 
 abbrev pub has_script_of : Plain → ℕ → Bool
 has_script_of pkg number = not (length (script_of pkg number) == 0)
 
--- the first of some scripts that the package has
+-- of the scripts with these numbers, the first that the package has
 abbrev pub first_script_of : Plain → List ℕ → Option ℕ
 first_script_of pkg [] = None
 first_script_of pkg (number ∷ numbers) =

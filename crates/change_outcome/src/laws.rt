@@ -95,11 +95,13 @@ pub fn a_change_that_is_made_passes_each_test()
 /// If the paths of the journal entry (intent) and of staged files are free before a change, they are
 /// free after it, for each later change. And a change leaves no new journal entry.
 pub fn a_change_keeps_paths_free()
+    // The paths of the next stage are free after the change, if they were before it.
     ensures room { (inputs : Inputs) (r : Replacement) (wishes : ChangeWishes) (read : Reads)
         (clash : Option NamePair) (files : Files) (done : ChangeDone)
         → change_or_refusal inputs r wishes read clash files ≡ Ok done
         → IsClashOfChange inputs r wishes read files clash
         → AreStagingPathsFree files → AreStagingPathsFree done.files }
+    // If there was no intent before the change, there is none after it.
     ensures intent { (inputs : Inputs) (r : Replacement) (wishes : ChangeWishes) (read : Reads)
         (clash : Option NamePair) (files : Files) (done : ChangeDone)
         → change_or_refusal inputs r wishes read clash files ≡ Ok done

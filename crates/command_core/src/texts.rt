@@ -92,7 +92,7 @@ fn is_script_type(text: &[u8]) -> bool
     is_among(&SCRIPT_TYPES, text)
 }
 
-/// Whether a text is one of some.
+/// Whether the text is one of the texts in the list.
 pub fn is_among(texts: &[&[u8]], text: &[u8]) -> bool
     ensures { result ≡ list_any (λ one. bytes_eq one.now text.now) texts.now }
 {

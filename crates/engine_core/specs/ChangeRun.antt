@@ -49,15 +49,20 @@ DoesCommit (Err refusal) = ⊥
 -- package as bad, with this cause.
 pub record HasSpoiledPackage (packages : Result (List MemberFound) Refusal) (refusal : Refusal) :
     Type 0 where
+  -- the packages after the change, as the reads found them
   pub found : List MemberFound
   pub are : packages ≡ Ok found
+  -- one of these packages, which is spoiled
   pub one : MemberFound
   pub among : Contains found one
+  -- the bytes of its file when it was tested
   pub tested : List ℕ
   pub read : one.file ≡ Some tested
+  -- a file with the same values and other contents, and the test that it fails
   pub file : List ℕ
   pub cause : Cause
   pub spoiled : IsSpoiledFile tested file cause
+  -- the refusal reports this package as bad, with this cause
   pub is : refusal ≡ PackageBad (member_name one.member) (package_version_text one.member.pkg) cause
 
 -- The file of an added package is not what was tested, when its contents are read once more. The report
@@ -73,7 +78,9 @@ pub record IsChangedSinceTested (packages : Result (List MemberFound) Refusal)
   pub commits : DoesCommit wanted
   -- the refusal reports the package that is spoiled
   pub refusal : Refusal
+  -- the refusal is that of a spoiled package
   pub spoiled : HasSpoiledPackage packages refusal
+  -- the run ends with this refusal
   pub is : result ≡ Err (IsRefused refusal)
 
 -- ---- the effect on the tree
@@ -81,8 +88,10 @@ pub record IsChangedSinceTested (packages : Result (List MemberFound) Refusal)
 -- a change is staged and carried through, or the tree failed on the way
 pub record IsCommit (wanted : Result ChangeDone Refusal) (v : TreeState)
     (old now : List TreeState) (result : Result (List ℕ) Refused) : Type 0 where
+  -- the result of the change
   pub done : ChangeDone
   pub is : wanted ≡ Ok done
+  -- the change writes or removes a file
   pub commits : done.commits ≡ true
   -- what holds in each state of a run that leads to the files of the change
   pub run : IsRunOfStagedChange done.files v old now
@@ -109,10 +118,13 @@ IsUnchangedOrCommit wanted v old now result =
 pub record CarriesOut (packages : Result (List MemberFound) Refusal)
     (wanted : Result ChangeDone Refusal) (old now : List TreeState) (before after : Counts)
     (result : Result (List ℕ) Refused) : Type 0 where
+  -- the run reports what was wanted, or that a package is no longer what was tested
   pub told : AgreesUnlessDisk report_as_is result (report_of_result wanted)
       ⊎ IsChangedSinceTested packages wanted old result
+  -- without an intent and staged files, the change is carried through, or the tree is unchanged or failed
   pub run : IfObservable old (λ v. v.names intent_name ≡ None → IsEmptyStage (files_of v)
       → IsUnchangedOrCommit wanted v old now result)
+  -- without an intent and staged files, no call is a misuse if the paths of the stage are free
   pub proper : IfObservable old (λ v. v.names intent_name ≡ None → IsEmptyStage (files_of v)
       → (DoesCommit wanted → AreStagingPathsFree (files_of v)) → after.misuses ≡ before.misuses)
 
@@ -123,18 +135,23 @@ pub record IsChangeRun (command : CommandLine) (old now : List TreeState) (befor
     (result : Result (List ℕ) Refused) : Type 0 where
   -- what the reads find
   pub read : Reads
+  -- the reads find what is in the tree
   pub observed : AreReadsOfTree old read
   -- the places of the chosen candidates; None if no selection satisfies the new world
   pub chosen : Option (List ℕ)
+  -- the chosen candidates are the preferred selection, or there is none
   pub choice : IsChoiceFrom (pool_of_command command read) chosen
   -- the files that decide whether a configuration file is kept
   pub files : Files
+  -- on an observable tree these are its files at the start
   pub there : IfObservable old (λ v. files ≡ files_of v)
   -- the files among which names clash
   pub present_files : Files
+  -- on an observable tree the present files are its files at the start
   pub stand : IfObservable old (λ v. present_files ≡ files_of v)
   -- the first clash of names, if there is one
   pub clash : Option NamePair
+  -- the first clash of names of the change, if there is one
   pub is_clash : IsClashOfCommandAmong command read files present_files chosen clash
   -- how the run ends
   pub comes : CarriesOut (found_packages command read (selected_for command read chosen))

@@ -22,7 +22,9 @@ use Rattle.engine_core.specs.Wishes.{names_to_reinstall, unknown_operand_place, 
 
 -- what is read, and the packages before with the candidates that are to replace them
 pub record InputsAndReplacement : Type 0 where
+  -- what was read of the root
   pub inputs : Inputs
+  -- the packages before, and the selected candidates
   pub replacement : Replacement
 
 -- what is selected by a choice of candidates; without a choice no selection satisfies the new world,
@@ -79,14 +81,15 @@ change_of_command command read files chosen clash =
 
 -- ---- the first clash
 
--- the first clash of names that a change finds; a simulated change does not look for one, and has none
+-- the first clash of names that a change finds; a simulated change does not search for it, and has none
 abbrev pub IsClashUnlessSimulatedAmong :
     Bool → ChangeWishes → Reads → Files → Files → InputsAndReplacement → Option NamePair → Type 0
 IsClashUnlessSimulatedAmong true wishes read files present_files s clash = clash ≡ None
 IsClashUnlessSimulatedAmong false wishes read files present_files s clash =
     IsClashOfChangeAmong s.inputs s.replacement wishes read files present_files clash
 
--- the first clash of names that a command finds; one that is refused earlier does not look for it
+-- the first clash of names that a command finds; a command that is refused earlier does not search for it, and
+-- has none
 abbrev pub IsClashOfSelectedAmong :
     CommandLine → Reads → Files → Files → Result InputsAndReplacement Refusal → Option NamePair → Type 0
 IsClashOfSelectedAmong command read files present_files (Ok s) clash =

@@ -22,11 +22,15 @@ use Rattle.engine_core.specs.declared.rendering.Rendered.{Rendered}
 
 -- a change is ready to be committed: its files are planned over the tree as it is, and it is rendered
 pub record IsReadyToCommit (history : List TreeState) (p : Plan) (r : Rendered) : Type 0 where
+  -- the packages after the change
   pub found : List MemberFound
+  -- the files over which the change is planned
   pub files : Files
   pub planned : IsPlanned history p found files
+  -- the new database and world
   pub records : NewRecords
   pub own : AreNewRecordsOf (inputs_of_plan p) records
+  -- the staged files and the report are made of the plan and of the new database and world
   pub rendered : IsRendered p records r
 
 -- the result of a change that is committed

@@ -27,15 +27,19 @@ pub record IsRunOnSelection (command : CommandLine) (selected : Result InputsAnd
     (result : Result (List ℕ) Refused) : Type 0 where
   -- what the reads find
   pub read : Reads
+  -- the reads find what is in the tree
   pub observed : AreReadsOfTree old read
   -- the files that decide whether a configuration file is kept
   pub files : Files
+  -- on an observable tree these are its files at the start
   pub there : IfObservable old (λ v. files ≡ files_of v)
   -- the files among which names clash
   pub present_files : Files
+  -- on an observable tree the present files are its files at the start
   pub stand : IfObservable old (λ v. present_files ≡ files_of v)
   -- the first clash of names, if there is one
   pub clash : Option NamePair
+  -- the first clash of names of the change, if there is one
   pub is_clash : IsClashOfSelectedAmong command read files present_files selected clash
   -- how the run ends
   pub comes : CarriesOut (found_packages command read selected)
@@ -48,12 +52,15 @@ pub record IsRunOnFoundPackages (inputs : Inputs) (r : Replacement) (wishes : Ch
     (result : Result (List ℕ) Refused) : Type 0 where
   -- the files that decide whether a configuration file is kept
   pub files : Files
+  -- on an observable tree these are its files at the start
   pub there : IfObservable old (λ v. files ≡ files_of v)
   -- the files among which names clash
   pub present_files : Files
+  -- on an observable tree the present files are its files at the start
   pub stand : IfObservable old (λ v. present_files ≡ files_of v)
   -- the first clash of names, if there is one
   pub clash : Option NamePair
+  -- the first clash of names of the change, if there is one
   pub is_clash : IsClashFoundAmong inputs wishes files present_files (Ok found) clash
   -- how the run ends
   pub comes : CarriesOut (Ok found) (change_with_members inputs r wishes clash files found)

@@ -53,7 +53,11 @@ IsSelectedFrom command inputs result =
 
 -- a selection has this command, these inputs, their database, and the command's candidates
 pub record IsSelectionFor (command : CommandLine) (inputs : Inputs) (s : Selection) : Type 0 where
+  -- it is made for this command
   pub command_is : s.command.now ≡ command
+  -- it is made of these inputs
   pub inputs_are : inputs_of_selection s ≡ inputs
+  -- its packages before are those of the inputs
   pub database : HasDatabaseOfInputs s
+  -- its candidates are those of the inputs
   pub pool : HasPoolOfInputs s

@@ -129,7 +129,7 @@ fn first_not_installed(operands: &Operands, db: &Db<'_>) -> Option<u32>
     None
 }
 
-// Whether world has an entry of a name, or a package of it is installed.
+// Whether world has an entry of a name, or a package of this name is installed.
 fn is_known(name: &[u8], loaded: &Loaded, db: &Db<'_>) -> bool
     requires { packages_of db.now ≡ (inputs_seen loaded.now).root.database.packages }
     ensures { result ≡ is_known_name (inputs_seen loaded.now) name.now }

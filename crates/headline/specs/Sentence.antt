@@ -27,9 +27,13 @@ use Rattle.refusal_laws.specs.words_core.Grammar.{command_of}
 -- first, apart from the ignored names, and neither then nor later did others leave a bad intent.
 pub record HasGoodPast (ignored : List ℕ → Bool) (first : TreeState) (events : List RootEvent)
     (v : TreeState) : Type 0 where
+  -- the name of the intent is not ignored
   pub counts : ignored intent_name ≡ false
+  -- at first the tree was durable, apart from the ignored names
   pub durable : IsDurable (StateDependsOn ignored) first
+  -- at first no crash could leave a bad intent
   pub good : LeavesNoBadIntent first
+  -- the events led to the state v, and none of them put a bad intent there
   pub seen : ReachesWithoutBadIntent first events v
 
 -- From the state m on, a root recovers to files with the state *HasState*, apart from the ignored names.
@@ -38,7 +42,9 @@ pub record HasGoodPast (ignored : List ℕ → Bool) (first : TreeState) (events
 -- ignored too.
 pub record RootRecoversTo (HasState : (List ℕ → Bool) → Files → Type 0) (ignored : List ℕ → Bool)
     (m : TreeState) : Type 0 where
+  -- each crash leaves files of this state
   pub crash : (image : Files) → IsCrashImage m image → HasState ignored image
+  -- the next run that recovers works on files of this state
   pub next : (later : List RootEvent) (w : TreeState) (next : Run) → ReachesWithoutCommit m later w
       → IsRunFrom w next → does_recover (effect_of_arguments (command_of next.words)) ≡ true
       → IsRecoveredBy (HasState (ignored_with_all_touched later ignored)) w next
@@ -48,9 +54,13 @@ pub record RootRecoversTo (HasState : (List ℕ → Bool) → Files → Type 0) 
 -- unless the change is only simulated.
 pub record EndsInTrueRefusalOrFirstSelection (command : CommandLine) (files : Files)
     (o : Outcome) : Type 0 where
+  -- the outcome is one of the ends that a change can have
   pub end : IsChangeEndOrIntentRefusal command files o
+  -- if the outcome is a refusal, what it reports is so
   pub fault : (refusal : Refusal) → o.refusal ≡ Some refusal → IsFaultOfRun command files refusal
+  -- without a refusal the preferred selection is taken
   pub first : o.refusal ≡ None → TakesFirstPreferredSelection command (unstaged_files files) o
+  -- without a refusal the packages after a change that is made are the selected ones
   pub packages : o.refusal ≡ None → command.flags.simulate ≡ false
       → HasFaultlessFirstPreferredSelection command (unstaged_files files)
 

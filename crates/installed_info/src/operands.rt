@@ -28,6 +28,7 @@ pub(crate) fn report_operands(
     operands: &Operands,
     db: &Db<'_>,
 ) -> Result<Result<ReportAndRefusal, Refusal>, AllocError>
+    // The refusal of the first operand that is not installed, or the lines of all operands.
     ensures { IfOk result (λ told. told ≡ info_unless_refused
         (info_refusal form (packages_of db.now) operands.now)
         (operands_info form (packages_of db.now) operands.now)) }
@@ -55,6 +56,7 @@ pub(crate) fn report_installed(
     operands: &Operands,
     db: &Db<'_>,
 ) -> Result<ReportAndRefusal, AllocError>
+    // The lines of all operands that are installed, and the refusal of the first that is not.
     ensures { IfOk result (λ done. done ≡ report_and_refusal
         (operands_info form (packages_of db.now) operands.now)
         (info_refusal form (packages_of db.now) operands.now)) }
@@ -93,6 +95,7 @@ fn push_operand(
 ) -> Result<bool, AllocError>
     ensures found { IfOk result
         (λ found. found ≡ is_some (package_meant_by form (packages_of db.now) text.now)) }
+    // What the operand asks for is appended, if the package is installed.
     ensures told { IfOk result (λ _. report.new.items ≡ report.old.items
         ++ option_map_or (package_info form text.now)
         (package_meant_by form (packages_of db.now) text.now) []) }

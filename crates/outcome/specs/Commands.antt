@@ -101,13 +101,17 @@ IsOutcomeWithoutDemo (Ok command) files outcome =
 pub record IsRefusedForSpoiledPackage (command : CommandLine) (read : Reads) (given : Given) (files :
     Files)
     (outcome : Outcome) : Type 0 where
+  -- the command changes what is installed
   pub changes : effect_of command.applet ≡ Changes
+  -- without the refusal the outcome commits
   pub commits :
       (effect_outcome (effect_of command.applet) command.applet command given read files).commits
       ≡ true
+  -- the refusal, which is that of a spoiled package
   pub refusal : Refusal
   pub spoiled : HasSpoiledPackage
       (found_packages command read (selected_for command read given.chosen)) refusal
+  -- the outcome is this refusal, and the files are unchanged
   pub is : outcome ≡ just_refusal files refusal
 
 -- the outcome is one for some listing, some contents at each read, some files, and the first clash of

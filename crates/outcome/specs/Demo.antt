@@ -30,7 +30,7 @@ IsOutcomeOfNextRun words files before outcome =
 abbrev pub outcome_before_demo : Outcome
 outcome_before_demo = just_report (put_name no_names repositories_name demo_repositories) []
 
--- the files, with the one file that package i contains put under its name
+-- the files, to which the file that package i contains was added under its name
 abbrev pub with_demo_file : ℕ → Files → Files
 with_demo_file i files = put_name files (demo_file i) (demo_text i)
 

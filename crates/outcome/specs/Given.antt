@@ -56,8 +56,11 @@ IsFirstClashForEffect other command read files chosen clash = clash ≡ None
 -- all parts that a command is given, if reads find the contents of these files
 pub record IsListingChoiceAndClashFor (command : CommandLine) (read : Reads) (files : Files) (given : Given)
     : Type 0 where
+  -- the names that the command lists are those of the files
   pub names : IsListingFor command.applet command files given.names
+  -- for a change: the chosen candidates are the preferred selection; None if no selection satisfies world
   pub chosen : IsChosenFor (effect_of command.applet) command read given.chosen
+  -- the clash is the first one of the change over these files, if there is one
   pub clash :
       IsFirstClashForEffect (effect_of command.applet) command read files given.chosen given.clash
 
@@ -80,7 +83,10 @@ MayBeFirstClashForEffect other command read files chosen clash = clash ≡ None
 pub record MayBeListingChoiceAndClashFor (command : CommandLine) (read : Reads) (files : Files)
     (given : Given)
     : Type 0 where
+  -- some names that a tree may list
   pub names : MayBeListedFor command.applet command given.names
+  -- for a change: the chosen candidates are the preferred selection; None if no selection satisfies world
   pub chosen : IsChosenFor (effect_of command.applet) command read given.chosen
+  -- a clash that is the first one over some files, if there is one
   pub clash :
       MayBeFirstClashForEffect (effect_of command.applet) command read files given.chosen given.clash

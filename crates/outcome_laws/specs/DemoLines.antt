@@ -16,8 +16,11 @@ AreWholeLines text = (text ≡ []) ⊎ ((before : List ℕ) × (text ≡ before 
 -- the name is that of one of n packages, on which no other of them depends: from the second on, each
 -- depends on the package of half its number, rounded down
 pub record IsNeededByNone (n : ℕ) (name : List ℕ) : Type 0 where
+  -- the number of the package, from 1 to n
   pub number : ℕ
   pub least : 1 ≤ number
   pub most : number ≤ n
+  -- the name is that of the package with this number
   pub named : name ≡ demo_name number
+  -- no package from the second on has half its number, rounded down, equal to this number
   pub none : (j : ℕ) → 2 ≤ j → j ≤ n → j / 2 ≡ number → ⊥

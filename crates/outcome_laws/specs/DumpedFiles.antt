@@ -20,10 +20,13 @@ use Rattle.container_laws.specs.pkg_core.Whole.{table_of_schema}
 
 -- a text is that of the value of a file, by the table that the schema of its header has at its root
 pub record HasTextOfValue (file text : List ℕ) : Type 0 where
+  -- the schema number in the header of the file
   pub schema : ℕ
   pub header : header_of file ≡ Ok schema
+  -- the table that this schema has at its root
   pub which : Which
   pub root : table_of_schema schema ≡ Some which
+  -- the text is that of the value of the file, by this table
   pub text_is : text ≡ dump_text which (root_value which (payload_in file))
 
 -- ---- why a file is not printed

@@ -11,8 +11,10 @@ use Rattle.report_core.specs.declared.refusal.Refusal.TheVariants.{FileBad, File
 
 -- a file was found, and passes every test of a container
 pub record IsFoundSound (found : Option (List ℕ)) : Type 0 where
+  -- the bytes that were found
   pub file : List ℕ
   pub is : found ≡ Some file
+  -- they pass every test of a container
   pub passes : PassesEveryTest file
 
 -- the read with an operand's number, from 0, finds a file that passes every test
@@ -33,8 +35,11 @@ IsFileRefusal (Some file) place refusal =
 
 -- the refusal is that of the file of one operand, and the files before it pass every test
 pub record IsFirstUnsound (read : Reads) (operands : List Operand) (refusal : Refusal) : Type 0 where
+  -- the index of the operand, counted from 0
   pub number : ℕ
   pub operand : Operand
   pub at : slice_get operands number ≡ Some operand
+  -- the refusal is that of the file under this operand
   pub refused : IsFileRefusal (read number (without_dot_slash operand.text)) operand.place refusal
+  -- the file of each operand before it passes every test
   pub earlier : (i : ℕ) → i < number → IsOperandSound read operands i

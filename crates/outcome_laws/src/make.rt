@@ -28,9 +28,11 @@ pub fn a_fault_of_the_input_is_reported_before_a_reserved_output()
 /// If the input has no fault, a reserved output is refused, even if the result is too large. A
 /// result that is too large is refused if the output is not reserved.
 pub fn a_reserved_output_is_reported_before_a_result_that_is_too_large()
+    // A reserved output is refused, even if the result is too large.
     ensures reserved { (files : Files) (name report : List ℕ) (made : Result (List ℕ) MakeFault)
         → IsReservedName name → IsMadeOrTooLarge made
         → IsRefusedWith (Reserved name) files (make_outcome files (Some name) report made) }
+    // If the output is not reserved, the result is refused as too large.
     ensures too_large { (files : Files) (output : Option (List ℕ)) (report : List ℕ)
         (bytes values : ℕ) → IsUnreserved output
         → IsRefusedWith (ResultTooLarge bytes values) files

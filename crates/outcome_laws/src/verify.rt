@@ -28,10 +28,12 @@ pub fn verify_refuses_the_first_bad_file()
 /// `verify` prints `FILE: OK` for each file, in the order given, unless it is refused; then it
 /// prints nothing.
 pub fn verify_prints_ok_for_each_file()
+    // Without a refusal each operand has the line `FILE: OK`.
     ensures printed { (read : Reads) (files : Files) (operands : List Operand)
         → (verify read files operands).refusal ≡ None
         → (verify read files operands).out
         ≡ report_lines (map (λ (o : Operand). without_dot_slash o.text ++ codes ": OK") operands) }
+    // With a refusal nothing is printed on standard output.
     ensures refused { (read : Reads) (files : Files) (operands : List Operand)
         → is_some (verify read files operands).refusal ≡ true
         → (verify read files operands).out ≡ [] }

@@ -18,20 +18,25 @@ ghost use Rattle.version_core.specs.Order.{is_version, version_cmp};
 /// to, or greater than the second. It is refused, and prints nothing, exactly if one of them is no
 /// version.
 pub fn version_prints_the_order()
+    // `<` is printed exactly if the first version is less.
     ensures less { (files : Files) (flags : Flags) (a b : Operand)
         → flags.test ≡ true → AreBothVersions a b
         → ((version files flags (a ∷ b ∷ [])).out ≡ codes "<\n")
         ↔ (version_cmp a.text b.text ≡ Less) }
+    // `=` is printed exactly if the versions are equal.
     ensures equal { (files : Files) (flags : Flags) (a b : Operand)
         → flags.test ≡ true → AreBothVersions a b
         → ((version files flags (a ∷ b ∷ [])).out ≡ codes "=\n")
         ↔ (version_cmp a.text b.text ≡ Equal) }
+    // `>` is printed exactly if the first version is greater.
     ensures greater { (files : Files) (flags : Flags) (a b : Operand)
         → flags.test ≡ true → AreBothVersions a b
         → ((version files flags (a ∷ b ∷ [])).out ≡ codes ">\n")
         ↔ (version_cmp a.text b.text ≡ Greater) }
+    // If an operand is no version, nothing is printed.
     ensures refused { (files : Files) (flags : Flags) (a b : Operand) → flags.test ≡ true
         → (AreBothVersions a b → ⊥) → (version files flags (a ∷ b ∷ [])).out ≡ [] }
+    // The command is not refused exactly if both operands are versions.
     ensures accepted { (files : Files) (flags : Flags) (a b : Operand) → flags.test ≡ true
         → ((version files flags (a ∷ b ∷ [])).refusal ≡ None) ↔ AreBothVersions a b }
 {}

@@ -41,6 +41,7 @@ pub(crate) fn eligible_marks(
     conflicts: &[Dep<'_>],
 ) -> Result<Vec<bool>, AllocError>
     requires { HasPlacesOfEachName table.now (candidates_of_packages packages.now) }
+    // A candidate's mark is true if it is allowed and not barred.
     ensures { IfOk result (λ marks. marks.items ≡ map (λ one.
         is_allowed (map dependency tagged.now) one
         && not (is_barred_by (map dependency conflicts.now) one))
@@ -106,15 +107,15 @@ fn no_marks(alloc: Global, packages: &Packages<'_>) -> Result<Vec<bool>, AllocEr
     Ok(marks)
 }
 
-// The opposite of each mark.
+// A list with the opposite of each mark, in the same order.
 fn opposite_marks(alloc: Global, marks: &[bool]) -> Result<Vec<bool>, AllocError>
     ensures { IfOk result (λ others. others.items ≡ map not marks.now) }
 {
     marks.iter().map(|mark| !*mark).collect(alloc)
 }
 
-// Sets the mark of each candidate on which one of some entries of world has an effect. Other marks
-// are unchanged.
+// Sets the mark of each candidate on which an entry of the list, which is of world, has the effect.
+// Other marks are unchanged.
 fn mark_affected(
     alloc: Global,
     marks: &mut Vec<bool>,
@@ -123,8 +124,11 @@ fn mark_affected(
     entries: &[Dep<'_>],
     effect: Effect,
 ) -> Result<(), AllocError>
+    // The table leads from each name to the places of the candidates that offer it.
     requires leads { HasPlacesOfEachName table.now (candidates_of_packages packages.now) }
+    // There is one mark for each candidate.
     requires each { length marks.old.items ≡ length (candidates_of_packages packages.now) }
+    // The marks that become true are those of the candidates on which an entry has the effect.
     ensures { OnOk result (marks.new.items
         ≡ with_marks_set (is_affected effect (map dependency entries.now))
         marks.old.items (candidates_of_packages packages.now)) }
@@ -148,7 +152,9 @@ fn mark_among(
 ) -> Result<(), AllocError>
     requires offers { ids.now
         ≡ places_offering (dependency entry.now).name (candidates_of_packages packages.now) }
+    // There is one mark for each candidate.
     requires each { length marks.old.items ≡ length (candidates_of_packages packages.now) }
+    // The marks that become true are those of the candidates on which the entry has the effect.
     ensures { OnOk result (marks.new.items ≡ with_marks_set (affects effect (dependency entry.now))
         marks.old.items (candidates_of_packages packages.now)) }
 {
@@ -170,12 +176,16 @@ fn mark_one(
     known: &mut KnownMatches,
 ) -> Result<(), AllocError>
     requires within { id < length (candidates_of_packages packages.now) }
+    // There is one mark for each candidate.
     requires each { length marks.old.items ≡ length (candidates_of_packages packages.now) }
+    // The remembered results are right for the entry.
     requires known { AreRememberedMatchesOf (source_text packages.now.sources.items)
         (dependency entry.now) known.old }
+    // Only the mark at the place may become true, if the entry has the effect there.
     ensures marks { OnOk result (marks.new.items
         ≡ with_mark_set_at (affects effect (dependency entry.now)) id
         marks.old.items (candidates_of_packages packages.now)) }
+    // The results that are remembered after the call are right for the entry.
     ensures known { OnOk result (AreRememberedMatchesOf (source_text packages.now.sources.items)
         (dependency entry.now) known.new) }
 {
@@ -198,9 +208,11 @@ fn affects(
     place: usize,
     known: &mut KnownMatches,
 ) -> Result<bool, AllocError>
+    // `one` is the candidate at the place, and the remembered results are right for the entry.
     requires { IsCandidateWithMatches packages.now place one.now (dependency entry.now) known.old }
     ensures affects { IfOk result (λ answer. answer
         ≡ affects effect (dependency entry.now) one.now) }
+    // The results that are remembered after the call are right for the entry.
     ensures known { OnOk result (AreRememberedMatchesOf (source_text packages.now.sources.items)
         (dependency entry.now) known.new) }
 {
@@ -219,9 +231,11 @@ fn bars(
     place: usize,
     known: &mut KnownMatches,
 ) -> Result<bool, AllocError>
+    // `one` is the candidate at the place, and the remembered results are right for the entry.
     requires { IsCandidateWithMatches packages.now place one.now (dependency entry.now) known.old }
     ensures bars { IfOk result (λ answer. answer ≡ ((dependency entry.now).conflict
         && meets_dependency (dependency entry.now) one.now)) }
+    // The results that are remembered after the call are right for the entry.
     ensures known { OnOk result (AreRememberedMatchesOf (source_text packages.now.sources.items)
         (dependency entry.now) known.new) }
 {
@@ -234,8 +248,10 @@ fn bars(
     packages.meets_need(place, &NeedRef::Entry(entry), known)
 }
 
-// Whether an entry of world pins a candidate's name to its tag: it has both. It may be a conflict.
+// Whether an entry of world pins a candidate's name to its tag: the entry has this name and this
+// tag. It may be a conflict.
 fn pins(entry: &Dep<'_>, one: &Details<'_>) -> bool
+    // The candidate has a tag, and the entry has the candidate's name and this tag.
     ensures { result ≡ option_map_or (λ tag. bytes_eq one.now.name (dependency entry.now).name
         && option_map_or (bytes_eq tag) (dependency entry.now).tag false) one.now.tag false }
 {
@@ -272,7 +288,7 @@ fn is_allowed(one: &Details<'_>, tagged: &[Dep<'_>]) -> bool
     }
 }
 
-// Whether one of some entries of world has this tag.
+// Whether an entry of the list, which is of world, has this tag.
 #[tactic(auto, using(candidate_core::proofs::Anyone::any_map))]
 fn uses_tag(tagged: &[Dep<'_>], tag: &[u8]) -> bool
     ensures { result ≡ uses_tag (map dependency tagged.now) tag.now }
@@ -280,7 +296,7 @@ fn uses_tag(tagged: &[Dep<'_>], tag: &[u8]) -> bool
     any_has_tag(tagged, tag)
 }
 
-// Whether one of some entries has this tag; the clause is about the entries as values of the
+// Whether an entry of the list has this tag. The clause is about the entries as values of the
 // program.
 fn any_has_tag(tagged: &[Dep<'_>], tag: &[u8]) -> bool
     ensures { result ≡ list_any

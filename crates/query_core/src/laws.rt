@@ -48,20 +48,24 @@ pub fn the_order_of_queries_is_total()
         → slice_get cs a ≡ Some x → slice_get cs b ≡ Some y → x.name ≡ y.name
         → x.version ≡ y.version → a < b → query_cmp cs a b ≡ Less }
 {
+    // A law that the proof needs; it has no effect at run time.
     order_is_total();
 }
 
 /// A query selects just the candidates that pass its test, each once and in the order of queries.
 pub fn a_query_selects_what_passes_its_test()
+    // Each candidate that is printed passes the test.
     ensures those { (test : Candidate → Bool) (cs : List Candidate) (place : ℕ)
         → IsIn place (sorted_places_passing test cs) →
         option_map_or test (slice_get cs place) false ≡ true }
+    // Each candidate that passes the test is printed.
     ensures each { (test : Candidate → Bool) (cs : List Candidate) (place : ℕ)
         → option_map_or test (slice_get cs place) false ≡ true →
         IsIn place (sorted_places_passing test cs) }
     ensures order { (test : Candidate → Bool) (cs : List Candidate)
         → AreInOrderBy (query_cmp cs) (sorted_places_passing test cs) }
 {
+    // A law that the proof needs; it has no effect at run time.
     order_is_total();
 }
 
@@ -73,6 +77,7 @@ pub fn list_prints_what_is_asked_for()
         ↔ (((patterns ≡ []) ⊎ MatchesNamePattern patterns c.name)
         × (installed_only ≡ true → c.installed ≡ true)) }
 {
+    // A law that the proof needs; it has no effect at run time.
     a_pattern_matches_what_its_stars_are_filled_to();
 }
 
@@ -84,24 +89,29 @@ pub fn search_prints_what_is_asked_for()
         ↔ ((is_some c.repository ≡ true)
         × ((name : List ℕ) × (IsOwnOrProvidedName c name × MatchesPartOfName patterns name))) }
 {
+    // A law that the proof needs; it has no effect at run time.
     a_pattern_matches_what_its_stars_are_filled_to();
 }
 
 /// `policy` prints just the versions of the candidates that have the name for their own, each once
 /// and in order, and of a name that none has its first line alone.
 pub fn policy_prints_each_version_once()
+    // Each version that is printed is that of a candidate of this name.
     ensures those { (cs : List Candidate) (name : List ℕ) (version : Option (List ℕ))
         → IsIn version (versions_of_name cs name) → IsVersionOfName cs name version }
+    // The version of each candidate of this name is printed.
     ensures each { (cs : List Candidate) (name : List ℕ) (version : Option (List ℕ))
         → IsVersionOfName cs name version → IsIn version (versions_of_name cs name) }
     // The greater version comes first, and of equal ones the byte-lesser text.
     ensures order { (cs : List Candidate) (name : List ℕ)
         → AreInOrderBy (then_cmp greater_version (option_cmp bytes_cmp))
         (versions_of_name cs name) }
+    // For a name without a candidate only the heading is printed.
     ensures unknown { (cs : List Candidate) (repositories : List Repository) (name : List ℕ)
         → ((version : Option (List ℕ)) → IsVersionOfName cs name version → ⊥)
         → name_policy cs repositories name ≡ policy_heading name }
 {
+    // A law that the proof needs; it has no effect at run time.
     order_is_total();
 }
 

@@ -37,6 +37,7 @@ pub(crate) fn in_order<'a>(
     ensures versions { IfOk result (λ ordered.
         AreInQueryOrder pool.now.candidates ordered.key ordered.rankings.items) }
 {
+    // A law that the proof needs; it has no effect at run time.
     order_is_total();
     let packages = pool.packages();
     let mut rankings = rankings(alloc, pool, packages, places)?;

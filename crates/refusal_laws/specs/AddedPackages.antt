@@ -29,29 +29,42 @@ package_file_found_by_read read n repositories c =
 pub record IsFileReadForAddedPackage (inputs : Inputs) (r : Replacement) (read : Reads)
     (name version : List ℕ)
     (file : Option (List ℕ)) : Type 0 where
+  -- the selected candidate of this name
   pub candidate : Candidate
   pub selected : selected_of_name r name ≡ Some candidate
+  -- the text of its version
   pub has_version : candidate_version_text candidate ≡ version
+  -- the change of the package with this name
   pub change : Change
   pub becomes : change_of_name r name ≡ Some change
+  -- the index of the name among those of the packages before and of the selected ones
   pub place : ℕ
   pub is_place : slice_get (names_before_and_selected r) place ≡ Some name
+  -- the read with the number for this name finds this file
   pub is_file : package_file_found_by_read read
       (first_index_read_number + length inputs.root.repositories + place)
       inputs.root.repositories candidate ≡ file
 
 -- a file passes all tests, and the package in it has the candidate's id, name and version
 pub record IsFileOfCandidate (c : Candidate) (file : List ℕ) : Type 0 where
+  -- the file passes all tests
   pub sound : package_fault file ≡ None
+  -- the package in the file has the candidate's id
   pub id : is_same_id c.id (package_in_file file).id ≡ true
+  -- it has the candidate's name
   pub name : package_name (package_in_file file).value ≡ c.name
+  -- it has the text of the candidate's version
   pub version : package_version_text (package_in_file file).value ≡ candidate_version_text c
 
 -- a package is added: it is the one in the file of the selected candidate of its name
 pub record IsAddedAsSelected (inputs : Inputs) (r : Replacement) (read : Reads) (name : List ℕ)
     (pkg : AddedPackage) : Type 0 where
+  -- the text of the package's version
   pub version : List ℕ
+  -- the bytes of the package's file
   pub file : List ℕ
   pub is_read : IsFileReadForAddedPackage inputs r read name version (Some file)
+  -- the package in the file has the id, the name and the version of the candidate
   pub as_selected : IsFileOfCandidate is_read.candidate file
+  -- the package is the one in the file
   pub is_package : pkg ≡ package_in_file file

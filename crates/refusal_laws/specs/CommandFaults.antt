@@ -33,15 +33,20 @@ IsUnknownTo applet inputs name = ⊥
 
 -- the operand at this place of the command line is a name that the command does not know
 pub record IsUnknownOperand (command : CommandLine) (inputs : Inputs) (place : ℕ) : Type 0 where
+  -- an operand of the command
   pub operand : Operand
   pub given : IsIn operand command.operands
+  -- the operand has this place in the command line
   pub at : operand.place ≡ place
+  -- the command does not know its text
   pub unknown : IsUnknownTo command.applet inputs operand.text
 
 -- no selection of the candidates satisfies the new world
 pub record IsUnsatisfied (command : CommandLine) (inputs : Inputs) : Type 0 where
+  -- the candidates of the command, under its new world
   pub pool : SealedPool
   pub is_pool : pool_of_inputs command inputs ≡ Ok pool
+  -- no selection of them satisfies the new world
   pub none : (selection : List ℕ) → IsSatisfying pool selection → ⊥
 
 -- a refusal is true that is tested after the root is read and before the packages' files are

@@ -18,11 +18,14 @@ AreKnownOperands command inputs operands =
 
 -- the operand at this place is the first that the command does not know: each before it is known
 pub record IsFirstUnknown (command : CommandLine) (inputs : Inputs) (place : ℕ) : Type 0 where
+  -- the operands before this one, this operand, and those after it
   pub before : List Operand
   pub operand : Operand
   pub after : List Operand
   pub are : command.operands ≡ before ++ operand ∷ after
+  -- the operand has this place in the command line
   pub at : operand.place ≡ place
+  -- the command knows each operand before it
   pub known : AreKnownOperands command inputs before
 
 -- the candidates of a command are not too many

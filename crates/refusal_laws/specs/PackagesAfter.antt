@@ -18,24 +18,33 @@ use Rattle.refusal_laws.specs.AddedPackages.{IsAddedAsSelected, selected_of_name
 -- not change
 pub record IsUnchangedMember (r : Replacement) (name : List ℕ) (c : Candidate) (f : MemberFound) :
     Type 0 where
+  -- the package of this name before the change
   pub pkg : Plain
   pub before : find (is_package_named name) r.before ≡ Some pkg
+  -- the candidate is this package
   pub same : is_candidate_this_package pkg c ≡ true
+  -- the change does not change the package of this name
   pub becomes : change_of_name r name ≡ None
+  -- the member is the package as it was before
   pub is : f ≡ kept_member_found pkg
 
 -- a member is added, as the selected candidate says, with the contents of its files
 pub record IsAddedMember (inputs : Inputs) (r : Replacement) (read : Reads) (name : List ℕ)
     (f : MemberFound) : Type 0 where
+  -- the package in the file of the candidate
   pub pkg : AddedPackage
+  -- it is added, as the selected candidate says
   pub brought : IsAddedAsSelected inputs r read name pkg
+  -- the member is this package, with the contents of its files
   pub is : f ≡ added_member_found pkg
 
 -- the selected candidate of a member's name is the package before, or is added
 pub record IsSelectedMember (inputs : Inputs) (r : Replacement) (read : Reads) (f : MemberFound) :
     Type 0 where
+  -- the selected candidate of the member's name
   pub candidate : Candidate
   pub selected : selected_of_name r (member_name f.member) ≡ Some candidate
+  -- the member is the package before, or it is added
   pub is : IsUnchangedMember r (member_name f.member) candidate f
       ⊎ IsAddedMember inputs r read (member_name f.member) f
 
@@ -43,7 +52,10 @@ pub record IsSelectedMember (inputs : Inputs) (r : Replacement) (read : Reads) (
 -- each selected candidate.
 pub record AreSelectedMembers (inputs : Inputs) (r : Replacement) (read : Reads)
     (found : List MemberFound) : Type 0 where
+  -- the packages are in byte order of names, each name once
   pub in_order : AreInOrder (found_members found)
+  -- each package is one of a selected candidate
   pub each : (f : MemberFound) → IsIn f found → IsSelectedMember inputs r read f
+  -- each selected candidate has a package
   pub all : (c : Candidate) → IsIn c r.selected
       → (f : MemberFound) × IsIn f found × (member_name f.member ≡ c.name)

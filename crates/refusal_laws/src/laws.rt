@@ -48,7 +48,7 @@ pub fn a_refused_input_has_its_fault()
     // The refusal is true.
     ensures fault { (command : CommandLine) (read : Reads) (refusal : Refusal)
         → inputs_of command read ≡ Err refusal → IsFaultOfInput command read refusal }
-    // What precedes it in this order was read.
+    // The inputs that precede the refused one in this order were read, and have no fault.
     ensures order { (command : CommandLine) (read : Reads) (refusal : Refusal)
         → inputs_of command read ≡ Err refusal → HasReadBefore command read refusal }
 {}
@@ -105,16 +105,17 @@ pub fn a_refused_change_has_its_fault()
 /// If a run that changes the installed packages is refused, the refusal is true: of the intent that
 /// an earlier change left, or of the recovered files.
 pub fn a_refused_run_has_its_fault()
-    // Of a command over the files on which it works.
+    // For a command, and the files on which it works after recovery.
     ensures over { (command : CommandLine) (files : Files) (o : Outcome) (refusal : Refusal)
         → effect_of command.applet ≡ Changes → IsOutcomeOverRecoveredFiles command files o
         → o.refusal ≡ Some refusal → IsFaultOfCommandOver command files refusal }
-    // Of a run, over the files in which it begins.
+    // For a command line, and the files with which its run begins.
     ensures words { (words : List (List ℕ)) (command : CommandLine) (files : Files) (o : Outcome)
         (refusal : Refusal) → command_of words ≡ Ok command
         → effect_of command.applet ≡ Changes → IsOutcome (command_of words) files o
         → o.refusal ≡ Some refusal → IsFaultOfRun command files refusal }
 {
+    // A law that the proof needs; it has no effect at run time.
     a_command_recovers();
 }
 
@@ -154,12 +155,12 @@ pub fn a_refused_change_has_passed_the_tests_before()
 /// is made has none of the other faults either: no added path is reserved, no name is a folder of
 /// another, each path has an owner, and no trigger is due.
 pub fn a_change_that_is_made_has_no_fault()
-    // Of the added and removed packages.
+    // No added or removed package has a fault.
     ensures packages { (inputs : Inputs) (r : Replacement) (wishes : ChangeWishes) (read : Reads)
         (found : List MemberFound) (refusal : Refusal)
         → members_after_change inputs r wishes read ≡ Ok found
         → IsFaultOfPackage inputs r wishes read refusal → ⊥ }
-    // Of the files that they leave.
+    // The files that the change leaves pass all tests, except those of the writer's limits.
     ensures files { (inputs : Inputs) (r : Replacement) (wishes : ChangeWishes) (read : Reads)
         (clash : Option NamePair) (files : Files) (done : ChangeDone)
         → change_or_refusal inputs r wishes read clash files ≡ Ok done
@@ -193,6 +194,7 @@ pub fn the_packages_after_a_run_are_those_of_the_first_selection()
         → o.refusal ≡ None
         → command.flags.simulate ≡ false → HasFaultlessFirstPreferredSelection command files }
 {
+    // A law that the proof needs; it has no effect at run time.
     a_change_takes_the_first_selection_or_is_refused();
 }
 

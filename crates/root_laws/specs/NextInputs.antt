@@ -14,7 +14,9 @@ use Rattle.root_laws.specs.RootLeft.{IsRootLeft, database_of_members}
 -- the one that it was made for
 pub record AreInputsFrom {command : CommandLine} {read : Reads} {chosen : Option (List ℕ)}
     {done : ChangeDone} (left : IsRootLeft command read chosen done) (inputs : Inputs) : Type 0 where
+  -- the packages before are those after the earlier change
   pub database : inputs.root.database ≡ database_of_members (found_members left.found) left.bytes
+  -- world is the new world of the earlier change
   pub world : inputs.root.world ≡ left.selected.inputs.root.new_world
 
 -- a refusal reports a fault of the repositories, or of an index of one

@@ -25,7 +25,9 @@ FindBytes read =
 
 -- reads find the database and world of these files
 pub record ReadsRoot (files : Files) (read : Reads) : Type 0 where
+  -- the read of the database finds the file under its name
   pub database : read database_read_number database_name ≡ files database_name
+  -- the read of world finds the file under its name
   pub world : read world_read_number world_name ≡ files world_name
 
 -- the database of packages, each with the files that it owns, in a container of these bytes
@@ -38,16 +40,22 @@ database_of_members members bytes =
 -- change, and the world that the change was made for.
 pub record IsRootLeft (command : CommandLine) (read : Reads) (chosen : Option (List ℕ))
     (done : ChangeDone) : Type 0 where
+  -- what the change read, and the packages before with the candidates that replace them
   pub selected : InputsAndReplacement
   pub is_selected : selected_for command read chosen ≡ Ok selected
+  -- the packages after the change
   pub found : List MemberFound
   pub members : members_after_change selected.inputs selected.replacement (wishes_of command) read
       ≡ Ok found
+  -- the bytes of the new database
   pub bytes : List ℕ
+  -- a later command that reads these files finds a database with the packages after the change
   pub database : (later : CommandLine) (next : Reads) → ReadsRoot done.files next
       → database_for later next ≡ Ok (database_of_members (found_members found) bytes)
+  -- a later command finds the new world of the change
   pub world : (next : Reads) → ReadsRoot done.files next
       → root_world (found_text_or_empty (next world_read_number world_name))
       ≡ Ok selected.inputs.root.new_world
+  -- the text of world is that of this new world
   pub text : (next : Reads) → ReadsRoot done.files next
       → found_text_or_empty (next world_read_number world_name) ≡ world_text selected.inputs.root.new_world

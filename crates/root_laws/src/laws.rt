@@ -36,6 +36,7 @@ pub fn what_a_change_leaves_is_read_by_the_next_run()
         → command.flags.simulate ≡ false
         → IsRootLeft command read chosen done }
 {
+    // Laws that the proof needs; they have no effect at run time.
     values_of_few_visits_have_no_fault();
     values_have_their_shape();
     a_canonical_payload_is_read_back();

@@ -67,8 +67,11 @@ HasStateOfCrashBeforeOrOutcome ignored v run files =
 
 -- files are recovered: there is no intent, the staging area is empty, and the files have this state
 pub record AreRecovered (HasState : Files → Type 0) (files : Files) : Type 0 where
+  -- there is no intent
   pub intent : files intent_name ≡ None
+  -- there is no staged file
   pub stage : IsEmptyStage files
+  -- the files have the state
   pub state : HasState files
 
 -- The next run, which finds the root in the state w, is not refused for an intent. It works on the
@@ -76,8 +79,12 @@ pub record AreRecovered (HasState : Files → Type 0) (files : Files) : Type 0 w
 -- is read once this is answered.
 pub record IsRecoveredBy (HasState : Files → Type 0) (w : TreeState) (next : Run) :
     Type 0 where
+  -- the next run does not answer that the intent is bad
   pub unrefused : IsNotRefusedForIntent next
+  -- the intent, if there is one, is not bad
   pub works : recovery_fault (effect_of_arguments (command_of next.words)) (files_of w) ≡ None
+  -- recovery leaves files of this state, with nothing left to do
   pub files : AreRecovered HasState (unstaged_files (files_of w))
+  -- after an answer whose outcome commits nothing, the files as read are the recovered ones
   pub read : AnswersOutcome next.answer → HasOutcomeWithoutCommit (IsOutcomeFrom w next)
       → HoldsNow next.now (λ u. files_of u ≡ unstaged_files (files_of w))

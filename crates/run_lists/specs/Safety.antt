@@ -30,15 +30,20 @@ LeavesOldOrOutcome ignored v run m =
 -- At the moment m of a run that began in v, a crash leaves a state from before the run. The files as read
 -- have the state of v.
 pub record KeepsStateFromBefore (ignored : List ℕ → Bool) (v m : TreeState) : Type 0 where
+  -- each crash leaves an old state
   pub quiet : EachCrashLeavesOld ignored v m
+  -- the files as read have the same state as in v
   pub reads : state_of ignored (files_of m) ≡ state_of ignored (files_of v)
 
 -- the run's outcome was answered, or a sink's fault in its place, and its files are read
 pub record LeavesFilesOfAnsweredOutcome (ignored : List ℕ → Bool) (v : TreeState) (run : Run)
     (w : TreeState) : Type 0 where
+  -- an outcome of the run
   pub outcome : Outcome
   pub is_outcome : IsOutcomeFrom v run outcome
+  -- the answer is that of the outcome, or a fault of a sink
   pub answered : (run.answer ≡ answer_of outcome) ⊎ (run.answer ≡ OutFault)
+  -- the files as read are those of the outcome
   pub reads : files_of w ≡ outcome.files
   -- each crash leaves them, if it commits, if each left the old ones before, or if an intent was found
   -- and completed
@@ -52,9 +57,12 @@ pub record LeavesFilesOfAnsweredOutcome (ignored : List ℕ → Bool) (v : TreeS
 -- A run is safe: at each moment a crash leaves a state from before or that of the outcome. Once the
 -- outcome is answered its files are read, and are durable. A run that commits nothing keeps the state.
 pub record IsSafeRun (ignored : List ℕ → Bool) (v : TreeState) (run : Run) : Type 0 where
+  -- at each moment of the run a crash leaves an old state or that of an outcome
   pub moments : (m : TreeState) → IsMomentOf run m
       → LeavesOldOrOutcome (ignored_during_run run ignored) v run m
+  -- after the answer of an outcome its files are read, or after a fault of a sink in its place
   pub answered : AnswersOutcome run.answer → HoldsNow run.now (LeavesFilesOfAnsweredOutcome ignored v run)
+  -- a run without a commit keeps the state at each moment
   pub left : IsRunWithoutCommit v run
       → (m : TreeState) → IsMomentOf run m → KeepsStateFromBefore ignored v m
 
@@ -72,10 +80,13 @@ HasStateAsReadOrOutcome ignored v run image =
 -- All or nothing: at each moment a crash leaves the old state or that of the outcome. Once it is
 -- answered a crash leaves that of the outcome, and the old one if the run commits nothing.
 pub record IsAtomic (ignored : List ℕ → Bool) (v : TreeState) (run : Run) : Type 0 where
+  -- at each moment of the run a crash leaves the old state or that of an outcome
   pub moments : (m : TreeState) → IsMomentOf run m → (image : Files) → IsCrashImage m image
       → HasStateAsReadOrOutcome (ignored_during_run run ignored) v run image
+  -- after the answer of an outcome each crash leaves the files of the outcome
   pub answered : AnswersOutcome run.answer → (outcome : Outcome) → IsOutcomeFrom v run outcome
       → HoldsNow run.now (EachCrashLeaves (ignored_during_run run ignored) outcome.files)
+  -- at each moment of a run without a commit, each crash leaves the files as read at its start
   pub left : IsRunWithoutCommit v run
       → (m : TreeState) → IsMomentOf run m → EachCrashLeaves ignored (files_of v) m
 

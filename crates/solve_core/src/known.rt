@@ -118,7 +118,7 @@ impl<'p> Known<'p> {
         Ok(())
     }
 
-    /// Takes the causes from a step on back.
+    /// Forgets the causes of the steps from an index on.
     pub(crate) fn truncate_causes(&mut self, len: usize)
         ensures { self.new ≡ self.old }
     {

@@ -42,6 +42,7 @@ fn audit_installed<T: Tree>(
     installed: &Installed,
     tree: &mut T,
 ) -> Result<ReportAndRefusal, Refused>
+    // The report or the refusal is that of the definition, with some reads.
     ensures told { IsExplainedBySomeReads (T.history tree.old) (λ read.
         AgreesUnlessDisk (λ done. done) result (audit_of read (installed_seen installed.now))) }
     ensures tree { OnlyReads Refused.Disk (T.history tree.old) (T.history tree.new)
