@@ -14,7 +14,8 @@ abbrev pub repeated_name_pair_at : List ℕ → Which → ℕ → Option Pair
 repeated_name_pair_at payload which word = first_repeat (map name_of
     (list_of (entries_in (value_at payload (ObjArr which) word))))
 
--- each result that is remembered for a word is that of the word's list
-abbrev pub AreRepeatedPairsOfWords : List ℕ → Which → BTreeMap ℕ (Option Pair) → Type 0
-AreRepeatedPairsOfWords payload which pairs = (word : ℕ) → (pair : Option Pair)
+-- the pair that is remembered for a word is the first pair of equal names in the word's list; None if no
+-- name occurs twice there
+abbrev pub AreFirstRepeatsOfWords : List ℕ → Which → BTreeMap ℕ (Option Pair) → Type 0
+AreFirstRepeatsOfWords payload which pairs = (word : ℕ) → (pair : Option Pair)
     → get nat_cmp pairs word ≡ Some pair → pair ≡ repeated_name_pair_at payload which word

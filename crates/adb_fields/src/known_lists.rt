@@ -8,7 +8,7 @@ ghost use Rattle.adb_view.specs.Adb.{payload_of};
 ghost use Rattle.adb_view.specs.Entries.{array_entries};
 ghost use Rattle.adb_view.specs.Values.{is_sound, kind_at};
 ghost use Rattle.adb_fields.specs.Fields.{are_all_sound};
-ghost use Rattle.adb_fields.specs.KnownLists.{AreRepeatedPairsOfWords, repeated_name_pair_at};
+ghost use Rattle.adb_fields.specs.KnownLists.{AreFirstRepeatsOfWords, repeated_name_pair_at};
 ghost use Rattle.adb_fields.specs.NamedTexts.{plains_at};
 ghost use Rattle.adb_fields.specs.Repeated.{NAME_INDEX, first_repeat, name_of};
 ghost use Rattle.adb_view.specs.declared.tables.Kind.TheVariants as Kinds;
@@ -35,7 +35,7 @@ pub(crate) struct KnownLists<'a> {
     /// By the word of a list: its first pair, or None if no name occurs twice in it.
     pairs: BTreeMap<u32, Option<Pair>>,
     ghost named: { kind_at which NAME_INDEX ≡ Some Kinds.Text },
-    ghost exact: { AreRepeatedPairsOfWords (payload_of adb) which pairs },
+    ghost exact: { AreFirstRepeatsOfWords (payload_of adb) which pairs },
 }
 
 impl<'a> KnownLists<'a> {

@@ -64,9 +64,9 @@ unexpected_contents_cause payload at = if nat_lt (length payload) 8 then Truncat
 
 -- why a block is not allowed after the first in a container without files, if it has contents; a block
 -- of another kind is allowed
-abbrev pub further_block_fault : BlockKind → List ℕ → ℕ → Option Cause
-further_block_fault Contents payload at = Some (unexpected_contents_cause payload at)
-further_block_fault kind payload at = None
+abbrev pub unexpected_contents_block_fault : BlockKind → List ℕ → ℕ → Option Cause
+unexpected_contents_block_fault Contents payload at = Some (unexpected_contents_cause payload at)
+unexpected_contents_block_fault kind payload at = None
 
 -- the first fault of the blocks after the first, in a container without files: of their framing, or
 -- that one has contents
@@ -74,7 +74,7 @@ unfoldable pub further_blocks_fault : Reading → Option Cause
 further_blocks_fault done = None
 further_blocks_fault (fault c) = Some c
 further_blocks_fault (more b at r) =
-    option_or (further_block_fault b.kind b.payload at) (further_blocks_fault r)
+    option_or (unexpected_contents_block_fault b.kind b.payload at) (further_blocks_fault r)
 
 -- the first fault of the blocks after the first; none for a package, whose further blocks `pkg_core`
 -- tests against the list of files

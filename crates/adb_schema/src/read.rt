@@ -14,7 +14,7 @@ ghost use Rattle.adb_schema.specs.Checked.{checked_value, table_of_checked};
 ghost use Rattle.adb_view.specs.Plain.{IsNormal};
 ghost use Rattle.adb_view.specs.declared.tables.Which.{Which};
 ghost use Rattle.adb_schema.specs.SoundContainers.{IsSoundValue};
-ghost use Rattle.adb_schema.specs.Soundness.{further_block_fault, contents_positions, container_fault_except_contents, further_blocks_fault, payload_fault, is_schema_wanted, payload_in, further_blocks_fault_unless_package, root_value, schema_word, unexpected_contents_cause};
+ghost use Rattle.adb_schema.specs.Soundness.{unexpected_contents_block_fault, contents_positions, container_fault_except_contents, further_blocks_fault, payload_fault, is_schema_wanted, payload_in, further_blocks_fault_unless_package, root_value, schema_word, unexpected_contents_cause};
 ghost use Rattle.adb_schema.specs.ReadFaults.{first_block_fault};
 ghost use Rattle.adb_schema.specs.ReadFaults.{IsAfterFirstBlock};
 ghost use Rattle.adb_schema.specs.ReadFaults.{IsReadFault};
@@ -228,15 +228,15 @@ fn check_further(blocks: &mut Blocks<'_>) -> Result<(), Cause>
         let Some(block) = blocks.next()? else {
             return Ok(());
         };
-        if let Some(cause) = further_block_fault(&block) {
+        if let Some(cause) = unexpected_contents_block_fault(&block) {
             return Err(cause);
         }
     }
 }
 
 /// Why a block is not allowed after the first, if it is not.
-fn further_block_fault(block: &Block<'_>) -> Option<Cause>
-    ensures { result ≡ further_block_fault block.now.kind block.now.payload.now block.now.at }
+fn unexpected_contents_block_fault(block: &Block<'_>) -> Option<Cause>
+    ensures { result ≡ unexpected_contents_block_fault block.now.kind block.now.payload.now block.now.at }
 {
     match block.kind {
         BlockKind::Contents => Some(unexpected_contents_cause(block.payload, block.at)),

@@ -496,8 +496,8 @@ pub fn the_first_bad_text_is_reported()
         → IsFirstBadLeafIfAny (leaves_of which value) (text_fault which value) }
 {}
 
-/// A law: no text or number of a value is bad if and only if each obeys the rule of its field,
-/// table by table.
+/// A law: the text walk reports no fault in a value if and only if each text and number in the
+/// value obeys the rule of its field. *KeepsRules* states the rules for each table.
 pub fn no_text_is_bad_where_each_keeps_its_rule()
     ensures { (which : Which) (value : Plain) → (text_fault which value ≡ None)
         ↔ KeepsRules which value }

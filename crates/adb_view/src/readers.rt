@@ -50,6 +50,7 @@ pub(crate) fn read_int(adb: Adb<'_>, word: Val) -> Result<u64, VisitFault>
     ensures err { IfErr result (λ fault. int_of (payload_of adb.entry) word
         ≡ Err (cause_of_fault fault)) }
 {
+    // First without a cause, which is large to move; only a failure is read again for its cause.
     if let Some(n) = adb.int_if_read(word) {
         return Ok(n);
     }

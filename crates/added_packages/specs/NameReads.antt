@@ -12,7 +12,7 @@ use Rattle.change_outcome.specs.MembersAfter.{MemberFound, added_package_by_path
 use Rattle.change_outcome.specs.PackageFiles.{AddedPackage, package_file_of, added_package_or_refusal, scripts_of_change, unless_script_needed}
 use Rattle.dep_core.specs.Repositories.{Repository}
 use Rattle.change_outcome.specs.make_info.Reads.{Reads}
-use Rattle.change_outcome.specs.package_changes.Placed.{PlacedName, new_candidate, old_package}
+use Rattle.change_outcome.specs.package_changes.Placed.{PlacedName, candidate_at_new_place, package_at_old_place}
 use Rattle.change_outcome.specs.candidate_core.Candidates.{Candidate}
 use Rattle.change_outcome.specs.candidate_core.Rank.{SealedPool}
 use Rattle.report_core.specs.Reports.{Change}
@@ -73,7 +73,7 @@ abbrev pub member_of_name_by_read :
     → Result (Option MemberFound) Refusals.Refusal
 member_of_name_by_read before pool repositories no_scripts name read n =
     member_of_name_by_change read repositories no_scripts n name.name name.change
-    (old_package before name) (new_candidate pool name)
+    (package_at_old_place before name) (candidate_at_new_place pool name)
 
 -- a package after the change as it was read, or none, is the result for the name
 abbrev pub IsNameRead :

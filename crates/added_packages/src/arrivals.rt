@@ -12,7 +12,7 @@ ghost use Rattle.change_outcome.specs.MembersAfter.{members_after, member_of_rem
 ghost use Rattle.change_outcome.specs.db_core.Seen.{packages_of_old_database, packages_of, members_of};
 ghost use Rattle.change_outcome.specs.db_core.declared.members.TheConstants.{MOST_MEMBERS};
 ghost use Rattle.change_outcome.specs.package_files.Runs.{IsExplainedBySomeReads};
-ghost use Rattle.change_outcome.specs.package_changes.Placed.{old_package, placed_names_of, replacement_of};
+ghost use Rattle.change_outcome.specs.package_changes.Placed.{package_at_old_place, placed_names_of, replacement_of};
 ghost use Rattle.change_outcome.specs.package_changes.Seen.{change_seen, placed_name_seen, placed_names_seen, placed_replacement_from_parts};
 ghost use Rattle.std.specs.Prelude.{◌≡◌, ◌≤◌, ◌==◌, ◌++◌, ℕ, List, None, length, IfOk, OnOk, option_copied, option_and_then, option_to_list, slice_get, ◌<◌, true, Some, ◌+◌, Bool, is_some};
 ghost use Rattle.change_outcome.specs.db_core.Members.{Member, is_after_members, member_name, is_added};
@@ -217,7 +217,7 @@ fn test_removed(
     // Refused if the definition refuses the removed package; otherwise nothing is returned.
     ensures { Agrees (λ _. None) result (member_of_removed_name no_scripts (placed_name_seen
         name.now).name
-        (change_seen change.now) (old_package (packages_of db.now) (placed_name_seen name.now))) }
+        (change_seen change.now) (package_at_old_place (packages_of db.now) (placed_name_seen name.now))) }
 {
     match name.old {
         Some(i) if i < db.len() => {

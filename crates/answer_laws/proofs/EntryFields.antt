@@ -12,7 +12,7 @@ use Rattle.base_core.specs.declared.cause.Digest.TheVariants.{Sha1, Sha256, Sha5
 use Rattle.adb_view.specs.Plain.{Plain}
 use Rattle.audit_core.specs.file_guard.AsListed.{do_entries_agree, file_hash, file_size, file_target, is_as_listed, is_as_listed_by, link_bytes_to}
 use Rattle.audit_core.specs.file_guard.pkg_core.Contents.{digest_fault, hash_fault}
-use Rattle.answer_laws.specs.EntryFields.{GiveSameFields, HasDigest, RepresentsLink, digest_given, size_given, target_given}
+use Rattle.answer_laws.specs.EntryFields.{GiveSameFields, HasDigest, IsTargetOfLinkBytes, digest_given, size_given, target_given}
 
 -- ---- two entries
 
@@ -35,7 +35,7 @@ entries_agree a b = (
 
 -- ---- a link
 
-link_by : (size : ℕ) (hash target bytes : List ℕ) → target ≢ [] → (is_as_listed_by size hash target bytes ≡ true) ↔ RepresentsLink target bytes
+link_by : (size : ℕ) (hash target bytes : List ℕ) → target ≢ [] → (is_as_listed_by size hash target bytes ≡ true) ↔ IsTargetOfLinkBytes target bytes
 unfolding is_as_listed_by
 link_by size hash [] bytes some = absurd (some refl)
 link_by size hash (x ∷ target) bytes some = rw (ne_eqb (length (x ∷ target)) 0 (λ e. omega arith)) (bytes_eq-Decides bytes (link_bytes_to (x ∷ target)))
@@ -117,7 +117,7 @@ neither_by size hash target bytes none none_too = rw (none, none_too) (
 
 -- ---- of an entry
 
-pub link : (entry : Plain) (bytes : List ℕ) → target_given entry ≢ [] → (is_as_listed entry bytes ≡ true) ↔ RepresentsLink (target_given entry) bytes
+pub link : (entry : Plain) (bytes : List ℕ) → target_given entry ≢ [] → (is_as_listed entry bytes ≡ true) ↔ IsTargetOfLinkBytes (target_given entry) bytes
 link entry bytes = link_by (file_size entry) (file_hash entry) (file_target entry) bytes
 
 pub hashed : (entry : Plain) (bytes : List ℕ) → target_given entry ≡ [] → digest_given entry ≢ [] → (is_as_listed entry bytes ≡ true) ↔ HasDigest (digest_given entry) bytes

@@ -9,7 +9,7 @@ use Rattle.command_core.specs.declared.command.Flags.{Flags}
 use Rattle.change_outcome.specs.db_core.Packages.{lists_path}
 use Rattle.dep_core.specs.LeadingSlash.{without_slash}
 use Rattle.installed_info.specs.file_owners.Replaces.{package_version_text}
-use Rattle.installed_info.specs.Form.{form_of}
+use Rattle.installed_info.specs.Form.{info_form_of_flags}
 use Rattle.installed_info.specs.Info.{package_info}
 use Rattle.installed_info.proofs.Listers.{listed, is_listed}
 use Rattle.report_core.specs.Reports.{owner_text, report_line, report_lines, section}
@@ -38,9 +38,9 @@ by_flags P flags w i c d e f g h given =
     (subst (λ (b : Bool). P (flags_with flags w i c b)) (sym h) given)))
 
 pub contents : (flags : Flags) (name : List ℕ) (pkg : Plain) → flags.who_owns ≡ false → flags.installed ≡ false → flags.contents ≡ true
-    → package_info (form_of flags) name pkg ≡ section_lines (info_heading pkg (codes " contains:")) (paths_in_order pkg)
+    → package_info (info_form_of_flags flags) name pkg ≡ section_lines (info_heading pkg (codes " contains:")) (paths_in_order pkg)
 contents flags name pkg e f g =
-    by_flags (λ (fs : Flags). package_info (form_of fs) name pkg ≡ section_lines (info_heading pkg (codes " contains:")) (paths_in_order pkg))
+    by_flags (λ (fs : Flags). package_info (info_form_of_flags fs) name pkg ≡ section_lines (info_heading pkg (codes " contains:")) (paths_in_order pkg))
     flags false false true flags.depends e f g refl
     (as_section (info_heading pkg (codes " contains:")) (paths_in_order pkg))
 
@@ -48,19 +48,19 @@ pub listed_paths : (pkg : Plain) (path : List ℕ) → IsIn path (paths_in_order
 listed_paths pkg path = (is_listed path (paths_of_package_files pkg), listed path (paths_of_package_files pkg))
 
 pub depends : (flags : Flags) (name : List ℕ) (pkg : Plain) → flags.who_owns ≡ false → flags.installed ≡ false → flags.contents ≡ false → flags.depends ≡ true
-    → package_info (form_of flags) name pkg ≡ section_lines (info_heading pkg (codes " depends on:")) (depends_in_order pkg)
+    → package_info (info_form_of_flags flags) name pkg ≡ section_lines (info_heading pkg (codes " depends on:")) (depends_in_order pkg)
 depends flags name pkg e f g h =
-    by_flags (λ (fs : Flags). package_info (form_of fs) name pkg ≡ section_lines (info_heading pkg (codes " depends on:")) (depends_in_order pkg))
+    by_flags (λ (fs : Flags). package_info (info_form_of_flags fs) name pkg ≡ section_lines (info_heading pkg (codes " depends on:")) (depends_in_order pkg))
     flags false false false true e f g h
     (as_section (info_heading pkg (codes " depends on:")) (depends_in_order pkg))
 
 pub description : (flags : Flags) (name : List ℕ) (pkg : Plain) → flags.who_owns ≡ false → flags.installed ≡ false → flags.contents ≡ false → flags.depends ≡ false
-    → package_info (form_of flags) name pkg ≡ section_lines (info_heading pkg (codes " description:")) (text_in (info_field (codes "description") pkg) ∷ [])
+    → package_info (info_form_of_flags flags) name pkg ≡ section_lines (info_heading pkg (codes " description:")) (text_in (info_field (codes "description") pkg) ∷ [])
 description flags name pkg e f g h =
-    by_flags (λ (fs : Flags). package_info (form_of fs) name pkg ≡ section_lines (info_heading pkg (codes " description:")) (text_in (info_field (codes "description") pkg) ∷ []))
+    by_flags (λ (fs : Flags). package_info (info_form_of_flags fs) name pkg ≡ section_lines (info_heading pkg (codes " description:")) (text_in (info_field (codes "description") pkg) ∷ []))
     flags false false false false e f g h
     (as_section (info_heading pkg (codes " description:")) (text_in (info_field (codes "description") pkg) ∷ []))
 
 pub owner : (flags : Flags) (path : List ℕ) (pkg : Plain) → flags.who_owns ≡ true
-    → package_info (form_of flags) path pkg ≡ report_line (owner_text (without_slash path) (package_name pkg) (package_version_text pkg))
-owner flags path pkg e = ap (λ (b : Bool). package_info (form_of (flags_with flags b flags.installed flags.contents flags.depends)) path pkg) e
+    → package_info (info_form_of_flags flags) path pkg ≡ report_line (owner_text (without_slash path) (package_name pkg) (package_version_text pkg))
+owner flags path pkg e = ap (λ (b : Bool). package_info (info_form_of_flags (flags_with flags b flags.installed flags.contents flags.depends)) path pkg) e

@@ -33,8 +33,8 @@ pub record GiveSameFields (a b : Plain) : Type 0 where
 
 -- the bytes of a file that represents a link: a mark, and the target without its first two bytes, which
 -- say that it is a link
-abbrev pub RepresentsLink : List ℕ → List ℕ → Type 0
-RepresentsLink target bytes = bytes ≡ codes "!<symlink>" ++ drop 2 target
+abbrev pub IsTargetOfLinkBytes : List ℕ → List ℕ → Type 0
+IsTargetOfLinkBytes target bytes = bytes ≡ codes "!<symlink>" ++ drop 2 target
 
 -- The bytes have this digest. The length of the digest selects the function (FIPS 180-4). A digest of
 -- another length is not compared.

@@ -14,8 +14,8 @@ use Rattle.command_core.specs.declared.operands.Operand.{Operand}
 use Rattle.installed_info.specs.candidate_core.Candidates.{dependencies_in}
 use Rattle.dep_core.specs.DependencyText.{dep_text}
 use Rattle.installed_info.specs.file_owners.Replaces.{package_version_text}
-use Rattle.installed_info.specs.Form.{form_of}
-use Rattle.installed_info.specs.Packages.{package_meant_by}
+use Rattle.installed_info.specs.Form.{info_form_of_flags}
+use Rattle.installed_info.specs.Packages.{package_meant_by_operand_text}
 use Rattle.make_laws.specs.NamedFields.{field_named}
 use Rattle.report_core.specs.Reports.{name_dash_version, report_lines}
 
@@ -41,10 +41,10 @@ pub record IsFirstAbsent (flags : Flags) (packages : List Plain) (operands : Lis
   -- the operand has this place in the command line
   pub place_is : operand.place ≡ place
   -- no package is meant by the operand
-  pub absent : package_meant_by (form_of flags) packages operand.text ≡ None
+  pub absent : package_meant_by_operand_text (info_form_of_flags flags) packages operand.text ≡ None
   -- a package is meant by each operand before it
   pub earlier : (o : Operand) → IsIn o front
-      → is_some (package_meant_by (form_of flags) packages o.text) ≡ true
+      → is_some (package_meant_by_operand_text (info_form_of_flags flags) packages o.text) ≡ true
 
 -- a section: a heading, a line for each fact, and an empty line
 abbrev pub section_lines : List ℕ → List (List ℕ) → List ℕ

@@ -8,8 +8,8 @@ use Rattle.installed_info.specs.candidate_core.Candidates.{Candidate}
 use Rattle.installed_info.specs.candidate_core.Options.{IsIn}
 use Rattle.command_core.specs.declared.operands.Operand.{Operand}
 use Rattle.dep_core.specs.Repositories.{Repository}
-use Rattle.query_core.specs.Asked.{AreInOrderBy, MatchesNamePattern, IsOwnOrProvidedName, MatchesPartOfName}
-use Rattle.query_core.specs.Order.{printed_version, query_cmp}
+use Rattle.query_core.specs.Asked.{AreStrictlyInOrderBy, IsNameMatchedBySomePattern, IsOwnOrProvidedName, HasPartMatchedBySomePattern}
+use Rattle.query_core.specs.Order.{printed_version, candidate_places_cmp}
 use Rattle.report_core.specs.QueryReports.{policy_database_line, repository_line, version_heading}
 
 -- ---- `list` and `search`
@@ -18,14 +18,14 @@ use Rattle.report_core.specs.QueryReports.{policy_database_line, repository_line
 -- installed, if only installed packages are asked for
 abbrev pub IsInListReport : List Operand → Bool → Candidate → Type 0
 IsInListReport patterns installed_only c =
-    ((patterns ≡ []) ⊎ MatchesNamePattern patterns c.name) × (installed_only ≡ true → c.installed ≡ true)
+    ((patterns ≡ []) ⊎ IsNameMatchedBySomePattern patterns c.name) × (installed_only ≡ true → c.installed ≡ true)
 
 -- `search` is asked for a candidate: it is of a repository, and a pattern matches a part of one of its
 -- names
 abbrev pub IsInSearchReport : List Operand → Candidate → Type 0
 IsInSearchReport patterns c =
     (is_some c.repository ≡ true)
-    × ((name : List ℕ) × (IsOwnOrProvidedName c name × MatchesPartOfName patterns name))
+    × ((name : List ℕ) × (IsOwnOrProvidedName c name × HasPartMatchedBySomePattern patterns name))
 
 -- the line of the candidate at a place; nothing if there is none
 abbrev pub line_at : (Candidate → List ℕ) → List Candidate → ℕ → List ℕ
@@ -40,7 +40,7 @@ pub record HasLinesOfAsked (IsAsked : Candidate → Type 0) (line : Candidate �
   pub each : (place : ℕ) → IsIn place places
       ↔ ((c : Candidate) × (slice_get candidates place ≡ Some c) × IsAsked c)
   -- the lines are in the order in which queries print candidates
-  pub order : AreInOrderBy (query_cmp candidates) places
+  pub order : AreStrictlyInOrderBy (candidate_places_cmp candidates) places
   -- the text has these lines
   pub text_is : text ≡ flat_map (line_at line candidates) places
 
@@ -95,7 +95,7 @@ pub record HasPlacesOfVersion (candidates : List Candidate) (repositories : List
       ↔ ((is_some (slice_get repositories place) ≡ true)
       × IsVersionInRepository candidates name version (suc place))
   -- they are in rising order
-  pub order : AreInOrderBy nat_cmp places
+  pub order : AreStrictlyInOrderBy nat_cmp places
   -- the text is the heading, the line of the database, and the lines of these repositories
   pub text_is : text
       ≡ version_heading (printed_version version) ++ database

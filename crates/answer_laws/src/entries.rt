@@ -3,7 +3,7 @@
 
 ghost use Rattle.std.specs.Prelude.{◌≡◌, ◌≢◌, ◌↔◌, ℕ, List, [], ◌++◌, codes, Option, Some, true, false};
 ghost use Rattle.adb_view.specs.Plain.{Plain};
-ghost use Rattle.answer_laws.specs.EntryFields.{GiveSameFields, HasDigest, RepresentsLink, digest_given, size_given, target_given};
+ghost use Rattle.answer_laws.specs.EntryFields.{GiveSameFields, HasDigest, IsTargetOfLinkBytes, digest_given, size_given, target_given};
 ghost use Rattle.audit_core.specs.file_guard.AsListed.{do_entries_agree, is_as_listed};
 ghost use Rattle.change_outcome.specs.change_files.Fate.{is_protected_path};
 ghost use Rattle.change_outcome.specs.change_files.FilesAfter.{is_modified_from_entry};
@@ -19,7 +19,7 @@ pub fn two_entries_agree_exactly_if_size_digest_and_target_are_equal()
 pub fn a_file_is_as_listed_exactly_if_it_has_the_link_or_the_digest_of_its_entry()
     // The entry has a link target.
     ensures link { (entry : Plain) (bytes : List ℕ) → target_given entry ≢ []
-        → (is_as_listed entry bytes ≡ true) ↔ RepresentsLink (target_given entry) bytes }
+        → (is_as_listed entry bytes ≡ true) ↔ IsTargetOfLinkBytes (target_given entry) bytes }
     // The entry has no link target, but a digest.
     ensures digest { (entry : Plain) (bytes : List ℕ) → target_given entry ≡ []
         → digest_given entry ≢ []

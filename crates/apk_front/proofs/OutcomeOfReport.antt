@@ -22,7 +22,7 @@ use Rattle.report_core.specs.declared.refusal.Refusal.{Refusal}
 use Rattle.outcome.proofs.Applets.{report_is, told_commits, told_files}
 use Rattle.outcome.specs.Commands.{IsPossibleOutcomeAfterRecovery, reads_in}
 use Rattle.outcome.specs.Effect.{AsksRoot, Effect, effect_of, output_name_for_effect}
-use Rattle.outcome.specs.Given.{IsChosenFor, IsFirstClashForEffect, IsListingChoiceAndClashFor, IsListingFor, MayBeListingChoiceAndClashFor, MayBeListedFor, MayBeFirstClashForEffect, no_listing_choice_or_clash}
+use Rattle.outcome.specs.Given.{IsChoiceForCommand, IsFirstClashForEffect, IsListingChoiceAndClashFor, AreNamesListedForApplet, MayBeListingChoiceAndClashFor, MayBeNamesListedForApplet, MayBeFirstClashForEffect, no_listing_choice_or_clash}
 use Rattle.outcome.specs.Outcome.{Outcome}
 use Rattle.outcome.specs.OutcomeOfReport.{outcome_of_report}
 use Rattle.apk_front.specs.Runs.{IfNothingStaged, IsRunAfterRecovery}
@@ -43,25 +43,25 @@ IsToldBy command old answer = IsExplainedBySomeReads old (λ read. AgreesUnlessD
 
 -- ---- nothing is given
 
-tells_listed : (applet : Applet) (command : CommandLine) (files : Files) → effect_of applet ≡ AsksRoot → IsListingFor applet command files []
+tells_listed : (applet : Applet) (command : CommandLine) (files : Files) → effect_of applet ≡ AsksRoot → AreNamesListedForApplet applet command files []
 tells_listed Mkpkg command files tells = absurd (cc (tells))
 tells_listed other command files tells = refl
 
 are_given : (command : CommandLine) (read : Reads) (files : Files) → effect_of command.applet ≡ AsksRoot → IsListingChoiceAndClashFor command read files no_listing_choice_or_clash
 are_given command read files tells = record {
   names = tells_listed command.applet command files tells;
-  chosen = subst (λ (e : Effect). IsChosenFor e command read None) (sym tells) refl;
+  chosen = subst (λ (e : Effect). IsChoiceForCommand e command read None) (sym tells) refl;
   clash = subst (λ (e : Effect). IsFirstClashForEffect e command read files None None) (sym tells) refl;
 }
 
-tells_some : (applet : Applet) (command : CommandLine) → effect_of applet ≡ AsksRoot → MayBeListedFor applet command []
+tells_some : (applet : Applet) (command : CommandLine) → effect_of applet ≡ AsksRoot → MayBeNamesListedForApplet applet command []
 tells_some Mkpkg command tells = absurd (cc (tells))
 tells_some other command tells = refl
 
 may_be_given : (command : CommandLine) (read : Reads) (files : Files) → effect_of command.applet ≡ AsksRoot → MayBeListingChoiceAndClashFor command read files no_listing_choice_or_clash
 may_be_given command read files tells = record {
   names = tells_some command.applet command tells;
-  chosen = subst (λ (e : Effect). IsChosenFor e command read None) (sym tells) refl;
+  chosen = subst (λ (e : Effect). IsChoiceForCommand e command read None) (sym tells) refl;
   clash = subst (λ (e : Effect). MayBeFirstClashForEffect e command read files None None) (sym tells) refl;
 }
 

@@ -11,7 +11,7 @@ use Rattle.base_core.specs.Files.{Files}
 use Rattle.base_core.specs.declared.cause.Cause.{Cause}
 use Rattle.command_core.specs.Command.{CommandLine}
 use Rattle.command_core.specs.declared.values.TheConstants.{FILES}
-use Rattle.make_core.specs.make_index.Files.{FindOnlyFiles}
+use Rattle.make_core.specs.make_index.Files.{AreOperandReadsFileBytes}
 use Rattle.make_core.specs.make_index.Index.{made_index}
 use Rattle.make_core.specs.make_info.Reads.{Reads}
 use Rattle.make_core.specs.make_info.declared.fault.MakeFault.{MakeFault}
@@ -104,6 +104,6 @@ IsIndexOutcome command files outcome = outcome ≡ mkndx (reads_in files) files 
 pub record IsIndexFound (command : CommandLine) (made : Result (List ℕ) MakeFault) : Type 0 where
   -- some contents for each read; under an operand it finds nothing, or bytes that a file may have
   pub read : Reads
-  pub files : FindOnlyFiles read 0 command.operands
+  pub files : AreOperandReadsFileBytes read 0 command.operands
   -- the index of these reads, or the reason for which none is made
   pub is : made_index command read ≡ made

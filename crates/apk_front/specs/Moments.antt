@@ -9,16 +9,16 @@ use Rattle.base_core.specs.Undone.{IsDurable}
 use Rattle.base_core.specs.Files.{Files}
 use Rattle.base_core.specs.Restart.{SinceGivenEarlier}
 use Rattle.base_core.specs.Tree.{TreeState, files_of}
-use Rattle.journal_core.specs.Kept.{HasOldOrNewBytes, JournalOnlyShrinks, NamesOutsideJournalAreDurableExcept}
+use Rattle.journal_core.specs.Kept.{HasOldOrNewBytesOutsideJournal, JournalOnlyShrinks, NamesOutsideJournalAreDurableExcept}
 use Rattle.journal_core.specs.Quiet.{StateIsUnchanged}
-use Rattle.journal_core.specs.Recovery.{EachCrashLeaves, StateDependsOn, intent_name, intent_of, is_staged}
-use Rattle.journal_core.specs.Replacing.{CanAddOutputNames, IgnoresScratch, IsMomentOfReplacing, scratch_name_of}
-use Rattle.journal_core.specs.Staged.{AreReplayPathsFree, AreStagingPathsFree, IsEmptyStage, IsOldUntilCommit, unstaged_files}
+use Rattle.journal_core.specs.Recovery.{EachCrashLeavesStateOf, StateDependsOn, intent_name, intent_of, is_staged}
+use Rattle.journal_core.specs.Replacing.{CanAddOutputNames, IgnoresScratchNameButNotIntent, IsMomentOfReplacing, scratch_name_of}
+use Rattle.journal_core.specs.Staged.{AreReplayPathsFree, AreStagingPathsFree, HasNoStagedNames, IsOldUntilCommit, unstaged_files}
 use Rattle.outcome.specs.Effect.{Effect, Computes, OnlyReadsFiles, AsksRoot, Makes, Changes, does_recover, effect_of_arguments, output}
 use Rattle.outcome.specs.Outcome.{Outcome}
 use Rattle.outcome.specs.Words.{IsOutcome}
 use Rattle.outcome.specs.Work.{files_recovered_if_needed}
-use Rattle.engine_core.specs.journal_commit.Asked.{HasAcceptedTargets}
+use Rattle.engine_core.specs.journal_commit.Asked.{RecoveryChangesOnlyAcceptedNames}
 use Rattle.words_core.specs.Grammar.{command_of}
 use Rattle.apk_front.specs.declared.answer.Answer.{Answer}
 use Rattle.apk_front.specs.declared.answer.Answer.TheVariants.{Ok, Refused, OutFault, Memory}
@@ -33,7 +33,7 @@ output_names (Some name) = name ∷ scratch_name_of name ∷ []
 -- the ignored names contain the scratch name of an output, and not the name of the intent
 abbrev pub IgnoresScratchOf : Option (List ℕ) → (List ℕ → Bool) → Type 0
 IgnoresScratchOf None ignored = Unit {0}
-IgnoresScratchOf (Some name) ignored = IgnoresScratch ignored name
+IgnoresScratchOf (Some name) ignored = IgnoresScratchNameButNotIntent ignored name
 
 -- whether a name is ignored, if the output and its scratch name are no longer ignored
 abbrev pub ignored_except_output : Option (List ℕ) → (List ℕ → Bool) → List ℕ → Bool
@@ -99,7 +99,7 @@ pub record IsCommittedChange (effect : Effect) (new old : Files) (w : TreeState)
   -- recovery of the files in w yields the new files
   pub leads : unstaged_files (files_of w) ≡ new
   -- each name outside the staging area has its old bytes or its new ones
-  pub bytes : HasOldOrNewBytes old new w
+  pub bytes : HasOldOrNewBytesOutsideJournal old new w
 
 -- the files as read are the old ones, except under temporary names; or a change to the new files is
 -- committed and in progress; or the files as read are the new ones
@@ -114,7 +114,7 @@ IsStateDuringRun effect output new old w =
 -- staged file
 abbrev pub HasNothingToRecover : Effect → TreeState → Type 0
 HasNothingToRecover effect v =
-    (does_recover effect ≡ false) ⊎ ((v.names intent_name ≡ None) × IsEmptyStage v.names)
+    (does_recover effect ≡ false) ⊎ ((v.names intent_name ≡ None) × HasNoStagedNames v.names)
 
 -- a run can recover: its command does, and the file under the intent's name is an intent
 abbrev pub CanRecover : Effect → TreeState → Type 0
@@ -125,7 +125,7 @@ pub record IsRecovering (v w : TreeState) : Type 0 where
   -- recovery yields of the files in w what it yields of those in v
   pub reads : unstaged_files (files_of w) ≡ unstaged_files (files_of v)
   -- each name outside the staging area has its bytes in v or its recovered bytes
-  pub bytes : HasOldOrNewBytes (files_of v) (unstaged_files (files_of v)) w
+  pub bytes : HasOldOrNewBytesOutsideJournal (files_of v) (unstaged_files (files_of v)) w
   -- the intent and each staged file is unchanged or removed
   pub waiting : JournalOnlyShrinks v w
 
@@ -183,7 +183,7 @@ AreStatesOldOrLeadToOutcome IsOne makes ignored v old now =
 -- the files as read
 abbrev pub MustOutcomeBeDurableWithoutRecovery : (List ℕ → Bool) → TreeState → Outcome → Type 0
 MustOutcomeBeDurableWithoutRecovery ignored v outcome =
-    (outcome.commits ≡ true) ⊎ EachCrashLeaves ignored (files_of v) v
+    (outcome.commits ≡ true) ⊎ EachCrashLeavesStateOf ignored (files_of v) v
 
 -- an outcome's files must be durable after the run: by *MustOutcomeBeDurableWithoutRecovery*, or because an
 -- intent can be recovered
@@ -196,7 +196,7 @@ pub record IsDurableState (ignored : List ℕ → Bool) (files : Files) (w : Tre
   -- no crash changes the bytes of a file on which recovery depends
   pub is_durable : IsDurable (StateDependsOn ignored) w
   -- each crash leaves the state of these files
-  pub settled : EachCrashLeaves ignored files w
+  pub settled : EachCrashLeavesStateOf ignored files w
 
 -- ---- the answer
 
@@ -231,7 +231,7 @@ IsRefusedOrCommitsNothing IsOne answer = IsRefusedOrOutOfMemory answer ⊎ HasOu
 abbrev pub LeavesDurableFilesIfRequired :
     Effect → (List ℕ → Bool) → TreeState → List TreeState → Outcome → Type 0
 LeavesDurableFilesIfRequired effect ignored v now outcome =
-    MustOutcomeBeDurable effect ignored v outcome → HoldsNow now (EachCrashLeaves ignored outcome.files)
+    MustOutcomeBeDurable effect ignored v outcome → HoldsNow now (EachCrashLeavesStateOf ignored outcome.files)
 
 -- Once an outcome is answered, even a refusal, or a sink's fault instead, its files are durable if they
 -- must be. After other answers nothing is said.
@@ -268,4 +268,4 @@ LeavesDurableStateIfCommitted IsOne output ignored now =
 abbrev pub AreRecoveryTargetsAccepted :
     (Option (List ℕ) → List ℕ → Type 0) → List TreeState → List TreeState → Type 0
 AreRecoveryTargetsAccepted accepts old now = IfObservable old (λ v.
-    Since (HasAcceptedTargets accepts (unstaged_files (files_of v))) old now)
+    Since (RecoveryChangesOnlyAcceptedNames accepts (unstaged_files (files_of v))) old now)

@@ -10,8 +10,8 @@ use Rattle.base_core.specs.declared.tree.TreeFault.{TreeFault}
 use Rattle.base_core.specs.declared.tree.TreeFault.TheVariants.{Memory}
 use Rattle.journal_core.specs.Kept.{NamesOutsideJournalAreDurable}
 use Rattle.journal_core.specs.Quiet.{StateIsUnchanged}
-use Rattle.journal_core.specs.Recovery.{StateDependsOn, EachCrashLeaves, intent_name}
-use Rattle.journal_core.specs.Staged.{IsEmptyStage}
+use Rattle.journal_core.specs.Recovery.{StateDependsOn, EachCrashLeavesStateOf, intent_name}
+use Rattle.journal_core.specs.Staged.{HasNoStagedNames}
 use Rattle.outcome.specs.Effect.{Effect}
 use Rattle.outcome.specs.Outcome.{Outcome}
 use Rattle.outcome.specs.Work.{recovery_fault}
@@ -22,7 +22,7 @@ use Rattle.apk_front.specs.declared.answer.Verdict.{Verdict}
 
 -- no intent is read, and there is no file below the staging area
 abbrev pub HasNothingStaged : TreeState → Type 0
-HasNothingStaged v = (v.names intent_name ≡ None) × IsEmptyStage (files_of v)
+HasNothingStaged v = (v.names intent_name ≡ None) × HasNoStagedNames (files_of v)
 
 -- P holds of the newest state, if the history is observable and there is neither an intent nor a staged
 -- file
@@ -59,7 +59,7 @@ pub record IsRunAfterRecovery (IsOne : Outcome → Type 0) (effect : Effect) (ou
   pub settled : (ignored : List ℕ → Bool) (outcome : Outcome)
       → IsDurable (StateDependsOn ignored) v → IgnoresScratchOf output ignored
       → IsOne outcome → MustOutcomeBeDurableWithoutRecovery ignored v outcome
-      → OnOk judged (HoldsNow now (EachCrashLeaves ignored outcome.files))
+      → OnOk judged (HoldsNow now (EachCrashLeavesStateOf ignored outcome.files))
   -- if an outcome that commits was judged, its output and the scratch name are no longer ignored
   pub durable_state : (ignored : List ℕ → Bool) (outcome : Outcome)
       → IsDurable (StateDependsOn ignored) v → IgnoresScratchOf output ignored
@@ -96,7 +96,7 @@ pub record IsRunWithRecovery (IsOne : Outcome → Type 0) (effect : Effect) (out
   pub settled : (ignored : List ℕ → Bool) (outcome : Outcome)
       → IsDurable (StateDependsOn ignored) v → IgnoresScratchOf output ignored
       → IsOne outcome → MustOutcomeBeDurable effect ignored v outcome
-      → OnOk judged (HoldsNow now (EachCrashLeaves ignored outcome.files))
+      → OnOk judged (HoldsNow now (EachCrashLeavesStateOf ignored outcome.files))
   -- after an outcome that commits, each crash leaves its files, also under the output's name
   pub durable_state : (ignored : List ℕ → Bool) (outcome : Outcome)
       → IsDurable (StateDependsOn ignored) v → IgnoresScratchOf output ignored

@@ -15,7 +15,7 @@ ghost use Rattle.outcome.specs.demo_lines.Lines.{mkpkg_words};
 ghost use Rattle.outcome.specs.demo_lines.Report.{demo_line};
 ghost use Rattle.outcome.specs.Commands.{IsOutcomeWithoutDemo};
 ghost use Rattle.outcome.specs.Demo.{IsDemoOutcomeAfterInstalling, IsDemoOutcomeAfterPackaging, IsDemoOutcome, IsOutcomeOfNextRun, with_demo_file};
-ghost use Rattle.outcome.specs.Outcome.{Outcome, report_unless};
+ghost use Rattle.outcome.specs.Outcome.{Outcome, just_report_unless_refusal};
 ghost use Rattle.tree_memory.specs.Memory.{tree_state};
 ghost use Rattle.words_core.specs.Grammar.{command_of};
 
@@ -60,7 +60,7 @@ fn told(alloc: Global, count: u16, last: Verdict) -> Result<Verdict, TreeFault>
     // lack of memory.
     ensures { MatchResult result
         (λ verdict. (files : Files) → as_outcome files verdict
-        ≡ report_unless files last.refusal (demo_line count last.report))
+        ≡ just_report_unless_refusal files last.refusal (demo_line count last.report))
         (λ fault. fault ≡ TreeFault.Memory) }
 {
     let line = demo_line(alloc, count, last.report.as_bytes())?;
@@ -69,7 +69,7 @@ fn told(alloc: Global, count: u16, last: Verdict) -> Result<Verdict, TreeFault>
 
 // The verdict with the refusal, if there is one, and with the report otherwise.
 fn unless_refused(alloc: Global, refusal: Option<Refusal>, report: Text) -> Verdict
-    ensures { (files : Files) → as_outcome files result ≡ report_unless files refusal report }
+    ensures { (files : Files) → as_outcome files result ≡ just_report_unless_refusal files refusal report }
 {
     match refusal {
         Some(refusal) => Verdict::refused(alloc, refusal),

@@ -6,7 +6,7 @@ ghost use Rattle.apk_front.specs.declared.answer.Answer.{Answer};
 ghost use Rattle.base_core.specs.Calls.{HoldsNow};
 ghost use Rattle.base_core.specs.Crash.{Since};
 ghost use Rattle.base_core.specs.Tree.{TreeState, files_of};
-ghost use Rattle.journal_core.specs.Recovery.{EachCrashLeaves};
+ghost use Rattle.journal_core.specs.Recovery.{EachCrashLeavesStateOf};
 ghost use Rattle.journal_core.specs.Replacing.{IsMomentOfReplacing};
 ghost use Rattle.outcome.specs.Effect.{Effect, does_recover, effect_of_arguments, output};
 ghost use Rattle.outcome.specs.Outcome.{Outcome};
@@ -45,7 +45,7 @@ pub fn what_is_carried_out_is_durable()
         ignored v now answer → IsCarriedOut answer
         → IsOutcome (command_of words) (files_of v) outcome → outcome.refusal ≡ None
         → MustOutcomeBeDurable (effect_of_arguments (command_of words)) ignored v outcome
-        → HoldsNow now (EachCrashLeaves ignored outcome.files) }
+        → HoldsNow now (EachCrashLeavesStateOf ignored outcome.files) }
 {
     // A law that the proof needs; it has no effect at run time.
     an_outcome_is_unique();

@@ -15,11 +15,11 @@ ghost use Rattle.base_core.specs.Tree.{files_of};
 ghost use Rattle.command_core.specs.Sound.{IsValidCommand};
 ghost use Rattle.command_core.specs.declared.command.Applet.TheVariants.{Mkndx, Mkpkg};
 ghost use Rattle.command_core.specs.declared.values.TheConstants.{FILES};
-ghost use Rattle.make_core.specs.make_index.Files.{FindOnlyFiles};
+ghost use Rattle.make_core.specs.make_index.Files.{AreOperandReadsFileBytes};
 ghost use Rattle.make_core.specs.make_info.Output.{output_name};
 ghost use Rattle.make_core.specs.make_info.Reads.{Reads};
 ghost use Rattle.make_core.specs.package_files.Sources.{AreNamesBelowFirstFolder, values_of_letter};
-ghost use Rattle.outcome.specs.Make.{index_report_line, make_outcome, mkndx, mkpkg, unless_reserved};
+ghost use Rattle.outcome.specs.Make.{index_report_line, make_outcome, mkndx, mkpkg, outcome_unless_output_reserved};
 ghost use Rattle.outcome.specs.Outcome.{Outcome, just_refusal};
 ghost use Rattle.report_core.specs.declared.refusal.Refusal.TheVariants.{ResultTooLarge};
 
@@ -91,7 +91,7 @@ pub(crate) fn mkndx<T: Tree>(
     // On every tree the verdict is the specification's, for some contents at each read. The files
     // are not used, so `no_names` stands for them.
     ensures by_reads { IfOk result (λ verdict. (read : Reads)
-        × FindOnlyFiles read 0 command.now.operands
+        × AreOperandReadsFileBytes read 0 command.now.operands
         × Reports verdict (mkndx read no_names command.now)) }
     // The effect of the run on the tree.
     ensures run { IsMakingRun (IsIndexOutcome command.now) (output_name command.now)
@@ -295,7 +295,7 @@ fn too_large(
 ) -> Result<Refusal, AllocError>
     // The refusal is the one that the specification gives: `Reserved` if the output is reserved.
     ensures { IfOk result (λ refusal. (files : Files) → just_refusal files refusal
-        ≡ unless_reserved files (output_name command.now)
+        ≡ outcome_unless_output_reserved files (output_name command.now)
         (just_refusal files (ResultTooLarge bytes values))) }
 {
     match output_name(alloc, command)? {

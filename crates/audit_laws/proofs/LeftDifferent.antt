@@ -42,7 +42,7 @@ use Rattle.root_laws.specs.pkg_core.GoodContents.{AreContentsOf, HaveValidDigest
 use Rattle.root_laws.proofs.pkg_core.Digests.{HasFirstValue}
 use Rattle.report_core.specs.declared.refusal.Refusal.{Refusal}
 use Rattle.report_core.specs.declared.refusal.Refusal.TheVariants.{DatabaseBad}
-use Rattle.root_laws.specs.RootLeft.{IsRootLeft}
+use Rattle.root_laws.specs.RootLeft.{IsRootLeftByChange}
 use Rattle.root_names.specs.RootNames.{database_name, text_database_name}
 use Rattle.audit_laws.specs.AfterChange.{ExplainsDifference, IsEmptyWithOtherDigest, IsLeftDifferent, change_left, contents_left, packages_left}
 use Rattle.audit_laws.proofs.AfterFiles.{by_left, left_by, stays_so}
@@ -85,7 +85,7 @@ not_record records name reserved free = by_test (is_record_name records name) re
 comes_if : (change : FileChange) (path : List ℕ) (l : Listing) → owner_listing change path ≡ Some l → is_added l.member ≡ true → added_owner_listing change path ≡ Some l
 comes_if change path l owner comes = ap if_member_added owner ∙ ap (λ (b : Bool). if b then Some l else None) comes
 
-module _ (laws : Laws) (command : CommandLine) (read : Reads) (files : Files) (chosen : Option (List ℕ)) (clash : Option NamePair) (done : ChangeDone) (left : IsRootLeft command read chosen done)
+module _ (laws : Laws) (command : CommandLine) (read : Reads) (files : Files) (chosen : Option (List ℕ)) (clash : Option NamePair) (done : ChangeDone) (left : IsRootLeftByChange command read chosen done)
     (e : change_of_command command read files chosen clash ≡ Ok done) (off : command.flags.simulate ≡ false) where
   abbrev s : InputsAndReplacement
   s = left.selected
@@ -205,7 +205,7 @@ pub empty_alone :
     → ((contents : ℕ → List Contents) (members : List Member) (l : Listing) → Contains (member_listings members) l → HaveValidDigestLengths (expected_files_of_package l.member.pkg)
     → AreContentsOf (expected_files_of_package l.member.pkg) (contents l.place) → (is_file_with_contents l.entry ≡ false → has_target l.entry ≡ false → is_as_listed l.entry [] ≡ true)
     → is_as_listed l.entry (listing_bytes contents l) ≡ true)
-    → (command : CommandLine) (read : Reads) (chosen : Option (List ℕ)) (done : ChangeDone) (left : IsRootLeft command read chosen done) (path : List ℕ) (l : Listing)
+    → (command : CommandLine) (read : Reads) (chosen : Option (List ℕ)) (done : ChangeDone) (left : IsRootLeftByChange command read chosen done) (path : List ℕ) (l : Listing)
     → added_owner_listing (change_left left) path ≡ Some l → is_as_listed l.entry (listing_bytes (contents_left left) l) ≡ false → IsEmptyWithOtherDigest l.entry
 empty_alone told placed brought command read chosen done left path l comes unlike =
     let members = found_members left.found in

@@ -18,7 +18,7 @@ use Rattle.root_laws.specs.engine_core.Wishes.{wishes_of}
 use Rattle.audit_core.specs.file_guard.AsListed.{has_target, is_as_listed}
 use Rattle.root_laws.specs.make_info.Reads.{Reads}
 use Rattle.root_laws.specs.pkg_core.Contents.{Contents}
-use Rattle.root_laws.specs.RootLeft.{IsRootLeft, database_of_members}
+use Rattle.root_laws.specs.RootLeft.{IsRootLeftByChange, database_of_members}
 
 -- ---- a file that is left different
 
@@ -60,17 +60,17 @@ pub record IsLeftDifferent (contents : ℕ → List Contents) (change : FileChan
 -- the packages after a command, as the next one reads them
 abbrev pub packages_left :
     {command : CommandLine} → {read : Reads} → {chosen : Option (List ℕ)} → {done : ChangeDone}
-    → IsRootLeft command read chosen done → List Plain
+    → IsRootLeftByChange command read chosen done → List Plain
 packages_left left = (database_of_members (found_members left.found) left.bytes).packages
 
 -- the change of files that a command has made
 abbrev pub change_left :
     {command : CommandLine} → {read : Reads} → {chosen : Option (List ℕ)} → {done : ChangeDone}
-    → IsRootLeft command read chosen done → FileChange
+    → IsRootLeftByChange command read chosen done → FileChange
 change_left {command} left = file_change left.selected.inputs (wishes_of command) left.found
 
 -- the contents of the files of each package that a command has added
 abbrev pub contents_left :
     {command : CommandLine} → {read : Reads} → {chosen : Option (List ℕ)} → {done : ChangeDone}
-    → IsRootLeft command read chosen done → ℕ → List Contents
+    → IsRootLeftByChange command read chosen done → ℕ → List Contents
 contents_left left = found_package_contents left.found

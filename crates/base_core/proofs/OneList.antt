@@ -7,7 +7,7 @@ use Rattle.std.proofs.lemmas.Bool.{and_parts}
 use Rattle.std.proofs.lemmas.Bool.Decides.{Decides-eqb}
 use Rattle.std.proofs.lemmas.Slice.Eq.{bytes_eq-Decides}
 use Rattle.std.proofs.lemmas.Map.Views.{Contains-from_any}
-use Rattle.base_core.specs.Files.{NameMap, AreNamedFiles, AreFileBytes, HasNamesAmong, IsFolderOf}
+use Rattle.base_core.specs.Files.{NameMap, HaveValidNamesAndBytes, AreFileBytes, HasNamesAmong, IsFolderOf}
 use Rattle.base_core.specs.Tree.{TreeState, IsCurrentOrOlderMap, IsWellFormed, bytes_of_file_number, files_under_map, files_of}
 use Rattle.base_core.specs.Listed.{AreNamesBelow, IsListOf, IsNameBelow, IsNamesOf, AreSortedDistinctNames}
 use Rattle.base_core.proofs.Rising.{in_at, keep, keep_rises, kept_passes, passing_kept, same_list, contains_from_in, in_from_contains, pairs_from_rises, rises_from_pairs}
@@ -116,7 +116,7 @@ some_bytes : (v : TreeState) (n : Option ℕ) (bytes : List ℕ) → IsWellForme
 some_bytes v None bytes whole is = absurd (cc)
 some_bytes v (Some n) bytes whole is = let same : (v.files n).bytes ≡ bytes = cc in subst AreFileBytes same (whole.bytes n)
 
-pub files_named : (v : TreeState) → IsWellFormed v → (map : NameMap) → IsCurrentOrOlderMap v map → AreNamedFiles (files_under_map v map)
+pub files_named : (v : TreeState) → IsWellFormed v → (map : NameMap) → IsCurrentOrOlderMap v map → HaveValidNamesAndBytes (files_under_map v map)
 files_named v whole map among = record {
   named = λ q some. whole.named map among q ((has_bytes v (map q)).1 some);
   each = λ q bytes is. some_bytes v (map q) bytes whole is;

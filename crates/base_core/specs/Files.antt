@@ -53,7 +53,7 @@ pub record AreFileBytes (bytes : List ℕ) : Type 0 where
   pub few : length bytes < 2 ^ 64
 
 -- each file is under a name, and has bytes that a file may have
-pub record AreNamedFiles (files : Files) : Type 0 where
+pub record HaveValidNamesAndBytes (files : Files) : Type 0 where
   -- each present file is under a valid name
   pub named : AreNames files
   -- each present file has bytes that a file may have

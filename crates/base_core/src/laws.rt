@@ -5,7 +5,7 @@
 ghost use Rattle.std.specs.Prelude.{◌≡◌, ◌≤◌, ◌++◌, ℕ, List, [], Option, Result, Bool};
 ghost use Rattle.base_core.specs.Crash.{IsCrashImageIfUndoneNewestFirst, IsCrashImageUnderMap, IsDurableIfUndoneNewestFirst};
 ghost use Rattle.base_core.specs.Faults.{Counts, CountsOnlyRise, IsFaultCountedWithCause, CountsNoNewFault};
-ghost use Rattle.base_core.specs.Files.{Files, NameMap, AreNamedFiles, HasNamesAmong};
+ghost use Rattle.base_core.specs.Files.{Files, NameMap, HaveValidNamesAndBytes, HasNamesAmong};
 ghost use Rattle.base_core.specs.Listed.{AreNamesBelow, IsListOf, IsNamesOf};
 ghost use Rattle.base_core.specs.Read.{OnlyReads};
 ghost use Rattle.base_core.specs.Restart.{HasNamedNewFile, IsAfterCrashIfUndoneNewestFirst};
@@ -185,9 +185,9 @@ pub fn the_files_as_read_have_the_names_as_read()
 pub fn the_files_of_a_well_formed_state_are_named_files()
     // Under each map, files have valid names and a possible length.
     ensures named { (v : TreeState) → IsWellFormed v → (map : NameMap) → IsCurrentOrOlderMap v map
-        → AreNamedFiles (files_under_map v map) }
+        → HaveValidNamesAndBytes (files_under_map v map) }
     // The files as read have valid names and a possible length.
-    ensures read { (v : TreeState) → IsWellFormed v → AreNamedFiles (files_of v) }
+    ensures read { (v : TreeState) → IsWellFormed v → HaveValidNamesAndBytes (files_of v) }
     // The files as read are finitely many.
     ensures finite { (v : TreeState) → IsWellFormed v → (names : List (List ℕ))
         × HasNamesAmong names (files_of v) }

@@ -77,15 +77,17 @@ greater_version = flip_args (option_cmp version_cmp)
 abbrev pub earlier_repository : Option ℕ → Option ℕ → Ordering
 earlier_repository = flip_args (option_cmp (flip_args nat_cmp))
 
--- keys 2 to 4: the tag of a candidate's repository, its name, and whether it is installed and kept
+-- Keys 2 to 4. A candidate of a repository without tag is first; then one with the needed name; and then
+-- one that is installed and kept.
 abbrev pub tag_name_kept_cmp : UpgradedNames → Need → Candidate → Candidate → Ordering
 tag_name_kept_cmp upgraded need =
     then_cmp (quality_first is_untagged)
     (then_cmp (quality_first (has_needed_name need))
     (quality_first (is_kept_installed upgraded)))
 
--- keys 5 to 8: the greater version under which the need is met, the greater provider-priority, the
--- byte-lesser name, the greater version of its own
+-- Keys 5 to 8. The candidate that meets the need under the greater version is first; at equal versions
+-- the one with the greater provider-priority, then the one whose name is less in byte order, and then the
+-- one whose own version is greater.
 abbrev pub version_and_priority_cmp : Need → Candidate → Candidate → Ordering
 version_and_priority_cmp need =
     then_cmp (on (version_meeting_need need) greater_version)
@@ -93,7 +95,8 @@ version_and_priority_cmp need =
     (then_cmp (on (λ (c : Candidate). c.name) bytes_cmp)
     (on (λ (c : Candidate). c.version) greater_version)))
 
--- keys 9 and 10: the byte-lesser text of the version, and the earlier repository
+-- Keys 9 and 10. The candidate whose version text is less in byte order is first; then the one of the
+-- earlier repository.
 abbrev pub version_text_and_repository_cmp : Candidate → Candidate → Ordering
 version_text_and_repository_cmp =
     then_cmp (on (λ (c : Candidate). c.version) (option_cmp bytes_cmp))

@@ -21,7 +21,7 @@ use Rattle.change_inputs.specs.Inputs.{Inputs}
 use Rattle.change_inputs.specs.World.{found_text_or_empty}
 use Rattle.change_outcome.specs.ChangeOutcome.{intent_of_change, has_actions, is_absent_or_different, name_if_needed, new_records, names_of_written_database_and_world}
 use Rattle.db_write.specs.db_core.Members.{Listing}
-use Rattle.journal_core.specs.Staged.{IsEmptyStage}
+use Rattle.journal_core.specs.Staged.{HasNoStagedNames}
 use Rattle.journal_core.specs.journal_intent.FreeNames.{IsNoneOf, IsOneOf}
 use Rattle.journal_core.specs.journal_intent.Intent.{Intent}
 use Rattle.change_outcome.specs.Leading.{ActionsLeadToFiles}
@@ -157,7 +157,7 @@ module _ (inputs : Inputs) (change : FileChange) (bytes_of : Listing → List �
           | inr text ↦ ap after text.0 ∙ no_text_after change bytes_of records files text.1
         ]
 
-    pub leads : IsEmptyStage files → length actions.writes < 2 ^ 63 → ActionsLeadToFiles actions.removals actions.writes files after
+    pub leads : HasNoStagedNames files → length actions.writes < 2 ^ 63 → ActionsLeadToFiles actions.removals actions.writes files after
     leads empty few = record {
       free = free_names inputs change files records free;
       few = few;

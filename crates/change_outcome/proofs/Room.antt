@@ -19,7 +19,7 @@ use Rattle.package_changes.proofs.change_files.AfterNames.{names_after}
 use Rattle.package_changes.proofs.change_files.Reserved.{unreserved_path, written_unreserved}
 use Rattle.package_changes.proofs.change_files.Untouched.{changed_so}
 use Rattle.db_write.specs.db_core.Members.{Listing}
-use Rattle.journal_core.specs.Staged.{AreJournalPathsFree, AreStagingPathsFree, IsEmptyStage, IsPresentOrOfJournal}
+use Rattle.journal_core.specs.Staged.{AreJournalPathsFree, AreStagingPathsFree, HasNoStagedNames, IsPresentOrOfJournal}
 use Rattle.journal_core.specs.journal_intent.FreeNames.{IsUsedByJournal}
 use Rattle.journal_core.specs.journal_intent.Intent.{intent_name, is_staged, stage_name}
 use Rattle.package_changes.specs.path_clashes.Clash.{HasNoClash, is_present_after_change}
@@ -236,7 +236,7 @@ module _ (change : FileChange) (bytes_of : Listing → List ℕ) (records : Data
       apart_names p q above (inr taken) (inl there) = nothing_below p q above taken there
       apart_names p q above (inr taken_p) (inr taken_q) = stage.beside.folders p q above (inr taken_p) (inr taken_q)
 
-  empty : IsEmptyStage after
+  empty : HasNoStagedNames after
   empty q staged = reserved_absent change bytes_of records files none q (staged_reserved q staged) (no_record records q staged) (stage.empty q staged)
 
   pub room : AreStagingPathsFree after

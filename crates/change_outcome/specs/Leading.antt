@@ -2,7 +2,7 @@
 -- `actions_lead_to_given_files`; the rules are in `docs/crash-safety.md`, "A change of several files".
 use Rattle.std.specs.Prelude.{◌≡◌, ℕ, ◌<◌, ◌^◌, List, length, None, IsSome}
 use Rattle.base_core.specs.Files.{Files}
-use Rattle.journal_core.specs.Staged.{IsEmptyStage}
+use Rattle.journal_core.specs.Staged.{HasNoStagedNames}
 use Rattle.journal_core.specs.journal_intent.FreeNames.{HasFreeDistinctNames, IsNoneOf, IsOneOf}
 use Rattle.journal_core.specs.journal_intent.IntentValue.{intent_of_lists}
 
@@ -18,7 +18,7 @@ pub record ActionsLeadToFiles (removals writes : List (List ℕ)) (files after :
   -- there are less writes than a stage can have
   pub few : length writes < write_limit
   -- nothing is staged in the files before
-  pub empty : IsEmptyStage files
+  pub empty : HasNoStagedNames files
   -- each written name has a file afterwards
   pub gives : (name : List ℕ) → IsOneOf name writes → IsSome (after name)
   -- each removed name has no file afterwards

@@ -11,8 +11,8 @@ ghost use Rattle.change_outcome.specs.ChangeOutcome.{ChangeDone, ChangeWishes, I
 ghost use Rattle.command_core.specs.Command.{CommandLine};
 ghost use Rattle.db_write.specs.db_core.Members.{Listing};
 ghost use Rattle.journal_core.specs.Recovery.{files_after_actions};
-ghost use Rattle.journal_core.specs.Staged.{AreStagingPathsFree, IsEmptyStage, files_with_staged};
-ghost use Rattle.journal_core.specs.journal_intent.Intent.{AreChangeNames, intent_name};
+ghost use Rattle.journal_core.specs.Staged.{AreStagingPathsFree, HasNoStagedNames, files_with_staged};
+ghost use Rattle.journal_core.specs.journal_intent.Intent.{AreDistinctNamesAllowedInIntent, intent_name};
 ghost use Rattle.journal_core.specs.journal_intent.IntentValue.{intent_of_lists};
 ghost use Rattle.change_inputs.specs.make_info.Reads.{Reads};
 ghost use Rattle.package_changes.specs.Changes.{Replacement};
@@ -47,7 +47,7 @@ pub fn actions_lead_to_given_files()
 pub fn the_actions_of_a_change_lead_to_its_files()
     ensures { (inputs : Inputs) (change : FileChange) (bytes_of : Listing → List ℕ)
         (database : List ℕ) (files : Files)
-        → HasNoReservedPath change → IsRootOfFiles files inputs.root → IsEmptyStage files
+        → HasNoReservedPath change → IsRootOfFiles files inputs.root → HasNoStagedNames files
         → let records = new_records inputs database in
         let actions = intent_of_change inputs change files records in
         let after = files_after_change change bytes_of records files in
@@ -64,7 +64,7 @@ pub fn the_names_of_a_change_may_be_changed()
         → HasNoReservedPath change
         → let actions = intent_of_change inputs change files records in
         All IsName actions.removals → All IsName actions.writes
-        → AreChangeNames (actions.removals ++ actions.writes) }
+        → AreDistinctNamesAllowedInIntent (actions.removals ++ actions.writes) }
 {}
 
 /// A change that removes and writes nothing leaves the files as they are.

@@ -13,7 +13,7 @@ use Rattle.change_report.specs.change_outcome.PackageFiles.{AddedPackage}
 use Rattle.change_report.specs.db_core.Members.{Member}
 use Rattle.journal_staging.specs.package_verifier.Tested.{IsTestedOf}
 use Rattle.journal_staging.specs.package_verifier.declared.package.TestedPackage.{TestedPackage}
-use Rattle.journal_staging.specs.Spoiled.{IsSpoiledFile}
+use Rattle.journal_staging.specs.Spoiled.{IsFileWithOnlyContentsSpoiled}
 
 -- ---- what is found at a place
 
@@ -56,10 +56,10 @@ pub record IsFoundSpoiled (found : List MemberFound) (m : Member) (cause : Cause
   pub tested : List ℕ
   pub read : one.file ≡ Some tested
   pub file : List ℕ
-  pub spoiled : IsSpoiledFile tested file cause
+  pub spoiled : IsFileWithOnlyContentsSpoiled tested file cause
 
 pub found_spoiled : (history : List TreeState) (before : List Plain) (reads : List MemberRead) (found : List MemberFound) (place : ℕ) (m : Member) (pkg : TestedPackage) (cause : Cause) → AreMembersRead history before reads found → slice_get (found_members found) place ≡ Some m
-    → option_and_then package_in (slice_get reads place) ≡ Some pkg → ((name tested : List ℕ) → IsTestedOf name tested pkg → (file : List ℕ) × IsSpoiledFile tested file cause) → IsFoundSpoiled found m cause
+    → option_and_then package_in (slice_get reads place) ≡ Some pkg → ((name tested : List ℕ) → IsTestedOf name tested pkg → (file : List ℕ) × IsFileWithOnlyContentsSpoiled tested file cause) → IsFoundSpoiled found m cause
 found_spoiled history before reads found place m pkg cause are at here spoils =
     let (one, there, is) = found_at found place m at in
     let r = read_as history before reads found are place pkg one here there in

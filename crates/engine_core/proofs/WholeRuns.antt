@@ -26,7 +26,7 @@ use Rattle.report_core.specs.declared.refusal.Refusal.{Refusal}
 use Rattle.change_report.specs.change_outcome.Premises.{IsRootOfFiles}
 use Rattle.engine_core.specs.Preparing.{IsRootRead}
 use Rattle.engine_core.specs.ChangeRun.{CarriesOut, IsChangeRun}
-use Rattle.engine_core.specs.Changed.{IsClashOfSelected, IsClashOfSelectedAmong, IsClashUnlessSimulatedAmong, InputsAndReplacement, change_of_selected, change_of_command, found_packages, selected_by, selected_for, selected_of_inputs, simulated_change}
+use Rattle.engine_core.specs.Changed.{IsClashOfSelected, IsClashOfSelectedAmong, IsClashUnlessSimulatedAmong, InputsAndReplacement, change_of_selected, change_of_command, packages_found_after_change, selected_by, selected_for, selected_of_inputs, simulated_change}
 use Rattle.engine_core.specs.Choice.{IsChoiceFrom}
 use Rattle.engine_core.specs.Runs.{IsRunOnSelection}
 use Rattle.engine_core.specs.Selecting.{pool_of_inputs, pool_of_command}
@@ -131,7 +131,7 @@ module _ (have : HaveOwnReads) (command : CommandLine) (inputs : Inputs) (read o
       by true clash_is = clash_is
       by false clash_is = subst (λ (found : Result (List MemberFound) Refusal). IsClashFoundAmong s.inputs (wishes_of command) files present_files found clash) (of_inputs s.inputs is) clash_is
 
-  packages_same : (s : InputsAndReplacement) → s.inputs ≡ inputs → found_packages command read (Ok s) ≡ found_packages command other (Ok s)
+  packages_same : (s : InputsAndReplacement) → s.inputs ≡ inputs → packages_found_after_change command read (Ok s) ≡ packages_found_after_change command other (Ok s)
   packages_same s is = subst (λ (i : Inputs). members_after_change i s.replacement (wishes_of command) read ≡ members_after_change i s.replacement (wishes_of command) other) (sym is) (members_same s.replacement (wishes_of command))
 
 -- what is selected has these inputs
@@ -187,13 +187,13 @@ module _ (have : HaveOwnReads) (command : CommandLine) (inputs : Inputs) (old no
   unfolding change_of_command selected
   changed_is = sym (ap (λ (s : Result InputsAndReplacement Refusal). and_then s (change_of_selected command read run.files run.clash)) selected_is ∙ by_selected selected (selected_has command chosen inputs))
 
-  packages_by : (s : Result InputsAndReplacement Refusal) → HasInputs inputs s → found_packages command run.read s ≡ found_packages command read s
+  packages_by : (s : Result InputsAndReplacement Refusal) → HasInputs inputs s → packages_found_after_change command run.read s ≡ packages_found_after_change command read s
   packages_by (Ok s) has = sym (packages_same have command inputs read run.read same s has)
   packages_by (Err refusal) has = refl
 
-  packages_are : found_packages command run.read selected ≡ found_packages command read (selected_for command read chosen)
+  packages_are : packages_found_after_change command run.read selected ≡ packages_found_after_change command read (selected_for command read chosen)
   unfolding selected
-  packages_are = packages_by selected (selected_has command chosen inputs) ∙ ap (found_packages command read) (sym selected_is)
+  packages_are = packages_by selected (selected_has command chosen inputs) ∙ ap (packages_found_after_change command read) (sym selected_is)
 
   clash_by : (s : Result InputsAndReplacement Refusal) → HasInputs inputs s → IsClashOfSelectedAmong command run.read run.files run.present_files s run.clash → IsClashOfSelectedAmong command read run.files run.present_files s run.clash
   clash_by (Ok s) has clash = clash_same have command inputs read run.read same s run.files run.present_files run.clash has clash
@@ -214,7 +214,7 @@ module _ (have : HaveOwnReads) (command : CommandLine) (inputs : Inputs) (old no
     is_clash = subst (λ (s : Result InputsAndReplacement Refusal). IsClashOfSelectedAmong command read run.files run.present_files s run.clash) (sym selected_is)
         (clash_by selected (selected_has command chosen inputs) run.is_clash);
     comes = subst (λ (p : Result (List MemberFound) Refusal). CarriesOut p (change_of_command command read run.files chosen run.clash) old now before after result) packages_are
-        (subst (λ (w : Result ChangeDone Refusal). CarriesOut (found_packages command run.read selected) w old now before after result) changed_is run.comes);
+        (subst (λ (w : Result ChangeDone Refusal). CarriesOut (packages_found_after_change command run.read selected) w old now before after result) changed_is run.comes);
   }
 
 pub joined : HaveOwnReads → (command : CommandLine) (loaded : Loaded) (old mid now : List TreeState) (before between after : Counts) (result : Result (List ℕ) Refused) → IsOnlyRead old mid before between

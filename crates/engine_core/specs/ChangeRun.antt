@@ -17,15 +17,15 @@ use Rattle.command_core.specs.Command.{CommandLine}
 use Rattle.change_report.specs.db_core.Members.{member_name}
 use Rattle.change_report.specs.file_owners.Replaces.{package_version_text}
 use Rattle.change_report.specs.journal_core.Recovery.{intent_name}
-use Rattle.change_report.specs.journal_core.Staged.{AreStagingPathsFree, IsEmptyStage}
+use Rattle.change_report.specs.journal_core.Staged.{AreStagingPathsFree, HasNoStagedNames}
 use Rattle.change_report.specs.make_info.Reads.{Reads}
 use Rattle.change_report.specs.package_files.Runs.{AreReadsOfTree}
 use Rattle.change_report.specs.path_clashes.Clash.{NamePair}
 use Rattle.report_core.specs.declared.refusal.Refusal.{Refusal}
 use Rattle.report_core.specs.declared.refusal.Refusal.TheVariants.{PackageBad}
-use Rattle.journal_staging.specs.Spoiled.{IsSpoiledFile}
+use Rattle.journal_staging.specs.Spoiled.{IsFileWithOnlyContentsSpoiled}
 use Rattle.journal_staging.specs.journal_commit.StageRun.{IsRunOfStagedChange, IsStagedChangeComplete}
-use Rattle.engine_core.specs.Changed.{IsClashOfCommandAmong, change_of_command, found_packages, selected_for}
+use Rattle.engine_core.specs.Changed.{IsClashOfCommandAmong, change_of_command, packages_found_after_change, selected_for}
 use Rattle.engine_core.specs.Choice.{IsChoiceFrom}
 use Rattle.engine_core.specs.Selecting.{pool_of_command}
 
@@ -61,7 +61,7 @@ pub record HasSpoiledPackage (packages : Result (List MemberFound) Refusal) (ref
   -- a file with the same values and other contents, and the test that it fails
   pub file : List ℕ
   pub cause : Cause
-  pub spoiled : IsSpoiledFile tested file cause
+  pub spoiled : IsFileWithOnlyContentsSpoiled tested file cause
   -- the refusal reports this package as bad, with this cause
   pub is : refusal ≡ PackageBad (member_name one.member) (package_version_text one.member.pkg) cause
 
@@ -72,7 +72,7 @@ pub record IsChangedSinceTested (packages : Result (List MemberFound) Refusal)
     (wanted : Result ChangeDone Refusal) (history : List TreeState)
     (result : Result (List ℕ) Refused) : Type 0 where
   -- the tree is not observable, or has an intent or a staged file
-  pub unseen : IfObservable history (λ v. v.names intent_name ≡ None → IsEmptyStage (files_of v)
+  pub unseen : IfObservable history (λ v. v.names intent_name ≡ None → HasNoStagedNames (files_of v)
       → ⊥)
   -- the change is not refused, and would write or remove something
   pub commits : DoesCommit wanted
@@ -122,10 +122,10 @@ pub record CarriesOut (packages : Result (List MemberFound) Refusal)
   pub told : AgreesUnlessDisk report_as_is result (report_of_result wanted)
       ⊎ IsChangedSinceTested packages wanted old result
   -- without an intent and staged files, the change is carried through, or the tree is unchanged or failed
-  pub run : IfObservable old (λ v. v.names intent_name ≡ None → IsEmptyStage (files_of v)
+  pub run : IfObservable old (λ v. v.names intent_name ≡ None → HasNoStagedNames (files_of v)
       → IsUnchangedOrCommit wanted v old now result)
   -- without an intent and staged files, no call is a misuse if the paths of the stage are free
-  pub proper : IfObservable old (λ v. v.names intent_name ≡ None → IsEmptyStage (files_of v)
+  pub proper : IfObservable old (λ v. v.names intent_name ≡ None → HasNoStagedNames (files_of v)
       → (DoesCommit wanted → AreStagingPathsFree (files_of v)) → after.misuses ≡ before.misuses)
 
 -- A run of a command's change: by what reads find, by some files, by what is chosen, and by the first
@@ -154,5 +154,5 @@ pub record IsChangeRun (command : CommandLine) (old now : List TreeState) (befor
   -- the first clash of names of the change, if there is one
   pub is_clash : IsClashOfCommandAmong command read files present_files chosen clash
   -- how the run ends
-  pub comes : CarriesOut (found_packages command read (selected_for command read chosen))
+  pub comes : CarriesOut (packages_found_after_change command read (selected_for command read chosen))
       (change_of_command command read files chosen clash) old now before after result

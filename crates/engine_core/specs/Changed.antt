@@ -54,9 +54,9 @@ selected_for command read chosen =
     and_then (inputs_of command read) (selected_of_inputs command chosen)
 
 -- the packages after what is selected, as reads find them, or the first refusal
-abbrev pub found_packages :
+abbrev pub packages_found_after_change :
     CommandLine → Reads → Result InputsAndReplacement Refusal → Result (List MemberFound) Refusal
-found_packages command read selected =
+packages_found_after_change command read selected =
     and_then selected (λ s. members_after_change s.inputs s.replacement (wishes_of command) read)
 
 -- ---- the result

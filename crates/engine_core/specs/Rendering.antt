@@ -11,7 +11,7 @@ use Rattle.change_report.specs.change_inputs.declared.root.Refused.{Refused}
 use Rattle.change_report.specs.change_outcome.ChangeOutcome.{intent_of_change, change_report, has_actions, file_change, name_if_needed, new_records, unless_overflow}
 use Rattle.change_report.specs.change_outcome.MembersAfter.{MemberFound}
 use Rattle.change_report.specs.db_core.Seen.{members_of}
-use Rattle.change_report.specs.journal_core.Staged.{Staging, new_stage}
+use Rattle.change_report.specs.journal_core.Staged.{Staging, new_stage_of_removals_and_writes}
 use Rattle.change_report.specs.journal_intent.IntentValue.{intent_of_lists, value_of_intent}
 use Rattle.change_report.specs.own_core.Planned.{written_names}
 use Rattle.change_report.specs.own_core.WritesSeen.{writes_in}
@@ -53,7 +53,7 @@ IsStageOf removals writes None =
     has_actions (record { removals = removals; writes = writes }) ≡ false
 IsStageOf removals writes (Some stage) =
     (has_actions (record { removals = removals; writes = writes }) ≡ true)
-    × (stage ≡ new_stage removals writes)
+    × (stage ≡ new_stage_of_removals_and_writes removals writes)
 
 -- a change is refused since its journal entry exceeds a limit of the writer; or memory has run out
 abbrev pub IsRefusedForOverflow : Plan → NewRecords → Refused → Type 0

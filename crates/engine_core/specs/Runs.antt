@@ -19,7 +19,7 @@ use Rattle.change_report.specs.package_changes.Changes.{Replacement}
 use Rattle.change_report.specs.path_clashes.Clash.{NamePair}
 use Rattle.report_core.specs.declared.refusal.Refusal.{Refusal}
 use Rattle.engine_core.specs.ChangeRun.{CarriesOut}
-use Rattle.engine_core.specs.Changed.{IsClashOfSelectedAmong, InputsAndReplacement, change_of_selected, found_packages}
+use Rattle.engine_core.specs.Changed.{IsClashOfSelectedAmong, InputsAndReplacement, change_of_selected, packages_found_after_change}
 
 -- a run of a change, given what is selected or the refusal instead
 pub record IsRunOnSelection (command : CommandLine) (selected : Result InputsAndReplacement Refusal)
@@ -42,7 +42,7 @@ pub record IsRunOnSelection (command : CommandLine) (selected : Result InputsAnd
   -- the first clash of names of the change, if there is one
   pub is_clash : IsClashOfSelectedAmong command read files present_files selected clash
   -- how the run ends
-  pub comes : CarriesOut (found_packages command read selected)
+  pub comes : CarriesOut (packages_found_after_change command read selected)
       (and_then selected (change_of_selected command read files clash))
       old now before after result
 

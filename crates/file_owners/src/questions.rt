@@ -230,7 +230,8 @@ fn repeats_the_one_before(questions: &[Question], i: usize) -> bool
     questions[i - 1].is_same(&questions[i])
 }
 
-/// The place of the member that a question is about, if its entry names that member.
+/// The place of the member that a question is about, if the question's entry of `replaces` names
+/// the package of this member. The entry is a value in `adb`.
 fn place_if_named(members: &Members<'_>, adb: Adb<'_>, question: &Question) -> Option<u32>
     // The question is about one of the members.
     requires { IsQuestionIn (members_of members.now) (payload_of adb) question.now }

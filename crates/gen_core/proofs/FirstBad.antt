@@ -14,7 +14,7 @@ use Rattle.adb_dump.specs.Dump.{Line, dump_lines, schema_line, value_lines}
 use Rattle.adb_dump.specs.ReadBack.{ResultOrBadLine, value_read}
 use Rattle.adb_dump.proofs.ValueLaws.{read_back}
 use Rattle.gen_core.specs.Dumps.{AreDumpLines, BeginsADump, IsFirstBadDumpLine, IsRootValue}
-use Rattle.gen_core.specs.Generated.{DumpedRoot, dumped_root, root_of_lines, root_of_table, root_read, table_of_line, text_lines, unless_unfinished_line}
+use Rattle.gen_core.specs.Generated.{DumpedRoot, dumped_root, root_of_lines, root_of_lines_after_first, root_read, table_of_line, text_lines, unless_unfinished_line}
 use Rattle.gen_core.proofs.Completed.{Completed, block_completed, has_samples}
 use Rattle.gen_core.proofs.Stable.{Agree, block_stable}
 use Rattle.gen_core.proofs.Texts.{AreLinesOf, NamesRoot, line_of_root, lines_are_read, lines_of_root, root_of_line}
@@ -136,7 +136,7 @@ first_bad (l ∷ ls) n e = by_table (table_of_line l) refl e
     by_value w (Ok v) t is e = absurd cc
     by_value w (Err k) t is e = subst (FirstBad (l ∷ ls)) (root_number (k + 2) n e) (at_value l ls w k t is)
 
-    by_table : (o : Option Which) → table_of_line l ≡ o → root_of_table o ls ≡ bad_root n → FirstBad (l ∷ ls) n
+    by_table : (o : Option Which) → table_of_line l ≡ o → root_of_lines_after_first o ls ≡ bad_root n → FirstBad (l ∷ ls) n
     by_table None t e = subst (FirstBad (l ∷ ls)) (root_number 1 n e) (at_table l ls t)
     by_table (Some w) t e = by_value w (value_read w ls) t refl e
 

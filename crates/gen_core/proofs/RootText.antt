@@ -12,7 +12,7 @@ use Rattle.adb_values.specs.Written.{IsWrittenAs}
 use Rattle.adb_dump.specs.Dump.{Line}
 use Rattle.adb_dump.specs.ReadBack.{ResultOrBadLine, value_read}
 use Rattle.gen_core.specs.Cursors.{CursorState, cursor_after_line, cursor_from_parts}
-use Rattle.gen_core.specs.Generated.{DumpedRoot, IsGenFault, dumped_root, file_of_root, file_unless_too_large, generated_file, root_of_lines, root_of_table, root_read, table_of_line, text_lines, unless_unfinished_line, schema_word_or_zero}
+use Rattle.gen_core.specs.Generated.{DumpedRoot, IsGenFault, dumped_root, file_of_root, file_unless_too_large, generated_file, root_of_lines, root_of_lines_after_first, root_read, table_of_line, text_lines, unless_unfinished_line, schema_word_or_zero}
 use Rattle.gen_core.specs.Reads.{DraftOrBadLine, IsTextFault, block_taken, fault_of_writer, has_rest, table_and_draft_of_root, table_read}
 use Rattle.gen_core.specs.declared.generate.GenFault.{GenFault}
 use Rattle.gen_core.specs.declared.generate.GenFault.TheVariants.{Bad, TooLarge, Memory}
@@ -43,7 +43,7 @@ no_table t d e = go (text_lines t).0 refl e
   where
     go : (ls : List Line) → (text_lines t).0 ≡ ls → table_read ls ≡ None → table_and_draft_of_root (dumped_root t) d ≡ bad_root 1
     go [] is e = ap (λ (r : Result DumpedRoot ℕ). table_and_draft_of_root r d) (by_lines t [] (Err 1) is refl)
-    go (l ∷ ls) is e = ap (λ (r : Result DumpedRoot ℕ). table_and_draft_of_root r d) (by_lines t (l ∷ ls) (Err 1) is (ap (λ (o : Option Which). root_of_table o ls) e))
+    go (l ∷ ls) is e = ap (λ (r : Result DumpedRoot ℕ). table_and_draft_of_root r d) (by_lines t (l ∷ ls) (Err 1) is (ap (λ (o : Option Which). root_of_lines_after_first o ls) e))
 
 -- a text whose first line names a table
 record Opened (t : List ℕ) (which : Which) : Type 0 where
@@ -62,7 +62,7 @@ opened t which e = go (text_lines t).0 refl e
       first = l;
       lines = ls;
       is = is;
-      root = ap (λ (o : Option Which). root_of_table o ls) e;
+      root = ap (λ (o : Option Which). root_of_lines_after_first o ls) e;
       place = ap (λ (x : List Line). cursor_after_line x (cursor_from_parts x 1 0)) is;
     }
 

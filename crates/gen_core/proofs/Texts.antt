@@ -21,7 +21,7 @@ use Rattle.adb_view.specs.Schema.{shape_of}
 use Rattle.adb_view.specs.declared.tables.Kind.TheVariants.{Obj}
 use Rattle.gen_core.specs.Dumps.{IsRootValue}
 use Rattle.gen_core.proofs.ReadBytes.{block_bytes}
-use Rattle.gen_core.specs.Generated.{DumpedRoot, TextLines, dumped_root, root_of_lines, root_of_table, root_read, root_tables, table_of_line, text_lines, unless_unfinished_line, lines_with_byte_in_front, lines_with_nonend_byte_in_front}
+use Rattle.gen_core.specs.Generated.{DumpedRoot, TextLines, dumped_root, root_of_lines, root_of_lines_after_first, root_read, root_tables, table_of_line, text_lines, unless_unfinished_line, lines_with_byte_in_front, lines_with_nonend_byte_in_front}
 
 -- ---- lines and texts
 
@@ -118,7 +118,7 @@ split_same t ls e = ap (λ (x : TextLines). and_then (root_of_lines x.0) (unless
 -- each dump is read as the root that it is of
 pub lines_are_read : (w : Which) (v : Plain) → IsRootValue w v → root_of_lines (dump_lines w v) ≡ Ok (record { which = w; value = v })
 lines_are_read w v is =
-    ap (λ (o : Option Which). root_of_table o (value_lines w v)) (line_of_root w is.root) ∙ ap (root_read w) (read_back w v is.normal is.bytes)
+    ap (λ (o : Option Which). root_of_lines_after_first o (value_lines w v)) (line_of_root w is.root) ∙ ap (root_read w) (read_back w v is.normal is.bytes)
 
 pub dump_is_read : (w : Which) (v : Plain) → IsRootValue w v → dumped_root (dump_text w v) ≡ Ok (record { which = w; value = v })
 dump_is_read w v is =
@@ -153,7 +153,7 @@ value_lines_of l ls w (Ok v) root t e ok =
       lines = ap (λ (x : Line). x ∷ value_lines w v) names.line ∙ ap (λ (x : List Line). l ∷ x) only.0;
     })
 
-table_lines_of : (l : Line) (ls : List Line) (o : Option Which) (root : DumpedRoot) → table_of_line l ≡ o → root_of_table o ls ≡ Ok root → AreLinesOf (l ∷ ls) root
+table_lines_of : (l : Line) (ls : List Line) (o : Option Which) (root : DumpedRoot) → table_of_line l ≡ o → root_of_lines_after_first o ls ≡ Ok root → AreLinesOf (l ∷ ls) root
 table_lines_of l ls None root t ok = absurd cc
 table_lines_of l ls (Some w) root t ok = value_lines_of l ls w (value_read w ls) root t refl ok
 

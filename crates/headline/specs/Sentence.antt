@@ -10,7 +10,7 @@ use Rattle.base_core.specs.Faults.{IsFaultCountedWithCause}
 use Rattle.base_core.specs.Files.{Files}
 use Rattle.base_core.specs.Tree.{TreeState, files_of}
 use Rattle.command_core.specs.Command.{CommandLine}
-use Rattle.run_lists.specs.journal_core.Recovery.{EachCrashLeaves, StateDependsOn, intent_name}
+use Rattle.run_lists.specs.journal_core.Recovery.{EachCrashLeavesStateOf, StateDependsOn, intent_name}
 use Rattle.run_lists.specs.journal_core.Staged.{unstaged_files}
 use Rattle.refusal_laws.specs.outcome.ChangeEnd.{IsChangeEndOrIntentRefusal, TakesFirstPreferredSelection}
 use Rattle.refusal_laws.specs.outcome.Effect.{Changes, does_recover, effect_of_arguments, effect_of}
@@ -72,7 +72,7 @@ pub record IsAsPromised (ignored : List ℕ → Bool) (v : TreeState) (run : Run
       → RootRecoversTo (λ names. HasStateOfCrashBeforeOrOutcome names v run) ignored m
   -- Suppose that each crash before the run left the state of the files as read. The root then recovers
   -- to this state, or to that of the outcome, which commits.
-  pub one : EachCrashLeaves ignored (files_of v) v → (m : TreeState) → IsPossibleStop run m
+  pub one : EachCrashLeavesStateOf ignored (files_of v) v → (m : TreeState) → IsPossibleStop run m
       → RootRecoversTo (λ names. HasStateAsReadOrOutcome names v run) ignored m
   -- Suppose that the run answered by its outcome: Ok, a refusal, or a fault of an output stream. The root
   -- then recovers to the outcome's state, if this is made durable: the outcome commits, or each crash
@@ -103,4 +103,4 @@ IsAsPromisedAfterAnyEvents v run =
     → IsAsPromised (ignored_during_run run (ignored_after ignored events)) v run
     × (IsDurableState ignored (files_of first) first
     → ReachesOneCrashState first events v ⊎ HasNoUnfinishedRunSinceCrash events
-    → EachCrashLeaves (ignored_during_run run (ignored_after ignored events)) (files_of v) v)
+    → EachCrashLeavesStateOf (ignored_during_run run (ignored_after ignored events)) (files_of v) v)

@@ -10,9 +10,9 @@ ghost use Rattle.base_core.specs.Tree.{TreeState, files_of};
 ghost use Rattle.journal_core.specs.Acting.{CarriesOutActions};
 ghost use Rattle.journal_core.specs.CallCounts.{IsResultExplainedByCounts};
 ghost use Rattle.journal_core.specs.Kept.{IsRestoredByNoCrash};
-ghost use Rattle.journal_core.specs.Recovery.{EachCrashLeaves, StateDependsOn, files_after_actions, intent_name};
+ghost use Rattle.journal_core.specs.Recovery.{EachCrashLeavesStateOf, StateDependsOn, files_after_actions, intent_name};
 ghost use Rattle.journal_core.specs.Staged.{AreJournalPathsFree, IsCarryingOutActions, action_count, files_with_staged};
-ghost use Rattle.journal_commit.specs.StageRun.{IsRunOfStagedChange, IsStagedChangeComplete, IsStaging, NamesAreDurableWithoutIntent};
+ghost use Rattle.journal_commit.specs.StageRun.{IsRunOfStagedChange, IsStagedChangeComplete, IsRunThatStagedContents, NamesAreDurableWithoutIntent};
 
 use base_core::{Disk, Tree};
 use journal_core::{Stage, apply_all};
@@ -28,13 +28,13 @@ pub fn carry_through<T: Tree>(stage: &mut Stage, tree: &mut T) -> Result<(), Dis
     // Whatever it returns, the files are staged and then moved to their names in one change; and
     // once it has returned Ok, this change is complete.
     ensures run { (contents : List (List ℕ)) (v : TreeState) (first : List TreeState)
-        → IsStaging stage.old contents None v first (T.history tree.old)
+        → IsRunThatStagedContents stage.old contents None v first (T.history tree.old)
         → IsRunOfStagedChange (files_after_actions stage.old.intent (files_with_staged 1 contents
         (files_of v)))
         v first (T.history tree.new) }
     // Once it has returned Ok, the change is complete.
     ensures done { (contents : List (List ℕ)) (v : TreeState) (first : List TreeState)
-        → IsStaging stage.old contents None v first (T.history tree.old)
+        → IsRunThatStagedContents stage.old contents None v first (T.history tree.old)
         → OnOk result (IsStagedChangeComplete
         (files_after_actions stage.old.intent (files_with_staged 1 contents (files_of v)))
         v (T.history tree.new)) }
@@ -49,7 +49,7 @@ pub fn carry_through<T: Tree>(stage: &mut Stage, tree: &mut T) -> Result<(), Dis
     // If the paths of the stage, and those beside the files that it leads to, are free, no call is
     // a misuse.
     ensures proper { (contents : List (List ℕ)) (v : TreeState) (first : List TreeState)
-        → IsStaging stage.old contents None v first (T.history tree.old)
+        → IsRunThatStagedContents stage.old contents None v first (T.history tree.old)
         → AreJournalPathsFree (files_of v)
         → AreJournalPathsFree (files_after_actions stage.old.intent (files_with_staged 1 contents
         (files_of v)))
@@ -76,7 +76,7 @@ fn enact<T: Tree>(stage: &mut Stage, tree: &mut T) -> Result<(), Disk>
     ensures settled { IfObservable (T.history tree.old) (λ v. (ignored : List ℕ → Bool)
         (files : Files) → IsDurable (StateDependsOn ignored) v
         → IsCarryingOutActions stage.old files v
-        → OnOk result (HoldsNow (T.history tree.new) (EachCrashLeaves ignored files))) }
+        → OnOk result (HoldsNow (T.history tree.new) (EachCrashLeavesStateOf ignored files))) }
     // And these files are read, without an intent.
     ensures files { IfObservable (T.history tree.old) (λ v. (files : Files)
         → IsCarryingOutActions stage.old files v → OnOk result (HoldsNow (T.history tree.new)

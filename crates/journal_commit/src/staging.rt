@@ -4,10 +4,10 @@
 
 ghost use Rattle.std.specs.Prelude.{◌≡◌, ◌<◌, ◌+◌, ◌++◌, ◌∷◌, [], ℕ, true, false, List, Some, None, length, OnOk, OnErr};
 ghost use Rattle.base_core.specs.Tree.{TreeState, files_of};
-ghost use Rattle.journal_core.specs.Staged.{IsEmptyStage, new_stage, files_with_staged};
+ghost use Rattle.journal_core.specs.Staged.{HasNoStagedNames, new_stage_of_removals_and_writes, files_with_staged};
 ghost use Rattle.journal_commit.specs.Asked.{TargetsAreAccepted};
 ghost use Rattle.journal_commit.specs.StagingCalls.{ChangesOnlyBegunFile, ChangesOnlyStagedFiles, StagesFile};
-ghost use Rattle.journal_commit.specs.StageRun.{IsStaging, IsStagingRun, IsRunOfStagedChange};
+ghost use Rattle.journal_commit.specs.StageRun.{IsRunThatStagedContents, IsStagingRun, IsRunOfStagedChange};
 ghost use Rattle.base_core.specs.Calls.{IfObservable};
 ghost use Rattle.base_core.specs.Files.{Files};
 ghost use Rattle.journal_core.specs.Recovery.{Intent, files_after_actions, intent_name};
@@ -29,8 +29,8 @@ pub fn begin_file<T: Tree>(stage: &mut Stage, tree: &mut T) -> Result<(), Disk>
         (T.counts tree.old) (T.counts tree.new) result }
     // Once it has returned Ok, an empty file is staged, which is begun.
     ensures staging { (contents : List (List ℕ)) (v : TreeState) (first : List TreeState)
-        → IsStaging stage.old contents None v first (T.history tree.old)
-        → OnOk result (IsStaging stage.new contents (Some []) v first (T.history tree.new)) }
+        → IsRunThatStagedContents stage.old contents None v first (T.history tree.old)
+        → OnOk result (IsRunThatStagedContents stage.new contents (Some []) v first (T.history tree.new)) }
     // The stage then has an open file; after an error it is as before.
     ensures view { OnOk result (stage.new ≡ record stage.old { is_open = true }) }
     ensures err { OnErr result (stage.new ≡ stage.old) }
@@ -49,8 +49,8 @@ pub fn append_piece<T: Tree>(stage: &mut Stage, tree: &mut T, piece: &[u8]) -> R
     // On Ok, the begun file has these bytes after its earlier ones.
     ensures staging { (contents : List (List ℕ)) (so_far : List ℕ) (v : TreeState)
         (first : List TreeState)
-        → IsStaging stage.old contents (Some so_far) v first (T.history tree.old)
-        → OnOk result (IsStaging stage.new contents (Some (so_far ++ piece.now)) v first
+        → IsRunThatStagedContents stage.old contents (Some so_far) v first (T.history tree.old)
+        → OnOk result (IsRunThatStagedContents stage.new contents (Some (so_far ++ piece.now)) v first
         (T.history tree.new)) }
     ensures view { stage.new ≡ stage.old }
 {
@@ -68,8 +68,8 @@ pub fn end_file<T: Tree>(stage: &mut Stage, tree: &mut T) -> Result<(), Disk>
     // On Ok, the begun file is one of the staged files.
     ensures staging { (contents : List (List ℕ)) (so_far : List ℕ) (v : TreeState)
         (first : List TreeState)
-        → IsStaging stage.old contents (Some so_far) v first (T.history tree.old)
-        → OnOk result (IsStaging stage.new (contents ++ so_far ∷ []) None v first
+        → IsRunThatStagedContents stage.old contents (Some so_far) v first (T.history tree.old)
+        → OnOk result (IsRunThatStagedContents stage.new (contents ++ so_far ∷ []) None v first
         (T.history tree.new)) }
     // On Ok, one more file is staged, and none is begun.
     ensures view { OnOk result
@@ -129,8 +129,8 @@ pub fn runs_with_accepted_targets_begin_with_reads<T: Tree>()
 /// A new stage begins a staging run, if no intent is read and nothing is staged.
 pub fn a_new_stage_is_staging()
     ensures { (removals writes : List (List ℕ)) (now : List TreeState) → IfObservable now (λ v.
-        v.names intent_name ≡ None → IsEmptyStage (files_of v)
-        → IsStaging (new_stage removals writes) [] None v now now) }
+        v.names intent_name ≡ None → HasNoStagedNames (files_of v)
+        → IsRunThatStagedContents (new_stage_of_removals_and_writes removals writes) [] None v now now) }
 {}
 
 /// A run that only stages files is a run of a staged change, whatever files this is to lead to.
@@ -143,6 +143,6 @@ pub fn a_staging_run_is_a_stage_run()
 /// were staged.
 pub fn a_change_leaves_nothing_staged()
     ensures { (intent : Intent) (contents : List (List ℕ)) (files : Files)
-        → HasFreeDistinctNames intent → length contents ≡ length intent.writes → IsEmptyStage files
-        → IsEmptyStage (files_after_actions intent (files_with_staged 1 contents files)) }
+        → HasFreeDistinctNames intent → length contents ≡ length intent.writes → HasNoStagedNames files
+        → HasNoStagedNames (files_after_actions intent (files_with_staged 1 contents files)) }
 {}

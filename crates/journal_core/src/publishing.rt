@@ -14,7 +14,7 @@ ghost use Rattle.journal_core.specs.Filling.{synced_file};
 ghost use Rattle.journal_core.specs.Kept.{KeepsFilesExcept, KeepsCrashMapsExcept, RecoversTo};
 ghost use Rattle.journal_core.specs.Quiet.{StateIsUnchanged};
 ghost use Rattle.journal_core.specs.Recovery.{Intent, StateDependsOn, files_after_actions, intent_name, stage_name};
-ghost use Rattle.journal_core.specs.Staged.{AreStagingPathsFree, IsCarryingOutActions, IsStaged};
+ghost use Rattle.journal_core.specs.Staged.{AreStagingPathsFree, IsCarryingOutActions, HasStagedContents};
 
 use crate::calls::{append, create, rename, sync_all_names, sync_file};
 use base_core::{Disk, Name, Tree};
@@ -29,7 +29,7 @@ pub(crate) fn publish_intent<T: Tree>(tree: &mut T, intent: &PreparedIntent) -> 
         (T.history tree.old) (T.history tree.new) result }
     // Once it has returned Ok, the intent is committed, and none of its actions is done.
     ensures acting { IfObservable (T.history tree.old) (λ v. (contents : List (List ℕ))
-        (base : Files) → IsStaged (fully_staged_stage intent.now) contents None base v
+        (base : Files) → HasStagedContents (fully_staged_stage intent.now) contents None base v
         → OnOk result (HoldsNow (T.history tree.new)
         (IsCarryingOutActions (stage_with_actions_done intent.now 0)
         (files_after_actions intent.now (files_of v))))) }
@@ -38,7 +38,7 @@ pub(crate) fn publish_intent<T: Tree>(tree: &mut T, intent: &PreparedIntent) -> 
 
     // If the paths of the stage are free, no call is a misuse.
     ensures proper { IfObservable (T.history tree.old) (λ v. (contents : List (List ℕ))
-        (base : Files) → IsStaged (fully_staged_stage intent.now) contents None base v
+        (base : Files) → HasStagedContents (fully_staged_stage intent.now) contents None base v
         → AreStagingPathsFree base → (T.counts tree.new).misuses ≡ (T.counts tree.old).misuses) }
 {
     // A law that the proof needs; it computes nothing.

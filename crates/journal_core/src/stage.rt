@@ -13,12 +13,12 @@ ghost use Rattle.base_core.specs.declared.cause.Cause.{Cause};
 ghost use Rattle.journal_core.specs.Acting.{CarriesOutActions, IsNextStagedName};
 ghost use Rattle.journal_core.specs.CallCounts.{IsResultExplainedByCounts};
 ghost use Rattle.journal_core.specs.Committing.{PublishesIntent};
-ghost use Rattle.journal_core.specs.Kept.{IsRestoredByNoCrash, JournalOnlyShrinks, IsNameOfNextAction, KeepsFilesExcept, KeepsIntent, KeepsCrashMapsExcept, NamesAreDurableExcept, RecoversTo};
+ghost use Rattle.journal_core.specs.Kept.{IsRestoredByNoCrash, JournalOnlyShrinks, IsNameOfNextAction, KeepsFilesExcept, KeepsIntentWhileStageShrinks, KeepsCrashMapsExcept, NamesAreDurableExcept, RecoversTo};
 ghost use Rattle.journal_core.specs.Quiet.{StateIsUnchanged};
-ghost use Rattle.journal_core.specs.Recovery.{EachCrashLeaves, StateDependsOn, files_after_actions, intent_name, read_intent, stage_name};
-ghost use Rattle.journal_core.specs.Staged.{Staging, AreJournalPathsFree, AreStagingPathsFree, IsCarryingOutActions, IsOnlyNameOfFile, IsStaged, action_count, new_stage};
+ghost use Rattle.journal_core.specs.Recovery.{EachCrashLeavesStateOf, StateDependsOn, files_after_actions, intent_name, read_intent, stage_name};
+ghost use Rattle.journal_core.specs.Staged.{Staging, AreJournalPathsFree, AreStagingPathsFree, IsCarryingOutActions, IsOnlyNameOfFile, HasStagedContents, action_count, new_stage_of_removals_and_writes};
 ghost use Rattle.journal_intent.specs.FreeNames.{HasFreeDistinctNames};
-ghost use Rattle.journal_intent.specs.Intent.{AreChangeNames};
+ghost use Rattle.journal_intent.specs.Intent.{AreDistinctNamesAllowedInIntent};
 ghost use Rattle.journal_intent.specs.IntentValue.{intent_of_lists, value_of_intent};
 
 use crate::acting::act;
@@ -77,9 +77,9 @@ impl Stage {
     /// Those of `of_names`.
     pub fn begin(alloc: Global, removals: &Names, writes: &Names) -> Result<Stage, WriteFault>
         // The names are allowed in an intent (journal entry).
-        requires { AreChangeNames (removals.now ++ writes.now) }
+        requires { AreDistinctNamesAllowedInIntent (removals.now ++ writes.now) }
         // On Ok, the stage is new, with these removals and writes.
-        ensures view { IfOk result (λ stage. stage ≡ new_stage removals.now writes.now) }
+        ensures view { IfOk result (λ stage. stage ≡ new_stage_of_removals_and_writes removals.now writes.now) }
         // The error for a payload that is too large has the counts at which a limit is exceeded.
         ensures large { (bytes values : ℕ) → IsErrOf result (WriteFault.TooLarge bytes values)
             → overflow_of (value_of_intent (intent_of_lists removals.now writes.now))
@@ -102,9 +102,9 @@ impl Stage {
     /// writer, with the counts there; or `Memory`.
     pub fn of_names(alloc: Global, removals: Names, writes: Names) -> Result<Stage, WriteFault>
         // The names are allowed in an intent (journal entry).
-        requires { AreChangeNames (removals ++ writes) }
+        requires { AreDistinctNamesAllowedInIntent (removals ++ writes) }
         // On Ok, the stage is new, with these removals and writes.
-        ensures view { IfOk result (λ stage. stage ≡ new_stage removals writes) }
+        ensures view { IfOk result (λ stage. stage ≡ new_stage_of_removals_and_writes removals writes) }
         // The error for a payload that is too large has the counts at which a limit is exceeded.
         ensures large { (bytes values : ℕ) → IsErrOf result (WriteFault.TooLarge bytes values)
             → overflow_of (value_of_intent (intent_of_lists removals writes))
@@ -199,9 +199,9 @@ impl Stage {
             → Since (StateIsUnchanged ignored v) (T.history tree.old) (T.history tree.new)) }
         // Once it has returned Ok, the staged files are as before, and no crash restores an intent.
         ensures staged { IfObservable (T.history tree.old) (λ v. (contents : List (List ℕ))
-            (base : Files) → IsStaged self.now contents None base v
+            (base : Files) → HasStagedContents self.now contents None base v
             → OnOk result (HoldsNow (T.history tree.new)
-            (λ w. IsStaged self.now contents None base w × IsRestoredByNoCrash intent_name w))) }
+            (λ w. HasStagedContents self.now contents None base w × IsRestoredByNoCrash intent_name w))) }
         // At each moment the files as read are unchanged.
         ensures reads { IfObservable (T.history tree.old) (λ v.
             Since (λ w. files_of w ≡ files_of v) (T.history tree.old) (T.history tree.new)) }
@@ -232,13 +232,13 @@ impl Stage {
         // returned Ok, an empty file is staged for the next write.
         ensures moments { IfObservable (T.history tree.old) (λ v. (ignored : List ℕ → Bool)
             (contents : List (List ℕ)) (base : Files) → IsDurable (StateDependsOn ignored) v
-            → IsStaged self.old contents None base v
+            → HasStagedContents self.old contents None base v
             → Since (StateIsUnchanged ignored v) (T.history tree.old) (T.history tree.new)) }
         // Once it has returned Ok, the staged files are as before, and the begun one is empty.
         ensures staged { IfObservable (T.history tree.old) (λ v. (contents : List (List ℕ))
-            (base : Files) → IsStaged self.old contents None base v
+            (base : Files) → HasStagedContents self.old contents None base v
             → OnOk result (HoldsNow (T.history tree.new)
-            (IsStaged self.new contents (Some []) base))) }
+            (HasStagedContents self.new contents (Some []) base))) }
 
         // At each moment, whatever it returns, the files as read are unchanged under every other
         // name, and so is what a crash leaves of the names.
@@ -258,7 +258,7 @@ impl Stage {
 
         // If the paths of the stage are free, no call is a misuse.
         ensures proper { IfObservable (T.history tree.old) (λ v. (contents : List (List ℕ))
-            (base : Files) → IsStaged self.old contents None base v → AreStagingPathsFree base
+            (base : Files) → HasStagedContents self.old contents None base v → AreStagingPathsFree base
             → (T.counts tree.new).misuses ≡ (T.counts tree.old).misuses) }
     {
         self.sync_before_first(tree)?;
@@ -276,13 +276,13 @@ impl Stage {
         // returned Ok, the piece is added to the bytes so far.
         ensures moments { IfObservable (T.history tree.old) (λ v. (ignored : List ℕ → Bool)
             (contents : List (List ℕ)) (so_far : List ℕ) (base : Files)
-            → IsDurable (StateDependsOn ignored) v → IsStaged self.old contents (Some so_far) base v
+            → IsDurable (StateDependsOn ignored) v → HasStagedContents self.old contents (Some so_far) base v
             → Since (StateIsUnchanged ignored v) (T.history tree.old) (T.history tree.new)) }
         // Once it has returned Ok, the begun file has the bytes so far and then these.
         ensures staged { IfObservable (T.history tree.old) (λ v. (contents : List (List ℕ))
-            (so_far : List ℕ) (base : Files) → IsStaged self.old contents (Some so_far) base v
+            (so_far : List ℕ) (base : Files) → HasStagedContents self.old contents (Some so_far) base v
             → OnOk result (HoldsNow (T.history tree.new)
-            (IsStaged self.new contents (Some (so_far ++ piece.now)) base))) }
+            (HasStagedContents self.new contents (Some (so_far ++ piece.now)) base))) }
 
         // If the file is under no other name, the files as read are unchanged under each, at each
         // moment; and no name changes.
@@ -302,7 +302,7 @@ impl Stage {
 
         // No call is a misuse.
         ensures proper { IfObservable (T.history tree.old) (λ v. (contents : List (List ℕ))
-            (so_far : List ℕ) (base : Files) → IsStaged self.old contents (Some so_far) base v
+            (so_far : List ℕ) (base : Files) → HasStagedContents self.old contents (Some so_far) base v
             → (T.counts tree.new).misuses ≡ (T.counts tree.old).misuses) }
     {
         append(tree, self.open_name(), piece)
@@ -317,13 +317,13 @@ impl Stage {
         // returned Ok, the bytes so far are staged for this write, synced.
         ensures moments { IfObservable (T.history tree.old) (λ v. (ignored : List ℕ → Bool)
             (contents : List (List ℕ)) (so_far : List ℕ) (base : Files)
-            → IsDurable (StateDependsOn ignored) v → IsStaged self.old contents (Some so_far) base v
+            → IsDurable (StateDependsOn ignored) v → HasStagedContents self.old contents (Some so_far) base v
             → Since (StateIsUnchanged ignored v) (T.history tree.old) (T.history tree.new)) }
         // Once it has returned Ok, the begun file is one of the staged files.
         ensures staged { IfObservable (T.history tree.old) (λ v. (contents : List (List ℕ))
-            (so_far : List ℕ) (base : Files) → IsStaged self.old contents (Some so_far) base v
+            (so_far : List ℕ) (base : Files) → HasStagedContents self.old contents (Some so_far) base v
             → OnOk result (HoldsNow (T.history tree.new)
-            (IsStaged self.new (contents ++ so_far ∷ []) None base))) }
+            (HasStagedContents self.new (contents ++ so_far ∷ []) None base))) }
 
         // At each moment, whatever it returns, the files as read are unchanged, and no name
         // changes.
@@ -342,7 +342,7 @@ impl Stage {
 
         // No call is a misuse.
         ensures proper { IfObservable (T.history tree.old) (λ v. (contents : List (List ℕ))
-            (so_far : List ℕ) (base : Files) → IsStaged self.old contents (Some so_far) base v
+            (so_far : List ℕ) (base : Files) → HasStagedContents self.old contents (Some so_far) base v
             → (T.counts tree.new).misuses ≡ (T.counts tree.old).misuses) }
     {
         sync_file(tree, self.open_name())?;
@@ -365,7 +365,7 @@ impl Stage {
             (T.history tree.new) result }
         // Once it has returned Ok, the intent is committed, and none of its actions is done.
         ensures acting { IfObservable (T.history tree.old) (λ v. (contents : List (List ℕ))
-            (base : Files) → IsStaged self.old contents None base v
+            (base : Files) → HasStagedContents self.old contents None base v
             → OnOk result (HoldsNow (T.history tree.new)
             (IsCarryingOutActions self.new (files_after_actions self.old.intent (files_of v))))) }
         // How the stage changes on Ok.
@@ -377,7 +377,7 @@ impl Stage {
 
         // If the paths of the stage are free, no call is a misuse.
         ensures proper { IfObservable (T.history tree.old) (λ v. (contents : List (List ℕ))
-            (base : Files) → IsStaged self.old contents None base v → AreStagingPathsFree base
+            (base : Files) → HasStagedContents self.old contents None base v → AreStagingPathsFree base
             → (T.counts tree.new).misuses ≡ (T.counts tree.old).misuses) }
     {
         publish_intent(tree, &self.intent)?;
@@ -401,7 +401,7 @@ impl Stage {
 
         // At each moment the intent is unchanged, and each staged file is unchanged or gone.
         ensures waiting { IfObservable (T.history tree.old) (λ v.
-            Since (KeepsIntent v) (T.history tree.old) (T.history tree.new)) }
+            Since (KeepsIntentWhileStageShrinks v) (T.history tree.old) (T.history tree.new)) }
 
         // Whatever it returns, it changes only the names of its action.
         ensures others { IfObservable (T.history tree.old) (λ v. HoldsNow (T.history tree.new)
@@ -452,7 +452,7 @@ impl Stage {
         ensures settled { IfObservable (T.history tree.old) (λ v. (ignored : List ℕ → Bool)
             (files : Files) → IsDurable (StateDependsOn ignored) v
             → IsCarryingOutActions self.old files v
-            → OnOk result (HoldsNow (T.history tree.new) (EachCrashLeaves ignored files))) }
+            → OnOk result (HoldsNow (T.history tree.new) (EachCrashLeavesStateOf ignored files))) }
         // Once it has returned Ok, the files as read have all actions done, and no intent is read.
         ensures files { IfObservable (T.history tree.old) (λ v. (files : Files)
             → IsCarryingOutActions self.old files v → OnOk result (HoldsNow (T.history tree.new)
@@ -513,7 +513,7 @@ pub fn apply_all<T: Tree>(stage: &mut Stage, tree: &mut T) -> Result<(), Disk>
         → OnOk result (HoldsNow (T.history tree.new) (IsCarryingOutActions stage.new files))) }
     // At each moment the intent is unchanged, and each staged file is unchanged or gone.
     ensures waiting { IfObservable (T.history tree.old) (λ v.
-        Since (KeepsIntent v) (T.history tree.old) (T.history tree.new)) }
+        Since (KeepsIntentWhileStageShrinks v) (T.history tree.old) (T.history tree.new)) }
     // Once it has returned Ok, all actions are done.
     ensures all { OnOk result (stage.new.acted ≡ action_count stage.new.intent) }
     // On Ok, the intent still counts as committed.

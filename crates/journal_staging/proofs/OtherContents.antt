@@ -30,7 +30,7 @@ use Rattle.file_guard.specs.pkg_core.Contents.{ExpectedFile, FilesRead, contents
 use Rattle.file_guard.specs.pkg_core.Opened.{expected_file_at, is_expected_at}
 use Rattle.file_guard.specs.pkg_core.Whole.{fault_of_further_blocks, package_fault, container_fault_of_table}
 use Rattle.file_guard.proofs.pkg_core.Given.{nothing_expected, size_right}
-use Rattle.journal_staging.specs.Spoiled.{IsSpoiledFile}
+use Rattle.journal_staging.specs.Spoiled.{IsFileWithOnlyContentsSpoiled}
 
 -- ---- one block gets another payload of the same length
 
@@ -372,7 +372,7 @@ unfolding blocks_from_position
 blocks_from_start file schema bs header are = whole_from file schema header ∙ are
 
 spoiled_by : (tested : List ℕ) (folder file : ℕ) (e : ExpectedFile) (bytes : List ℕ) (c : Cause) → IsGoodPackage tested → expected_file_at folder file (expected_files_of_package (root_value Package (payload_in tested))) ≡ Some e → length bytes ≡ e.size → hash_fault e.hash bytes ≡ Some c
-    → (other : List ℕ) × IsSpoiledFile tested other c
+    → (other : List ℕ) × IsFileWithOnlyContentsSpoiled tested other c
 spoiled_by tested folder file e bytes c g found size bad =
     let es : List ExpectedFile = expected_files_of_package (root_value Package g.block.payload) in
     let payload = payload_by tested g.schema (more g.block g.at g.further) g.header g.reading in
@@ -400,9 +400,9 @@ spoiled_by tested folder file e bytes c g found size bad =
 
 -- a package that was tested is spoiled where bytes of one of its files have another digest
 pub spoiled : (tested : List ℕ) (folder file : ℕ) (e : ExpectedFile) (bytes : List ℕ) (c : Cause) → package_fault tested ≡ None → expected_file_at folder file (expected_files_of_package (root_value Package (payload_in tested))) ≡ Some e → length bytes ≡ e.size → hash_fault e.hash bytes ≡ Some c
-    → (other : List ℕ) × IsSpoiledFile tested other c
+    → (other : List ℕ) × IsFileWithOnlyContentsSpoiled tested other c
 spoiled tested folder file e bytes c sound found size bad = by (good tested sound)
   where
-    by : IsGood tested → (other : List ℕ) × IsSpoiledFile tested other c
+    by : IsGood tested → (other : List ℕ) × IsFileWithOnlyContentsSpoiled tested other c
     by (inl g) = spoiled_by tested folder file e bytes c g found size bad
     by (inr none) = absurd (let found_none : expected_file_at folder file [] ≡ Some e = subst (λ (es : List ExpectedFile). expected_file_at folder file es ≡ Some e) none found in cc (found_none))

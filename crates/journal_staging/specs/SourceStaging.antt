@@ -6,7 +6,7 @@ use Rattle.std.specs.Prelude.{◌≡◌, ◌+◌, ◌++◌, ◌∷◌, [], ℕ, 
 use Rattle.base_core.specs.Faults.{Counts, CountsOnlyRise, IsFaultCountedWithCause, CountsNoNewFault}
 use Rattle.base_core.specs.Files.{Files}
 use Rattle.base_core.specs.Tree.{TreeState, files_of}
-use Rattle.journal_commit.specs.StageRun.{IsStaging, IsStagingRun}
+use Rattle.journal_commit.specs.StageRun.{IsRunThatStagedContents, IsStagingRun}
 use Rattle.journal_commit.specs.journal_core.Staged.{Staging, AreJournalPathsFree}
 
 -- how the tree's counts explain a result whose fault `failed` is that of the tree
@@ -29,14 +29,14 @@ pub record StagesSource {T F : Type 0} (stage next : Staging) (Denotes : Files �
   -- whatever bytes the source has, and whatever the call returns, only staged files have changed at
   -- each moment
   pub run : (contents : List (List ℕ)) (v : TreeState) (first : List TreeState)
-      → IsStaging stage contents None v first old → IsStagingRun v first now
+      → IsRunThatStagedContents stage contents None v first old → IsStagingRun v first now
   -- if the source denotes bytes, these are staged then, after those that were staged before
   pub staging : (contents : List (List ℕ)) (v : TreeState) (first : List TreeState) (bytes : List ℕ)
-      → IsStaging stage contents None v first old → Denotes (files_of v) bytes
-      → OnOk result (IsStaging next (contents ++ bytes ∷ []) None v first now)
+      → IsRunThatStagedContents stage contents None v first old → Denotes (files_of v) bytes
+      → OnOk result (IsRunThatStagedContents next (contents ++ bytes ∷ []) None v first now)
   -- if the source denotes bytes, the only possible error is that of the tree
   pub good : (contents : List (List ℕ)) (v : TreeState) (first : List TreeState) (bytes : List ℕ)
-      → IsStaging stage contents None v first old → Denotes (files_of v) bytes
+      → IsRunThatStagedContents stage contents None v first old → Denotes (files_of v) bytes
       → IfErr result (λ fault. fault ≡ failed)
   -- the next write of the stage has its file then
   pub view : OnOk result (next ≡ record stage { staged = stage.staged + 1 })
@@ -44,5 +44,5 @@ pub record StagesSource {T F : Type 0} (stage next : Staging) (Denotes : Files �
   pub counts : IsFaultExplainedByCounts failed before after result
   -- no call is a misuse if the paths of the stage are free
   pub proper : (contents : List (List ℕ)) (v : TreeState) (first : List TreeState) (bytes : List ℕ)
-      → IsStaging stage contents None v first old → Denotes (files_of v) bytes
+      → IsRunThatStagedContents stage contents None v first old → Denotes (files_of v) bytes
       → AreJournalPathsFree (files_of v) → after.misuses ≡ before.misuses

@@ -15,7 +15,7 @@ use Rattle.journal_staging.specs.declared.writes.StagedWrite.{StagedWrite}
 
 -- The file of a package is spoiled: it has the length and the values of the tested one; but as a
 -- package it is refused with this cause: a digest of contents differs.
-pub record IsSpoiledFile (tested file : List ℕ) (cause : Cause) : Type 0 where
+pub record IsFileWithOnlyContentsSpoiled (tested file : List ℕ) (cause : Cause) : Type 0 where
   -- the file has the length of the tested one
   pub long : length file ≡ length tested
   -- the file has the values of the tested one
@@ -32,7 +32,7 @@ pub record IsSpoiledFile (tested file : List ℕ) (cause : Cause) : Type 0 where
 -- each file that may have been tested as the package of `f` has a spoiled file with this cause
 abbrev pub IsSpoiledForEachTested : PackagedFile → Cause → Type 0
 IsSpoiledForEachTested f cause = (name tested : List ℕ) → IsTestedOf name tested f.package.now
-    → (file : List ℕ) × IsSpoiledFile tested file cause
+    → (file : List ℕ) × IsFileWithOnlyContentsSpoiled tested file cause
 
 -- a source is a file of the package at this place, which is spoiled with this cause
 abbrev pub IsSpoiledAt : ℕ → Cause → Source → Type 0

@@ -3,7 +3,7 @@
 //! file `z`, whose one byte is `3`. The calls of a stage are in `docs/crash-safety.md`, "A change
 //! of several files", in the table of its steps.
 ghost use Rattle.std.specs.Prelude.{◌≡◌, [], ◌∷◌, ◌++◌, true, codes, IfOk, IfSome, OnOk};
-ghost use Rattle.journal_core.specs.Staged.{new_stage};
+ghost use Rattle.journal_core.specs.Staged.{new_stage_of_removals_and_writes};
 
 use base_core::{Disk, Name, Names};
 use journal_core::Stage;
@@ -111,7 +111,7 @@ fn run_one_write(alloc: Global, tree: &mut MemoryTree) -> Result<Reached, AllocE
 /// The stage of a change that removes `x` and writes `y`, with no file staged so far.
 fn begin_one_write(alloc: Global) -> Result<Option<Stage>, AllocError>
     ensures { IfOk result (λ found. IfSome found
-        (λ stage. stage ≡ new_stage (codes "x" ∷ []) (codes "y" ∷ []))) }
+        (λ stage. stage ≡ new_stage_of_removals_and_writes (codes "x" ∷ []) (codes "y" ∷ []))) }
 {
     let Some(removals) = one_name(alloc, b"x")? else {
         return Ok(None);
@@ -128,8 +128,8 @@ fn begin_one_write(alloc: Global) -> Result<Option<Stage>, AllocError>
 /// Stages the file `y` with the byte `2`, and commits the journal entry. If all calls succeed, one
 /// file is staged and the entry is committed.
 fn publish_one_write(stage: &mut Stage, tree: &mut MemoryTree) -> Result<(), Disk>
-    requires { stage.old ≡ new_stage (codes "x" ∷ []) (codes "y" ∷ []) }
-    ensures { OnOk result (stage.new ≡ record (new_stage (codes "x" ∷ []) (codes "y" ∷ [])) {
+    requires { stage.old ≡ new_stage_of_removals_and_writes (codes "x" ∷ []) (codes "y" ∷ []) }
+    ensures { OnOk result (stage.new ≡ record (new_stage_of_removals_and_writes (codes "x" ∷ []) (codes "y" ∷ [])) {
       staged = 1;
       published = true;
     }) }
@@ -143,7 +143,7 @@ fn publish_one_write(stage: &mut Stage, tree: &mut MemoryTree) -> Result<(), Dis
 /// Does both actions of the committed change, the removal of `x` and the move to `y`, and removes
 /// the journal entry. The third `apply_one` finds no action left.
 fn act_on_one_write(stage: &mut Stage, tree: &mut MemoryTree) -> Result<(), Disk>
-    requires { stage.old ≡ record (new_stage (codes "x" ∷ []) (codes "y" ∷ [])) {
+    requires { stage.old ≡ record (new_stage_of_removals_and_writes (codes "x" ∷ []) (codes "y" ∷ [])) {
       staged = 1;
       published = true;
     } }
@@ -173,7 +173,7 @@ fn run_two_writes(alloc: Global, tree: &mut MemoryTree) -> Result<Reached, Alloc
 /// The stage of a change that removes `x` and writes `y` and `z`, with no file staged so far.
 fn begin_two_writes(alloc: Global) -> Result<Option<Stage>, AllocError>
     ensures { IfOk result (λ found. IfSome found
-        (λ stage. stage ≡ new_stage (codes "x" ∷ []) (codes "y" ∷ codes "z" ∷ []))) }
+        (λ stage. stage ≡ new_stage_of_removals_and_writes (codes "x" ∷ []) (codes "y" ∷ codes "z" ∷ []))) }
 {
     let Some(removals) = one_name(alloc, b"x")? else {
         return Ok(None);
@@ -193,9 +193,9 @@ fn begin_two_writes(alloc: Global) -> Result<Option<Stage>, AllocError>
 /// Stages the files `y` and `z` with the bytes `2` and `3`. If all calls succeed, two files are
 /// staged, and the journal entry is not yet committed.
 fn stage_two_files(stage: &mut Stage, tree: &mut MemoryTree) -> Result<(), Disk>
-    requires { stage.old ≡ new_stage (codes "x" ∷ []) (codes "y" ∷ codes "z" ∷ []) }
+    requires { stage.old ≡ new_stage_of_removals_and_writes (codes "x" ∷ []) (codes "y" ∷ codes "z" ∷ []) }
     ensures { OnOk result (stage.new
-        ≡ record (new_stage (codes "x" ∷ []) (codes "y" ∷ codes "z" ∷ [])) { staged = 2 }) }
+        ≡ record (new_stage_of_removals_and_writes (codes "x" ∷ []) (codes "y" ∷ codes "z" ∷ [])) { staged = 2 }) }
 {
     stage.file_begin(tree)?;
     stage.file_append(tree, b"2")?;
@@ -209,7 +209,7 @@ fn stage_two_files(stage: &mut Stage, tree: &mut MemoryTree) -> Result<(), Disk>
 /// and removes the journal entry. The fourth `apply_one` finds no action left.
 fn act_on_two_writes(stage: &mut Stage, tree: &mut MemoryTree) -> Result<(), Disk>
     requires { stage.old
-        ≡ record (new_stage (codes "x" ∷ []) (codes "y" ∷ codes "z" ∷ [])) {
+        ≡ record (new_stage_of_removals_and_writes (codes "x" ∷ []) (codes "y" ∷ codes "z" ∷ [])) {
           staged = 2;
           published = true;
         } }

@@ -30,7 +30,7 @@ AreSoundPackages read n (o ∷ operands) (file ∷ files) =
 -- an index has the entries of exactly the packages that operands name, in order (*entry_cmp*); the
 -- order of two equal ones is not defined here. `files` are the operands' files, in their order; reads
 -- are numbered from 0
-pub record HasPackagesInOrder (read : Reads) (operands : List Operand) (index : Plain) :
+pub record HasSortedEntriesOfOperands (read : Reads) (operands : List Operand) (index : Plain) :
     Type 0 where
   -- the bytes of the operands' files
   pub files : List (List ℕ)

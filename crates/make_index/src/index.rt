@@ -18,7 +18,7 @@ ghost use Rattle.make_index.specs.Entries.{entry_of_package};
 ghost use Rattle.make_index.specs.EntryOrder.{entry_cmp, version_of_index_entry, id_of_index_entry, name_of_index_entry};
 ghost use Rattle.base_core.specs.Sorted.{sorted_by};
 ghost use Rattle.base_core.specs.Files.{AreFileBytes};
-ghost use Rattle.make_index.specs.Files.{FindOnlyFiles, reads_of};
+ghost use Rattle.make_index.specs.Files.{AreOperandReadsFileBytes, reads_of};
 ghost use Rattle.make_index.specs.Index.{description_in, index_of_entries, value_of_index, found_entries, found_entry, made_index};
 ghost use Rattle.make_index.specs.Kept.{AgreesUnlessMemory, AgreesUnlessMemoryOrDisk};
 ghost use Rattle.make_index.specs.Views.{entries_view, entry_view};
@@ -61,7 +61,7 @@ pub fn make<T: Tree>(alloc: Global, command: &Command, tree: &mut T) -> Result<V
         (reads_of v))) }
     // Over any tree, the index is made from some bytes for each read. The first operand's read has
     // the number 0.
-    ensures found { (read : Reads) × FindOnlyFiles read 0 command.now.operands
+    ensures found { (read : Reads) × AreOperandReadsFileBytes read 0 command.now.operands
         × AgreesUnlessMemoryOrDisk (λ file. file.items) result (made_index command.now read) }
     // The tree is only read, and `Disk` has a fault of the tree as its cause.
     ensures tree { OnlyReads MakeFault.Disk (T.history tree.old) (T.history tree.new)
@@ -96,7 +96,7 @@ fn read_entries<T: Tree>(
     ensures made { IfObservable (T.history tree.old) (λ v.
         AgreesUnlessMemoryOrDisk entries_view result (found_entries (reads_of v) 0 operands.now)) }
     // Over any tree, the entries are those of some files.
-    ensures found { (read : Reads) × FindOnlyFiles read 0 operands.now
+    ensures found { (read : Reads) × AreOperandReadsFileBytes read 0 operands.now
         × AgreesUnlessMemoryOrDisk entries_view result (found_entries read 0 operands.now) }
     // The tree is only read: no file changes, no I/O error is hidden, and no call is a misuse.
     ensures tree { OnlyReads MakeFault.Disk (T.history tree.old) (T.history tree.new)

@@ -103,7 +103,7 @@ IsGivenFor f option = (value : List ℕ) × (option.text ≡ option_text f value
 
 -- an option is accepted after those before it: its value is one of its field; if the field is no list, it
 -- is the first; and it is no version that makes NAME-VERSION.apk too long (`too_long`)
-pub record IsTakenOption (too_long : Bool) (before : List OptionValue) (option : OptionValue) :
+pub record IsAcceptedInfoOption (too_long : Bool) (before : List OptionValue) (option : OptionValue) :
     Type 0 where
   -- the field that the option names
   pub field : Field

@@ -32,8 +32,8 @@ IsNotGiven options type =
     (option : OptionValue) → IsIn option options → script_type option.text ≡ type → ⊥
 
 -- the script of the type in a package: the one that is given, or none if none is given
-abbrev pub IsScriptGiven : Reads → List OptionValue → List ℕ → Plain → Type 0
-IsScriptGiven read options type script =
+abbrev pub IsScriptOfOptionsOrNull : Reads → List OptionValue → List ℕ → Plain → Type 0
+IsScriptOfOptionsOrNull read options type script =
     ((bytes : List ℕ) × IsGivenScript read options type bytes × (script ≡ blob_or_null bytes))
     ⊎ (IsNotGiven options type × (script ≡ null))
 

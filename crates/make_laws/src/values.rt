@@ -20,7 +20,7 @@ ghost use Rattle.make_core.specs.make_info.Values.{number_value, plains_of_list}
 ghost use Rattle.make_core.specs.make_info.declared.field.Field.{Field};
 ghost use Rattle.make_laws.specs.MadePackages.{package_in_container};
 ghost use Rattle.make_laws.specs.NamedFields.{field_named};
-ghost use Rattle.make_laws.specs.OptionGrammar.{IsTakenOption, FieldTextGivesValues, option_text};
+ghost use Rattle.make_laws.specs.OptionGrammar.{IsAcceptedInfoOption, FieldTextGivesValues, option_text};
 ghost use Rattle.make_laws.specs.SourceBytes.{IsLinkTo, AreBytesOfNoLink};
 ghost use Rattle.make_core.specs.package_files.Package.{value_of_file};
 ghost use Rattle.make_core.specs.pkg_core.Whole.{package_id};
@@ -49,7 +49,7 @@ pub fn a_value_is_taken_by_the_grammar_of_its_field()
 /// A value of `-I` offends after those before it exactly if it is not accepted.
 pub fn an_option_offends_unless_it_is_taken()
     ensures { (too_long : Bool) (before : List OptionValue) (option : OptionValue)
-        → offends too_long before option ≡ false ↔ IsTakenOption too_long before option }
+        → offends too_long before option ≡ false ↔ IsAcceptedInfoOption too_long before option }
 {
     read_texts_are_spelled();
     spelled_texts_are_read();

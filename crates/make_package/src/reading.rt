@@ -13,7 +13,7 @@ ghost use Rattle.make_package.specs.Answers.{IsOkOrDiskOrMemory, IsFirstValue, A
 ghost use Rattle.package_files.specs.Packed.{IsPacking};
 ghost use Rattle.package_files.specs.Runs.{AgreesOrIsFault, IsExplainedBySomeReads};
 ghost use Rattle.make_package.specs.Scripts.{AreScripts, IsScript};
-ghost use Rattle.package_files.specs.Sources.{AreNamesBelowFirstFolder, folders_below, values_of_letter, script_at, scripts_from};
+ghost use Rattle.package_files.specs.Sources.{AreNamesBelowFirstFolder, source_folders_of_first_option, values_of_letter, script_at, scripts_from_read};
 ghost use Rattle.std.specs.Prelude.{◌≡◌, ◌++◌, ◌∷◌, [], ℕ, IfOk, IsTrue, OnOk};
 
 use crate::writing::Script;
@@ -66,7 +66,7 @@ pub(crate) fn pack_below<'a, T: Tree>(
     // There are results of reads that give this result; if the tree is observable, they are its
     // files.
     ensures read { (n : ℕ) → IsExplainedBySomeReads (T.history tree.old) (λ read.
-        AgreesOrIsFault IsPacking result (folders_below read n
+        AgreesOrIsFault IsPacking result (source_folders_of_first_option read n
         (values_of_letter FILES values.now) names.now)) }
 {
     match first_folder(values) {
@@ -102,7 +102,7 @@ pub(crate) fn read_scripts<'a, T: Tree>(
     // There are results of reads that give this result; if the tree is observable, they are its
     // files.
     ensures read { (n : ℕ) → IsExplainedBySomeReads (T.history tree.old) (λ read.
-        AgreesOrIsFault AreScripts result (scripts_from read n
+        AgreesOrIsFault AreScripts result (scripts_from_read read n
         (values_of_letter SCRIPT values.entry.now))) }
 {
     let mut scripts = Vec::new(alloc);

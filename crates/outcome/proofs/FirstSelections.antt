@@ -31,7 +31,7 @@ use Rattle.outcome.specs.ChangeEnd.{IsChangeEnd, IsEndOfSelectedChange, IsChange
 use Rattle.outcome.specs.Changing.{change_outcome}
 use Rattle.outcome.specs.Commands.{IsOutcomeWithoutDemo, IsOutcomeOverRecoveredFiles, IsOutcomeUnlessBadIntent, reads_in}
 use Rattle.outcome.specs.Effect.{Changes, Effect, effect_of}
-use Rattle.outcome.specs.Given.{IsChosenFor, IsFirstClashForEffect}
+use Rattle.outcome.specs.Given.{IsChoiceForCommand, IsFirstClashForEffect}
 use Rattle.outcome.specs.Outcome.{Outcome}
 use Rattle.outcome.specs.Work.{recovery_fault, files_recovered_if_needed}
 
@@ -173,7 +173,7 @@ pub over_end : IsMadeKnown → (command : CommandLine) (files : Files) (o : Outc
 over_end known command files o changes (given, are, is) =
     subst (IsChangeEnd command files) (change_is command.applet command given (reads_in files) files changes ∙ sym is)
     (change_end known command files given.chosen given.clash
-    (subst (λ (e : Effect). IsChosenFor e command (reads_in files) given.chosen) changes are.chosen)
+    (subst (λ (e : Effect). IsChoiceForCommand e command (reads_in files) given.chosen) changes are.chosen)
     (subst (λ (e : Effect). IsFirstClashForEffect e command (reads_in files) files given.chosen given.clash) changes are.clash))
 
 unless_end : IsMadeKnown → (fault : Option Cause) (command : CommandLine) (files : Files) (o : Outcome) → effect_of command.applet ≡ Changes → recovery_fault Changes files ≡ fault → IsOutcomeUnlessBadIntent fault command files o → IsChangeEndOrIntentRefusal command files o

@@ -40,8 +40,8 @@ use Rattle.outcome.specs.Dump.{adbdump, dump_of, dump_outcome, text_outcome}
 use Rattle.outcome.specs.Effect.{Effect, Changes, Computes, Makes, OnlyReadsFiles, AsksRoot, effect_of_arguments, effect_of}
 use Rattle.outcome.specs.Generate.{adbgen, container_outcome, generate_outcome}
 use Rattle.outcome.specs.Given.{Given}
-use Rattle.outcome.specs.Make.{files_with_output, index_report_line, make_outcome, unless_reserved}
-use Rattle.outcome.specs.Outcome.{Outcome, commit_report, just_refusal, outcome_of, report_unless}
+use Rattle.outcome.specs.Make.{files_with_output, index_report_line, make_outcome, outcome_unless_output_reserved}
+use Rattle.outcome.specs.Outcome.{Outcome, commit_report, just_refusal, outcome_without_commit, just_report_unless_refusal}
 use Rattle.outcome.specs.Verify.{sound_lines, verify_refusal}
 use Rattle.outcome.specs.Version.{invalid_version_lines, version_order_report, version, version_refusal}
 use Rattle.outcome.specs.Work.{recovery_fault, files_recovered_if_needed}
@@ -51,14 +51,14 @@ LeavesIdle files o = o.commits ≡ false → o.files ≡ files
 
 -- ---- commands that compute or read
 
-unless_idle : (files : Files) (refusal : Option Refusal) (report : List ℕ) → LeavesIdle files (report_unless files refusal report)
+unless_idle : (files : Files) (refusal : Option Refusal) (report : List ℕ) → LeavesIdle files (just_report_unless_refusal files refusal report)
 unless_idle files None report idle = refl
 unless_idle files (Some refusal) report idle = refl
 
 version_idle : (files : Files) (flags : Flags) (operands : List Operand) → LeavesIdle files (version files flags operands)
 version_idle files flags operands = by_test flags.test
   where
-    by_test : (b : Bool) → LeavesIdle files (if b then report_unless files (version_refusal operands) (version_order_report operands) else outcome_of (version_refusal operands) (invalid_version_lines operands) files)
+    by_test : (b : Bool) → LeavesIdle files (if b then just_report_unless_refusal files (version_refusal operands) (version_order_report operands) else outcome_without_commit (version_refusal operands) (invalid_version_lines operands) files)
     by_test true = unless_idle files (version_refusal operands) (version_order_report operands)
     by_test false = λ idle. refl
 
@@ -104,7 +104,7 @@ reserved_idle : (reserved : Bool) (files : Files) (name : List ℕ) (o : Outcome
 reserved_idle true files name o h = λ idle. refl
 reserved_idle false files name o h = h
 
-output_idle : (files : Files) (output : Option (List ℕ)) (o : Outcome) → LeavesIdle files o → LeavesIdle files (unless_reserved files output o)
+output_idle : (files : Files) (output : Option (List ℕ)) (o : Outcome) → LeavesIdle files o → LeavesIdle files (outcome_unless_output_reserved files output o)
 output_idle files None o h = h
 output_idle files (Some name) o h = reserved_idle (is_reserved name) files name o h
 

@@ -11,7 +11,7 @@ use Rattle.command_core.specs.declared.command.Applet.{Applet}
 use Rattle.command_core.specs.declared.command.Applet.TheVariants.{Audit, Info, List as ListApplet, Manifest, Policy, Search}
 use Rattle.command_core.specs.declared.operands.Operand.{Operand}
 use Rattle.tell_core.specs.installed_info.Info.{info_of}
-use Rattle.tell_core.specs.installed_info.Refusals.{IsRefusalOfSomeOperand}
+use Rattle.tell_core.specs.installed_info.Refusals.{IsNotInstalledRefusalOfOperand}
 use Rattle.tell_core.specs.installed_info.declared.telling.ReportAndRefusal.{ReportAndRefusal}
 use Rattle.make_core.specs.make_info.Reads.{Reads}
 use Rattle.report_core.specs.declared.refusal.Refusal.{Refusal}
@@ -51,9 +51,9 @@ query_stated command read =
     then_all_stated (inputs_of command read) (query_report command) (inputs_stated command read)
     (λ inputs. then_all_stated (root_pool inputs no_names) _ (pool_stated inputs no_names) (λ pool refusal beside. absurd (cc (beside))))
 
-module _ (refused : (c : CommandLine) (packages : List Plain) (refusal : Refusal) → info_of c packages ≡ Err refusal → IsRefusalOfSomeOperand c.operands refusal)
-    (following_refusal : (c : CommandLine) (packages : List Plain) (done : ReportAndRefusal) (refusal : Refusal) → info_of c packages ≡ Ok done → done.following_refusal ≡ Some refusal → (c.flags.installed ≡ true) × IsRefusalOfSomeOperand c.operands refusal) where
-  operand_stated : (command : CommandLine) (refusal : Refusal) → IsRefusalOfSomeOperand command.operands refusal → IsAnsweredInFull refusal
+module _ (refused : (c : CommandLine) (packages : List Plain) (refusal : Refusal) → info_of c packages ≡ Err refusal → IsNotInstalledRefusalOfOperand c.operands refusal)
+    (following_refusal : (c : CommandLine) (packages : List Plain) (done : ReportAndRefusal) (refusal : Refusal) → info_of c packages ≡ Ok done → done.following_refusal ≡ Some refusal → (c.flags.installed ≡ true) × IsNotInstalledRefusalOfOperand c.operands refusal) where
+  operand_stated : (command : CommandLine) (refusal : Refusal) → IsNotInstalledRefusalOfOperand command.operands refusal → IsAnsweredInFull refusal
   operand_stated command refusal (operand, among, is) = ap is_input_refusal is
 
   info_stated : (command : CommandLine) (packages : List Plain) (told : Result ReportAndRefusal Refusal) → info_of command packages ≡ told → AreStated told

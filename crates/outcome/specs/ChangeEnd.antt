@@ -69,7 +69,7 @@ pub record IsInputRefused (command : CommandLine) (files : Files) (o : Outcome) 
   pub outcome : o ≡ just_refusal files refusal
 
 -- no selection of the candidates satisfies the new world, and exactly this is reported
-pub record HasNoSelection (command : CommandLine) (files : Files) (o : Outcome) : Type 0 where
+pub record IsRefusedAsUnsatisfiable (command : CommandLine) (files : Files) (o : Outcome) : Type 0 where
   -- the candidates of the command, under its new world
   pub pool : SealedPool
   pub is_pool : pool_of_command command (reads_in files) ≡ Ok pool
@@ -133,7 +133,7 @@ pub record TakesFirstPreferredSelection (command : CommandLine) (files : Files) 
 abbrev pub IsChangeEnd : CommandLine → Files → Outcome → Type 0
 IsChangeEnd command files o =
     IsInputRefused command files o
-    ⊎ (HasNoSelection command files o ⊎ TakesFirstPreferredSelection command files o)
+    ⊎ (IsRefusedAsUnsatisfiable command files o ⊎ TakesFirstPreferredSelection command files o)
 
 -- a run refuses a corrupt journal entry (intent) before all else; `files` are those at its start
 pub record IsIntentRefused (files : Files) (o : Outcome) : Type 0 where

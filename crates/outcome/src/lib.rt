@@ -34,7 +34,7 @@ ghost use Rattle.outcome.specs.ChangeEnd.{IsChangeEnd, IsChangeEndOrIntentRefusa
 ghost use Rattle.outcome.specs.Commands.{IsOutcomeWithoutDemo, IsOutcomeOverRecoveredFiles, reads_in};
 ghost use Rattle.outcome.specs.Effect.{Changes, Makes, AsksRoot, does_recover, effect_of_arguments, effect_of, output, reads_only, depends_only_on_arguments};
 ghost use Rattle.outcome.specs.Make.{files_below};
-ghost use Rattle.outcome.specs.Outcome.{Outcome, just_refusal, outcome_of};
+ghost use Rattle.outcome.specs.Outcome.{Outcome, just_refusal, outcome_without_commit};
 ghost use Rattle.outcome.specs.Recovers.{must_recover};
 ghost use Rattle.outcome.specs.Sound.{IsSoundFileAt};
 ghost use Rattle.outcome.specs.Words.{IsOutcome};
@@ -276,7 +276,7 @@ pub fn an_outcome_of_arguments_is_the_same_on_every_tree()
     ensures { (words : List (List ℕ)) (files others : Files) (o : Outcome)
         → IsTrue (depends_only_on_arguments (command_of words))
         → IsOutcome (command_of words) files o
-        → IsOutcome (command_of words) others (outcome_of o.refusal o.out others) }
+        → IsOutcome (command_of words) others (outcome_without_commit o.refusal o.out others) }
 {
     // A law that the proof needs; it has no effect at run time.
     words_alone_are_the_same_everywhere();
@@ -286,7 +286,7 @@ pub fn an_outcome_of_arguments_is_the_same_on_every_tree()
 fn words_alone_are_the_same_everywhere()
     ensures { (read : Result CommandLine ℕ) (files others : Files) (o : Outcome)
         → IsTrue (depends_only_on_arguments read) → IsOutcomeWithoutDemo read files o
-        → IsOutcomeWithoutDemo read others (outcome_of o.refusal o.out others) }
+        → IsOutcomeWithoutDemo read others (outcome_without_commit o.refusal o.out others) }
 {}
 
 /// The names below a folder, as a tree lists them, are those of its files.

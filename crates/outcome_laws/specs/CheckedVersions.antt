@@ -11,7 +11,7 @@ pub record AreBothVersions (a b : Operand) : Type 0 where
   pub second : is_version b.text ≡ true
 
 -- the operand at this place is no version, and each one before it is one
-pub record IsFirstNoVersion (operands : List Operand) (place : ℕ) : Type 0 where
+pub record IsPlaceOfFirstInvalidVersion (operands : List Operand) (place : ℕ) : Type 0 where
   -- the operands before this one, this operand, and those after it
   pub front : List Operand
   pub operand : Operand

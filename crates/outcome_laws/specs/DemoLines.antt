@@ -15,7 +15,7 @@ AreWholeLines text = (text ≡ []) ⊎ ((before : List ℕ) × (text ≡ before 
 
 -- the name is that of one of n packages, on which no other of them depends: from the second on, each
 -- depends on the package of half its number, rounded down
-pub record IsNeededByNone (n : ℕ) (name : List ℕ) : Type 0 where
+pub record IsDemoPackageNeededByNone (n : ℕ) (name : List ℕ) : Type 0 where
   -- the number of the package, from 1 to n
   pub number : ℕ
   pub least : 1 ≤ number

@@ -19,7 +19,7 @@ use Rattle.adb_view.specs.declared.tables.Which.{Which}
 use Rattle.container_laws.specs.pkg_core.Whole.{table_of_schema}
 
 -- a text is that of the value of a file, by the table that the schema of its header has at its root
-pub record HasTextOfValue (file text : List ℕ) : Type 0 where
+pub record HasDumpTextOfRootValue (file text : List ℕ) : Type 0 where
   -- the schema number in the header of the file
   pub schema : ℕ
   pub header : header_of file ≡ Ok schema

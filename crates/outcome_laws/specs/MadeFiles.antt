@@ -62,7 +62,7 @@ HasOutput None bytes before after = after ≡ before
 HasOutput (Some name) bytes before after = HasOutputNamed name bytes before after
 
 -- the command has written its output and printed its report
-pub record IsWritten (output : Option (List ℕ)) (bytes report : List ℕ) (files : Files)
+pub record IsOutputWrittenAndReported (output : Option (List ℕ)) (bytes report : List ℕ) (files : Files)
     (outcome : Outcome) : Type 0 where
   -- the command is not refused
   pub accepted : outcome.refusal ≡ None
@@ -78,13 +78,13 @@ pub record IsWritten (output : Option (List ℕ)) (bytes report : List ℕ) (fil
 -- ---- what was made
 
 -- the refusal of a fault of the input, which is a file that is absent or bad, or a bad value of `-I`
-abbrev pub input_refusal : MakeFault → Option Refusal
-input_refusal (NoFile place) = Some (FileMissing place)
-input_refusal (BadFile place cause) = Some (FileBad place cause)
-input_refusal (BadInfo place) = Some (InfoBad place)
-input_refusal (TooLarge bytes values) = None
-input_refusal Disk = None
-input_refusal Memory = None
+abbrev pub refusal_if_input_fault : MakeFault → Option Refusal
+refusal_if_input_fault (NoFile place) = Some (FileMissing place)
+refusal_if_input_fault (BadFile place cause) = Some (FileBad place cause)
+refusal_if_input_fault (BadInfo place) = Some (InfoBad place)
+refusal_if_input_fault (TooLarge bytes values) = None
+refusal_if_input_fault Disk = None
+refusal_if_input_fault Memory = None
 
 -- the input has no fault: a container was made, or it is too large
 abbrev pub IsMadeOrTooLarge : Result (List ℕ) MakeFault → Type 0

@@ -7,7 +7,7 @@ ghost use Rattle.command_core.specs.Files.{without_dot_slash};
 ghost use Rattle.command_core.specs.declared.operands.Operand.{Operand};
 ghost use Rattle.outcome.specs.make_info.Reads.{Reads};
 ghost use Rattle.outcome.specs.Verify.{verify};
-ghost use Rattle.outcome_laws.specs.TestedFiles.{AreFilesSound, IsFirstUnsound};
+ghost use Rattle.outcome_laws.specs.TestedFiles.{AreFilesSound, IsRefusalOfFirstUnsoundFile};
 ghost use Rattle.report_core.specs.Reports.{report_lines};
 ghost use Rattle.report_core.specs.declared.refusal.Refusal.{Refusal};
 
@@ -22,7 +22,7 @@ pub fn verify_is_not_refused_if_every_test_holds()
 pub fn verify_refuses_the_first_bad_file()
     ensures { (read : Reads) (files : Files) (operands : List Operand) (refusal : Refusal)
         → (verify read files operands).refusal ≡ Some refusal
-        → IsFirstUnsound read operands refusal }
+        → IsRefusalOfFirstUnsoundFile read operands refusal }
 {}
 
 /// `verify` prints `FILE: OK` for each file, in the order given, unless it is refused; then it

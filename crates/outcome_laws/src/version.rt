@@ -9,7 +9,7 @@ ghost use Rattle.base_core.specs.Files.{Files};
 ghost use Rattle.command_core.specs.declared.command.Flags.{Flags};
 ghost use Rattle.command_core.specs.declared.operands.Operand.{Operand};
 ghost use Rattle.outcome.specs.Version.{version};
-ghost use Rattle.outcome_laws.specs.CheckedVersions.{AreBothVersions, IsFirstNoVersion};
+ghost use Rattle.outcome_laws.specs.CheckedVersions.{AreBothVersions, IsPlaceOfFirstInvalidVersion};
 ghost use Rattle.report_core.specs.Reports.{report_lines};
 ghost use Rattle.report_core.specs.declared.refusal.Refusal.TheVariants.{VersionBad};
 ghost use Rattle.version_core.specs.Order.{is_version, version_cmp};
@@ -54,5 +54,5 @@ pub fn version_prints_what_is_no_version()
 pub fn version_refuses_the_first_that_is_no_version()
     ensures { (files : Files) (flags : Flags) (operands : List Operand) (place : ℕ)
         → ((version files flags operands).refusal ≡ Some (VersionBad place))
-        ↔ IsFirstNoVersion operands place }
+        ↔ IsPlaceOfFirstInvalidVersion operands place }
 {}

@@ -98,12 +98,12 @@ unfoldable pub placed_names_of : PlacedReplacement → List PlacedName
 placed_names_of p = map (placed_name_of p) (names_before_and_selected (replacement_of p))
 
 -- the package before that the first place of a name leads to, if there is one
-abbrev pub old_package : List Plain → PlacedName → Option Plain
-old_package before n = option_and_then (slice_get before) n.old
+abbrev pub package_at_old_place : List Plain → PlacedName → Option Plain
+package_at_old_place before n = option_and_then (slice_get before) n.old
 
 -- the selected candidate that the second place of a name leads to, if there is one
-abbrev pub new_candidate : SealedPool → PlacedName → Option Candidate
-new_candidate pool n = option_and_then (candidate_at pool) n.new
+abbrev pub candidate_at_new_place : SealedPool → PlacedName → Option Candidate
+candidate_at_new_place pool n = option_and_then (candidate_at pool) n.new
 
 -- the change of a name with its places, if there is one
 abbrev pub change_in : PlacedName → Option PlacedChange

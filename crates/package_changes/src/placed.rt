@@ -7,7 +7,7 @@ ghost use Rattle.change_files.specs.PlanLists.{sorted_distinct_names};
 ghost use Rattle.change_files.specs.db_core.Packages.{is_package_named};
 ghost use Rattle.change_files.specs.db_core.Seen.{packages_of};
 ghost use Rattle.package_changes.specs.Changes.{change_between};
-ghost use Rattle.package_changes.specs.Placed.{candidates_at, new_candidate, placed_name_with, placed_names_of};
+ghost use Rattle.package_changes.specs.Placed.{candidates_at, candidate_at_new_place, placed_name_with, placed_names_of};
 ghost use Rattle.package_changes.specs.Seen.{change_seen, placed_name_seen, placed_names_seen, placed_replacement_from_parts};
 ghost use Rattle.package_changes.specs.SelectedNames.{placed_name_at};
 ghost use Rattle.solve_core.specs.candidate_core.Candidates.{Candidate as CandidateValue};
@@ -43,7 +43,7 @@ impl<'a> PlacedName<'a> {
     /// The package's candidate, if one is selected.
     pub fn candidate(&self, pool: &Sealed<'a>) -> Option<Candidate<'a>>
         ensures { option_map candidate_value result
-            ≡ new_candidate pool.now (placed_name_seen self.now) }
+            ≡ candidate_at_new_place pool.now (placed_name_seen self.now) }
     {
         candidate_of(pool, self.new)
     }

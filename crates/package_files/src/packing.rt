@@ -13,7 +13,7 @@ ghost use Rattle.package_files.specs.Folders.{folder_listings_of};
 ghost use Rattle.package_files.specs.Package.{has_contents};
 ghost use Rattle.package_files.specs.Packed.{IsPackedFile, ArePackedFiles, IsPackedFolder, IsPacking};
 ghost use Rattle.package_files.specs.Runs.{AgreesOrIsFault, IsExplainedBySomeReads};
-ghost use Rattle.package_files.specs.Sources.{found_bytes_or_missing, source_file_read_at, sources_from, source_folder_read_at, source_folders_from};
+ghost use Rattle.package_files.specs.Sources.{found_bytes_or_missing, source_file_read_at, sources_at_place_from_read, source_folder_read_at, source_folders_at_place_from_read};
 ghost use Rattle.std.specs.Option.{option_map};
 ghost use Rattle.std.specs.Prelude.{◌≡◌, ◌++◌, ◌≤◌, ◌-◌, length, take, drop, replicate, OnOk, IfOk, IfSome, [], ◌∷◌, ℕ, map, true, false};
 
@@ -116,7 +116,7 @@ pub fn pack_names<'a, T: Tree>(
     // For each number n there are reads, of which the first has the number n, that give this
     // result. If the tree's files are observable, the reads find these files.
     ensures read { (n : ℕ) → IsExplainedBySomeReads (T.history tree.old) (λ read.
-        AgreesOrIsFault IsPacking result (source_folders_from place read n
+        AgreesOrIsFault IsPacking result (source_folders_at_place_from_read place read n
         (folder_listings_of dir.now names.now))) }
 {
     let folders = all_folders_above(alloc, dir, names)?;
@@ -141,7 +141,7 @@ fn pack_folders<'a, T: Tree>(
     // There are results of reads that give this result; if the tree is observable, they are its
     // files.
     ensures read { (n : ℕ) → IsExplainedBySomeReads (T.history tree.old) (λ read.
-        AgreesOrIsFault IsPacking result (source_folders_from place read n
+        AgreesOrIsFault IsPacking result (source_folders_at_place_from_read place read n
         (listings_of folders.now files.now))) }
 {
     let mut packed = Vec::new(alloc);
@@ -217,7 +217,7 @@ fn pack_files<'a, T: Tree>(
     // files.
     ensures read { (n : ℕ) → IsExplainedBySomeReads (T.history tree.old) (λ read.
         AgreesOrIsFault (ArePackedFiles folder blocks.old.items blocks.new.items) result
-        (sources_from place read n (map (λ name. name.now) names.now))) }
+        (sources_at_place_from_read place read n (map (λ name. name.now) names.now))) }
 {
     let mut files = Vec::new(alloc);
     for i in 0..names.len() {

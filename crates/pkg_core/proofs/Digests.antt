@@ -23,7 +23,7 @@ use Rattle.adb_view.specs.declared.tables.Which.{Which}
 use Rattle.adb_view.specs.declared.tables.Kind.TheVariants.{Obj}
 use Rattle.adb_view.specs.declared.tables.Which.TheVariants as Tables
 use Rattle.pkg_core.specs.Contents.{Contents, ExpectedFile, digest_fault, expected_at, expected_files_of_package, expected_files_of_folder, expected_files_of_folders, hash_fault}
-use Rattle.pkg_core.specs.GoodContents.{AreContentsOf, MatchEachExpected, HaveValidDigestLengths, IsDigestOf}
+use Rattle.pkg_core.specs.GoodContents.{AreContentsOf, MatchEachExpectedSizeAndDigest, HaveValidDigestLengths, IsDigestOf}
 
 -- ---- if nothing is told, each text and number keeps its rule
 
@@ -144,7 +144,7 @@ digest_is wanted bytes h e =
       ]
     ]
 
-pub true_contents : (es : List ExpectedFile) (all : List Contents) → HaveValidDigestLengths es → AreContentsOf es all → MatchEachExpected es all
+pub true_contents : (es : List ExpectedFile) (all : List Contents) → HaveValidDigestLengths es → AreContentsOf es all → MatchEachExpectedSizeAndDigest es all
 true_contents [] [] d h = tt
 true_contents [] (c ∷ cs) d h = h
 true_contents (e ∷ es) [] d h = h

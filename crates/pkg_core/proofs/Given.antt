@@ -20,7 +20,7 @@ use Rattle.adb_schema.specs.Soundness.{blocks_fault, file_fault_after_header, co
 use Rattle.adb_view.specs.declared.tables.Which.TheVariants.{Package}
 use Rattle.pkg_core.specs.Contents as C
 use Rattle.pkg_core.specs.Contents.{ExpectedFile, FilesRead, contents_bytes, contents_of_expected, contents_fault, contents_in, expected_files_of_package, fault_of_files_read, files_read_from_blocks, hash_fault}
-use Rattle.pkg_core.specs.GoodContents.{AreContentsOf, MatchEachExpected, IsContentsOf}
+use Rattle.pkg_core.specs.GoodContents.{AreContentsOf, MatchEachExpectedSizeAndDigest, IsContentsOf}
 use Rattle.pkg_core.proofs.Digests.{texts_give_digests, true_contents, HasFirstValue}
 use Rattle.pkg_core.specs.Whole.{fault_of_further_blocks, files_after_first_block, files_after_header, files_read_from_package, package_fault, package_with_contents, container_fault_of_table}
 
@@ -85,17 +85,17 @@ texts_good payload h =
     let texts = second_none (shape_fault payload (shape_of (Obj Package)) (root_word_of_payload payload)) _ shape in
     first_none (text_fault Package (root_value Package payload)) _ texts
 
-blocks_true : HasFirstValue → (r : Reading) → blocks_fault (fault_of_further_blocks Package) Package r ≡ None → MatchEachExpected (expected_files_of_package (root_value Package (first_block_payload r))) (contents_in (files_after_first_block r))
-blocks_true told done h = let A : List ExpectedFile → Type 0 = λ es. MatchEachExpected es [] in subst A (sym nothing_expected) tt
+blocks_true : HasFirstValue → (r : Reading) → blocks_fault (fault_of_further_blocks Package) Package r ≡ None → MatchEachExpectedSizeAndDigest (expected_files_of_package (root_value Package (first_block_payload r))) (contents_in (files_after_first_block r))
+blocks_true told done h = let A : List ExpectedFile → Type 0 = λ es. MatchEachExpectedSizeAndDigest es [] in subst A (sym nothing_expected) tt
 blocks_true told (fault c) h = (cc)
 blocks_true told (more b at r) h =
     let v : Plain = root_value Package b.payload in
     true_contents (expected_files_of_package v) (contents_in (files_read_from_blocks (expected_files_of_package v) r)) (texts_give_digests told v (texts_good b.payload (first_none (payload_fault Package b.payload) _ h))) (files_right (expected_files_of_package v) r (second_none (payload_fault Package b.payload) _ h))
 
-header_true : HasFirstValue → (file : List ℕ) (h : Result ℕ Cause) → file_fault_after_header (fault_of_further_blocks Package) Package file h ≡ None → MatchEachExpected (expected_files_of_package (root_value Package (payload_after_header file h))) (contents_in (files_after_header file h))
+header_true : HasFirstValue → (file : List ℕ) (h : Result ℕ Cause) → file_fault_after_header (fault_of_further_blocks Package) Package file h ≡ None → MatchEachExpectedSizeAndDigest (expected_files_of_package (root_value Package (payload_after_header file h))) (contents_in (files_after_header file h))
 header_true told file (Ok schema) e = blocks_true told (block_stream_from (first_block_position schema file)) (second_none (schema_fault Package schema) _ e)
 header_true told file (Err c) e = (cc)
 
-pub package_true : HasFirstValue → (file : List ℕ) → package_fault file ≡ None → MatchEachExpected (expected_files_of_package (package_with_contents file).value) (package_with_contents file).contents
+pub package_true : HasFirstValue → (file : List ℕ) → package_fault file ≡ None → MatchEachExpectedSizeAndDigest (expected_files_of_package (package_with_contents file).value) (package_with_contents file).contents
 unfolding container_fault_of_table files_read_from_package payload_in
 package_true told file h = header_true told file (header_of file) h

@@ -18,7 +18,7 @@ ghost use Rattle.base_core.specs.declared.cause.Cause.{Cause};
 ghost use Rattle.adb_block.specs.Reading.{Reading};
 ghost use Rattle.adb_schema.specs.Soundness.{container_fault_except_contents, schema_word};
 ghost use Rattle.pkg_core.specs.FirstContents.{IsFirstContentsFault};
-ghost use Rattle.pkg_core.specs.GoodContents.{AreContentsOf, MatchEachExpected};
+ghost use Rattle.pkg_core.specs.GoodContents.{AreContentsOf, MatchEachExpectedSizeAndDigest};
 
 use crate::pack::{Package, PackageFault};
 use adb_block::Blocks;
@@ -213,7 +213,7 @@ pub fn a_package_is_tested_by_its_values_and_then_its_files()
 /// or SHA-512 (FIPS 180-4) its digest.
 pub fn a_package_has_the_contents_of_its_files()
     ensures { (file : List ℕ) → package_fault file ≡ None
-        → MatchEachExpected (expected_files_of_package (package_with_contents file).value)
+        → MatchEachExpectedSizeAndDigest (expected_files_of_package (package_with_contents file).value)
         (package_with_contents file).contents }
 {
     // A law that the proof needs; it has no effect at run time.

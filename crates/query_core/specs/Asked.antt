@@ -10,7 +10,7 @@ use Rattle.dep_core.specs.Dependency.{Dependency}
 use Rattle.star_patterns.specs.Fills.{MatchesByFillingStars}
 
 -- the stars of one of the patterns can be replaced by bytes so that it reads as the name
-pub record MatchesNamePattern (patterns : List Operand) (name : List ℕ) : Type 0 where
+pub record IsNameMatchedBySomePattern (patterns : List Operand) (name : List ℕ) : Type 0 where
   -- a pattern, which is one of those given
   pub pattern : Operand
   pub given : IsIn pattern patterns
@@ -18,7 +18,7 @@ pub record MatchesNamePattern (patterns : List Operand) (name : List ℕ) : Type
   pub filled : MatchesByFillingStars pattern.text name
 
 -- the stars of one of the patterns can be replaced by bytes so that it reads as a part of the name
-pub record MatchesPartOfName (patterns : List Operand) (name : List ℕ) : Type 0 where
+pub record HasPartMatchedBySomePattern (patterns : List Operand) (name : List ℕ) : Type 0 where
   -- a pattern, which is one of those given
   pub pattern : Operand
   pub given : IsIn pattern patterns
@@ -55,6 +55,6 @@ pub record IsVersionOfName (candidates : List Candidate) (name : List ℕ) (vers
   pub version_is : candidate.version ≡ version
 
 -- each element of a list comes before all that follow it
-abbrev pub AreInOrderBy : {X : Type 0} → (X → X → Ordering) → List X → Type 0
-AreInOrderBy cmp [] = Unit {0}
-AreInOrderBy {X} cmp (x ∷ xs) = ((y : X) → IsIn y xs → cmp x y ≡ Less) × AreInOrderBy cmp xs
+abbrev pub AreStrictlyInOrderBy : {X : Type 0} → (X → X → Ordering) → List X → Type 0
+AreStrictlyInOrderBy cmp [] = Unit {0}
+AreStrictlyInOrderBy {X} cmp (x ∷ xs) = ((y : X) → IsIn y xs → cmp x y ≡ Less) × AreStrictlyInOrderBy cmp xs

@@ -24,14 +24,14 @@ name_and_version_cmp =
 
 -- the order of two places in a list of candidates: by the candidates there, and else the earlier
 -- place comes first
-abbrev pub query_cmp : List Candidate → ℕ → ℕ → Ordering
-query_cmp candidates =
+abbrev pub candidate_places_cmp : List Candidate → ℕ → ℕ → Ordering
+candidate_places_cmp candidates =
     then_cmp (on (slice_get candidates) (option_cmp name_and_version_cmp)) nat_cmp
 
 -- the places, counted from 0, of the candidates that pass a test, in the order of queries
 abbrev pub sorted_places_passing : (Candidate → Bool) → List Candidate → List ℕ
 sorted_places_passing test candidates =
-    sorted_by (query_cmp candidates) (places_passing_from 0 test candidates)
+    sorted_by (candidate_places_cmp candidates) (places_passing_from 0 test candidates)
 
 -- the candidates that pass a test, in the order of queries
 abbrev pub sorted_candidates_passing : (Candidate → Bool) → List Candidate → List Candidate

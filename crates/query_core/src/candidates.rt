@@ -2,7 +2,7 @@
 //! The rules are in `docs/commands.md`, "`list`" and "`search`".
 ghost use Rattle.query_core.specs.Appends.{Appends};
 ghost use Rattle.query_core.specs.Lines.{description_part, line_in_form};
-ghost use Rattle.query_core.specs.Order.{printed_version, query_cmp};
+ghost use Rattle.query_core.specs.Order.{printed_version, candidate_places_cmp};
 ghost use Rattle.report_core.specs.QueryReports.{installed_mark, text_between_unless_empty};
 ghost use Rattle.report_core.specs.Reports.{name_dash_version};
 ghost use Rattle.base_core.specs.Sorted.{sorted_by};
@@ -63,7 +63,7 @@ pub(crate) fn report(
     // The lines of the candidates at these places, in the order of queries.
     ensures { IfOk result (λ report. report ≡ flat_map (line_in_form form)
         (filter_map (slice_get pool.now.candidates)
-        (sorted_by (query_cmp pool.now.candidates) places.now))) }
+        (sorted_by (candidate_places_cmp pool.now.candidates) places.now))) }
 {
     let ordered = in_order(alloc, pool, places)?;
     let mut length = ReportLength { bytes: 0 };

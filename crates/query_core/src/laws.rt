@@ -7,9 +7,9 @@ ghost use Rattle.command_core.specs.Command.{CommandLine};
 ghost use Rattle.command_core.specs.declared.operands.Operand.{Operand};
 ghost use Rattle.dep_core.specs.Dependency.{Dependency};
 ghost use Rattle.dep_core.specs.Repositories.{Repository};
-ghost use Rattle.query_core.specs.Asked.{AreInOrderBy, IsOwnOrProvidedName, MatchesNamePattern, MatchesPartOfName, IsVersionOfName};
+ghost use Rattle.query_core.specs.Asked.{AreStrictlyInOrderBy, IsOwnOrProvidedName, IsNameMatchedBySomePattern, HasPartMatchedBySomePattern, IsVersionOfName};
 ghost use Rattle.query_core.specs.List.{is_list_candidate};
-ghost use Rattle.query_core.specs.Order.{query_cmp, sorted_places_passing};
+ghost use Rattle.query_core.specs.Order.{candidate_places_cmp, sorted_places_passing};
 ghost use Rattle.query_core.specs.Policy.{name_policy, versions_of_name};
 ghost use Rattle.query_core.specs.Queries.{text_of_query};
 ghost use Rattle.query_core.specs.Search.{is_search_candidate};
@@ -27,26 +27,26 @@ use version_core::order_is_total;
 /// The order of queries is a strict total order on the places of a list of candidates: by the name,
 /// then the greater version, then the text of the version, then the place.
 pub fn the_order_of_queries_is_total()
-    ensures total { (cs : List Candidate) → IsTotalOrder (query_cmp cs) }
-    ensures strict { (cs : List Candidate) (a b : ℕ) → query_cmp cs a b ≡ Equal → a ≡ b }
+    ensures total { (cs : List Candidate) → IsTotalOrder (candidate_places_cmp cs) }
+    ensures strict { (cs : List Candidate) (a b : ℕ) → candidate_places_cmp cs a b ≡ Equal → a ≡ b }
     // The byte-lesser name comes first.
     ensures name { (cs : List Candidate) (a b : ℕ) (x y : Candidate)
         → slice_get cs a ≡ Some x → slice_get cs b ≡ Some y
-        → bytes_cmp x.name y.name ≡ Less → query_cmp cs a b ≡ Less }
+        → bytes_cmp x.name y.name ≡ Less → candidate_places_cmp cs a b ≡ Less }
     // Of one name the greater version comes first.
     ensures version { (cs : List Candidate) (a b : ℕ) (x y : Candidate) (v w : List ℕ)
         → slice_get cs a ≡ Some x → slice_get cs b ≡ Some y → x.name ≡ y.name
         → x.version ≡ Some v → y.version ≡ Some w → version_cmp v w ≡ Greater
-        → query_cmp cs a b ≡ Less }
+        → candidate_places_cmp cs a b ≡ Less }
     // Of versions that are equal in order the byte-lesser text comes first.
     ensures text { (cs : List Candidate) (a b : ℕ) (x y : Candidate) (v w : List ℕ)
         → slice_get cs a ≡ Some x → slice_get cs b ≡ Some y → x.name ≡ y.name
         → x.version ≡ Some v → y.version ≡ Some w → version_cmp v w ≡ Equal
-        → bytes_cmp v w ≡ Less → query_cmp cs a b ≡ Less }
+        → bytes_cmp v w ≡ Less → candidate_places_cmp cs a b ≡ Less }
     // Of one name and version the earlier place comes first.
     ensures place { (cs : List Candidate) (a b : ℕ) (x y : Candidate)
         → slice_get cs a ≡ Some x → slice_get cs b ≡ Some y → x.name ≡ y.name
-        → x.version ≡ y.version → a < b → query_cmp cs a b ≡ Less }
+        → x.version ≡ y.version → a < b → candidate_places_cmp cs a b ≡ Less }
 {
     // A law that the proof needs; it has no effect at run time.
     order_is_total();
@@ -63,7 +63,7 @@ pub fn a_query_selects_what_passes_its_test()
         → option_map_or test (slice_get cs place) false ≡ true →
         IsIn place (sorted_places_passing test cs) }
     ensures order { (test : Candidate → Bool) (cs : List Candidate)
-        → AreInOrderBy (query_cmp cs) (sorted_places_passing test cs) }
+        → AreStrictlyInOrderBy (candidate_places_cmp cs) (sorted_places_passing test cs) }
 {
     // A law that the proof needs; it has no effect at run time.
     order_is_total();
@@ -74,7 +74,7 @@ pub fn a_query_selects_what_passes_its_test()
 pub fn list_prints_what_is_asked_for()
     ensures { (patterns : List Operand) (installed_only : Bool) (c : Candidate)
         → (is_list_candidate patterns installed_only c ≡ true)
-        ↔ (((patterns ≡ []) ⊎ MatchesNamePattern patterns c.name)
+        ↔ (((patterns ≡ []) ⊎ IsNameMatchedBySomePattern patterns c.name)
         × (installed_only ≡ true → c.installed ≡ true)) }
 {
     // A law that the proof needs; it has no effect at run time.
@@ -87,7 +87,7 @@ pub fn search_prints_what_is_asked_for()
     ensures { (patterns : List Operand) (c : Candidate)
         → (is_search_candidate patterns c ≡ true)
         ↔ ((is_some c.repository ≡ true)
-        × ((name : List ℕ) × (IsOwnOrProvidedName c name × MatchesPartOfName patterns name))) }
+        × ((name : List ℕ) × (IsOwnOrProvidedName c name × HasPartMatchedBySomePattern patterns name))) }
 {
     // A law that the proof needs; it has no effect at run time.
     a_pattern_matches_what_its_stars_are_filled_to();
@@ -104,7 +104,7 @@ pub fn policy_prints_each_version_once()
         → IsVersionOfName cs name version → IsIn version (versions_of_name cs name) }
     // The greater version comes first, and of equal ones the byte-lesser text.
     ensures order { (cs : List Candidate) (name : List ℕ)
-        → AreInOrderBy (then_cmp greater_version (option_cmp bytes_cmp))
+        → AreStrictlyInOrderBy (then_cmp greater_version (option_cmp bytes_cmp))
         (versions_of_name cs name) }
     // For a name without a candidate only the heading is printed.
     ensures unknown { (cs : List Candidate) (repositories : List Repository) (name : List ℕ)

@@ -2,7 +2,7 @@
 ghost use Rattle.query_core.specs.Appends.{Appends};
 ghost use Rattle.query_core.specs.Policy.{name_policy, policy_report};
 ghost use Rattle.query_core.specs.VersionPlaces.{repository_line_numbered, distinct_repository_lines, version_lines};
-ghost use Rattle.report_core.specs.QueryReports.{policy_database_line, policy_line_with_origin_text, policy_heading, repository_line, version_heading};
+ghost use Rattle.report_core.specs.QueryReports.{policy_database_line, indented_policy_line, policy_heading, repository_line, version_heading};
 ghost use Rattle.std.specs.List.{flat_map};
 ghost use Rattle.std.specs.Prelude.{◌≡◌, ◌<◌, ◌++◌, [], IfOk, OnOk, codes, if◌then◌else◌, nat_lt, option_copied};
 
@@ -183,7 +183,7 @@ fn put_repository<O: ReportOut>(
 // Writes the line of a repository that has a tag.
 fn put_tagged<O: ReportOut>(out: &mut O, tag: &[u8], path: &[u8]) -> Result<(), AllocError>
     ensures { OnOk result (Appends O.holds out.old out.new
-        (policy_line_with_origin_text (codes "@" ++ tag.now ++ codes " " ++ path.now))) }
+        (indented_policy_line (codes "@" ++ tag.now ++ codes " " ++ path.now))) }
 {
     out.put(b"    @")?;
     out.put(tag)?;
@@ -195,7 +195,7 @@ fn put_tagged<O: ReportOut>(out: &mut O, tag: &[u8], path: &[u8]) -> Result<(), 
 // Writes a line that says where a version is.
 fn put_place<O: ReportOut>(out: &mut O, text: &[u8]) -> Result<(), AllocError>
     ensures { OnOk result (Appends O.holds out.old out.new
-        (policy_line_with_origin_text text.now)) }
+        (indented_policy_line text.now)) }
 {
     out.put(b"    ")?;
     out.put(text)?;

@@ -39,8 +39,9 @@ impl<'a> Model for PlacedVersion<'a> {
     ghost view = { λ v. version_places_from_parts v.version v.is_installed v.repositories.items };
 }
 
-/// The versions of the candidates with a name, each once and in the order of queries, and where
-/// each of them is.
+/// The versions of the candidates with a name, the greatest first and each text once; and for each
+/// whether it is installed, and which repositories have it. The order is that of
+/// `docs/commands.md`, "Queries".
 pub(crate) fn placed_versions<'a>(
     alloc: Global,
     pool: &Sealed<'a>,

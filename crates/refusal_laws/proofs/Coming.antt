@@ -19,8 +19,8 @@ use Rattle.report_core.specs.Numbers.{HASHES_FIELD, NAME_FIELD, VERSION_FIELD}
 use Rattle.report_core.specs.Reports.{Change}
 use Rattle.report_core.specs.declared.refusal.Refusal.{Refusal}
 use Rattle.report_core.specs.declared.refusal.Refusal.TheVariants.{PackageBad, PackageDiffers, PackageMissing, ScriptNeeded}
-use Rattle.refusal_laws.specs.AddedPackages.{IsFileOfCandidate, IsAddedAsSelected, IsFileReadForAddedPackage, package_file_found_by_read, selected_of_name}
-use Rattle.refusal_laws.specs.PackageFaults.{IsAddedOrRemoved, IsOtherPackage}
+use Rattle.refusal_laws.specs.AddedPackages.{IsSoundFileOfCandidate, IsAddedAsSelected, IsFileReadForAddedPackage, package_file_found_by_read, selected_candidate_of_name}
+use Rattle.refusal_laws.specs.PackageFaults.{IsAddedOrRemoved, IsFirstFieldThatDiffers}
 use Rattle.refusal_laws.specs.ChangeFaults.{IsFaultOfPackage}
 use Rattle.refusal_laws.proofs.Lists.{found_in}
 
@@ -30,7 +30,7 @@ abbrev pub differs : Candidate → ℕ → List ℕ → List ℕ → Refusal
 differs c field wanted found = PackageDiffers c.name (candidate_version_text c) field wanted found
 
 abbrev pub IsTold : Candidate → AddedPackage → Refusal → Type 0
-IsTold c pkg refusal = (field : ℕ) × (wanted : List ℕ) × (found : List ℕ) × IsOtherPackage c pkg field wanted found × (differs c field wanted found ≡ refusal)
+IsTold c pkg refusal = (field : ℕ) × (wanted : List ℕ) × (found : List ℕ) × IsFirstFieldThatDiffers c pkg field wanted found × (differs c field wanted found ≡ refusal)
 
 abbrev kept_package : Result AddedPackage Refusal → Result AddedPackage Refusal
 kept_package r = r
@@ -81,10 +81,10 @@ module _ (c : Candidate) (pkg : AddedPackage) where
         sym ((bytes_eq-Decides (candidate_version_text c) (package_version_text pkg.value)).0 w),
       )
 
-pub found_ok : (c : Candidate) (file : List ℕ) (pkg : AddedPackage) → added_package_or_refusal c (Some file) ≡ Ok pkg → IsFileOfCandidate c file × (pkg ≡ package_in_file file)
+pub found_ok : (c : Candidate) (file : List ℕ) (pkg : AddedPackage) → added_package_or_refusal c (Some file) ≡ Ok pkg → IsSoundFileOfCandidate c file × (pkg ≡ package_in_file file)
 found_ok c file pkg e = by_fault (package_fault file) refl e
   where
-    by_fault : (fault : Option Cause) → package_fault file ≡ fault → unless_package_bad c fault (package_in_file file) ≡ Ok pkg → IsFileOfCandidate c file × (pkg ≡ package_in_file file)
+    by_fault : (fault : Option Cause) → package_fault file ≡ fault → unless_package_bad c fault (package_in_file file) ≡ Ok pkg → IsSoundFileOfCandidate c file × (pkg ≡ package_in_file file)
     by_fault None sound e =
         let ok = different_ok c (package_in_file file) pkg e in
         (record { sound = sound; id = ok.1; name = ok.2; version = ok.3 }, ok.0)
@@ -144,7 +144,7 @@ module _ (inputs : Inputs) (r : Replacement) (wishes : ChangeWishes) (read : Rea
       let has = first_has pkg (scripts_of_change change) told.0 told.2 in
       subst IsTrue told.3 (record { asked = told.1; pkg = pkg; is_package = is; change = change; becomes = becomes; runs = has.0; has = has.1; first = told.2 })
 
-  module _ (n : ℕ) (name : List ℕ) (at : IsNameAt inputs r n name) (change : Change) (becomes : change_of_name r name ≡ Some change) (c : Candidate) (selected : selected_of_name r name ≡ Some c) where
+  module _ (n : ℕ) (name : List ℕ) (at : IsNameAt inputs r n name) (change : Change) (becomes : change_of_name r name ≡ Some change) (c : Candidate) (selected : selected_candidate_of_name r name ≡ Some c) where
     named : c.name ≡ name
     named = (bytes_eq-Decides c.name name).0 (found_in (is_candidate_named name) r.selected c selected).1
 

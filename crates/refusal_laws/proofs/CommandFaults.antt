@@ -23,7 +23,7 @@ use Rattle.outcome.specs.candidate_core.Rank.{SealedPool, UpgradedNames, sealed_
 use Rattle.outcome.specs.candidate_core.declared.candidate_list.TheConstants.{MOST_CANDIDATES}
 use Rattle.report_core.specs.declared.refusal.Refusal.{Refusal}
 use Rattle.report_core.specs.declared.refusal.Refusal.TheVariants.{NotInstalled, TooMany, Unsatisfied}
-use Rattle.refusal_laws.specs.CommandFaults.{IsChangeRefused, IsFaultOfCommand, IsFaultOfSelection, IsUnknownTo}
+use Rattle.refusal_laws.specs.CommandFaults.{IsChangeRefused, IsFaultOfCommand, IsFaultOfSelection, IsNameUnknownToApplet}
 use Rattle.refusal_laws.specs.InputFaults.{IsCountReportedAsTooMany}
 use Rattle.refusal_laws.proofs.ChangeFaults.{change_fault}
 use Rattle.refusal_laws.proofs.InputFaults.{input_fault}
@@ -59,7 +59,7 @@ unknown_in is_known (o ∷ operands) place e = by_test (is_known o.text) refl e 
     by_test false k e more = (o, inl refl, (let same : o.place ≡ place = cc in same), k)
 
 unknown_fault : (applet : Applet) (inputs : Inputs) (operands : List Operand) (place : ℕ) → unknown_operand_place applet inputs operands ≡ Some place
-    → (o : Operand) × IsIn o operands × (o.place ≡ place) × IsUnknownTo applet inputs o.text
+    → (o : Operand) × IsIn o operands × (o.place ≡ place) × IsNameUnknownToApplet applet inputs o.text
 unknown_fault Del inputs operands place e =
     let found = unknown_in (is_known_name inputs) operands place e in
     (found.0, found.1, found.2, or_parts (has_name found.0.text inputs.root.world) (is_installed_name inputs found.0.text) found.3)

@@ -29,9 +29,9 @@ use Rattle.report_core.specs.Reports.{Change}
 use Rattle.report_core.specs.declared.refusal.Refusal.{Refusal}
 use Rattle.report_core.specs.declared.refusal.Refusal.TheVariants.{PackageBad, PackageDiffers, PackageMissing, ScriptNeeded}
 use Rattle.refusal_laws.specs.ChangeFaults.{IsFaultOfPackage}
-use Rattle.refusal_laws.specs.AddedPackages.{IsFileOfCandidate, IsFileReadForAddedPackage, selected_of_name}
-use Rattle.refusal_laws.specs.FirstPackage.{IsFirstRefused, refused_name}
-use Rattle.refusal_laws.specs.PackageFaults.{IsAddedOrRemoved, IsOtherPackage}
+use Rattle.refusal_laws.specs.AddedPackages.{IsSoundFileOfCandidate, IsFileReadForAddedPackage, selected_candidate_of_name}
+use Rattle.refusal_laws.specs.FirstPackage.{IsRefusalOfFirstFaultyPackage, refused_name}
+use Rattle.refusal_laws.specs.PackageFaults.{IsAddedOrRemoved, IsFirstFieldThatDiffers}
 use Rattle.refusal_laws.proofs.Coming.{by_fields, different_err, path_is, script_err}
 use Rattle.refusal_laws.proofs.FoundPackages.{member_name_at_place}
 use Rattle.refusal_laws.proofs.Lists.{and_then_err, found_in, in_mapped}
@@ -57,7 +57,7 @@ script_is : {A : Type 0} (no_scripts : Bool) (name : List ℕ) (pkg : Plain) (nu
 script_is no_scripts name pkg numbers a script asked first = ap (λ b. unless_script_needed b name pkg numbers a) asked ∙ ap (λ o. unless_script_number name o a) first
 
 -- what passes all tests is found
-found_so : (c : Candidate) (file : List ℕ) → IsFileOfCandidate c file → added_package_or_refusal c (Some file) ≡ Ok (package_in_file file)
+found_so : (c : Candidate) (file : List ℕ) → IsSoundFileOfCandidate c file → added_package_or_refusal c (Some file) ≡ Ok (package_in_file file)
 found_so c file is =
     ap (λ o. unless_package_bad c o (package_in_file file)) is.sound
     ∙ (λ i. by_fields c (package_in_file file) (is.id i) ((bytes_eq-Decides c.name (package_name (package_in_file file).value)).1 (sym is.name) i)
@@ -147,7 +147,7 @@ module _ (inputs : Inputs) (r : Replacement) (wishes : ChangeWishes) (read : Rea
     pub at : slice_get (names_before_and_selected r) place ≡ Some (refused_name refusal)
     pub told : of_name (first_read + place) (refused_name refusal) ≡ Err refusal
 
-  comes_is : (n : ℕ) (name : List ℕ) (change : Change) (c : Candidate) → change_of_name r name ≡ Some change → selected_of_name r name ≡ Some c
+  comes_is : (n : ℕ) (name : List ℕ) (change : Change) (c : Candidate) → change_of_name r name ≡ Some change → selected_candidate_of_name r name ≡ Some c
       → of_name n name ≡ member_of_added_name read inputs.root.repositories wishes.no_scripts n name change c
   comes_is n name change c becomes selected =
       ap (λ ch. member_of_name_by_change read inputs.root.repositories wishes.no_scripts n name ch (find (is_package_named name) r.before) (find (is_candidate_named name) r.selected)) becomes
@@ -162,10 +162,10 @@ module _ (inputs : Inputs) (r : Replacement) (wishes : ChangeWishes) (read : Rea
   named name version file is = candidate_named name r.selected is.candidate is.selected
 
   different_told : (name version file : List ℕ) (is : IsFileReadForAddedPackage inputs r read name version (Some file)) (field : ℕ) (wanted found : List ℕ) → package_fault file ≡ None
-      → IsOtherPackage is.candidate (package_in_file file) field wanted found → added_package_or_refusal is.candidate (Some file) ≡ Err (PackageDiffers name version field wanted found)
+      → IsFirstFieldThatDiffers is.candidate (package_in_file file) field wanted found → added_package_or_refusal is.candidate (Some file) ≡ Err (PackageDiffers name version field wanted found)
   different_told name version file is field wanted found sound other = ap (λ o. unless_package_bad is.candidate o (package_in_file file)) sound ∙ by other
     where
-      by : IsOtherPackage is.candidate (package_in_file file) field wanted found
+      by : IsFirstFieldThatDiffers is.candidate (package_in_file file) field wanted found
           → by_fields is.candidate (package_in_file file) (is_same_id is.candidate.id (package_in_file file).id) (bytes_eq is.candidate.name (package_name (package_in_file file).value)) (bytes_eq (candidate_version_text is.candidate) (package_version_text (package_in_file file).value)) ≡ Err (PackageDiffers name version field wanted found)
       by (inl (field_is, (wanted_is, found_is, off))) =
           ap (λ a. by_fields is.candidate (package_in_file file) a (bytes_eq is.candidate.name (package_name (package_in_file file).value)) (bytes_eq (candidate_version_text is.candidate) (package_version_text (package_in_file file).value))) ((λ i. is_same_id (sym wanted_is i) (sym found_is i)) ∙ off)
@@ -280,7 +280,7 @@ module _ (inputs : Inputs) (r : Replacement) (wishes : ChangeWishes) (read : Rea
             ∙ (ap (precedes at.name) (name ∙ told_here) ∙ precedes_itself at.name))))
             (λ more. (same_place other told (omega arith)).1) (cases_lt at.place told.place)) (cases_lt told.place at.place)
 
-  pub first_refused : (refusal : Refusal) → members_after_change inputs r wishes read ≡ Err refusal → IsFirstRefused inputs r wishes read refusal
+  pub first_refused : (refusal : Refusal) → members_after_change inputs r wishes read ≡ Err refusal → IsRefusalOfFirstFaultyPackage inputs r wishes read refusal
   unfolding members_after
   first_refused refusal e =
       let at = refused_in first_read (names_before_and_selected r) refusal e in

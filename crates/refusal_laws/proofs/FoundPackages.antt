@@ -22,8 +22,8 @@ use Rattle.report_core.specs.Reports.{Change}
 use Rattle.report_core.specs.declared.refusal.Refusal.{Refusal}
 use Rattle.report_core.specs.declared.refusal.Refusal.TheVariants.{PackageBad, PackageDiffers, PackageMissing, ScriptNeeded}
 use Rattle.refusal_laws.specs.ChangeFaults.{IsFaultOfPackage}
-use Rattle.refusal_laws.specs.AddedPackages.{IsFileOfCandidate, IsFileReadForAddedPackage, selected_of_name}
-use Rattle.refusal_laws.specs.PackageFaults.{IsAddedOrRemoved, IsOtherPackage}
+use Rattle.refusal_laws.specs.AddedPackages.{IsSoundFileOfCandidate, IsFileReadForAddedPackage, selected_candidate_of_name}
+use Rattle.refusal_laws.specs.PackageFaults.{IsAddedOrRemoved, IsFirstFieldThatDiffers}
 use Rattle.refusal_laws.proofs.Coming.{found_ok, path_is}
 use Rattle.refusal_laws.proofs.Lists.{and_then_ok, found_in, in_mapped}
 
@@ -36,7 +36,7 @@ member_name_at_place (x ∷ xs) q (inr more) = let other = member_name_at_place 
 
 -- ---- files
 
-not_other : (c : Candidate) (file : List ℕ) (field : ℕ) (wanted found : List ℕ) → IsFileOfCandidate c file → IsOtherPackage c (package_in_file file) field wanted found → ⊥
+not_other : (c : Candidate) (file : List ℕ) (field : ℕ) (wanted found : List ℕ) → IsSoundFileOfCandidate c file → IsFirstFieldThatDiffers c (package_in_file file) field wanted found → ⊥
 not_other c file field wanted found agrees (inl other) =
     true≢false (sym agrees.id ∙ (ap (λ w. is_same_id w (package_in_file file).id) (sym other.1.0) ∙ (ap (is_same_id wanted) (sym other.1.1) ∙ other.1.2)))
 not_other c file field wanted found agrees (inr (inl other)) = other.2.2 (other.2.0 ∙ (sym agrees.name ∙ sym other.2.1))
@@ -90,7 +90,7 @@ module _ (inputs : Inputs) (r : Replacement) (wishes : ChangeWishes) (read : Rea
 
   -- ---- one that comes
 
-  comes_so : (place : ℕ) (name : List ℕ) (change : Change) (c : Candidate) → slice_get (names_before_and_selected r) place ≡ Some name → change_of_name r name ≡ Some change → selected_of_name r name ≡ Some c
+  comes_so : (place : ℕ) (name : List ℕ) (change : Change) (c : Candidate) → slice_get (names_before_and_selected r) place ≡ Some name → change_of_name r name ≡ Some change → selected_candidate_of_name r name ≡ Some c
       → (o : Option MemberFound) × (member_of_added_name read inputs.root.repositories wishes.no_scripts (first_read + place) name change c ≡ Ok o)
   comes_so place name change c at becomes selected =
       let o = found_at place name at in (

@@ -14,7 +14,7 @@ use Rattle.outcome.specs.package_changes.Changes.{Replacement, change_of_name, i
 use Rattle.outcome.specs.candidate_core.Candidates.{Candidate}
 use Rattle.report_core.specs.Reports.{Change}
 use Rattle.report_core.specs.declared.refusal.Refusal.{Refusal}
-use Rattle.refusal_laws.specs.AddedPackages.{selected_of_name}
+use Rattle.refusal_laws.specs.AddedPackages.{selected_candidate_of_name}
 use Rattle.refusal_laws.specs.ChangeFaults.{IsFaultOfPackage}
 use Rattle.refusal_laws.proofs.Coming.{IsNameAt, brought, coming_fault, script_fault}
 use Rattle.refusal_laws.proofs.Lists.{and_then_err}
@@ -40,13 +40,13 @@ module _ (inputs : Inputs) (r : Replacement) (wishes : ChangeWishes) (read : Rea
 
   -- ---- one name
 
-  goes_fault : (name : List ℕ) (change : Change) (before : Option Plain) (refusal : Refusal) → find (is_package_named name) r.before ≡ before → selected_of_name r name ≡ None → change_of_name r name ≡ Some change
+  goes_fault : (name : List ℕ) (change : Change) (before : Option Plain) (refusal : Refusal) → find (is_package_named name) r.before ≡ before → selected_candidate_of_name r name ≡ None → change_of_name r name ≡ Some change
       → member_of_removed_name wishes.no_scripts name change before ≡ Err refusal → IsSo refusal
   goes_fault name change None refusal is unselected becomes e = absurd (cc (e))
   goes_fault name change (Some pkg) refusal is unselected becomes e =
       script_fault inputs r wishes read name pkg change None refusal (inr (record { before = is; unselected = unselected })) becomes e
 
-  comes_fault : (n : ℕ) (name : List ℕ) (change : Change) (c : Candidate) (refusal : Refusal) → IsNameAt inputs r n name → selected_of_name r name ≡ Some c → change_of_name r name ≡ Some change
+  comes_fault : (n : ℕ) (name : List ℕ) (change : Change) (c : Candidate) (refusal : Refusal) → IsNameAt inputs r n name → selected_candidate_of_name r name ≡ Some c → change_of_name r name ≡ Some change
       → member_of_added_name read inputs.root.repositories wishes.no_scripts n name change c ≡ Err refusal → IsSo refusal
   comes_fault n name change c refusal at selected becomes e =
       elim (and_then_err (added_package_by_path read n c (package_file_of inputs.root.repositories c)) (λ pkg.
@@ -56,7 +56,7 @@ module _ (inputs : Inputs) (r : Replacement) (wishes : ChangeWishes) (read : Rea
             (inl (next.0, brought inputs r wishes read n name at change becomes c selected next.0 next.1, refl)) becomes next.2
       ]
 
-  selected_fault : (n : ℕ) (name : List ℕ) (change : Change) (selected : Option Candidate) (refusal : Refusal) → IsNameAt inputs r n name → selected_of_name r name ≡ selected → change_of_name r name ≡ Some change
+  selected_fault : (n : ℕ) (name : List ℕ) (change : Change) (selected : Option Candidate) (refusal : Refusal) → IsNameAt inputs r n name → selected_candidate_of_name r name ≡ selected → change_of_name r name ≡ Some change
       → member_of_name_by_selected read inputs.root.repositories wishes.no_scripts n name change (find (is_package_named name) r.before) selected ≡ Err refusal → IsSo refusal
   selected_fault n name change None refusal at is becomes e = goes_fault name change (find (is_package_named name) r.before) refusal refl is becomes e
   selected_fault n name change (Some c) refusal at is becomes e = comes_fault n name change c refusal at is becomes e

@@ -21,13 +21,13 @@ use Rattle.outcome.specs.v2_core.Payload.{payload_of_text}
 use Rattle.outcome.specs.v2_core.declared.read.V2Fault.{V2Fault}
 use Rattle.outcome.specs.v2_core.declared.read.V2Fault.TheVariants.{Bad, Memory, TooLarge}
 use Rattle.refusal_laws.specs.InputFaults.{IsIndexRead, repositories_file_text}
-use Rattle.refusal_laws.specs.ReadBefore.{AreEarlierIndexesSound, HasDatabaseAndWorld, HasDatabase, HasIndexes, HasIndexesBefore, AllowsUntrusted, HasReadBefore}
+use Rattle.refusal_laws.specs.ReadBefore.{AreEarlierIndexesSound, HasDatabaseAndWorld, HasDatabase, HasIndexes, HasIndexesBefore, AllowsUntrusted, HasPassedInputsBeforeRefusal}
 use Rattle.refusal_laws.proofs.InputFaults.{as_err, cause_err, no_refusal, root_listed, world_then}
 use Rattle.refusal_laws.proofs.Lists.{and_then_err, and_then_ok}
 
 module _ (command : CommandLine) (read : Reads) where
   abbrev IsSo : Refusal → Type 0
-  IsSo refusal = HasReadBefore command read refusal
+  IsSo refusal = HasPassedInputsBeforeRefusal command read refusal
 
   payload_told : (payload : Result (List ℕ) V2Fault) (refusal : Refusal) → payload_database payload ≡ Err refusal → IsSo refusal
   payload_told (Ok payload) refusal e = absurd (cc (e))
@@ -270,7 +270,7 @@ module _ (command : CommandLine) (read : Reads) where
           | inr next ↦ bad_told next.0 refusal next.1 (first_bad first_index_read_number 1 root.repositories next.0 refusal next.1 next.2)
         ]
 
-  pub read_before : (refusal : Refusal) → inputs_of command read ≡ Err refusal → HasReadBefore command read refusal
+  pub read_before : (refusal : Refusal) → inputs_of command read ≡ Err refusal → HasPassedInputsBeforeRefusal command read refusal
   unfolding inputs_of
   read_before refusal e =
       elim (and_then_err (root_for command read) (λ root. and_then (indexes_of read root.repositories) (λ indexes. Ok (inputs_from_parts root indexes))) refusal e) [

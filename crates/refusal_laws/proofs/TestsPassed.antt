@@ -25,7 +25,7 @@ use Rattle.outcome.specs.path_clashes.Clash.{NamePair}
 use Rattle.report_core.specs.declared.refusal.Refusal.{Refusal}
 use Rattle.report_core.specs.declared.refusal.Refusal.TheVariants.{Owned, PathClash, Reserved, TriggerNeeded}
 use Rattle.refusal_laws.specs.ChangeFaults.{HasPatternOfTouchedFolder}
-use Rattle.refusal_laws.specs.TestsPassed.{AreAddedPathsUnreserved, PassesChangeTestsExceptLimits, HasNoDueTrigger, PassesNameTests, PassesFileTests, HasPassedBefore}
+use Rattle.refusal_laws.specs.TestsPassed.{AreAddedPathsUnreserved, PassesChangeTestsExceptLimits, HasNoDueTrigger, HasNoReservedOrClashingPath, HasNoReservedClashingOrUnownedPath, HasPassedTestsBeforeRefusal}
 use Rattle.refusal_laws.proofs.ChangeFaults.{kept_test, large_told, trigger_of}
 use Rattle.refusal_laws.proofs.Lists.{and_then_err, and_then_ok, in_any, in_mapped, name_in}
 use Rattle.refusal_laws.proofs.Paths.{are_unreserved, have_owners}
@@ -62,14 +62,14 @@ module _ (inputs : Inputs) (r : Replacement) (wishes : ChangeWishes) (files : Fi
   change = file_change inputs wishes found
 
   abbrev IsSo : Refusal → Type 0
-  IsSo refusal = HasPassedBefore wishes change files refusal
+  IsSo refusal = HasPassedTestsBeforeRefusal wishes change files refusal
 
   abbrev with_triggers : Result ChangeDone Refusal
   with_triggers = and_then (unless_trigger_due wishes.no_scripts (touched_paths change files) change.members) (λ is_allowed. unless_too_large inputs r wishes found files)
 
   -- ---- refused
 
-  trigger_passed : (no_scripts : Bool) (refusal : Refusal) → PassesFileTests change files → unless_trigger_due no_scripts (touched_paths change files) change.members ≡ Err refusal → IsSo refusal
+  trigger_passed : (no_scripts : Bool) (refusal : Refusal) → HasNoReservedClashingOrUnownedPath change files → unless_trigger_due no_scripts (touched_paths change files) change.members ≡ Err refusal → IsSo refusal
   trigger_passed true refusal owners e = absurd (none change.members e)
     where
       none : (members : List Member) → unless_trigger_due true (touched_paths change files) members ≡ Err refusal → ⊥
@@ -77,7 +77,7 @@ module _ (inputs : Inputs) (r : Replacement) (wishes : ChangeWishes) (files : Fi
       none (m ∷ members) e = cc (e)
   trigger_passed false refusal owners e = let due = trigger_of (touched_paths change files) change.members refusal e in subst IsSo due.3 owners
 
-  triggers_passed : (refusal : Refusal) → PassesFileTests change files → with_triggers ≡ Err refusal → IsSo refusal
+  triggers_passed : (refusal : Refusal) → HasNoReservedClashingOrUnownedPath change files → with_triggers ≡ Err refusal → IsSo refusal
   triggers_passed refusal owners e =
       elim (and_then_err (unless_trigger_due wishes.no_scripts (touched_paths change files) change.members) (λ is_allowed. unless_too_large inputs r wishes found files) refusal e) [
         | inl first ↦ trigger_passed wishes.no_scripts refusal owners first
@@ -85,7 +85,7 @@ module _ (inputs : Inputs) (r : Replacement) (wishes : ChangeWishes) (files : Fi
             subst IsSo told.2 (owners, no_trigger wishes change files next.0 next.1))
       ]
 
-  owners_passed : (o : Option ContestedPath) (refusal : Refusal) → first_contested_path_of_members change.members ≡ o → PassesNameTests change files → unless_contested change.members o with_triggers ≡ Err refusal → IsSo refusal
+  owners_passed : (o : Option ContestedPath) (refusal : Refusal) → first_contested_path_of_members change.members ≡ o → HasNoReservedOrClashingPath change files → unless_contested change.members o with_triggers ≡ Err refusal → IsSo refusal
   owners_passed None refusal is names e = triggers_passed refusal (names, have_owners change.members is) e
   owners_passed (Some c) refusal is names e =
       let same : Owned c.path (member_name_at_place change.members c.rivals.first) (member_name_at_place change.members c.rivals.second) ≡ refusal = cc in
@@ -96,7 +96,7 @@ module _ (inputs : Inputs) (r : Replacement) (wishes : ChangeWishes) (files : Fi
   clash_passed None refusal is free e = owners_passed (first_contested_path_of_members change.members) refusal refl (free, is) e
   clash_passed (Some pair) refusal is free e = let same : PathClash pair.path pair.other ≡ refusal = cc in subst IsSo same free
 
-  pub files_passed : (clash : Option NamePair) (refusal : Refusal) → IsClashFound inputs wishes files (Ok found) clash → change_with_members inputs r wishes clash files found ≡ Err refusal → HasPassedBefore wishes (file_change inputs wishes found) files refusal
+  pub files_passed : (clash : Option NamePair) (refusal : Refusal) → IsClashFound inputs wishes files (Ok found) clash → change_with_members inputs r wishes clash files found ≡ Err refusal → HasPassedTestsBeforeRefusal wishes (file_change inputs wishes found) files refusal
   files_passed clash refusal is e = by_path (first_reserved_path change.members) refl e
     where
       by_path : (o : Option (List ℕ)) → first_reserved_path change.members ≡ o → unless_reserved_path o (unless_clash clash (unless_contested change.members (first_contested_path_of_members change.members) with_triggers)) ≡ Err refusal → IsSo refusal
@@ -105,7 +105,7 @@ module _ (inputs : Inputs) (r : Replacement) (wishes : ChangeWishes) (files : Fi
 
   -- ---- made
 
-  owners_made : (o : Option ContestedPath) (done : ChangeDone) → first_contested_path_of_members change.members ≡ o → PassesNameTests change files → unless_contested change.members o with_triggers ≡ Ok done → PassesChangeTestsExceptLimits wishes change files
+  owners_made : (o : Option ContestedPath) (done : ChangeDone) → first_contested_path_of_members change.members ≡ o → HasNoReservedOrClashingPath change files → unless_contested change.members o with_triggers ≡ Ok done → PassesChangeTestsExceptLimits wishes change files
   owners_made None done is names e =
       let triggers = and_then_ok (unless_trigger_due wishes.no_scripts (touched_paths change files) change.members) (λ is_allowed. unless_too_large inputs r wishes found files) done e in
       ((names, have_owners change.members is), no_trigger wishes change files triggers.0 triggers.1)
@@ -124,7 +124,7 @@ module _ (inputs : Inputs) (r : Replacement) (wishes : ChangeWishes) (files : Fi
       by_path (Some path) first e = absurd (cc (e))
 
 pub change_passed : (inputs : Inputs) (r : Replacement) (wishes : ChangeWishes) (read : Reads) (clash : Option NamePair) (files : Files) (found : List MemberFound) (refusal : Refusal)
-    → members_after_change inputs r wishes read ≡ Ok found → change_or_refusal inputs r wishes read clash files ≡ Err refusal → IsClashOfChange inputs r wishes read files clash → HasPassedBefore wishes (file_change inputs wishes found) files refusal
+    → members_after_change inputs r wishes read ≡ Ok found → change_or_refusal inputs r wishes read clash files ≡ Err refusal → IsClashOfChange inputs r wishes read files clash → HasPassedTestsBeforeRefusal wishes (file_change inputs wishes found) files refusal
 unfolding change_or_refusal
 change_passed inputs r wishes read clash files found refusal are e is =
     files_passed inputs r wishes files found clash refusal (subst (λ (m : Result (List MemberFound) Refusal). IsClashFound inputs wishes files m clash) are is)

@@ -14,8 +14,8 @@ use Rattle.outcome.specs.candidate_core.Candidates.{Candidate, is_same_id}
 use Rattle.report_core.specs.Reports.{Change}
 
 -- the selected candidate of a name, if there is one
-abbrev pub selected_of_name : Replacement → List ℕ → Option Candidate
-selected_of_name r name = find (is_candidate_named name) r.selected
+abbrev pub selected_candidate_of_name : Replacement → List ℕ → Option Candidate
+selected_candidate_of_name r name = find (is_candidate_named name) r.selected
 
 -- what the read with this number finds under the path of a candidate's file; nothing, if it has no such
 -- path
@@ -31,7 +31,7 @@ pub record IsFileReadForAddedPackage (inputs : Inputs) (r : Replacement) (read :
     (file : Option (List ℕ)) : Type 0 where
   -- the selected candidate of this name
   pub candidate : Candidate
-  pub selected : selected_of_name r name ≡ Some candidate
+  pub selected : selected_candidate_of_name r name ≡ Some candidate
   -- the text of its version
   pub has_version : candidate_version_text candidate ≡ version
   -- the change of the package with this name
@@ -46,7 +46,7 @@ pub record IsFileReadForAddedPackage (inputs : Inputs) (r : Replacement) (read :
       inputs.root.repositories candidate ≡ file
 
 -- a file passes all tests, and the package in it has the candidate's id, name and version
-pub record IsFileOfCandidate (c : Candidate) (file : List ℕ) : Type 0 where
+pub record IsSoundFileOfCandidate (c : Candidate) (file : List ℕ) : Type 0 where
   -- the file passes all tests
   pub sound : package_fault file ≡ None
   -- the package in the file has the candidate's id
@@ -65,6 +65,6 @@ pub record IsAddedAsSelected (inputs : Inputs) (r : Replacement) (read : Reads) 
   pub file : List ℕ
   pub is_read : IsFileReadForAddedPackage inputs r read name version (Some file)
   -- the package in the file has the id, the name and the version of the candidate
-  pub as_selected : IsFileOfCandidate is_read.candidate file
+  pub as_selected : IsSoundFileOfCandidate is_read.candidate file
   -- the package is the one in the file
   pub is_package : pkg ≡ package_in_file file

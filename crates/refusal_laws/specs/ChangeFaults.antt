@@ -27,7 +27,7 @@ use Rattle.outcome.specs.package_changes.Changes.{Replacement}
 use Rattle.outcome.specs.path_clashes.Clash.{IsFirstClash}
 use Rattle.report_core.specs.declared.refusal.Refusal.{Refusal}
 use Rattle.report_core.specs.declared.refusal.Refusal.TheVariants.{Owned, PackageBad, PackageDiffers, PackageMissing, PathClash, Reserved, ResultTooLarge, ScriptNeeded, TriggerNeeded}
-use Rattle.refusal_laws.specs.PackageFaults.{IsFileBad, IsPackageMissing, IsFileOfOtherPackage, IsFirstScriptRunAndNotSkipped}
+use Rattle.refusal_laws.specs.PackageFaults.{IsAddedPackageFileBad, IsAddedPackageFileMissing, IsFileOfOtherPackage, IsFirstScriptRunAndNotSkipped}
 
 -- ---- paths
 
@@ -42,7 +42,7 @@ pub record IsFirstReservedAddedPath (members : List Member) (path : List ℕ) : 
       → precedes other path ≡ false
 
 -- a package of this name lists the path, by this listing
-pub record IsListedBy (members : List Member) (path name : List ℕ) (l : Listing) : Type 0 where
+pub record IsListingOfPathByName (members : List Member) (path name : List ℕ) (l : Listing) : Type 0 where
   -- the listing is one of the packages after the change
   pub listed : IsIn l (member_listings members)
   -- the listing is for this path
@@ -61,10 +61,10 @@ pub record IsFirstContestedPath (members : List Member) (path one other : List �
       → is_some (owner_of_path members l.path) ≡ true
   -- the listing of the first of the two packages
   pub by_one : Listing
-  pub lists_one : IsListedBy members path one by_one
+  pub lists_one : IsListingOfPathByName members path one by_one
   -- the listing of the second of the two packages
   pub by_other : Listing
-  pub lists_other : IsListedBy members path other by_other
+  pub lists_other : IsListingOfPathByName members path other by_other
   -- the listings are of two different packages
   pub apart : by_one.place ≡ by_other.place → ⊥
   -- the first package does not take over files of the second
@@ -150,9 +150,9 @@ IsFaultOfFiles inputs wishes files found other = ⊥
 -- a refusal is true of the added and removed packages
 abbrev pub IsFaultOfPackage : Inputs → Replacement → ChangeWishes → Reads → Refusal → Type 0
 IsFaultOfPackage inputs r wishes read (PackageMissing name version) =
-    IsPackageMissing inputs r read name version
+    IsAddedPackageFileMissing inputs r read name version
 IsFaultOfPackage inputs r wishes read (PackageBad name version cause) =
-    IsFileBad inputs r read name version cause
+    IsAddedPackageFileBad inputs r read name version cause
 IsFaultOfPackage inputs r wishes read (PackageDiffers name version field wanted found) =
     IsFileOfOtherPackage inputs r read name version field wanted found
 IsFaultOfPackage inputs r wishes read (ScriptNeeded name script) =

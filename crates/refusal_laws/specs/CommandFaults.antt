@@ -24,12 +24,12 @@ use Rattle.refusal_laws.specs.InputFaults.{IsCountReportedAsTooMany, IsFaultOfIn
 
 -- a name is unknown to the command: `del` needs one that is in world or installed, `upgrade` and `fix`
 -- one that is installed
-abbrev pub IsUnknownTo : Applet → Inputs → List ℕ → Type 0
-IsUnknownTo Del inputs name =
+abbrev pub IsNameUnknownToApplet : Applet → Inputs → List ℕ → Type 0
+IsNameUnknownToApplet Del inputs name =
     (has_name name inputs.root.world ≡ false) × (is_installed_name inputs name ≡ false)
-IsUnknownTo Upgrade inputs name = is_installed_name inputs name ≡ false
-IsUnknownTo Fix inputs name = is_installed_name inputs name ≡ false
-IsUnknownTo applet inputs name = ⊥
+IsNameUnknownToApplet Upgrade inputs name = is_installed_name inputs name ≡ false
+IsNameUnknownToApplet Fix inputs name = is_installed_name inputs name ≡ false
+IsNameUnknownToApplet applet inputs name = ⊥
 
 -- the operand at this place of the command line is a name that the command does not know
 pub record IsUnknownOperand (command : CommandLine) (inputs : Inputs) (place : ℕ) : Type 0 where
@@ -39,10 +39,10 @@ pub record IsUnknownOperand (command : CommandLine) (inputs : Inputs) (place : �
   -- the operand has this place in the command line
   pub at : operand.place ≡ place
   -- the command does not know its text
-  pub unknown : IsUnknownTo command.applet inputs operand.text
+  pub unknown : IsNameUnknownToApplet command.applet inputs operand.text
 
 -- no selection of the candidates satisfies the new world
-pub record IsUnsatisfied (command : CommandLine) (inputs : Inputs) : Type 0 where
+pub record IsNewWorldUnsatisfiable (command : CommandLine) (inputs : Inputs) : Type 0 where
   -- the candidates of the command, under its new world
   pub pool : SealedPool
   pub is_pool : pool_of_inputs command inputs ≡ Ok pool
@@ -53,7 +53,7 @@ pub record IsUnsatisfied (command : CommandLine) (inputs : Inputs) : Type 0 wher
 abbrev pub IsFaultOfSelection : CommandLine → Inputs → Refusal → Type 0
 IsFaultOfSelection command inputs (TooMany count) = IsCountReportedAsTooMany inputs count
 IsFaultOfSelection command inputs (NotInstalled place) = IsUnknownOperand command inputs place
-IsFaultOfSelection command inputs Unsatisfied = IsUnsatisfied command inputs
+IsFaultOfSelection command inputs Unsatisfied = IsNewWorldUnsatisfiable command inputs
 IsFaultOfSelection command inputs other = ⊥
 
 -- ---- a command

@@ -61,7 +61,7 @@ pub record IsFirstNotInstalled (command : CommandLine) (packages : List Plain)
 -- ---- a refusal
 
 -- the database is found, and a refusal is that of an operand, by its packages
-pub record IsFaultOfOperand (command : CommandLine) (read : Reads) (refusal : Refusal) : Type 0 where
+pub record IsFaultOfOperandNotInstalled (command : CommandLine) (read : Reads) (refusal : Refusal) : Type 0 where
   -- the database that the command reads
   pub database : Database
   pub is_database : database_for command read ≡ Ok database
@@ -71,10 +71,10 @@ pub record IsFaultOfOperand (command : CommandLine) (read : Reads) (refusal : Re
 -- a refusal of `info` is true: of the database; or, if that is found, of an operand
 abbrev pub IsFaultOfInfo : CommandLine → Reads → Refusal → Type 0
 IsFaultOfInfo command read refusal =
-    IsFaultOfDatabase command read refusal ⊎ IsFaultOfOperand command read refusal
+    IsFaultOfDatabase command read refusal ⊎ IsFaultOfOperandNotInstalled command read refusal
 
 -- what each operand asks for is installed, by the packages of the database
-pub record AreOperandsFound (command : CommandLine) (read : Reads) : Type 0 where
+pub record AreOperandsFoundInstalled (command : CommandLine) (read : Reads) : Type 0 where
   -- the database that the command reads
   pub database : Database
   pub is_database : database_for command read ≡ Ok database

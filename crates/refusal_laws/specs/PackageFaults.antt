@@ -17,16 +17,16 @@ use Rattle.outcome.specs.pkg_core.Whole.{package_fault}
 use Rattle.outcome.specs.candidate_core.Candidates.{Candidate, is_same_id}
 use Rattle.report_core.specs.Numbers.{HASHES_FIELD, NAME_FIELD, VERSION_FIELD}
 use Rattle.report_core.specs.Reports.{Change}
-use Rattle.refusal_laws.specs.AddedPackages.{IsAddedAsSelected, IsFileReadForAddedPackage, selected_of_name}
+use Rattle.refusal_laws.specs.AddedPackages.{IsAddedAsSelected, IsFileReadForAddedPackage, selected_candidate_of_name}
 
 -- ---- its file
 
 -- a candidate of this name and version is added, and no file of it is found
-abbrev pub IsPackageMissing : Inputs → Replacement → Reads → List ℕ → List ℕ → Type 0
-IsPackageMissing inputs r read name version = IsFileReadForAddedPackage inputs r read name version None
+abbrev pub IsAddedPackageFileMissing : Inputs → Replacement → Reads → List ℕ → List ℕ → Type 0
+IsAddedPackageFileMissing inputs r read name version = IsFileReadForAddedPackage inputs r read name version None
 
 -- the file of an added package is there, and this is the first test that it fails
-pub record IsFileBad (inputs : Inputs) (r : Replacement) (read : Reads) (name version : List ℕ)
+pub record IsAddedPackageFileBad (inputs : Inputs) (r : Replacement) (read : Reads) (name version : List ℕ)
     (cause : Cause) : Type 0 where
   -- the bytes of the package's file
   pub file : List ℕ
@@ -53,8 +53,8 @@ HasOtherVersion c pkg wanted found =
 
 -- the package in a file is not the candidate's: the id is another; or it is the same, and the name is
 -- another; or both are the same, and the version is another
-abbrev pub IsOtherPackage : Candidate → AddedPackage → ℕ → List ℕ → List ℕ → Type 0
-IsOtherPackage c pkg field wanted found =
+abbrev pub IsFirstFieldThatDiffers : Candidate → AddedPackage → ℕ → List ℕ → List ℕ → Type 0
+IsFirstFieldThatDiffers c pkg field wanted found =
     ((field ≡ HASHES_FIELD) × HasOtherId c pkg wanted found)
     ⊎ (((field ≡ NAME_FIELD) × (is_same_id c.id pkg.id ≡ true) × HasOtherName c pkg wanted found)
     ⊎ ((field ≡ VERSION_FIELD) × (is_same_id c.id pkg.id ≡ true) × (c.name ≡ package_name pkg.value)
@@ -70,7 +70,7 @@ pub record IsFileOfOtherPackage (inputs : Inputs) (r : Replacement) (read : Read
   -- the file passes all tests
   pub sound : package_fault file ≡ None
   -- the id, the name or the version in it differs from the candidate's
-  pub other : IsOtherPackage is_read.candidate (package_in_file file) field wanted found
+  pub other : IsFirstFieldThatDiffers is_read.candidate (package_in_file file) field wanted found
 
 -- ---- scripts
 
@@ -79,7 +79,7 @@ pub record IsRemovedPackage (r : Replacement) (name : List ℕ) (pkg : Plain) : 
   -- the package of this name before the change
   pub before : find (is_package_named name) r.before ≡ Some pkg
   -- no selected candidate has the name
-  pub unselected : selected_of_name r name ≡ None
+  pub unselected : selected_candidate_of_name r name ≡ None
 
 -- a package of this name is added or removed
 abbrev pub IsAddedOrRemoved : Inputs → Replacement → Reads → List ℕ → Plain → Type 0

@@ -12,7 +12,7 @@ use Rattle.outcome.specs.db_core.Packages.{is_package_named}
 use Rattle.outcome.specs.make_info.Reads.{Reads}
 use Rattle.outcome.specs.package_changes.Changes.{Replacement, change_of_name, is_candidate_this_package}
 use Rattle.outcome.specs.candidate_core.Candidates.{Candidate}
-use Rattle.refusal_laws.specs.AddedPackages.{IsAddedAsSelected, selected_of_name}
+use Rattle.refusal_laws.specs.AddedPackages.{IsAddedAsSelected, selected_candidate_of_name}
 
 -- a member is the package of its name before, to the letter, which is the selected candidate and does
 -- not change
@@ -43,7 +43,7 @@ pub record IsSelectedMember (inputs : Inputs) (r : Replacement) (read : Reads) (
     Type 0 where
   -- the selected candidate of the member's name
   pub candidate : Candidate
-  pub selected : selected_of_name r (member_name f.member) ≡ Some candidate
+  pub selected : selected_candidate_of_name r (member_name f.member) ≡ Some candidate
   -- the member is the package before, or it is added
   pub is : IsUnchangedMember r (member_name f.member) candidate f
       ⊎ IsAddedMember inputs r read (member_name f.member) f

@@ -24,17 +24,17 @@ ghost use Rattle.outcome.specs.path_clashes.Clash.{NamePair};
 ghost use Rattle.report_core.specs.declared.refusal.Refusal.{Refusal};
 ghost use Rattle.refusal_laws.specs.ChangeFaults.{IsFaultOfChange, IsFaultOfPackage};
 ghost use Rattle.refusal_laws.specs.CommandFaults.{IsFaultOfCommand};
-ghost use Rattle.refusal_laws.specs.FirstPackage.{IsFirstRefused};
-ghost use Rattle.refusal_laws.specs.InfoFaults.{AreOperandsFound, IsFaultOfDatabase, IsFaultOfInfo, IsFaultOfOperand};
+ghost use Rattle.refusal_laws.specs.FirstPackage.{IsRefusalOfFirstFaultyPackage};
+ghost use Rattle.refusal_laws.specs.InfoFaults.{AreOperandsFoundInstalled, IsFaultOfDatabase, IsFaultOfInfo, IsFaultOfOperandNotInstalled};
 ghost use Rattle.refusal_laws.specs.InputFaults.{IsFaultOfInput};
 ghost use Rattle.refusal_laws.specs.MadeTooLarge.{IsPackageTooLarge};
-ghost use Rattle.refusal_laws.specs.OperandsKnown.{HasPassedBeforeSelection};
+ghost use Rattle.refusal_laws.specs.OperandsKnown.{HasPassedBeforeSelectionRefusal};
 ghost use Rattle.refusal_laws.specs.PackagesAfter.{AreSelectedMembers};
 ghost use Rattle.refusal_laws.specs.QueryFaults.{IsFaultOfQuery};
-ghost use Rattle.refusal_laws.specs.ReadBefore.{HasReadBefore};
-ghost use Rattle.refusal_laws.specs.RunFaults.{IsFaultOfRun, IsFaultOfCommandOver};
+ghost use Rattle.refusal_laws.specs.ReadBefore.{HasPassedInputsBeforeRefusal};
+ghost use Rattle.refusal_laws.specs.RunFaults.{IsFaultOfRun, IsFaultOfCommandOverFiles};
 ghost use Rattle.refusal_laws.specs.RunMade.{HasFaultlessFirstPreferredSelection};
-ghost use Rattle.refusal_laws.specs.TestsPassed.{HasPassedBefore, PassesChangeTestsExceptLimits};
+ghost use Rattle.refusal_laws.specs.TestsPassed.{HasPassedTestsBeforeRefusal, PassesChangeTestsExceptLimits};
 ghost use Rattle.outcome.specs.tell_core.AuditResult.{audit_result, manifest_result};
 ghost use Rattle.outcome.specs.tell_core.InfoResult.{info_result};
 ghost use Rattle.outcome.specs.tell_core.QueryResult.{query_result};
@@ -50,7 +50,7 @@ pub fn a_refused_input_has_its_fault()
         → inputs_of command read ≡ Err refusal → IsFaultOfInput command read refusal }
     // The inputs that precede the refused one in this order were read, and have no fault.
     ensures order { (command : CommandLine) (read : Reads) (refusal : Refusal)
-        → inputs_of command read ≡ Err refusal → HasReadBefore command read refusal }
+        → inputs_of command read ≡ Err refusal → HasPassedInputsBeforeRefusal command read refusal }
 {}
 
 /// If `info` is refused, it is for a fault of the database, or for the first operand that asks for
@@ -64,11 +64,11 @@ pub fn a_refused_info_has_its_fault()
     ensures following_refusal { (command : CommandLine) (read : Reads) (done : ReportAndRefusal)
         (refusal : Refusal)
         → info_result command read ≡ Ok done → done.following_refusal ≡ Some refusal
-        → (command.flags.installed ≡ true) × IsFaultOfOperand command read refusal }
+        → (command.flags.installed ≡ true) × IsFaultOfOperandNotInstalled command read refusal }
     // No refusal.
     ensures told { (command : CommandLine) (read : Reads) (done : ReportAndRefusal)
         → info_result command read ≡ Ok done → done.following_refusal ≡ None
-        → AreOperandsFound command read }
+        → AreOperandsFoundInstalled command read }
 {}
 
 /// If an `audit` is refused, it is for a fault of the database. A difference is no refusal.
@@ -108,7 +108,7 @@ pub fn a_refused_run_has_its_fault()
     // For a command, and the files on which it works after recovery.
     ensures over { (command : CommandLine) (files : Files) (o : Outcome) (refusal : Refusal)
         → effect_of command.applet ≡ Changes → IsOutcomeOverRecoveredFiles command files o
-        → o.refusal ≡ Some refusal → IsFaultOfCommandOver command files refusal }
+        → o.refusal ≡ Some refusal → IsFaultOfCommandOverFiles command files refusal }
     // For a command line, and the files with which its run begins.
     ensures words { (words : List (List ℕ)) (command : CommandLine) (files : Files) (o : Outcome)
         (refusal : Refusal) → command_of words ≡ Ok command
@@ -136,7 +136,7 @@ pub fn a_refused_command_has_its_fault()
 pub fn a_refused_selection_has_passed_the_tests_before()
     ensures { (command : CommandLine) (inputs : Inputs) (chosen : Option (List ℕ))
         (refusal : Refusal) → selected_of_inputs command chosen inputs ≡ Err refusal
-        → HasPassedBeforeSelection command inputs refusal }
+        → HasPassedBeforeSelectionRefusal command inputs refusal }
 {}
 
 /// A refusal for the files of a change follows the tests before it. A clash of names is refused
@@ -148,7 +148,7 @@ pub fn a_refused_change_has_passed_the_tests_before()
         → members_after_change inputs r wishes read ≡ Ok found
         → change_or_refusal inputs r wishes read clash files ≡ Err refusal
         → IsClashOfChange inputs r wishes read files clash
-        → HasPassedBefore wishes (file_change inputs wishes found) files refusal }
+        → HasPassedTestsBeforeRefusal wishes (file_change inputs wishes found) files refusal }
 {}
 
 /// If the packages after a change are found, no added or removed package has a fault. A change that
@@ -174,7 +174,7 @@ pub fn a_change_that_is_made_has_no_fault()
 pub fn a_refused_package_is_the_first_with_a_fault()
     ensures { (inputs : Inputs) (r : Replacement) (wishes : ChangeWishes) (read : Reads)
         (refusal : Refusal) → members_after_change inputs r wishes read ≡ Err refusal
-        → IsFirstRefused inputs r wishes read refusal }
+        → IsRefusalOfFirstFaultyPackage inputs r wishes read refusal }
 {}
 
 /// The packages after a change are the selected ones. An added one is as in its file, with the

@@ -34,7 +34,7 @@ use Rattle.make_index.specs.pkg_core.Whole.{files_read_from_package, package_fau
 use Rattle.engine_core.specs.candidate_core.Candidates.{Candidate, is_same_id}
 use Rattle.report_core.specs.Reports.{Change}
 use Rattle.report_core.specs.declared.refusal.Refusal.{Refusal}
-use Rattle.root_laws.specs.RootLeft.{FindBytes}
+use Rattle.root_laws.specs.RootLeft.{AreAllReadFilesBytes}
 use Rattle.root_laws.proofs.SoundBefore.{AllSound}
 
 -- what the laws of the crates below say
@@ -71,7 +71,7 @@ kept_package r = r
 abbrev kept_found : Option MemberFound → Result (Option MemberFound) Refusal
 kept_found o = Ok o
 
-module _ (come : FilesMayCome) (tested : PackagesAreTested) (read : Reads) (bytes : FindBytes read) where
+module _ (come : FilesMayCome) (tested : PackagesAreTested) (read : Reads) (bytes : AreAllReadFilesBytes read) where
   -- its name and its version are the candidate's
   different_ok : (c : Candidate) (pkg p : AddedPackage) → unless_different c pkg ≡ Ok p → (p ≡ pkg) × (package_name pkg.value ≡ c.name)
   different_ok c pkg p e = by_tests _ _ _ (is_same_id c.id pkg.id) (bytes_eq c.name (package_name pkg.value)) (bytes_eq (candidate_version_text c) (package_version_text pkg.value)) refl e

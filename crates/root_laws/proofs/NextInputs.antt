@@ -19,8 +19,8 @@ use Rattle.make_index.specs.make_info.Reads.{Reads}
 use Rattle.report_core.specs.declared.refusal.Refusal.{Refusal}
 use Rattle.report_core.specs.declared.refusal.Refusal.TheVariants.{IndexBad, RepositoriesBad}
 use Rattle.root_names.specs.RootNames.{repositories_name, world_name}
-use Rattle.root_laws.specs.NextInputs.{AreInputsFrom, IsOfRepositories}
-use Rattle.root_laws.specs.RootLeft.{IsRootLeft, ReadsRoot, database_of_members}
+use Rattle.root_laws.specs.NextInputs.{AreInputsOfRootLeft, IsRefusalOfRepositories}
+use Rattle.root_laws.specs.RootLeft.{IsRootLeftByChange, ReadsDatabaseAndWorldOfFiles, database_of_members}
 use Rattle.root_laws.proofs.SoundBefore.{inputs_parts}
 
 -- ---- inputs
@@ -29,8 +29,8 @@ one_answer : {A : Type 0} (r : Result A Refusal) (x y : A) → r ≡ Ok x → r 
 one_answer (Ok a) x y e h = (cc (e, h))
 one_answer (Err refusal) x y e h = absurd (cc (e))
 
-pub begins : (command later : CommandLine) (read next : Reads) (chosen : Option (List ℕ)) (done : ChangeDone) (left : IsRootLeft command read chosen done) (inputs : Inputs)
-    → ReadsRoot done.files next → inputs_of later next ≡ Ok inputs → AreInputsFrom left inputs
+pub begins : (command later : CommandLine) (read next : Reads) (chosen : Option (List ℕ)) (done : ChangeDone) (left : IsRootLeftByChange command read chosen done) (inputs : Inputs)
+    → ReadsDatabaseAndWorldOfFiles done.files next → inputs_of later next ≡ Ok inputs → AreInputsOfRootLeft left inputs
 begins command later read next chosen done left inputs reads e =
     let is = inputs_parts later next inputs e in
     record {
@@ -43,7 +43,7 @@ begins command later read next chosen done left inputs reads e =
 -- where it is refused, it is for the repositories or an index
 abbrev FailsOfRepositories : {A : Type 0} → Result A Refusal → Type 0
 FailsOfRepositories (Ok a) = Unit {0}
-FailsOfRepositories (Err refusal) = IsOfRepositories refusal
+FailsOfRepositories (Err refusal) = IsRefusalOfRepositories refusal
 
 then_fails : {A B : Type 0} (r : Result A Refusal) (next : A → Result B Refusal) → FailsOfRepositories r → ((a : A) → FailsOfRepositories (next a)) → FailsOfRepositories (and_then r next)
 then_fails (Ok a) next h f = f a
@@ -106,8 +106,8 @@ module _ (later : CommandLine) (next : Reads) (database : Database) (world : Lis
       then_fails (root_for later next) (λ root. and_then (indexes_of next root.repositories) (λ indexes. Ok (inputs_from_parts root indexes))) root_fails
       (λ root. then_fails (indexes_of next root.repositories) (λ indexes. Ok (inputs_from_parts root indexes)) (found_fail (index_reads_from next first_index_read_number root.repositories)) (λ indexes. tt))
 
-pub refused : (command later : CommandLine) (read next : Reads) (chosen : Option (List ℕ)) (done : ChangeDone) → IsRootLeft command read chosen done → (refusal : Refusal)
-    → ReadsRoot done.files next → inputs_of later next ≡ Err refusal → IsOfRepositories refusal
+pub refused : (command later : CommandLine) (read next : Reads) (chosen : Option (List ℕ)) (done : ChangeDone) → IsRootLeftByChange command read chosen done → (refusal : Refusal)
+    → ReadsDatabaseAndWorldOfFiles done.files next → inputs_of later next ≡ Err refusal → IsRefusalOfRepositories refusal
 refused command later read next chosen done left refusal reads e =
     subst (λ (r : Result Inputs Refusal). FailsOfRepositories r) e
     (inputs_fail later next (database_of_members (found_members left.found) left.bytes) left.selected.inputs.root.new_world (left.database later next reads) (left.world next reads))

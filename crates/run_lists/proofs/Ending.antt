@@ -16,7 +16,7 @@ use Rattle.apk_front.specs.outcome.Effect.{output}
 use Rattle.apk_front.specs.outcome.Outcome.{Outcome}
 use Rattle.report_core.specs.declared.refusal.Refusal.{Refusal}
 use Rattle.apk_front.specs.words_core.Grammar.{command_of}
-use Rattle.run_lists.specs.Events.{HasCommit, IsRunWithoutCommit, IsOutcomeFrom, IsRunFrom, Run, ignored_after_answer, ignored_during_run}
+use Rattle.run_lists.specs.Events.{HasOutcomeThatCommits, IsRunWithoutCommit, IsOutcomeFrom, IsRunFrom, Run, ignored_after_answer, ignored_during_run}
 use Rattle.run_lists.specs.Safety.{LeavesFilesOfAnsweredOutcome}
 use Rattle.run_lists.proofs.AtMoments.{now_at}
 use Rattle.run_lists.proofs.Facts.{AreMore, Facts, Ignored}
@@ -48,7 +48,7 @@ module _ (facts : Facts) (ignored : Ignored) (v : TreeState) (run : Run) (is_run
   written l commits = resting.rest (ignored_except_output (output run.words) ignored) l.outcome.files w l.reads (l.durable_state commits)
 
   -- an outcome that commits is at rest
-  pub ends_at_rest : AnswersOutcome run.answer → HasCommit v run → Q (ignored_after_answer run.answer run ignored) w
+  pub ends_at_rest : AnswersOutcome run.answer → HasOutcomeThatCommits v run → Q (ignored_after_answer run.answer run ignored) w
   ends_at_rest answers (o, one, commits) =
       let l = leaves answers in
       let same : l.outcome.commits ≡ true = ap (λ (x : Outcome). x.commits) (facts.unique run.words (files_of v) l.outcome o l.is_outcome one) ∙ commits in

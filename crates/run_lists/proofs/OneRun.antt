@@ -12,12 +12,12 @@ use Rattle.base_core.specs.Files.{Files}
 use Rattle.base_core.specs.Sink.{SinkBeforeAndAfter}
 use Rattle.base_core.specs.Tree.{TreeState, files_of}
 use Rattle.apk_front.specs.journal_core.Quiet.{EachCrashLeavesOld, StateIsUnchanged}
-use Rattle.apk_front.specs.journal_core.Recovery.{EachCrashLeaves, StateDependsOn, intent_name}
+use Rattle.apk_front.specs.journal_core.Recovery.{EachCrashLeavesStateOf, StateDependsOn, intent_name}
 use Rattle.apk_front.specs.journal_core.Replacing.{IsMomentOfReplacing}
 use Rattle.apk_front.specs.outcome.Effect.{Effect, effect_of_arguments, output}
 use Rattle.apk_front.specs.outcome.Outcome.{Outcome}
 use Rattle.apk_front.specs.words_core.Grammar.{command_of}
-use Rattle.run_lists.specs.Events.{HasCommit, IsRunWithoutCommit, IsMomentOf, IsOutcomeFrom, IsRunFrom, Run, ignored_during_run, ignored_with_scratch}
+use Rattle.run_lists.specs.Events.{HasOutcomeThatCommits, IsRunWithoutCommit, IsMomentOf, IsOutcomeFrom, IsRunFrom, Run, ignored_during_run, ignored_with_scratch}
 use Rattle.run_lists.specs.Safety.{HasStateAsReadOrOutcome, IsAtomic, LeavesOldOrOutcome, IsSafeRun, LeavesFilesOfAnsweredOutcome}
 use Rattle.run_lists.proofs.AtMoments.{History, at_last, at_moment, now_at, now_map, now_under, now_with}
 use Rattle.run_lists.proofs.Facts.{Facts, Ignored}
@@ -28,7 +28,7 @@ use Rattle.run_lists.proofs.Names.{but_same, hides, scratch_more}
 pub quiet_self : (ignored : Ignored) (v : TreeState) → EachCrashLeavesOld ignored v v
 quiet_self ignored v image is = (image, is, refl)
 
-pub settled_on : (ignored : Ignored) (files : Files) (v m : TreeState) → EachCrashLeaves ignored files v → EachCrashLeavesOld ignored v m → EachCrashLeaves ignored files m
+pub settled_on : (ignored : Ignored) (files : Files) (v m : TreeState) → EachCrashLeavesStateOf ignored files v → EachCrashLeavesOld ignored v m → EachCrashLeavesStateOf ignored files m
 settled_on ignored files v m settled quiet image is = let was = quiet image is in was.2 ∙ settled was.0 was.1
 
 pub still_self : (ignored : Ignored) (v : TreeState) → IsDurable (StateDependsOn ignored) v → StateIsUnchanged ignored v v
@@ -46,7 +46,7 @@ at_rest_fewer facts o ignored files w rest = record {
 -- ---- a run that commits nothing
 
 module _ (ignored : Ignored) (v : TreeState) (run : Run) (is_run : IsRunFrom v run) (is_durable : IsDurable (StateDependsOn ignored) v) where
-  uncommitted : (HasCommit v run → ⊥) → AreStatesOldOrLeadToOutcome (IsOutcomeFrom v run) (is_some (output run.words)) ignored v run.old run.now → Since (StateIsUnchanged ignored v) run.old run.now
+  uncommitted : (HasOutcomeThatCommits v run → ⊥) → AreStatesOldOrLeadToOutcome (IsOutcomeFrom v run) (is_some (output run.words)) ignored v run.old run.now → Since (StateIsUnchanged ignored v) run.old run.now
   uncommitted never (inl is_unchanged) = is_unchanged
   uncommitted never (inr (o, one, commits, way)) = absurd (never (o, one, commits))
 
@@ -75,10 +75,10 @@ module _ (IsOne : Outcome → Type 0) (unique : (a b : Outcome) → IsOne a → 
   told Leaves failed Memory out err is answers = absurd answers
 
   module _ (effect : Effect) (ignored : Ignored) (v : TreeState) (now : History) where
-    lasts_for : (o p : Outcome) → o ≡ p → (MustOutcomeBeDurable effect ignored v o → HoldsNow now (EachCrashLeaves ignored o.files)) → MustOutcomeBeDurable effect ignored v p → HoldsNow now (EachCrashLeaves ignored p.files)
-    lasts_for o p same last = subst (λ (x : Outcome). (MustOutcomeBeDurable effect ignored v x → HoldsNow now (EachCrashLeaves ignored x.files))) same last
+    lasts_for : (o p : Outcome) → o ≡ p → (MustOutcomeBeDurable effect ignored v o → HoldsNow now (EachCrashLeavesStateOf ignored o.files)) → MustOutcomeBeDurable effect ignored v p → HoldsNow now (EachCrashLeavesStateOf ignored p.files)
+    lasts_for o p same last = subst (λ (x : Outcome). (MustOutcomeBeDurable effect ignored v x → HoldsNow now (EachCrashLeavesStateOf ignored x.files))) same last
 
-    pub lasts : (answer : Answer) → LeavesDurableFilesOnceAnswered IsOne effect ignored v now answer → AnswersOutcome answer → (p : Outcome) → IsOne p → MustOutcomeBeDurable effect ignored v p → HoldsNow now (EachCrashLeaves ignored p.files)
+    pub lasts : (answer : Answer) → LeavesDurableFilesOnceAnswered IsOne effect ignored v now answer → AnswersOutcome answer → (p : Outcome) → IsOne p → MustOutcomeBeDurable effect ignored v p → HoldsNow now (EachCrashLeavesStateOf ignored p.files)
     lasts Done is answers p one = lasts_for is.0 p (unique is.0 p is.1 one) is.3
     lasts (Refused r) is answers p one = lasts_for is.0 p (unique is.0 p is.1 one) is.3
     lasts OutFault is answers p one = lasts_for is.0 p (unique is.0 p is.1 one) is.2
@@ -129,16 +129,16 @@ module _ (facts : Facts) (ignored : Ignored) (v : TreeState) (run : Run) (is_run
       with_outcome : (o : Outcome) → IsOutcomeFrom v run o → Told run.answer o → HoldsNow run.now (λ w. files_of w ≡ o.files) → AnswersOutcome run.answer → HoldsNow run.now (LeavesFilesOfAnsweredOutcome ignored v run)
       with_outcome o one was reads answers =
           now_with run.now (λ w. files_of w ≡ o.files)
-          (λ w. (MustOutcomeBeDurable (effect_of_arguments (command_of run.words)) Now v o → EachCrashLeaves Now o.files w) × (o.commits ≡ true → IsDurableState (ignored_except_output (output run.words) ignored) o.files w))
+          (λ w. (MustOutcomeBeDurable (effect_of_arguments (command_of run.words)) Now v o → EachCrashLeavesStateOf Now o.files w) × (o.commits ≡ true → IsDurableState (ignored_except_output (output run.words) ignored) o.files w))
           (LeavesFilesOfAnsweredOutcome ignored v run)
           (λ w read last. record { outcome = o; is_outcome = one; answered = was; reads = read; settled = last.0; durable_state = last.1 })
           reads
           (now_with run.now
-          (λ w. MustOutcomeBeDurable (effect_of_arguments (command_of run.words)) Now v o → EachCrashLeaves Now o.files w)
+          (λ w. MustOutcomeBeDurable (effect_of_arguments (command_of run.words)) Now v o → EachCrashLeavesStateOf Now o.files w)
           (λ w. o.commits ≡ true → IsDurableState (ignored_except_output (output run.words) ignored) o.files w)
-          (λ w. (MustOutcomeBeDurable (effect_of_arguments (command_of run.words)) Now v o → EachCrashLeaves Now o.files w) × (o.commits ≡ true → IsDurableState (ignored_except_output (output run.words) ignored) o.files w))
+          (λ w. (MustOutcomeBeDurable (effect_of_arguments (command_of run.words)) Now v o → EachCrashLeavesStateOf Now o.files w) × (o.commits ≡ true → IsDurableState (ignored_except_output (output run.words) ignored) o.files w))
           (λ w a b. (a, b))
-          (now_under run.now (MustOutcomeBeDurable (effect_of_arguments (command_of run.words)) Now v o) (EachCrashLeaves Now o.files) (λ w. files_of w ≡ o.files) reads
+          (now_under run.now (MustOutcomeBeDurable (effect_of_arguments (command_of run.words)) Now v o) (EachCrashLeavesStateOf Now o.files) (λ w. files_of w ≡ o.files) reads
           (lasts (IsOutcomeFrom v run) ones (effect_of_arguments (command_of run.words)) Now v run.now run.answer (is_run.settled Now now_durable now_hides) answers o one))
           (now_under run.now (o.commits ≡ true) (IsDurableState (ignored_except_output (output run.words) ignored) o.files) (λ w. files_of w ≡ o.files) reads
           (λ commits. now_map run.now (IsDurableState (ignored_except_output (output run.words) Now) o.files) (IsDurableState (ignored_except_output (output run.words) ignored) o.files)
@@ -154,8 +154,8 @@ module _ (facts : Facts) (ignored : Ignored) (v : TreeState) (run : Run) (is_run
 
   -- ---- all or nothing
 
-  module _ (settled : EachCrashLeaves ignored (files_of v) v) where
-    now_settled : EachCrashLeaves Now (files_of v) v
+  module _ (settled : EachCrashLeavesStateOf ignored (files_of v) v) where
+    now_settled : EachCrashLeavesStateOf Now (files_of v) v
     now_settled = facts.more_settled ignored Now (files_of v) v (scratch_more (output run.words) ignored) settled
 
     one_of_two : (m : TreeState) → LeavesOldOrOutcome Now v run m → (image : Files) → IsCrashImage m image → HasStateAsReadOrOutcome Now v run image

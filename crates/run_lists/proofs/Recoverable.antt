@@ -13,7 +13,7 @@ use Rattle.base_core.specs.Undone.{IsAfterCrash, IsDurable, IsCrashImage}
 use Rattle.base_core.specs.Tree.{TreeState, files_of}
 use Rattle.base_core.specs.declared.cause.Cause.{Cause}
 use Rattle.apk_front.specs.journal_core.Quiet.{EachCrashLeavesOld}
-use Rattle.apk_front.specs.journal_core.Recovery.{EachCrashLeaves, StateDependsOn, intent_name, is_staged, recovered_files, state_of}
+use Rattle.apk_front.specs.journal_core.Recovery.{EachCrashLeavesStateOf, StateDependsOn, intent_name, is_staged, recovered_files, state_of}
 use Rattle.apk_front.specs.journal_core.Staged.{IsIntentFault, unstaged_files}
 use Rattle.apk_front.proofs.journal_core.More.{quiet_more, states_same}
 use Rattle.apk_front.specs.outcome.Effect.{Effect, Computes, OnlyReadsFiles, AsksRoot, Makes, Changes, does_recover, effect_of_arguments, output}
@@ -180,7 +180,7 @@ pub before_or_outcome_more : (few many : Ignored) (v : TreeState) (run : Run) �
 before_or_outcome_more few many v run more files (inl before) = inl (before_more few many v more files before)
 before_or_outcome_more few many v run more files (inr (o, one, commits, same)) = inr (o, one, commits, states_same few many more files o.files same)
 
-pub one_of_two : (names : Ignored) (v : TreeState) (run : Run) (files : Files) → EachCrashLeaves names (files_of v) v → HasStateOfCrashBeforeOrOutcome names v run files → HasStateAsReadOrOutcome names v run files
+pub one_of_two : (names : Ignored) (v : TreeState) (run : Run) (files : Files) → EachCrashLeavesStateOf names (files_of v) v → HasStateOfCrashBeforeOrOutcome names v run files → HasStateAsReadOrOutcome names v run files
 one_of_two names v run files settled (inl (was, left, same)) = inl (same ∙ settled was left)
 one_of_two names v run files settled (inr (o, one, commits, same)) = inr (o, one, commits, same)
 

@@ -46,8 +46,8 @@ abbrev pub IsOutcomeFrom : TreeState → Run → Outcome → Type 0
 IsOutcomeFrom v run = IsOutcome (command_of run.words) (files_of v)
 
 -- a run that begins in this state has an outcome that commits
-abbrev pub HasCommit : TreeState → Run → Type 0
-HasCommit v run =
+abbrev pub HasOutcomeThatCommits : TreeState → Run → Type 0
+HasOutcomeThatCommits v run =
     (outcome : Outcome) × IsOutcomeFrom v run outcome × (outcome.commits ≡ true)
 
 -- A run that begins in the state v: what the contract of `apk` says of it, clause by clause.
@@ -144,14 +144,14 @@ abbrev pub IsPossibleStop : Run → TreeState → Type 0
 IsPossibleStop run w = (m : TreeState) × IsMomentOf run m × DiffersOnlyInUnsyncedBytes m w
 
 -- of these names, those that others may touch: neither the intent's, nor one below the staging area
-abbrev pub names_of_others : (List ℕ → Bool) → List ℕ → Bool
-names_of_others theirs q = if bytes_eq q intent_name || is_staged q then false else theirs q
+abbrev pub names_of_others_outside_journal : (List ℕ → Bool) → List ℕ → Bool
+names_of_others_outside_journal theirs q = if bytes_eq q intent_name || is_staged q then false else theirs q
 
 -- the map `map` of w agrees with the map `was` of v on each name that others may not touch. The file to
 -- which such a name leads is the same in v and w
-abbrev pub IsSameExcept : (List ℕ → Bool) → TreeState → NameMap → TreeState → NameMap → Type 0
-IsSameExcept theirs v was w map =
-    (q : List ℕ) → names_of_others theirs q ≡ false
+abbrev pub HaveSameFilesExceptTheirs : (List ℕ → Bool) → TreeState → NameMap → TreeState → NameMap → Type 0
+HaveSameFilesExceptTheirs theirs v was w map =
+    (q : List ℕ) → names_of_others_outside_journal theirs q ≡ false
     → (map q ≡ was q) × ((n : ℕ) → was q ≡ Some n → w.files n ≡ v.files n)
 
 -- others have changed only files under their names. Each map of names that a crash in w may leave is,
@@ -159,7 +159,7 @@ IsSameExcept theirs v was w map =
 abbrev pub IsChangeByOthers : (List ℕ → Bool) → TreeState → TreeState → Type 0
 IsChangeByOthers theirs v w =
     (map : NameMap) → IsCrashMap w map → (was : NameMap) × IsCrashMap v was
-    × IsSameExcept theirs v was w map
+    × HaveSameFilesExceptTheirs theirs v was w map
 
 -- this event may find a tree in the state v, and leave it in the state w
 abbrev pub IsTransition : TreeState → RootEvent → TreeState → Type 0
@@ -183,7 +183,7 @@ Reaches first (event ∷ earlier) w =
 abbrev pub IsRunWithoutCommit : TreeState → Run → Type 0
 IsRunWithoutCommit v run =
     IsRefusedOrCommitsNothing (IsOutcomeFrom v run) run.answer
-    ⊎ ((output run.words ≡ None) × (HasCommit v run → ⊥))
+    ⊎ ((output run.words ≡ None) × (HasOutcomeThatCommits v run → ⊥))
 
 -- an event is a crash, a run that commits nothing, or a touch by others
 abbrev pub IsEventWithoutCommit : TreeState → RootEvent → Type 0
@@ -207,7 +207,7 @@ ReachesWithoutCommit first (event ∷ earlier) w =
 abbrev pub EnsuresOneCrashState : TreeState → RootEvent → Type 0
 EnsuresOneCrashState v (Ends run) =
     AnswersOutcome run.answer
-    × (HasCommit v run
+    × (HasOutcomeThatCommits v run
     ⊎ ((output run.words ≡ None) × CanRecover (effect_of_arguments (command_of run.words)) v))
 EnsuresOneCrashState v (Stops run) = ⊥
 EnsuresOneCrashState v Crashes = Unit {0}
@@ -270,7 +270,7 @@ AreNamesAmong few many = (q : List ℕ) → few q ≡ true → many q ≡ true
 
 -- ignored names, and those of the names `theirs` that others may touch
 abbrev pub ignored_with_touched : (List ℕ → Bool) → (List ℕ → Bool) → List ℕ → Bool
-ignored_with_touched theirs ignored q = names_of_others theirs q || ignored q
+ignored_with_touched theirs ignored q = names_of_others_outside_journal theirs q || ignored q
 
 -- ignored names, and all names that others touched along a list
 abbrev pub ignored_with_all_touched : List RootEvent → (List ℕ → Bool) → List ℕ → Bool

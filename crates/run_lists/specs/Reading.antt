@@ -67,7 +67,7 @@ IsUnrestrictedRun v run = Unit {0}
 
 -- a test holds of the file of a name, or its absence, in the files as they are read and as they are
 -- recovered
-pub record IsTrueAt (test : Option (List ℕ) → Bool) (q : List ℕ) (files : Files) : Type 0 where
+pub record HoldsAsReadAndAsRecovered (test : Option (List ℕ) → Bool) (q : List ℕ) (files : Files) : Type 0 where
   -- the test holds of the file as read
   pub read : test (files q) ≡ true
   -- the test holds of the file as recovery leaves it
@@ -75,7 +75,7 @@ pub record IsTrueAt (test : Option (List ℕ) → Bool) (q : List ℕ) (files : 
 
 -- A name is none of the journal or of a new file of the run. The test holds of what each outcome that
 -- commits leaves there.
-pub record LeavesTrueAt (test : Option (List ℕ) → Bool) (q : List ℕ) (v : TreeState)
+pub record EachCommitPassesTestAtName (test : Option (List ℕ) → Bool) (q : List ℕ) (v : TreeState)
     (run : Run) : Type 0 where
   -- the name is not of the journal or of a new file of the run
   pub no_draft : IsNoJournalOrDraftName run q
@@ -93,7 +93,7 @@ HasBadIntent files = (cause : Cause) × IsIntentFault files cause
 
 -- a name is neither the intent's, nor that of a staged file, nor one that the run may write as or for
 -- its output, nor one of those ignored
-pub record IsOrdinaryName (ignored : List ℕ → Bool) (run : Run) (q : List ℕ) : Type 0 where
+pub record IsNoJournalOutputOrIgnoredName (ignored : List ℕ → Bool) (run : Run) (q : List ℕ) : Type 0 where
   -- the name is not that of the intent or of a staged file
   pub waits : IsJournalName q → ⊥
   -- the name is not that of the output or its scratch name
@@ -103,7 +103,7 @@ pub record IsOrdinaryName (ignored : List ℕ → Bool) (run : Run) (q : List �
 
 -- the intent's change is durable under a name: the name has its recovered bytes, or those of an outcome
 -- of the run, and each crash leaves exactly these
-pub record IsDurablyDone (v : TreeState) (run : Run) (m : TreeState) (q : List ℕ) : Type 0 where
+pub record HasDurableRecoveredOrOutcomeBytes (v : TreeState) (run : Run) (m : TreeState) (q : List ℕ) : Type 0 where
   -- the file is the recovered one, or that of an outcome of the run
   pub done : (files_of m q ≡ unstaged_files (files_of v) q) ⊎ HasOutcomeBytes v run m q
   -- each crash at this moment leaves exactly this file

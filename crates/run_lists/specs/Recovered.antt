@@ -9,7 +9,7 @@ use Rattle.base_core.specs.Files.{Files}
 use Rattle.base_core.specs.Tree.{TreeState, files_of}
 use Rattle.base_core.specs.declared.cause.Cause.{Cause}
 use Rattle.apk_front.specs.journal_core.Recovery.{intent_name, state_of}
-use Rattle.apk_front.specs.journal_core.Staged.{IsEmptyStage, unstaged_files}
+use Rattle.apk_front.specs.journal_core.Staged.{HasNoStagedNames, unstaged_files}
 use Rattle.apk_front.specs.outcome.Effect.{effect_of_arguments}
 use Rattle.apk_front.specs.outcome.Outcome.{Outcome}
 use Rattle.apk_front.specs.outcome.Work.{recovery_fault}
@@ -66,16 +66,16 @@ HasStateOfCrashBeforeOrOutcome ignored v run files =
     × HasSameState ignored outcome.files files)
 
 -- files are recovered: there is no intent, the staging area is empty, and the files have this state
-pub record AreRecovered (HasState : Files → Type 0) (files : Files) : Type 0 where
+pub record AreRecoveredWithState (HasState : Files → Type 0) (files : Files) : Type 0 where
   -- there is no intent
   pub intent : files intent_name ≡ None
   -- there is no staged file
-  pub stage : IsEmptyStage files
+  pub stage : HasNoStagedNames files
   -- the files have the state
   pub state : HasState files
 
 -- The next run, which finds the root in the state w, is not refused for an intent. It works on the
--- recovered files, and these are as *AreRecovered* says. If its outcome commits nothing, they are what
+-- recovered files, and these are as *AreRecoveredWithState* says. If its outcome commits nothing, they are what
 -- is read once this is answered.
 pub record IsRecoveredBy (HasState : Files → Type 0) (w : TreeState) (next : Run) :
     Type 0 where
@@ -84,7 +84,7 @@ pub record IsRecoveredBy (HasState : Files → Type 0) (w : TreeState) (next : R
   -- the intent, if there is one, is not bad
   pub works : recovery_fault (effect_of_arguments (command_of next.words)) (files_of w) ≡ None
   -- recovery leaves files of this state, with nothing left to do
-  pub files : AreRecovered HasState (unstaged_files (files_of w))
+  pub files : AreRecoveredWithState HasState (unstaged_files (files_of w))
   -- after an answer whose outcome commits nothing, the files as read are the recovered ones
   pub read : AnswersOutcome next.answer → HasOutcomeWithoutCommit (IsOutcomeFrom w next)
       → HoldsNow next.now (λ u. files_of u ≡ unstaged_files (files_of w))

@@ -9,7 +9,7 @@ use Rattle.base_core.specs.Undone.{IsDurable, IsCrashImage}
 use Rattle.base_core.specs.Files.{Files}
 use Rattle.base_core.specs.Tree.{TreeState, files_of}
 use Rattle.apk_front.specs.journal_core.Quiet.{EachCrashLeavesOld}
-use Rattle.apk_front.specs.journal_core.Recovery.{EachCrashLeavesOldOrNew, EachCrashLeaves, StateDependsOn, intent_name, state_of}
+use Rattle.apk_front.specs.journal_core.Recovery.{EachCrashLeavesOldOrNew, EachCrashLeavesStateOf, StateDependsOn, intent_name, state_of}
 use Rattle.apk_front.specs.outcome.Effect.{effect_of_arguments, output}
 use Rattle.apk_front.specs.outcome.Outcome.{Outcome}
 use Rattle.apk_front.specs.words_core.Grammar.{command_of}
@@ -49,7 +49,7 @@ pub record LeavesFilesOfAnsweredOutcome (ignored : List ℕ → Bool) (v : TreeS
   -- and completed
   pub settled : MustOutcomeBeDurable (effect_of_arguments (command_of run.words))
       (ignored_during_run run ignored) v outcome
-      → EachCrashLeaves (ignored_during_run run ignored) outcome.files w
+      → EachCrashLeavesStateOf (ignored_during_run run ignored) outcome.files w
   -- if it commits, under its output and the scratch name too
   pub durable_state : outcome.commits ≡ true
       → IsDurableState (ignored_except_output (output run.words) ignored) outcome.files w
@@ -85,10 +85,10 @@ pub record IsAtomic (ignored : List ℕ → Bool) (v : TreeState) (run : Run) : 
       → HasStateAsReadOrOutcome (ignored_during_run run ignored) v run image
   -- after the answer of an outcome each crash leaves the files of the outcome
   pub answered : AnswersOutcome run.answer → (outcome : Outcome) → IsOutcomeFrom v run outcome
-      → HoldsNow run.now (EachCrashLeaves (ignored_during_run run ignored) outcome.files)
+      → HoldsNow run.now (EachCrashLeavesStateOf (ignored_during_run run ignored) outcome.files)
   -- at each moment of a run without a commit, each crash leaves the files as read at its start
   pub left : IsRunWithoutCommit v run
-      → (m : TreeState) → IsMomentOf run m → EachCrashLeaves ignored (files_of v) m
+      → (m : TreeState) → IsMomentOf run m → EachCrashLeavesStateOf ignored (files_of v) m
 
 -- ---- after every list
 

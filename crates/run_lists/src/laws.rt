@@ -7,14 +7,14 @@ ghost use Rattle.base_core.specs.Undone.{IsDurable, IsCrashImage};
 ghost use Rattle.base_core.specs.Files.{Files};
 ghost use Rattle.base_core.specs.Tree.{TreeState, files_of};
 ghost use Rattle.apk_front.specs.journal_core.Kept.{IsJournalName};
-ghost use Rattle.apk_front.specs.journal_core.Recovery.{EachCrashLeaves, StateDependsOn, intent_name, state_of};
+ghost use Rattle.apk_front.specs.journal_core.Recovery.{EachCrashLeavesStateOf, StateDependsOn, intent_name, state_of};
 ghost use Rattle.apk_front.specs.journal_core.Staged.{unstaged_files};
 ghost use Rattle.apk_front.specs.outcome.Effect.{does_recover, effect_of_arguments, output, reads_only};
 ghost use Rattle.apk_front.specs.outcome.Outcome.{Outcome};
 ghost use Rattle.apk_front.specs.outcome.Words.{IsOutcome};
 ghost use Rattle.apk_front.specs.outcome.Work.{recovery_fault};
 ghost use Rattle.run_lists.specs.Events.{AreNamesAmong, RootEvent, HasNoUnfinishedOutputSinceSync, HasNoUnfinishedRunSinceCrash, Reaches, ReachesWithoutCommit, ReachesOneCrashState, IsRunWithoutCommit, IsMomentOf, IsOutcomeFrom, IsRunFrom, IsPossibleStop, Run, ignored_after, ignored_during_run, nothing_ignored, ignored_with_all_touched, ignored_with_scratch};
-ghost use Rattle.run_lists.specs.Reading.{HasBadIntent, HasOldRecoveredOrOutcomeBytes, ReachesByRuns, IsUnrestrictedRun, IsDurablyDone, IsOrdinaryName, IsNoJournalOrDraftName, IsTrueAt, LeavesTrueAt};
+ghost use Rattle.run_lists.specs.Reading.{HasBadIntent, HasOldRecoveredOrOutcomeBytes, ReachesByRuns, IsUnrestrictedRun, HasDurableRecoveredOrOutcomeBytes, IsNoJournalOutputOrIgnoredName, IsNoJournalOrDraftName, HoldsAsReadAndAsRecovered, EachCommitPassesTestAtName};
 ghost use Rattle.run_lists.specs.Recovered.{ReachesWithoutBadIntent, HasStateOfCrashBeforeOrOutcome, HasSameState, IsRecoveredBy, IsNotRefusedForIntent, LeavesNoBadIntent};
 ghost use Rattle.run_lists.specs.Safety.{HasStateAsReadOrOutcome, IsAtomicAfterAnyEvents, IsSafeAfterAnyEvents};
 ghost use Rattle.apk_front.specs.words_core.Grammar.{command_of};
@@ -146,9 +146,9 @@ pub fn each_name_keeps_old_recovered_or_new_bytes()
     // as recovered, and in each outcome that commits. Then it holds after each run, and wherever
     // one is stopped.
     ensures along { (test : Option (List ℕ) → Bool) (q : List ℕ) (first w : TreeState)
-        (events : List RootEvent) → (IsJournalName q → ⊥) → IsTrueAt test q (files_of first)
-        → ReachesByRuns (LeavesTrueAt test q) first events w
-        → IsTrueAt test q (files_of w) }
+        (events : List RootEvent) → (IsJournalName q → ⊥) → HoldsAsReadAndAsRecovered test q (files_of first)
+        → ReachesByRuns (EachCommitPassesTestAtName test q) first events w
+        → HoldsAsReadAndAsRecovered test q (files_of w) }
 {
     // Laws that the proof needs; they have no effect at run time.
     a_command_that_reads_leaves_the_files();
@@ -176,8 +176,8 @@ pub fn the_actions_of_an_intent_are_durably_done()
         → ignored intent_name ≡ false → IsDurable (StateDependsOn ignored) first
         → Reaches first events v → IsRunFrom v run → IsSome (v.names intent_name)
         → IsMomentOf run m → m.names intent_name ≡ None
-        → (q : List ℕ) → IsOrdinaryName (ignored_after ignored events) run q
-        → IsDurablyDone v run m q }
+        → (q : List ℕ) → IsNoJournalOutputOrIgnoredName (ignored_after ignored events) run q
+        → HasDurableRecoveredOrOutcomeBytes v run m q }
 {
     // Laws that the proof needs; they have no effect at run time.
     a_crash_leaves_a_durable_settled_tree();
@@ -246,7 +246,7 @@ pub fn a_stopped_run_is_recovered()
     // If each crash left one state when the stopped run began, the next run finds the old state or
     // that of the outcome.
     ensures two { (ignored : List ℕ → Bool) (v : TreeState) (run : Run) (files : Files)
-        → EachCrashLeaves ignored (files_of v) v
+        → EachCrashLeavesStateOf ignored (files_of v) v
         → HasStateOfCrashBeforeOrOutcome ignored v run files
         → HasStateAsReadOrOutcome ignored v run files }
 {

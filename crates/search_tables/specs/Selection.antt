@@ -30,8 +30,8 @@ depends_at pool c = option_map_or (λ (k : Candidate). k.depends) (candidate_at 
 
 -- the needs that world and the choices raise: the entries of world, then the dependencies of each
 -- choice in the order chosen
-abbrev pub raised_needs : SealedPool → List ℕ → List Need
-raised_needs pool chosen =
+abbrev pub needs_of_world_and_chosen : SealedPool → List ℕ → List Need
+needs_of_world_and_chosen pool chosen =
     positive_needs pool.world ++ flat_map (λ c. positive_needs (depends_at pool c)) chosen
 
 -- whether the install-if of a candidate applies: it is usable, and each entry is met
@@ -47,7 +47,7 @@ names_by_install_if pool chosen =
 
 -- all needs that world and the choices raise, met or not
 abbrev pub needs : SealedPool → List ℕ → List Need
-needs pool chosen = raised_needs pool chosen ++ map named (names_by_install_if pool chosen)
+needs pool chosen = needs_of_world_and_chosen pool chosen ++ map named (names_by_install_if pool chosen)
 
 -- of a name and another one, if there is another, the one that is less in byte order
 abbrev pub lesser_name : List ℕ → Option (List ℕ) → List ℕ
@@ -63,7 +63,7 @@ least_name (name ∷ names) = Some (lesser_name name (least_name names))
 -- of the names whose install-if applies
 unfoldable pub next_need : SealedPool → List ℕ → Option Need
 next_need pool chosen =
-    option_or (find (is_unmet pool chosen) (raised_needs pool chosen))
+    option_or (find (is_unmet pool chosen) (needs_of_world_and_chosen pool chosen))
     (option_map named
     (least_name (filter (λ name. is_unmet pool chosen (named name))
     (names_by_install_if pool chosen))))
@@ -148,8 +148,8 @@ IsRestOfWalk pool selection chosen (c ∷ rest) =
     × IsRestOfWalk pool selection (chosen ++ c ∷ []) rest
 
 -- the walk of a selection, from the first need on: for each next need, the best member that meets it
-abbrev pub IsWalkOfSelection : SealedPool → List ℕ → List ℕ → Type 0
-IsWalkOfSelection pool selection walk = IsRestOfWalk pool selection [] walk
+abbrev pub IsSelectionWithWalk : SealedPool → List ℕ → List ℕ → Type 0
+IsSelectionWithWalk pool selection walk = IsRestOfWalk pool selection [] walk
 
 -- after some choices: the rest of one walk is preferred to that of another if it has the better rank at
 -- the first place where they differ, for the need there
@@ -170,8 +170,8 @@ pub record IsFirstPreferredSelection (pool : SealedPool) (trace : List ℕ) : Ty
   -- it satisfies the world
   pub satisfies : IsSatisfying pool trace
   -- its members are in the order of its walk: for each next need, the best member that meets it
-  pub walked : IsWalkOfSelection pool trace trace
+  pub walked : IsSelectionWithWalk pool trace trace
   -- the walk of each satisfying selection is the same walk, or this one is preferred to it
   pub first :
-      (selection walk : List ℕ) → IsSatisfying pool selection → IsWalkOfSelection pool selection walk →
+      (selection walk : List ℕ) → IsSatisfying pool selection → IsSelectionWithWalk pool selection walk →
       (walk ≡ trace) ⊎ IsWalkPreferredTo pool trace walk

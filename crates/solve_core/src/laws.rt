@@ -4,7 +4,7 @@
 ghost use Rattle.std.specs.Prelude.{◌≡◌, ◌⊎◌, ℕ, true, List, [], ◌∷◌, ◌++◌, Some};
 ghost use Rattle.search_choices.specs.candidate_core.Candidates.{Need};
 ghost use Rattle.search_choices.specs.candidate_core.Rank.{SealedPool, is_better, meets_at};
-ghost use Rattle.search_choices.specs.search_tables.Selection.{AreAllMembersOf, IsWalkPreferredTo, IsFirstPreferredSelection, IsSatisfying, IsWalkOfSelection, next_need};
+ghost use Rattle.search_choices.specs.search_tables.Selection.{AreAllMembersOf, IsWalkPreferredTo, IsFirstPreferredSelection, IsSatisfying, IsSelectionWithWalk, next_need};
 
 use crate::selection::options_are_as_promised;
 use search_choices::rank_is_total;
@@ -13,10 +13,10 @@ use search_choices::rank_is_total;
 pub fn walks_satisfy()
     // The walk of a satisfying selection is a satisfying selection too.
     ensures satisfies { (pool : SealedPool) (selection walk : List ℕ) →
-        IsSatisfying pool selection → IsWalkOfSelection pool selection walk
+        IsSatisfying pool selection → IsSelectionWithWalk pool selection walk
         → IsSatisfying pool walk }
     ensures walked { (pool : SealedPool) (selection walk : List ℕ) →
-        IsWalkOfSelection pool selection walk → IsWalkOfSelection pool walk walk }
+        IsSelectionWithWalk pool selection walk → IsSelectionWithWalk pool walk walk }
 {
     // Laws that the proof needs; they have no effect at run time.
     options_are_as_promised();
@@ -26,10 +26,10 @@ pub fn walks_satisfy()
 /// Each satisfying selection has a walk, and one only.
 pub fn each_selection_has_one_walk()
     ensures some { (pool : SealedPool) (selection : List ℕ) →
-        IsSatisfying pool selection → (walk : List ℕ) × IsWalkOfSelection pool selection walk }
+        IsSatisfying pool selection → (walk : List ℕ) × IsSelectionWithWalk pool selection walk }
     // A selection has at most one walk.
     ensures one { (pool : SealedPool) (selection walk other : List ℕ) →
-        IsWalkOfSelection pool selection walk → IsWalkOfSelection pool selection other → walk
+        IsSelectionWithWalk pool selection walk → IsSelectionWithWalk pool selection other → walk
         ≡ other }
 {
     // Laws that the proof needs; they have no effect at run time.
@@ -43,7 +43,7 @@ pub fn walks_have_one_order()
     // Of the walks of two satisfying selections, one is preferred to the other, or they are equal.
     ensures one_of { (pool : SealedPool) (selection other walk second : List ℕ) →
         IsSatisfying pool selection → IsSatisfying pool other →
-        IsWalkOfSelection pool selection walk → IsWalkOfSelection pool other second →
+        IsSelectionWithWalk pool selection walk → IsSelectionWithWalk pool other second →
         (walk ≡ second) ⊎ (IsWalkPreferredTo pool walk second
         ⊎ IsWalkPreferredTo pool second walk) }
     ensures not_both { (pool : SealedPool) (walk second : List ℕ) →

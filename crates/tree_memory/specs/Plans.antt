@@ -48,9 +48,9 @@ plan_after_one_call plan =
     record { listed = listed_calls_after_one_call plan.listed; stop = option_map (λ n. n - 1) plan.stop }
 
 -- the plan after this many calls (first argument), with each number counted from the call after them
-abbrev pub plan_after : ℕ → PlanState → PlanState
-plan_after zero plan = plan
-plan_after (suc k) plan = plan_after k (plan_after_one_call plan)
+abbrev pub plan_after_calls : ℕ → PlanState → PlanState
+plan_after_calls zero plan = plan
+plan_after_calls (suc k) plan = plan_after_calls k (plan_after_one_call plan)
 
 -- ---- which of the later calls are to fail
 

@@ -3,7 +3,7 @@
 
 ghost use Rattle.std.specs.Prelude.{◌≡◌, [], None, Some, OnOk, OnErr, is_ok, if◌then◌else◌, ◌⊎◌, ◌+◌, ℕ, false};
 ghost use Rattle.base_core.specs.Faults.{saturating_increment, IsFaultCountedWithCause, RoseOrIsSaturated};
-ghost use Rattle.tree_memory.specs.Plans.{PlanState, no_plan, is_next_call_to_fail, is_next_call_listed, plan_after_one_call, listed_calls_after_one_call, has_later_failure, is_call_to_fail, plan_after};
+ghost use Rattle.tree_memory.specs.Plans.{PlanState, no_plan, is_next_call_to_fail, is_next_call_listed, plan_after_one_call, listed_calls_after_one_call, has_later_failure, is_call_to_fail, plan_after_calls};
 ghost use Rattle.tree_memory.specs.Tallies.{no_calls, with_call, with_fault, with_misuse, with_memory_fault, with_begun_call, goes_on, HasNotFallen};
 ghost use Rattle.tree_memory.specs.Memory.{plan_of, counts_of};
 ghost use Rattle.tree_memory.specs.Sink.{SinkState, sink_counts};
@@ -280,6 +280,6 @@ pub fn an_endless_sink_runs_out_of_memory()
 /// A law: the failure of call k + 1 from now on is planned exactly if this number is listed, or if
 /// the call is after the stop.
 pub fn a_call_fails_where_it_is_planned()
-    ensures { (plan : PlanState) (k : ℕ) → is_next_call_to_fail (plan_after k plan)
+    ensures { (plan : PlanState) (k : ℕ) → is_next_call_to_fail (plan_after_calls k plan)
         ≡ is_call_to_fail plan (k + 1) }
 {}

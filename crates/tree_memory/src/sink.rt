@@ -3,7 +3,7 @@
 //! `docs/crash-safety.md`, "Misuses, faults and counts".
 ghost use Rattle.std.specs.Prelude.{◌≡◌, ◌≤◌, List, Option, Some, take, IfOk, OnErr, [], IsOk};
 ghost use Rattle.base_core.specs.Faults.{FailsWithCause, saturating_increment};
-ghost use Rattle.base_core.specs.Sink.{Adds, IsWriteCount};
+ghost use Rattle.base_core.specs.Sink.{AddsBytesToSink, IsWriteCount};
 ghost use Rattle.tree_memory.specs.Sink.{SinkState, new_sink, sink_counts, len_that_fits, len_within_write_limit, Takes, Refuses};
 
 use base_core::{Sink, SinkFault};
@@ -149,7 +149,7 @@ impl Sink for MemorySink {
         ensures empty { piece.now ≡ [] → IsOk result }
         // On success the first n bytes of the piece are added to those written.
         ensures added { IfOk result (λ n.
-            Adds (Some self.old.bytes) (Some self.new.bytes) (take n piece.now)) }
+            AddsBytesToSink (Some self.old.bytes) (Some self.new.bytes) (take n piece.now)) }
         // An error leaves the written bytes as they were.
         ensures unchanged { OnErr result (Some self.new.bytes ≡ Some self.old.bytes) }
         // The counts rise only if the call fails, and then with the cause.

@@ -16,7 +16,7 @@ use Rattle.command_core.specs.declared.command.Applet.{Applet}
 use Rattle.command_core.specs.declared.command.Applet.TheVariants.{Add, Del, Upgrade, Fix}
 use Rattle.change_inputs.specs.package_files.Runs.{IsExplainedBySomeReads}
 use Rattle.report_core.specs.declared.refusal.Refusal.{Refusal}
-use Rattle.unmet_world.specs.Lines.{ExplainsWorld}
+use Rattle.unmet_world.specs.Lines.{IsExplanationOfUnmetWorld}
 
 -- the line that says that there is no repository, and how a line that names one looks; nothing if there
 -- is a repository
@@ -31,7 +31,7 @@ pub record ExplainsPool (listed : List Dependency) (repositories : List Reposito
     (pool : SealedPool) (text : List ℕ) : Type 0 where
   -- the explanation itself
   pub front : List ℕ
-  pub explains : ExplainsWorld pool listed repositories front
+  pub explains : IsExplanationOfUnmetWorld pool listed repositories front
   -- the line on repositories follows it
   pub whole : text ≡ front ++ no_index_line repositories
 

@@ -262,7 +262,7 @@ explanation_text pool listed repositories found =
 
 -- a text explains a world, of which a file lists some entries: the text is that of a refutation, or
 -- without one that of the entries of world
-pub record ExplainsWorld (pool : SealedPool) (listed : List Dependency)
+pub record IsExplanationOfUnmetWorld (pool : SealedPool) (listed : List Dependency)
     (repositories : List Repository) (text : List ℕ) : Type 0 where
   pub found : Option Refutation
   pub refutes : IfSome found (IsRefutation pool)

@@ -13,7 +13,7 @@ ghost use Rattle.v2_core.specs.Reading.{records_from_record_end, records_from, r
 ghost use Rattle.v2_core.specs.Records.{Record as RecordModel, empty_record};
 ghost use Rattle.v2_core.specs.Writing.{IsLineFault, draft_with_database, draft_with_records};
 ghost use Rattle.dep_core.specs.World.{lines_of};
-ghost use Rattle.v2_core.specs.FirstBadLine.{IsReportedLine};
+ghost use Rattle.v2_core.specs.FirstBadLine.{IsNumberOfReportedBadLine};
 ghost use Rattle.v2_core.specs.Spelling.{SpellsText};
 
 use crate::record::Record;
@@ -234,7 +234,7 @@ impl From<Cause> for V2Fault {
 /// accepted.
 pub fn the_reported_line_is_the_first_that_no_text_has()
     ensures { (text : List ℕ) (number : ℕ) → records_of text ≡ Err number
-        → IsReportedLine (lines_of text) number }
+        → IsNumberOfReportedBadLine (lines_of text) number }
 {}
 
 /// The text of records is read as these records, whatever text each value has; so a text is that of

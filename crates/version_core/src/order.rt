@@ -6,7 +6,7 @@
 ghost use Rattle.std.specs.Prelude.{◌≡◌, ◌≤◌, ◌<◌, IsTrue, IfSome, IfNone, Some, length, take, drop};
 ghost use Rattle.std.specs.Cmp.Lexicographic.{slice_cmp};
 ghost use Rattle.version_core.specs.declared.token.Class.TheVariants.{Component};
-ghost use Rattle.version_core.specs.Order.{is_version, token_cmp, tokens_after_class, version_cmp};
+ghost use Rattle.version_core.specs.Order.{is_version, token_cmp, tokens_after_class_skipping_bytes, version_cmp};
 ghost use Rattle.version_core.specs.Reading.{AreEqualUpTo, AreEqualUpToParting, HasUnmarkedEnd, IsLastMark, hash_cmp, is_token_mark, tokens_left};
 
 use crate::lexeme::{behind, compare_hex_digits};
@@ -85,7 +85,7 @@ pub fn tokens_from_mark(text: &[u8], at: usize) -> Tokens<'_>
     // The offset is within the text.
     requires { at ≤ length text.now }
     ensures { tokens_left result
-        ≡ tokens_after_class (Some Component) 0 (drop at text.now) }
+        ≡ tokens_after_class_skipping_bytes (Some Component) 0 (drop at text.now) }
 {
     Tokens::behind(Class::Component, behind(text, at))
 }

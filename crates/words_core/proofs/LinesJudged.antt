@@ -12,7 +12,7 @@ use Rattle.command_core.specs.Command.{CommandLine}
 use Rattle.command_core.specs.Operands.{first_refused_operand, allows_one_more, is_operand_of_kind}
 use Rattle.command_core.specs.Values.{is_required_value_missing}
 use Rattle.words_core.specs.declared.reading.Reading.{Reading}
-use Rattle.words_core.specs.Grammar.{command_of_reading, command_from_reading_parts, lacks_operand, refused_operand}
+use Rattle.words_core.specs.Grammar.{command_of_reading, command_from_reading_parts, lacks_operand, place_of_refused_operand}
 
 -- there is room for one more where as many more fit
 pub room_by : (most : Option ℕ) (before more : ℕ) → is_count_within_limit most (before + (more + 1)) ≡ true → allows_one_more most before ≡ true
@@ -45,7 +45,7 @@ has_parts c h =
 
 -- the operands are taken, and none is lacking
 pub record AreTaken (rule : Option OperandRule) (operands : List Operand) : Type 0 where
-  pub taken : refused_operand rule operands ≡ None
+  pub taken : place_of_refused_operand rule operands ≡ None
   pub enough : lacks_operand rule operands ≡ false
 
 pub operands_taken : (rule : Option OperandRule) (operands : List Operand) → are_allowed_operands rule operands ≡ true → AreTaken rule operands

@@ -23,7 +23,7 @@ use Rattle.engine_core.specs.package_changes.Placed.{candidates_at}
 use Rattle.report_core.specs.declared.refusal.Refusal.{Refusal}
 use Rattle.engine_core.specs.search_tables.Selection.{IsFirstPreferredSelection}
 use Rattle.world_laws.specs.CommandPool.{IsCommandPool, IsToUpgrade}
-use Rattle.world_laws.specs.SatisfiedWorld.{IsNeeded, SatisfyWorld}
+use Rattle.world_laws.specs.SatisfiedWorld.{IsNeededByWorldOrPackages, SatisfyWorld}
 use Rattle.world_laws.proofs.CommandPools.{candidates_are, root_pool_is}
 use Rattle.world_laws.proofs.InstalledCounted.{any_in, in_any}
 use Rattle.world_laws.proofs.NextNeeds.{next}
@@ -121,11 +121,11 @@ module _ (command : CommandLine) (read : Reads) where
       (subst (λ (cs : List Candidate). SatisfyWorld cs t.pool.world (candidates_at t.pool t.trace)) t.candidates done))
 
   pub each_needed : (chosen : Option (List ℕ)) (s : InputsAndReplacement) (c : Candidate) → IsChoiceFrom (pool_of_command command read) chosen → selected_for command read chosen ≡ Ok s → IsIn c s.replacement.selected
-      → IsNeeded (candidates_of s.inputs) s.inputs.root.new_world s.replacement.selected c
+      → IsNeededByWorldOrPackages (candidates_of s.inputs) s.inputs.root.new_world s.replacement.selected c
   each_needed chosen s c choice e here =
       let t = taken chosen s choice e in
       let at : IsIn c (candidates_at t.pool t.trace) = subst (IsIn c) (sym t.selected) here in
-      let done : IsNeeded t.pool.candidates t.pool.world (candidates_at t.pool t.trace) c = needed t.pool t.trace t.first.satisfies (next t.pool) t.first.walked c at in
-      subst (λ (l : List Candidate). IsNeeded (candidates_of s.inputs) s.inputs.root.new_world l c) t.selected
-      (subst (λ (w : List Dependency). IsNeeded (candidates_of s.inputs) w (candidates_at t.pool t.trace) c) t.world
-      (subst (λ (cs : List Candidate). IsNeeded cs t.pool.world (candidates_at t.pool t.trace) c) t.candidates done))
+      let done : IsNeededByWorldOrPackages t.pool.candidates t.pool.world (candidates_at t.pool t.trace) c = needed t.pool t.trace t.first.satisfies (next t.pool) t.first.walked c at in
+      subst (λ (l : List Candidate). IsNeededByWorldOrPackages (candidates_of s.inputs) s.inputs.root.new_world l c) t.selected
+      (subst (λ (w : List Dependency). IsNeededByWorldOrPackages (candidates_of s.inputs) w (candidates_at t.pool t.trace) c) t.world
+      (subst (λ (cs : List Candidate). IsNeededByWorldOrPackages cs t.pool.world (candidates_at t.pool t.trace) c) t.candidates done))

@@ -20,7 +20,7 @@ use Rattle.dep_core.proofs.Worlds.{IsWorld-with_entry, IsWorld-without, cmp-equa
 use Rattle.dep_core.proofs.Places.{in_order}
 use Rattle.base_core.specs.ByteOrder.{bytes_cmp}
 use Rattle.base_core.proofs.Orderings.{is_less, names_total}
-use Rattle.world_laws.specs.NewWorld.{IsWorldAfterAdd, IsWorldAfterDel, HasRequestedEntries, IsAddedDependency, IsDependencyOfNoOperand, IsNoOperand}
+use Rattle.world_laws.specs.NewWorld.{IsWorldAfterAdd, IsWorldAfterDel, IsWorldAfterApplet, IsAddedDependency, IsDependencyOfNoOperand, IsNoOperand}
 
 -- ---- order
 
@@ -263,7 +263,7 @@ holds_others os w h = record {
   entries = λ d. (λ here. others_to os w d here, λ stood. others_from os w d stood.0 stood.1);
 }
 
-pub holds_asked : (applet : Applet) (os : List Operand) (w : List Dependency) → IsWorld w → HasRequestedEntries applet os w (new_world applet os w)
+pub holds_asked : (applet : Applet) (os : List Operand) (w : List Dependency) → IsWorld w → IsWorldAfterApplet applet os w (new_world applet os w)
 holds_asked Applets.Add os w h = holds_added os w h
 holds_asked Applets.Del os w h = holds_others os w h
 holds_asked other os w h = refl

@@ -58,18 +58,18 @@ pub record IsWorldAfterDel (operands : List Operand) (before after : List Depend
 -- ---- each applet
 
 -- world after a command, by its applet; all except `add` and `del` leave world unchanged
-abbrev pub HasRequestedEntries :
+abbrev pub IsWorldAfterApplet :
     Applet → List Operand → List Dependency → List Dependency → Type 0
-HasRequestedEntries Add operands before after = IsWorldAfterAdd operands before after
-HasRequestedEntries Del operands before after = IsWorldAfterDel operands before after
-HasRequestedEntries applet operands before after = after ≡ before
+IsWorldAfterApplet Add operands before after = IsWorldAfterAdd operands before after
+IsWorldAfterApplet Del operands before after = IsWorldAfterDel operands before after
+IsWorldAfterApplet applet operands before after = after ≡ before
 
 -- ---- among what a change reads of a root
 
 -- among what a change reads of a root, world before is that of its file, with an absent file read as
 -- empty, and the new one holds what the command asks for
-pub record IsReadWorld (command : CommandLine) (read : Reads) (root : Root) : Type 0 where
+pub record HasReadAndRequestedWorld (command : CommandLine) (read : Reads) (root : Root) : Type 0 where
   -- world before the command is that of its file
   pub file : world_of (unwrap_or (read world_read_number world_name) []) ≡ Ok root.world
   -- the new world has what the command asks for
-  pub asked : HasRequestedEntries command.applet command.operands root.world root.new_world
+  pub asked : IsWorldAfterApplet command.applet command.operands root.world root.new_world

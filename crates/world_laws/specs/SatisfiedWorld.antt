@@ -69,9 +69,9 @@ MeetsOneDependency deps c =
 
 -- a package is needed: it meets an entry of world or a dependency of one of the packages, or it has the
 -- name of a candidate whose install-if applies
-abbrev pub IsNeeded :
+abbrev pub IsNeededByWorldOrPackages :
     List Candidate → List Dependency → List Candidate → Candidate → Type 0
-IsNeeded candidates world packages c =
+IsNeededByWorldOrPackages candidates world packages c =
     MeetsOneDependency world c
     ⊎ (((other : Candidate) × IsIn other packages × MeetsOneDependency other.depends c)
     ⊎ ((other : Candidate) × InstallIfApplies candidates world packages other

@@ -38,8 +38,8 @@ ghost use Rattle.command_core.specs.declared.operands.Operand.{Operand};
 ghost use Rattle.dep_core.specs.Dependency.{Dependency};
 ghost use Rattle.dep_core.specs.World.{IsWorld};
 ghost use Rattle.world_laws.specs.CommandPool.{IsCommandPool};
-ghost use Rattle.world_laws.specs.NewWorld.{HasRequestedEntries, IsReadWorld};
-ghost use Rattle.world_laws.specs.SatisfiedWorld.{AreSamePackages, IsNeeded, SatisfyWorld};
+ghost use Rattle.world_laws.specs.NewWorld.{IsWorldAfterApplet, HasReadAndRequestedWorld};
+ghost use Rattle.world_laws.specs.SatisfiedWorld.{AreSamePackages, IsNeededByWorldOrPackages, SatisfyWorld};
 ghost use Rattle.world_laws.specs.SatisfiedWorld.{IsUnsatisfiable};
 
 use engine_core::{a_change_that_is_made_passes_each_test, a_choice_is_unique};
@@ -104,14 +104,14 @@ pub fn the_new_world_has_what_was_asked()
     // The new world of a command, whichever world was before.
     ensures world { (applet : Applet) (operands : List Operand) (world : List Dependency)
         → IsWorld world
-        → HasRequestedEntries applet operands world (new_world applet operands world) }
+        → IsWorldAfterApplet applet operands world (new_world applet operands world) }
     // The new world among what a change reads of a root.
     ensures read { (command : CommandLine) (read : Reads) (inputs : Inputs)
-        → inputs_of command read ≡ Ok inputs → IsReadWorld command read inputs.root }
+        → inputs_of command read ≡ Ok inputs → HasReadAndRequestedWorld command read inputs.root }
     // Exactly one world has the requested entries.
     ensures one { (applet : Applet) (operands : List Operand) (world after other : List Dependency)
-        → HasRequestedEntries applet operands world after
-        → HasRequestedEntries applet operands world other → after ≡ other }
+        → IsWorldAfterApplet applet operands world after
+        → IsWorldAfterApplet applet operands world other → after ≡ other }
 {}
 
 /// A command chooses from the packages of all indexes, and the installed packages that no index
@@ -135,7 +135,7 @@ pub fn the_selected_packages_satisfy_the_new_world()
         (s : InputsAndReplacement) (c : Candidate)
         → IsChoiceFrom (pool_of_command command read) chosen
         → selected_for command read chosen ≡ Ok s → IsIn c s.replacement.selected
-        → IsNeeded (candidates_of s.inputs) s.inputs.root.new_world s.replacement.selected c }
+        → IsNeededByWorldOrPackages (candidates_of s.inputs) s.inputs.root.new_world s.replacement.selected c }
 {}
 
 /// A selection of places satisfies world exactly if packages do in a reader's words. So a command
