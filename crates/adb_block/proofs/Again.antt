@@ -4,9 +4,9 @@ use Rattle.std.specs.Int.{w32, w64, from_le_bytes}
 use Rattle.std.proofs.lemmas.Bool.{le-ltb, ne_eqb}
 use Rattle.std.proofs.lemmas.List.{take_at, drop_at, length-append, length-drop, drop-drop, drop_all, take-append-le, drop-append-le}
 use Rattle.adb_block.specs.Container.{IsHead, IsShortHead, IsLongHead, IsPadding, IsBlock, MayFollow, HasBlockBefore}
-use Rattle.adb_block.specs.Piece.{Piece, kind_number, may_be_next_kind, least_payload, padding_of}
+use Rattle.adb_block.specs.Piece.{Piece, kind_number, may_be_next_kind, least_payload_len, padding_of}
 use Rattle.adb_block.specs.Header.{word_at, long_at}
-use Rattle.adb_block.specs.Framing.{HeadFields, head_of, kind_of_number, ended, block, step_by_order, next_step}
+use Rattle.adb_block.specs.Framing.{HeadFields, block_head_fields, kind_of_number, ended, block, step_by_order, next_step}
 use Rattle.adb_block.specs.declared.block.BlockKind.{BlockKind}
 use Rattle.adb_block.specs.declared.block.BlockKind.TheVariants.{Adb, Signature, Contents}
 
@@ -27,8 +27,8 @@ says k h len = record { kind = kind_number k; len = h; raw = h + len }
 same_fields : (a b : HeadFields) → a.kind ≡ b.kind → a.len ≡ b.len → a.raw ≡ b.raw → a ≡ b
 same_fields a b k l r = λ i. record { kind = k i; len = l i; raw = r i }
 
-short_again : (k : BlockKind) (len : ℕ) (head more : List ℕ) → IsShortHead k len head → head_of (head ++ more) ≡ Some (says k 4 len)
-unfolding head_of
+short_again : (k : BlockKind) (len : ℕ) (head more : List ℕ) → IsShortHead k len head → block_head_fields (head ++ more) ≡ Some (says k 4 len)
+unfolding block_head_fields
 short_again k len head more h =
     let size = h.size in
     let small = h.small in
@@ -41,8 +41,8 @@ short_again k len head more h =
     let t2 : eqb (kind_number k) 3 ≡ false = ne_eqb _ _ (omega arith) in
     rw (t1, word, high, t2, low) refl
 
-long_again : (k : BlockKind) (len : ℕ) (head more : List ℕ) → IsLongHead k len head → head_of (head ++ more) ≡ Some (says k 16 len)
-unfolding head_of
+long_again : (k : BlockKind) (len : ℕ) (head more : List ℕ) → IsLongHead k len head → block_head_fields (head ++ more) ≡ Some (says k 16 len)
+unfolding block_head_fields
 long_again k len head more h =
     let size = h.size in
     let total = length-append head more in
@@ -65,20 +65,20 @@ header_size : (k : BlockKind) (len : ℕ) (head : List ℕ) (is : IsHead k len h
 header_size k len head (inl h) = h.size
 header_size k len head (inr h) = h.size
 
-head_again : (k : BlockKind) (len : ℕ) (head more : List ℕ) (is : IsHead k len head) → head_of (head ++ more) ≡ Some (says k (header_len is) len)
+head_again : (k : BlockKind) (len : ℕ) (head more : List ℕ) (is : IsHead k len head) → block_head_fields (head ++ more) ≡ Some (says k (header_len is) len)
 head_again k len head more (inl h) = short_again k len head more h
 head_again k len head more (inr h) = long_again k len head more h
 
-ordered_again : (last : Option BlockKind) (at : ℕ) (bytes : List ℕ) (h len : ℕ) (k : BlockKind) → may_be_next_kind last k ≡ true → least_payload k ≤ len → h + len ≤ length bytes
+ordered_again : (last : Option BlockKind) (at : ℕ) (bytes : List ℕ) (h len : ℕ) (k : BlockKind) → may_be_next_kind last k ≡ true → least_payload_len k ≤ len → h + len ≤ length bytes
     → step_by_order last at bytes (says k h len) (kind_of_number (kind_number k)) ≡ block (record { kind = k; payload = take len (drop h bytes) }) (h + len + padding_of (h + len))
 ordered_again last at bytes h len k o long fits =
     let len_is : h + len - h ≡ len = omega arith in
     let a : ltb (h + len) h ≡ false = le-ltb _ _ (omega arith) in
     let b : ltb (length bytes) (h + len) ≡ false = le-ltb _ _ fits in
-    let c : ltb len (least_payload k) ≡ false = le-ltb _ _ long in
+    let c : ltb len (least_payload_len k) ≡ false = le-ltb _ _ long in
     rw (kind_again k, o, a, b, len_is, c) refl
 
-not_empty : (last : Option BlockKind) (at : ℕ) (bytes : List ℕ) (h : HeadFields) → 0 < length bytes → head_of bytes ≡ Some h → next_step last at bytes ≡ step_by_order last at bytes h (kind_of_number h.kind)
+not_empty : (last : Option BlockKind) (at : ℕ) (bytes : List ℕ) (h : HeadFields) → 0 < length bytes → block_head_fields bytes ≡ Some h → next_step last at bytes ≡ step_by_order last at bytes h (kind_of_number h.kind)
 unfolding next_step
 not_empty last at bytes h some is =
     let t : eqb (length bytes) 0 ≡ false = ne_eqb _ _ (omega arith) in
@@ -108,7 +108,7 @@ step_again last at bytes b rest m is =
     let more : List ℕ = b.payload ++ (is.pad ++ rest) in
     let head_len : length is.head ≡ h = header_size b.kind len is.head is.is_head in
     let total : length (is.head ++ more) ≡ h + (len + length (is.pad ++ rest)) = omega (arith, length-append is.head more, length-append b.payload (is.pad ++ rest)) in
-    let head_is : head_of (is.head ++ more) ≡ Some (says b.kind h len) = head_again b.kind len is.head more is.is_head in
+    let head_is : block_head_fields (is.head ++ more) ≡ Some (says b.kind h len) = head_again b.kind len is.head more is.is_head in
     let some : 0 < length (is.head ++ more) = positive b.kind len is.head more is.is_head in
     let stepped = not_empty last at (is.head ++ more) (says b.kind h len) some head_is in
     let passed = ordered_again last at (is.head ++ more) h len b.kind m.order m.long (omega arith) in

@@ -4,10 +4,10 @@ use Rattle.std.proofs.lemmas.Bool.{cases_lt, ltb-true, eqb-true, or_cases}
 use Rattle.std.proofs.lemmas.List.{length-drop, drop_all, nil_from_length}
 use Rattle.base_core.specs.declared.Cause.{Cause}
 use Rattle.base_core.specs.declared.Cause.TheVariants.{Truncated, BlockOrder}
-use Rattle.adb_block.specs.Piece.{Piece, may_be_next_kind, least_payload}
+use Rattle.adb_block.specs.Piece.{Piece, may_be_next_kind, least_payload_len}
 use Rattle.adb_block.specs.Container.{IsBlock, MayFollow}
 use Rattle.adb_block.specs.Header.{header_of}
-use Rattle.adb_block.specs.Framing.{HeadFields, head_of, kind_of_number, Step, ended, failed, block, step_by_size, step_by_order, step_by_head, step_at_end, next_step}
+use Rattle.adb_block.specs.Framing.{HeadFields, block_head_fields, kind_of_number, Step, ended, failed, block, step_by_size, step_by_order, step_by_head, step_at_end, next_step}
 use Rattle.adb_block.specs.FirstFraming.{BeginWithBlocks, last_kind, IsWrongSize, HaveBlockFault, IsFirstFramingFault}
 use Rattle.adb_block.specs.ReaderPosition.{first_block_position}
 use Rattle.adb_block.specs.Reading.{block_stream_after_step, block_stream_from_offset, block_stream_from}
@@ -29,7 +29,7 @@ sized_failed at bytes h k c e =
             | inl y ↦ (let less = ltb-true _ _ y in (inl (omega arith), cc))
             | inr y ↦ (inr (ltb-true _ _ y), cc)
           ]
-      | inr x ↦ elim (chosen (ltb (h.raw - h.len) (least_payload k)) _ _ _ x.1) [
+      | inr x ↦ elim (chosen (ltb (h.raw - h.len) (least_payload_len k)) _ _ _ x.1) [
         | inl y ↦
             let is : failed (Truncated at) ≡ failed c = y.1 in
             let less = ltb-true _ _ y.0 in
@@ -38,7 +38,7 @@ sized_failed at bytes h k c e =
       ]
     ]
 
-ordered_failed : (last : Option BlockKind) (at : ℕ) (bytes : List ℕ) (h : HeadFields) (o : Option BlockKind) (c : Cause) → head_of bytes ≡ Some h → kind_of_number h.kind ≡ o → step_by_order last at bytes h o ≡ failed c → HaveBlockFault last at bytes c
+ordered_failed : (last : Option BlockKind) (at : ℕ) (bytes : List ℕ) (h : HeadFields) (o : Option BlockKind) (c : Cause) → block_head_fields bytes ≡ Some h → kind_of_number h.kind ≡ o → step_by_order last at bytes h o ≡ failed c → HaveBlockFault last at bytes c
 ordered_failed last at bytes h None c is kind e = inr (inl (record { head = h; is = is; wrong = rw kind tt; cause = cc }))
 ordered_failed last at bytes h (Some k) c is kind e =
     elim (chosen (may_be_next_kind last k) _ _ _ e) [
@@ -50,12 +50,12 @@ ordered_failed last at bytes h (Some k) c is kind e =
           inr (inl (record { head = h; is = is; wrong = rw kind x.0; cause = cc }))
     ]
 
-headed_failed : (last : Option BlockKind) (at : ℕ) (bytes : List ℕ) (o : Option HeadFields) (c : Cause) → head_of bytes ≡ o → step_by_head last at bytes o ≡ failed c → HaveBlockFault last at bytes c
+headed_failed : (last : Option BlockKind) (at : ℕ) (bytes : List ℕ) (o : Option HeadFields) (c : Cause) → block_head_fields bytes ≡ o → step_by_head last at bytes o ≡ failed c → HaveBlockFault last at bytes c
 headed_failed last at bytes None c is e = inl (record { head = is; cause = cc })
 headed_failed last at bytes (Some h) c is e = ordered_failed last at bytes h (kind_of_number h.kind) c is refl e
 
-nothing_headed : (bytes : List ℕ) → bytes ≡ [] → head_of bytes ≡ None
-unfolding head_of
+nothing_headed : (bytes : List ℕ) → bytes ≡ [] → block_head_fields bytes ≡ None
+unfolding block_head_fields
 nothing_headed bytes e = rw e refl
 
 at_end_failed : (last : Option BlockKind) (at : ℕ) (c : Cause) → step_at_end last at ≡ failed c → c ≡ Truncated at
@@ -67,7 +67,7 @@ unfolding next_step
 step_failed last at bytes c e =
     elim (chosen (eqb (length bytes) 0) _ _ _ e) [
       | inl x ↦ inl (record { head = nothing_headed bytes (nil_from_length bytes (eqb-true _ _ x.0)); cause = at_end_failed last at c x.1 })
-      | inr x ↦ headed_failed last at bytes (head_of bytes) c refl x.1
+      | inr x ↦ headed_failed last at bytes (block_head_fields bytes) c refl x.1
     ]
 
 -- ---- block by block

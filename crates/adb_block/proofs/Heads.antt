@@ -4,7 +4,7 @@ use Rattle.std.specs.Int.{w32, w64, from_le_bytes}
 use Rattle.std.proofs.lemmas.Bool.{cases_lt, le-ltb, lt-ltb, ltb-false, ne_eqb}
 use Rattle.std.proofs.lemmas.List.{take-take, drop-take, take_all}
 use Rattle.adb_block.specs.Header.{word_at, long_at}
-use Rattle.adb_block.specs.Framing.{HeadFields, Step, head_of, kind_of_number, long_head, next_step, step_by_order}
+use Rattle.adb_block.specs.Framing.{HeadFields, Step, block_head_fields, kind_of_number, long_head, next_step, step_by_order}
 use Rattle.adb_block.specs.declared.block.BlockKind.{BlockKind}
 use Rattle.adb_block.specs.Frames.{IsHeadPrefix, head_len}
 
@@ -44,8 +44,8 @@ alike : (long a b : Bool) (p q s : HeadFields) → (long ≡ true → (a ≡ b) 
 alike true a b p q s same = λ k. if (same refl).0 k then None else Some ((same refl).1 k)
 alike false a b p q s same = refl
 
-whole_head : (bytes head : List ℕ) → head_len head ≤ length head → length head ≤ length bytes → take (length head) bytes ≡ head → head_of bytes ≡ head_of head
-unfolding head_of
+whole_head : (bytes head : List ℕ) → head_len head ≤ length head → length head ≤ length bytes → take (length head) bytes ≡ head → block_head_fields bytes ≡ block_head_fields head
+unfolding block_head_fields
 whole_head bytes head le more begins =
     let four = fits_four head le in
     let a : ltb (length bytes) 4 ≡ false = le-ltb _ _ (omega arith) in
@@ -59,24 +59,24 @@ whole_head bytes head le more begins =
 
 -- ---- a header of which all was read that is there, or that is not whole
 
-few_head : (bytes : List ℕ) → length bytes < 4 → head_of bytes ≡ None
-unfolding head_of
+few_head : (bytes : List ℕ) → length bytes < 4 → block_head_fields bytes ≡ None
+unfolding block_head_fields
 few_head bytes few =
     let a : ltb (length bytes) 4 ≡ true = lt-ltb _ _ few in
     rw a refl
 
-cut_head : (bytes : List ℕ) → 4 ≤ length bytes → eqb (word_at 0 bytes / 2 ^ 30) 3 ≡ true → length bytes < 16 → head_of bytes ≡ None
-unfolding head_of
+cut_head : (bytes : List ℕ) → 4 ≤ length bytes → eqb (word_at 0 bytes / 2 ^ 30) 3 ≡ true → length bytes < 16 → block_head_fields bytes ≡ None
+unfolding block_head_fields
 cut_head bytes some long few =
     let a : ltb (length bytes) 4 ≡ false = le-ltb _ _ some in
     let b : ltb (length bytes) 16 ≡ true = lt-ltb _ _ few in
     rw (a, long, b) refl
 
 -- a header that is longer than all that is left
-torn_head : (bytes head : List ℕ) → length head ≤ length bytes → length bytes < head_len head → take (length head) bytes ≡ head → head_of bytes ≡ head_of head
+torn_head : (bytes head : List ℕ) → length head ≤ length bytes → length bytes < head_len head → take (length head) bytes ≡ head → block_head_fields bytes ≡ block_head_fields head
 torn_head bytes head more torn begins = by_four (ltb (length head) 4) (eqb (word_at 0 head / 2 ^ 30) 3) refl refl torn
   where
-    by_four : (a b : Bool) → ltb (length head) 4 ≡ a → eqb (word_at 0 head / 2 ^ 30) 3 ≡ b → length bytes < (if a then 4 else if b then 16 else 4) → head_of bytes ≡ head_of head
+    by_four : (a b : Bool) → ltb (length head) 4 ≡ a → eqb (word_at 0 head / 2 ^ 30) 3 ≡ b → length bytes < (if a then 4 else if b then 16 else 4) → block_head_fields bytes ≡ block_head_fields head
     by_four true b e f few = few_head bytes few ∙ sym (few_head head (omega arith))
     by_four false true e f few =
         let four = ltb-false _ _ e in
@@ -85,7 +85,7 @@ torn_head bytes head more torn begins = by_four (ltb (length head) 4) (eqb (word
         cut_head bytes (omega arith) long few ∙ sym (cut_head head four f (omega arith))
     by_four false false e f few = let four = ltb-false _ _ e in absurd (omega arith)
 
-pub same_head : (bytes head : List ℕ) (left : ℕ) → IsHeadPrefix head left → length bytes ≡ left → take (length head) bytes ≡ head → head_of bytes ≡ head_of head
+pub same_head : (bytes head : List ℕ) (left : ℕ) → IsHeadPrefix head left → length bytes ≡ left → take (length head) bytes ≡ head → block_head_fields bytes ≡ block_head_fields head
 same_head bytes head left holds len begins =
     let within = holds.within in
     elim (cases_lt left (head_len head)) [
@@ -95,9 +95,9 @@ same_head bytes head left holds len begins =
 
 -- ---- the step by it
 
-pub framed_step : (last : Option BlockKind) (at : ℕ) (bytes head : List ℕ) (left : ℕ) (f : HeadFields) (s : Step) → IsHeadPrefix head left → length bytes ≡ left → take (length head) bytes ≡ head → (left ≡ 0 → ⊥) → head_of head ≡ Some f → step_by_order last at bytes f (kind_of_number f.kind) ≡ s → next_step last at bytes ≡ s
+pub framed_step : (last : Option BlockKind) (at : ℕ) (bytes head : List ℕ) (left : ℕ) (f : HeadFields) (s : Step) → IsHeadPrefix head left → length bytes ≡ left → take (length head) bytes ≡ head → (left ≡ 0 → ⊥) → block_head_fields head ≡ Some f → step_by_order last at bytes f (kind_of_number f.kind) ≡ s → next_step last at bytes ≡ s
 unfolding next_step
 framed_step last at bytes head left f s holds len begins some is step =
     let a : eqb (length bytes) 0 ≡ false = ne_eqb _ _ (λ e. some (sym len ∙ e)) in
-    let same : head_of bytes ≡ Some f = same_head bytes head left holds len begins ∙ is in
+    let same : block_head_fields bytes ≡ Some f = same_head bytes head left holds len begins ∙ is in
     rw (a, same) step

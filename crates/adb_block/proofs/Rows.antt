@@ -5,7 +5,7 @@ use Rattle.base_core.specs.declared.Cause.TheVariants.{NotAdb, Compressed, Trunc
 use Rattle.adb_block.specs.Container.{Spells}
 use Rattle.adb_block.specs.Piece.{Piece}
 use Rattle.adb_block.specs.Header.{header_of}
-use Rattle.adb_block.specs.Framing.{head_of, next_step}
+use Rattle.adb_block.specs.Framing.{block_head_fields, next_step}
 use Rattle.adb_block.specs.ReaderPosition.{first_block_position}
 use Rattle.adb_block.specs.Reader.{reader_after_block, next_offset}
 use Rattle.adb_block.specs.Reading.{fault, more, block_stream_from_offset, block_stream_from}
@@ -71,64 +71,64 @@ seven = refl
 -- ---- all blocks
 
 whole : blocks_of file ≡ Ok (adb ∷ [])
-unfolding header_of next_step head_of block_stream_from_offset block_stream_from blocks_from_position blocks_of
+unfolding header_of next_step block_head_fields block_stream_from_offset block_stream_from blocks_from_position blocks_of
 whole = refl
 
 whole_is_spelled : Spells file 0x676b6370 (adb ∷ [])
 whole_is_spelled = read_is_spelled file 0x676b6370 (adb ∷ []) schema whole
 
 no_padding : blocks_of (take 44 file) ≡ Ok (adb ∷ [])
-unfolding header_of next_step head_of block_stream_from_offset block_stream_from blocks_from_position blocks_of
+unfolding header_of next_step block_head_fields block_stream_from_offset block_stream_from blocks_from_position blocks_of
 no_padding = refl
 
 payload_cut : blocks_of (take 43 file) ≡ Err (Truncated 8)
-unfolding header_of next_step head_of block_stream_from_offset block_stream_from blocks_from_position blocks_of
+unfolding header_of next_step block_head_fields block_stream_from_offset block_stream_from blocks_from_position blocks_of
 payload_cut = refl
 
 head_cut : blocks_of (take 11 file) ≡ Err (Truncated 8)
-unfolding header_of next_step head_of block_stream_from_offset block_stream_from blocks_from_position blocks_of
+unfolding header_of next_step block_head_fields block_stream_from_offset block_stream_from blocks_from_position blocks_of
 head_cut = refl
 
 header_alone : blocks_of (take 8 file) ≡ Err (Truncated 8)
-unfolding header_of next_step head_of block_stream_from_offset block_stream_from blocks_from_position blocks_of
+unfolding header_of next_step block_head_fields block_stream_from_offset block_stream_from blocks_from_position blocks_of
 header_alone = refl
 
 header_cut : blocks_of (take 7 file) ≡ Err (Truncated 0)
-unfolding header_of next_step head_of block_stream_from_offset block_stream_from blocks_from_position blocks_of
+unfolding header_of next_step block_head_fields block_stream_from_offset block_stream_from blocks_from_position blocks_of
 header_cut = refl
 
 raw_below_head : blocks_of (slice_set file 8 3) ≡ Err (Truncated 8)
-unfolding header_of next_step head_of block_stream_from_offset block_stream_from blocks_from_position blocks_of
+unfolding header_of next_step block_head_fields block_stream_from_offset block_stream_from blocks_from_position blocks_of
 raw_below_head = refl
 
 payload_of_seven : blocks_of (slice_set file 8 11) ≡ Err (Truncated 8)
-unfolding header_of next_step head_of block_stream_from_offset block_stream_from blocks_from_position blocks_of
+unfolding header_of next_step block_head_fields block_stream_from_offset block_stream_from blocks_from_position blocks_of
 payload_of_seven = refl
 
 signature_first : blocks_of (slice_set file 11 64) ≡ Err (BlockOrder 8)
-unfolding header_of next_step head_of block_stream_from_offset block_stream_from blocks_from_position blocks_of
+unfolding header_of next_step block_head_fields block_stream_from_offset block_stream_from blocks_from_position blocks_of
 signature_first = refl
 
 with_signature : blocks_of (file ++ signature) ≡ Ok (adb ∷ signed ∷ [])
-unfolding header_of next_step head_of block_stream_from_offset block_stream_from blocks_from_position blocks_of
+unfolding header_of next_step block_head_fields block_stream_from_offset block_stream_from blocks_from_position blocks_of
 with_signature = refl
 
 with_contents : blocks_of (file ++ (signature ++ contents)) ≡ Ok (adb ∷ signed ∷ content ∷ [])
-unfolding header_of next_step head_of block_stream_from_offset block_stream_from blocks_from_position blocks_of
+unfolding header_of next_step block_head_fields block_stream_from_offset block_stream_from blocks_from_position blocks_of
 with_contents = refl
 
 -- the contents' padding precedes the signature
 signature_late : blocks_of (file ++ (contents ++ ((0 ∷ 0 ∷ 0 ∷ []) ++ signature))) ≡ Err (BlockOrder 56)
-unfolding header_of next_step head_of block_stream_from_offset block_stream_from blocks_from_position blocks_of
+unfolding header_of next_step block_head_fields block_stream_from_offset block_stream_from blocks_from_position blocks_of
 signature_late = refl
 
 second_adb : blocks_of (file ++ (signature ++ body)) ≡ Err (BlockOrder 56)
-unfolding header_of next_step head_of block_stream_from_offset block_stream_from blocks_from_position blocks_of
+unfolding header_of next_step block_head_fields block_stream_from_offset block_stream_from blocks_from_position blocks_of
 second_adb = refl
 
 -- what was read before the failed test
 second_adb_reading : block_stream_from (first_block_position 0x676b6370 (file ++ (signature ++ body))) ≡ more adb 8 (more signed 48 (fault (BlockOrder 56)))
-unfolding next_step head_of block_stream_from_offset block_stream_from
+unfolding next_step block_head_fields block_stream_from_offset block_stream_from
 second_adb_reading = refl
 
 -- ---- headers of sixteen bytes
@@ -137,19 +137,19 @@ abbrev long : ℕ → List ℕ → List ℕ
 long kind size = codes "ADB.pckg" ++ ((kind ∷ 0 ∷ 0 ∷ 192 ∷ 7 ∷ 7 ∷ 7 ∷ 7 ∷ []) ++ (size ++ payload))
 
 long_head : blocks_of (long 0 (48 ∷ 0 ∷ 0 ∷ 0 ∷ 0 ∷ 0 ∷ 0 ∷ 0 ∷ [])) ≡ Ok (adb ∷ [])
-unfolding header_of next_step head_of block_stream_from_offset block_stream_from blocks_from_position blocks_of
+unfolding header_of next_step block_head_fields block_stream_from_offset block_stream_from blocks_from_position blocks_of
 long_head = refl
 
 long_raw_below_head : blocks_of (long 0 (15 ∷ 0 ∷ 0 ∷ 0 ∷ 0 ∷ 0 ∷ 0 ∷ 0 ∷ [])) ≡ Err (Truncated 8)
-unfolding header_of next_step head_of block_stream_from_offset block_stream_from blocks_from_position blocks_of
+unfolding header_of next_step block_head_fields block_stream_from_offset block_stream_from blocks_from_position blocks_of
 long_raw_below_head = refl
 
 long_raw_most : blocks_of (long 0 (255 ∷ 255 ∷ 255 ∷ 255 ∷ 255 ∷ 255 ∷ 255 ∷ 255 ∷ [])) ≡ Err (Truncated 8)
-unfolding header_of next_step head_of block_stream_from_offset block_stream_from blocks_from_position blocks_of
+unfolding header_of next_step block_head_fields block_stream_from_offset block_stream_from blocks_from_position blocks_of
 long_raw_most = refl
 
 long_type_three : blocks_of (long 3 (48 ∷ 0 ∷ 0 ∷ 0 ∷ 0 ∷ 0 ∷ 0 ∷ 0 ∷ [])) ≡ Err (BlockOrder 8)
-unfolding header_of next_step head_of block_stream_from_offset block_stream_from blocks_from_position blocks_of
+unfolding header_of next_step block_head_fields block_stream_from_offset block_stream_from blocks_from_position blocks_of
 long_type_three = refl
 
 -- ---- the offset of the next block

@@ -4,9 +4,9 @@ use Rattle.std.specs.Int.{w32, w64, from_le_bytes}
 use Rattle.std.proofs.lemmas.Bool.{cases_lt, ltb-false, eqb-true, or_parts}
 use Rattle.std.proofs.lemmas.List.{take-append-drop, length-take, length-drop, take-take, drop-drop, drop-take, drop_all, nil_from_length}
 use Rattle.adb_block.specs.Container.{IsHead, IsPadding, IsBlock, MayFollow, HasBlockBefore}
-use Rattle.adb_block.specs.Piece.{Piece, kind_number, may_be_next_kind, least_payload, padding_of}
+use Rattle.adb_block.specs.Piece.{Piece, kind_number, may_be_next_kind, least_payload_len, padding_of}
 use Rattle.adb_block.specs.Header.{word_at, long_at}
-use Rattle.adb_block.specs.Framing.{HeadFields, short_head, long_head, head_of, kind_of_number, ended, block, step_by_size, step_by_order, step_by_head, step_at_end, next_step}
+use Rattle.adb_block.specs.Framing.{HeadFields, short_head, long_head, block_head_fields, kind_of_number, ended, block, step_by_size, step_by_order, step_by_head, step_at_end, next_step}
 use Rattle.adb_block.specs.declared.block.BlockKind.{BlockKind}
 use Rattle.adb_block.specs.declared.block.BlockKind.TheVariants.{Adb, Signature, Contents}
 use Rattle.adb_block.proofs.Choices.{chosen}
@@ -52,8 +52,8 @@ long_stands bytes sixteen three =
       });
     }
 
-pub head_sound : (bytes : List ℕ) (h : HeadFields) → head_of bytes ≡ Some h → Stands bytes h
-unfolding head_of
+pub head_sound : (bytes : List ℕ) (h : HeadFields) → block_head_fields bytes ≡ Some h → Stands bytes h
+unfolding block_head_fields
 head_sound bytes h e =
     elim (chosen (ltb (length bytes) 4) _ _ _ e) [
       | inl x ↦ absurd (let y = x.1 in cc)
@@ -91,7 +91,7 @@ pub record Passes (last : Option BlockKind) (bytes : List ℕ) (h : HeadFields) 
   pub order : may_be_next_kind last b.kind ≡ true
   pub enough : h.len ≤ h.raw
   pub fits : h.raw ≤ length bytes
-  pub long : least_payload b.kind ≤ h.raw - h.len
+  pub long : least_payload_len b.kind ≤ h.raw - h.len
   pub payload_is : take (h.raw - h.len) (drop h.len bytes) ≡ b.payload
   pub size_is : h.raw + padding_of h.raw ≡ size
 
@@ -99,7 +99,7 @@ sized_sound : (last : Option BlockKind) (at : ℕ) (bytes : List ℕ) (h : HeadF
 sized_sound last at bytes h k b size o e =
     elim (chosen (ltb h.raw h.len || ltb (length bytes) h.raw) _ _ _ e) [
       | inl x ↦ absurd (let y = x.1 in cc)
-      | inr x ↦ elim (chosen (ltb (h.raw - h.len) (least_payload k)) _ _ _ x.1) [
+      | inr x ↦ elim (chosen (ltb (h.raw - h.len) (least_payload_len k)) _ _ _ x.1) [
         | inl y ↦ absurd (let z = y.1 in cc)
         | inr y ↦
             let parts = or_parts (ltb h.raw h.len) (ltb (length bytes) h.raw) x.0 in
@@ -166,7 +166,7 @@ passes_block last bytes h b size located kind p =
       },
     )
 
-headed_sound : (last : Option BlockKind) (at : ℕ) (bytes : List ℕ) (o : Option HeadFields) (b : Piece) (size : ℕ) → head_of bytes ≡ o → step_by_head last at bytes o ≡ block b size → MayFollow last b × IsBlock b bytes (drop size bytes)
+headed_sound : (last : Option BlockKind) (at : ℕ) (bytes : List ℕ) (o : Option HeadFields) (b : Piece) (size : ℕ) → block_head_fields bytes ≡ o → step_by_head last at bytes o ≡ block b size → MayFollow last b × IsBlock b bytes (drop size bytes)
 headed_sound last at bytes None b size i e = absurd cc
 headed_sound last at bytes (Some h) b size i e =
     let s = ordered_sound last at bytes h (kind_of_number h.kind) b size e in
@@ -181,7 +181,7 @@ unfolding next_step
 step_sound last at bytes b size e =
     elim (chosen (eqb (length bytes) 0) _ _ _ e) [
       | inl x ↦ absurd (at_end_no_block last at b size x.1)
-      | inr x ↦ headed_sound last at bytes (head_of bytes) b size refl x.1
+      | inr x ↦ headed_sound last at bytes (block_head_fields bytes) b size refl x.1
     ]
 
 -- ---- the end
@@ -190,7 +190,7 @@ sized_not_ended : (at : ℕ) (bytes : List ℕ) (h : HeadFields) (k : BlockKind)
 sized_not_ended at bytes h k e =
     elim (chosen (ltb h.raw h.len || ltb (length bytes) h.raw) _ _ _ e) [
       | inl x ↦ (let y = x.1 in cc)
-      | inr x ↦ elim (chosen (ltb (h.raw - h.len) (least_payload k)) _ _ _ x.1) [ inl y ↦ (let z = y.1 in cc) | inr y ↦ (let z = y.1 in cc) ]
+      | inr x ↦ elim (chosen (ltb (h.raw - h.len) (least_payload_len k)) _ _ _ x.1) [ inl y ↦ (let z = y.1 in cc) | inr y ↦ (let z = y.1 in cc) ]
     ]
 
 ordered_not_ended : (last : Option BlockKind) (at : ℕ) (bytes : List ℕ) (h : HeadFields) (o : Option BlockKind) → step_by_order last at bytes h o ≡ ended → ⊥
@@ -214,5 +214,5 @@ unfolding next_step
 step_ended last at bytes e =
     elim (chosen (eqb (length bytes) 0) _ _ _ e) [
       | inl x ↦ (nil_from_length bytes (eqb-true _ _ x.0), at_end_ended last at x.1)
-      | inr x ↦ absurd (headed_not_ended last at bytes (head_of bytes) x.1)
+      | inr x ↦ absurd (headed_not_ended last at bytes (block_head_fields bytes) x.1)
     ]

@@ -7,7 +7,7 @@ use Rattle.adb_block.specs.Header.{header_of}
 use Rattle.adb_block.specs.ReaderPosition.{ReaderPosition, first_block_position}
 use Rattle.adb_block.specs.Reading.{Reading, done, fault, more, block_stream_from}
 
--- all blocks of a reading, with one more in front, or the test that failed after it
+-- a block and the blocks after it; or the failed test, if the reading after the block ended with one
 abbrev pub with_block : Piece → Result (List Piece) Cause → Result (List Piece) Cause
 with_block b (Ok bs) = Ok (b ∷ bs)
 with_block b (Err c) = Err c

@@ -3,11 +3,12 @@
 use Rattle.std.specs.Prelude.{◌≡◌, ℕ, ◌+◌, ◌*◌, ◌^◌, ◌<◌, ◌≤◌, ◌⊎◌, true, codes, List, [], ◌∷◌, ◌++◌, length, take, drop, Option, Some, None}
 use Rattle.std.specs.Int.{w32, w64, from_le_bytes}
 use Rattle.adb_block.specs.declared.block.BlockKind.{BlockKind}
-use Rattle.adb_block.specs.Piece.{Piece, may_be_next_kind, kind_number, least_payload, padding_of}
+use Rattle.adb_block.specs.Piece.{Piece, may_be_next_kind, kind_number, least_payload_len, padding_of}
 
 -- a header of four bytes: the kind in the top two bits, below it the raw size, which counts the
 -- header's 4 bytes and the `len` of the payload
 pub record IsShortHead (kind : BlockKind) (len : ℕ) (head : List ℕ) : Type 0 where
+  -- it has 4 bytes
   pub size : length head ≡ 4
   -- the kind and the raw size, in one number
   pub word : from_le_bytes w32 head ≡ kind_number kind * 2 ^ 30 + (4 + len)
@@ -17,6 +18,7 @@ pub record IsShortHead (kind : BlockKind) (len : ℕ) (head : List ℕ) : Type 0
 -- a header of sixteen bytes: the number 3 with the kind below it, four bytes that are ignored, and the
 -- raw size, which counts the header's 16 bytes and the `len` of the payload
 pub record IsLongHead (kind : BlockKind) (len : ℕ) (head : List ℕ) : Type 0 where
+  -- it has 16 bytes
   pub size : length head ≡ 16
   -- 3 in the top two bits, and the kind below
   pub word : from_le_bytes w32 (take 4 head) ≡ 3 * 2 ^ 30 + kind_number kind
@@ -40,7 +42,9 @@ pub record IsBlock (b : Piece) (bytes rest : List ℕ) : Type 0 where
   pub head : List ℕ
   -- the padding
   pub pad : List ℕ
+  -- the header is one of this kind and this length of the payload
   pub is_head : IsHead b.kind (length b.payload) head
+  -- header, payload, padding and rest follow each other
   pub parts : bytes ≡ head ++ (b.payload ++ (pad ++ rest))
   -- it fills up the size of header and payload
   pub is_pad : IsPadding (length head + length b.payload) pad rest
@@ -51,7 +55,7 @@ pub record MayFollow (last : Option BlockKind) (b : Piece) : Type 0 where
   -- its kind is allowed here
   pub order : may_be_next_kind last b.kind ≡ true
   -- its payload has the bytes that its kind needs
-  pub long : least_payload b.kind ≤ length b.payload
+  pub long : least_payload_len b.kind ≤ length b.payload
 
 -- the file may end here, since at least one block precedes
 abbrev pub HasBlockBefore : Option BlockKind → Type 0
@@ -71,9 +75,13 @@ pub record Spells (file : List ℕ) (schema : ℕ) (pieces : List Piece) : Type 
   pub word : List ℕ
   -- the bytes of the blocks
   pub body : List ℕ
+  -- the file is `ADB.`, the schema and the blocks
   pub parts : file ≡ codes "ADB." ++ (word ++ body)
+  -- the schema has four bytes
   pub four : length word ≡ 4
+  -- these are the little-endian number of the schema
   pub is_schema : from_le_bytes w32 word ≡ schema
+  -- the bytes after the schema are these blocks
   pub blocks : SpellsBlocks None body pieces
 
 -- these blocks may be written in this order after a block of the kind `last`, and each payload's size,

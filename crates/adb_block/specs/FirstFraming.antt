@@ -4,9 +4,9 @@
 use Rattle.std.specs.Prelude.{◌≡◌, ℕ, ◌+◌, ◌<◌, ◌⊎◌, false, true, List, [], ◌∷◌, length, drop, Option, Some, None}
 use Rattle.base_core.specs.declared.Cause.{Cause}
 use Rattle.base_core.specs.declared.Cause.TheVariants.{Truncated, BlockOrder}
-use Rattle.adb_block.specs.Piece.{Piece, may_be_next_kind, least_payload}
+use Rattle.adb_block.specs.Piece.{Piece, may_be_next_kind, least_payload_len}
 use Rattle.adb_block.specs.Container.{IsBlock, MayFollow}
-use Rattle.adb_block.specs.Framing.{HeadFields, head_of, kind_of_number}
+use Rattle.adb_block.specs.Framing.{HeadFields, block_head_fields, kind_of_number}
 use Rattle.adb_block.specs.declared.block.BlockKind.{BlockKind}
 
 -- after a block of the kind `last`, the bytes begin with these blocks and end with the rest
@@ -25,7 +25,9 @@ last_kind last (b ∷ bs) = last_kind (Some b.kind) bs
 
 -- first: the bytes have no complete header
 pub record LackHeader (at : ℕ) (bytes : List ℕ) (c : Cause) : Type 0 where
-  pub head : head_of bytes ≡ None
+  -- they have no complete header
+  pub head : block_head_fields bytes ≡ None
+  -- the cause is `Truncated`, with the offset of the block
   pub cause : c ≡ Truncated at
 
 -- a kind is not allowed after `last`, or is unknown
@@ -36,25 +38,36 @@ CannotFollow last (Some kind) = may_be_next_kind last kind ≡ false
 -- second: the bytes begin with a complete header, whose kind is not allowed here
 pub record HaveWrongKind (last : Option BlockKind) (at : ℕ) (bytes : List ℕ)
     (c : Cause) : Type 0 where
+  -- the fields of the header
   pub head : HeadFields
-  pub is : head_of bytes ≡ Some head
+  -- the bytes begin with this header
+  pub is : block_head_fields bytes ≡ Some head
+  -- its kind is not allowed here
   pub wrong : CannotFollow last (kind_of_number head.kind)
+  -- the cause is `BlockOrder`, with the offset of the block
   pub cause : c ≡ BlockOrder at
 
 -- the raw size is too small for the header and the least payload of the kind, or exceeds the bytes
 abbrev pub IsWrongSize : HeadFields → BlockKind → List ℕ → Type 0
 IsWrongSize head kind bytes =
-    (head.raw < head.len + least_payload kind) ⊎ (length bytes < head.raw)
+    (head.raw < head.len + least_payload_len kind) ⊎ (length bytes < head.raw)
 
 -- third: the bytes begin with a header whose kind is allowed here, but whose size is wrong
 pub record HaveWrongSize (last : Option BlockKind) (at : ℕ) (bytes : List ℕ)
     (c : Cause) : Type 0 where
+  -- the fields of the header
   pub head : HeadFields
-  pub is : head_of bytes ≡ Some head
+  -- the bytes begin with this header
+  pub is : block_head_fields bytes ≡ Some head
+  -- the kind of the block
   pub kind : BlockKind
+  -- its number is in the header
   pub is_kind : kind_of_number head.kind ≡ Some kind
+  -- this kind is allowed here
   pub order : may_be_next_kind last kind ≡ true
+  -- the raw size is wrong
   pub wrong : IsWrongSize head kind bytes
+  -- the cause is `Truncated`, with the offset of the block
   pub cause : c ≡ Truncated at
 
 -- the next block has this fault: one of its three tests fails, and those before it do not
@@ -75,6 +88,7 @@ pub record IsFirstFramingFault (file : List ℕ) (c : Cause) : Type 0 where
   pub before : BeginWithBlocks None (drop 8 file) blocks rest
   -- the offset of the rest
   pub at : ℕ
+  -- the rest ends with the file
   pub located : at + length rest ≡ length file
   -- the next block has this fault
   pub fault : HaveBlockFault (last_kind None blocks) at rest c

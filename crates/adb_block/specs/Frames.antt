@@ -20,10 +20,12 @@ head_len bytes =
 -- `head` is the first of the `left` bytes up to the file's end: as many as a header has, if they are
 -- all there
 pub record IsHeadPrefix (head : List ℕ) (left : ℕ) : Type 0 where
+  -- it has no more bytes than are left
   pub within : length head ≤ left
+  -- if all bytes of the header are left, it has them all
   pub whole : head_len head ≤ left → head_len head ≤ length head
 
--- the length of the header and the payload of a framed block in bytes
+-- the length of the header and the payload of a framed block together, in bytes
 abbrev pub raw_size : Frame → ℕ
 raw_size frame = frame.head_len + frame.payload_len
 

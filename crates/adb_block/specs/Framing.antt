@@ -4,7 +4,7 @@
 use Rattle.std.specs.Prelude.{ℕ, zero, suc, ◌+◌, ◌-◌, ◌/◌, ◌%◌, ◌^◌, ◌||◌, ◌==◌, nat_lt, if◌then◌else◌, List, length, take, drop, Option, Some, None}
 use Rattle.base_core.specs.declared.Cause.{Cause}
 use Rattle.base_core.specs.declared.Cause.TheVariants.{Truncated, BlockOrder}
-use Rattle.adb_block.specs.Piece.{Piece, may_be_next_kind, least_payload, padding_of}
+use Rattle.adb_block.specs.Piece.{Piece, may_be_next_kind, least_payload_len, padding_of}
 use Rattle.adb_block.specs.Header.{word_at, long_at}
 use Rattle.adb_block.specs.declared.block.BlockKind.{BlockKind}
 use Rattle.adb_block.specs.declared.block.BlockKind.TheVariants.{Adb, Signature, Contents}
@@ -28,10 +28,10 @@ short_head word = record { kind = word / 2 ^ 30; len = 4; raw = word % 2 ^ 30 }
 abbrev pub long_head : ℕ → ℕ → HeadFields
 long_head word raw = record { kind = word % 2 ^ 30; len = 16; raw = raw }
 
--- the header at the front of the bytes, or None if it is not complete; 3 in the top two bits marks 16
--- bytes
-unfoldable pub head_of : List ℕ → Option HeadFields
-head_of bytes =
+-- the header at the front of the bytes, or None if it is not complete. The number 3 in the top two
+-- bits of its first four bytes marks a header of 16 bytes
+unfoldable pub block_head_fields : List ℕ → Option HeadFields
+block_head_fields bytes =
     if nat_lt (length bytes) 4 then None
     else if word_at 0 bytes / 2 ^ 30 == 3 then
     (if nat_lt (length bytes) 16 then None
@@ -57,7 +57,7 @@ pub data Step : Type 0 where
 abbrev pub step_by_size : ℕ → List ℕ → HeadFields → BlockKind → Step
 step_by_size at bytes head kind =
     if nat_lt head.raw head.len || nat_lt (length bytes) head.raw then failed (Truncated at)
-    else if nat_lt (head.raw - head.len) (least_payload kind) then failed (Truncated at)
+    else if nat_lt (head.raw - head.len) (least_payload_len kind) then failed (Truncated at)
     else block (record { kind = kind; payload = take (head.raw - head.len) (drop head.len bytes) })
     (head.raw + padding_of head.raw)
 
@@ -67,13 +67,13 @@ step_by_order last at bytes head None = failed (BlockOrder at)
 step_by_order last at bytes head (Some kind) =
     if may_be_next_kind last kind then step_by_size at bytes head kind else failed (BlockOrder at)
 
--- the result for a rest that is not empty: first the test that it has a complete header, then the
--- others
+-- the result if bytes are left: a fault if they have no complete header, else the result of the tests
+-- of the kind and the sizes
 abbrev pub step_by_head : Option BlockKind → ℕ → List ℕ → Option HeadFields → Step
 step_by_head last at bytes None = failed (Truncated at)
 step_by_head last at bytes (Some head) = step_by_order last at bytes head (kind_of_number head.kind)
 
--- the result for an empty rest: the end, or a fault if no block precedes
+-- the result if no bytes are left: the end, or a fault if there was no block
 abbrev pub step_at_end : Option BlockKind → ℕ → Step
 step_at_end None at = failed (Truncated at)
 step_at_end (Some kind) at = ended
@@ -82,4 +82,4 @@ step_at_end (Some kind) at = ended
 -- these bytes begin
 unfoldable pub next_step : Option BlockKind → ℕ → List ℕ → Step
 next_step last at bytes =
-    if length bytes == 0 then step_at_end last at else step_by_head last at bytes (head_of bytes)
+    if length bytes == 0 then step_at_end last at else step_by_head last at bytes (block_head_fields bytes)

@@ -35,7 +35,7 @@ may_be_next_kind (Some Signature) Signature = true
 may_be_next_kind (Some last) Contents = true
 
 -- the least length in bytes of the payload of a block of this kind: an ADB block has a head of 8
-abbrev pub least_payload : BlockKind → ℕ
-least_payload Adb = 8
-least_payload Signature = 0
-least_payload Contents = 0
+abbrev pub least_payload_len : BlockKind → ℕ
+least_payload_len Adb = 8
+least_payload_len Signature = 0
+least_payload_len Contents = 0

@@ -15,7 +15,8 @@ pub data Reading : Type 0 where
   fault : Cause → Reading
   more : Piece → ℕ → Reading → Reading
 
--- the reading by the result at one offset: the end or a fault ends it; after a block it goes on
+-- the reading that begins with the result of the tests at the offset `at`. The end or a fault ends it;
+-- after a block `further` continues it
 abbrev pub block_stream_after_step : ℕ → (Piece → ℕ → Reading) → Step → Reading
 block_stream_after_step at further ended = done
 block_stream_after_step at further (failed c) = fault c
@@ -26,7 +27,8 @@ block_stream_after_step at further (block b size) = more b at (further b size)
 unfoldable pub block_stream_from_offset : ℕ → Option BlockKind → ℕ → List ℕ → Reading
 block_stream_from_offset zero last at bytes = fault (Truncated at)
 block_stream_from_offset (suc n) last at bytes =
-    block_stream_after_step at (λ b size. block_stream_from_offset n (Some b.kind) (at + size) (drop size bytes))
+    block_stream_after_step at
+    (λ b size. block_stream_from_offset n (Some b.kind) (at + size) (drop size bytes))
     (next_step last at bytes)
 
 -- the reading of a file from a reader's position on

@@ -8,8 +8,8 @@
 ghost use Rattle.std.specs.Prelude.{◌≡◌, ◌≤◌, ◌<◌, ◌+◌, ◌-◌, ◌^◌, ◌⊎◌, ℕ, List, Option, None, true, IfOk, IfSome, IsSome, length, take};
 ghost use Rattle.std.specs.Option.{option_map};
 ghost use Rattle.adb_block.specs.Container.{IsHead};
-ghost use Rattle.adb_block.specs.Piece.{may_be_next_kind, least_payload, padding_of, kind_number};
-ghost use Rattle.adb_block.specs.Framing.{HeadFields, head_of, kind_of_number, step_by_order, next_step};
+ghost use Rattle.adb_block.specs.Piece.{may_be_next_kind, least_payload_len, padding_of, kind_number};
+ghost use Rattle.adb_block.specs.Framing.{HeadFields, block_head_fields, kind_of_number, step_by_order, next_step};
 ghost use Rattle.adb_block.specs.Frames.{IsHeadPrefix, IsFrameOrEndOfStep, IsFrameOfStep, IsReadBlock, fields_of, head_len, raw_size};
 ghost use Rattle.adb_block.specs.Written.{head_bytes};
 ghost use Rattle.adb_block.specs.Header.{word_at, long_at};
@@ -83,6 +83,7 @@ pub(crate) fn block_at(
     at: u64,
     bytes: &[u8],
 ) -> Result<Option<ReadBlock<'_>>, Cause>
+    // The block ends within the bytes, except that its padding may be cut.
     ensures fits { IfOk result (λ found. IfSome found (λ block.
         (0 < length bytes.now) × (block.size ≤ length bytes.now + 7))) }
     ensures exact { IsReadBlock result (next_step last at bytes.now) }
@@ -134,10 +135,13 @@ pub fn frame_of(
         → IsFrameOrEndOfStep result bytes (next_step last at bytes) }
     // A file has at least one block, else it is an error.
     ensures first { last ≡ None → IfOk result (λ found. IsSome found) }
+    // The kind is allowed after `last`.
     ensures order { IfOk result (λ found. IfSome found (λ frame.
         may_be_next_kind last frame.kind ≡ true)) }
+    // The length of the header is that of its first bytes (`head_len`).
     ensures len { IfOk result (λ found. IfSome found (λ frame.
         frame.head_len ≡ head_len head.now)) }
+    // The block ends within the bytes.
     ensures fits { IfOk result (λ found. IfSome found (λ frame.
         (0 < left) × (raw_size frame ≤ left))) }
 {
@@ -156,9 +160,10 @@ pub fn frame_of(
 
 /// The header at the front of the bytes, or None if it is not complete. The number 3 in the top two
 /// bits marks a header of 16 bytes.
-#[tactic(auto, unfolding(crate::specs::Framing::head_of))]
+#[tactic(auto, unfolding(crate::specs::Framing::block_head_fields))]
 fn read_head(bytes: &[u8]) -> Option<BlockHead>
-    ensures exact { option_map fields_of result ≡ head_of bytes.now }
+    ensures exact { option_map fields_of result ≡ block_head_fields bytes.now }
+    // The length of the header is that of its first bytes (`head_len`).
     ensures len { IfSome result (λ head. head.len ≡ head_len bytes.now) }
 {
     if bytes.len() < 4 {
@@ -194,8 +199,11 @@ fn frame_by_head(
 ) -> Result<Frame, Cause>
     ensures exact { (bytes : List ℕ) → length bytes ≡ left → IsFrameOfStep result bytes
         (step_by_order last at bytes (fields_of head) (kind_of_number head.kind)) }
+    // The kind is allowed after `last`.
     ensures order { IfOk result (λ frame. may_be_next_kind last frame.kind ≡ true) }
+    // The length of the header is the one that was read.
     ensures len { IfOk result (λ frame. frame.head_len ≡ head.len) }
+    // The block ends within the bytes.
     ensures fits { IfOk result (λ frame. raw_size frame ≤ left) }
 {
     let Some(kind) = kind_of_number(head.kind) else {
@@ -208,7 +216,7 @@ fn frame_by_head(
     if head.raw < head.len || head.raw > left {
         return Err(Cause::Truncated { at });
     }
-    if head.raw - head.len < least_payload(kind) {
+    if head.raw - head.len < least_payload_len(kind) {
         return Err(Cause::Truncated { at });
     }
     Ok(Frame {
@@ -244,8 +252,8 @@ fn may_be_next_kind(last: Option<BlockKind>, kind: BlockKind) -> bool
 }
 
 /// The least length in bytes of the payload of a block of this kind: an ADB block has a head of 8.
-fn least_payload(kind: BlockKind) -> u64
-    ensures { result ≡ least_payload kind }
+fn least_payload_len(kind: BlockKind) -> u64
+    ensures { result ≡ least_payload_len kind }
 {
     match kind {
         BlockKind::Adb => 8,

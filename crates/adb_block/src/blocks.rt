@@ -54,7 +54,8 @@ impl<'a> Blocks<'a> {
     #[tactic(auto, unfolding(crate::specs::AllBlocks::blocks_of))]
     pub fn new(bytes: &'a [u8]) -> Result<Blocks<'a>, Cause>
         ensures ok { IfOk result (λ blocks. header_of bytes.entry.now ≡ Ok blocks.schema) }
-        ensures start { IfOk result (λ blocks. blocks ≡ first_block_position blocks.schema bytes.entry.now) }
+        ensures start { IfOk result (λ blocks. blocks
+            ≡ first_block_position blocks.schema bytes.entry.now) }
         ensures cause { IfErr result (λ cause. header_of bytes.entry.now ≡ Err cause) }
         // For a caller's loop over all blocks: its start.
         ensures rest { AreBlocksOrHeaderFault (blocks_of bytes.entry.now) result }
@@ -99,8 +100,10 @@ impl<'a> Blocks<'a> {
         ensures err { OnErr result (self.new ≡ self.old) }
 
         // For a caller's loop over all blocks: its step.
-        ensures reading { ContinuesReading (block_stream_from self.old) result (block_stream_from self.new) }
-        ensures rest { AreBlocksFromCall (blocks_from_position self.old) result (blocks_from_position self.new) }
+        ensures reading { ContinuesReading (block_stream_from self.old) result
+            (block_stream_from self.new) }
+        ensures rest { AreBlocksFromCall (blocks_from_position self.old) result
+            (blocks_from_position self.new) }
     {
         let at = self.at as u64;
         let left = left_from(self.bytes, self.at);

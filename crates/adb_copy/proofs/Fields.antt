@@ -2,7 +2,7 @@
 use Rattle.std.proofs.Common.{◌≡◌, ℕ, suc, zero, false, List, refl, ap, sym, subst, ◌∙◌, ◌+◌, arith, inl, inr}
 use Rattle.std.specs.Prelude.{◌==◌, if◌then◌else◌}
 use Rattle.std.proofs.lemmas.Bool.Decides.{eqb_tells}
-use Rattle.adb_view.specs.Plain.{Plain, null, int, blob, Plains, none, more, Shape, number, text, hash, array, object, Fields, no_fields, field, blob_or_null, obj_of, obj_value}
+use Rattle.adb_view.specs.Plain.{Plain, null, int, blob, Plains, none, more, Shape, number, text, hash, array, object, Fields, no_fields, field, blob_or_null, object_or_null, trimmed_object_or_null}
 use Rattle.adb_view.specs.Shaped.{HasShape, HaveShapes}
 use Rattle.adb_view.specs.Schema.{shape_of, shapes_of, table}
 use Rattle.adb_view.specs.Values.{nth, entries_in, entry_in, int_in, text_in}
@@ -43,21 +43,21 @@ written_nth (field n s fs) f shape past (suc k) = written_nth fs (λ i. f (suc i
 
 -- ---- the fields of an object
 
-pub object_written : (n : ℕ) (fs : Fields) (v : Plain) → HasShape (object n fs) v → obj_value (as_written fs (nth (entries_in v))) ≡ without_zeros v
+pub object_written : (n : ℕ) (fs : Fields) (v : Plain) → HasShape (object n fs) v → trimmed_object_or_null (as_written fs (nth (entries_in v))) ≡ without_zeros v
 unfolding HasShape
 object_written n fs v h =
     let hs : HaveShapes fs (entries_in v) = entries_shape n fs v h in
-    ap obj_of (trimmed_same (as_written fs (nth (entries_in v))) (all_without_zeros (entries_in v)) (λ i. written_nth fs (nth (entries_in v)) (λ k. nth_shape fs (entries_in v) k hs) (λ k. nth_behind fs (entries_in v) k hs) i ∙ sym (nth_zeros (entries_in v) i)))
+    ap object_or_null (trimmed_same (as_written fs (nth (entries_in v))) (all_without_zeros (entries_in v)) (λ i. written_nth fs (nth (entries_in v)) (λ k. nth_shape fs (entries_in v) k hs) (λ k. nth_behind fs (entries_in v) k hs) i ∙ sym (nth_zeros (entries_in v) i)))
     ∙ sym (zeros_object (HaveShapes fs) v h)
 
 -- ---- a dependency
 
 pub dep_written : (v : Plain) (name version : List ℕ) (matching : ℕ) → HasShape (shape_of (Kinds.Obj Tables.Dep)) v → name ≡ text_in (entry_in v 0) → version ≡ text_in (entry_in v 1) → matching ≡ int_in (entry_in v 2)
-    → without_zeros v ≡ obj_value (more (blob_or_null name) (more (blob_or_null version) (more (int_or_null matching) none)))
+    → without_zeros v ≡ trimmed_object_or_null (more (blob_or_null name) (more (blob_or_null version) (more (int_or_null matching) none)))
 unfolding shape_of
 dep_written v name version matching h e0 e1 e2 =
     sym (object_written 1 (shapes_of (table Tables.Dep)) v h)
-    ∙ sym (λ j. obj_value (more (blob_or_null (e0 j)) (more (blob_or_null (e1 j)) (more (int_or_null (e2 j)) none))))
+    ∙ sym (λ j. trimmed_object_or_null (more (blob_or_null (e0 j)) (more (blob_or_null (e1 j)) (more (int_or_null (e2 j)) none))))
 
 -- ---- an info
 
@@ -121,12 +121,12 @@ both_behind id len vs h k =
     let e : behind INFO k ≡ k + 22 = omega arith in
     both_other id len vs (behind INFO k) (λ x. omega (arith, e, x)) (λ x. omega (arith, e, x)) ∙ nth_behind INFO vs k h
 
-entry_by_fields : (info : Plain) (id : List ℕ) (len : ℕ) → HaveShapes INFO (entries_in info) → obj_value (as_written INFO (pick id len (entries_in info))) ≡ info_with_id_and_size info id len
+entry_by_fields : (info : Plain) (id : List ℕ) (len : ℕ) → HaveShapes INFO (entries_in info) → trimmed_object_or_null (as_written INFO (pick id len (entries_in info))) ≡ info_with_id_and_size info id len
 unfolding without_zeros info_with_id_and_size
 entry_by_fields info id len h =
     let vs : Plains = entries_in info in
     let us : Plains = with_both id len vs in
-    ap obj_of (trimmed_same (as_written INFO (pick id len vs)) (all_without_zeros us)
+    ap object_or_null (trimmed_same (as_written INFO (pick id len vs)) (all_without_zeros us)
     (λ i. written_nth INFO (pick id len vs)
     (λ k. subst (HasShape (shape_at INFO k)) (sym (pick_both id len vs k)) (both_shape id len vs h k))
     (λ k. pick_both id len vs (behind INFO k) ∙ both_behind id len vs h k) i
@@ -149,11 +149,11 @@ pub info_written : (info : Plain) (id : List ℕ) (len : ℕ) → HasShape (shap
     → n10 ≡ int_in (entry_in info 10) → n11 ≡ int_in (entry_in info 11) → n13 ≡ int_in (entry_in info 13)
     → l14 ≡ entry_in info 14 → l15 ≡ entry_in info 15 → l16 ≡ entry_in info 16 → l17 ≡ entry_in info 17 → l18 ≡ entry_in info 18
     → n19 ≡ int_in (entry_in info 19) → l20 ≡ entry_in info 20 → n21 ≡ int_in (entry_in info 21)
-    → info_with_id_and_size info id len ≡ obj_value (info_fields id len t0 t1 t3 t4 t5 t6 t7 t8 t9 n10 n11 n13 l14 l15 l16 l17 l18 n19 l20 n21)
+    → info_with_id_and_size info id len ≡ trimmed_object_or_null (info_fields id len t0 t1 t3 t4 t5 t6 t7 t8 t9 n10 n11 n13 l14 l15 l16 l17 l18 n19 l20 n21)
 unfolding shape_of
 info_written info id len h t0 t1 t3 t4 t5 t6 t7 t8 t9 n10 n11 n13 l14 l15 l16 l17 l18 n19 l20 n21 e0 e1 e3 e4 e5 e6 e7 e8 e9 e10 e11 e13 e14 e15 e16 e17 e18 e19 e20 e21 =
     sym (entry_by_fields info id len (entries_shape 3 INFO info h))
-    ∙ sym (λ j. obj_value (more (blob_or_null (e0 j)) (more (blob_or_null (e1 j)) (more (blob_or_null id) (more (blob_or_null (e3 j)) (more (blob_or_null (e4 j))
+    ∙ sym (λ j. trimmed_object_or_null (more (blob_or_null (e0 j)) (more (blob_or_null (e1 j)) (more (blob_or_null id) (more (blob_or_null (e3 j)) (more (blob_or_null (e4 j))
     (more (blob_or_null (e5 j)) (more (blob_or_null (e6 j)) (more (blob_or_null (e7 j)) (more (blob_or_null (e8 j)) (more (blob_or_null (e9 j))
     (more (int_or_null (e10 j)) (more (int_or_null (e11 j)) (more (int_or_null len) (more (int_or_null (e13 j))
     (more (without_zeros (e14 j)) (more (without_zeros (e15 j)) (more (without_zeros (e16 j)) (more (without_zeros (e17 j)) (more (without_zeros (e18 j))

@@ -2,7 +2,7 @@
 use Rattle.std.proofs.Common.{◌≡◌, ℕ, Bool, true, false, cond, List, Option, Some, refl, sym, ap, subst, ◌∙◌, arith}
 use Rattle.std.specs.Ordering.{nat_cmp, is_eq}
 use Rattle.std.specs.BTreeMap.{BTreeMap, get}
-use Rattle.adb_view.specs.Plain.{Plain, Plains, none, more, obj_value, arr_value}
+use Rattle.adb_view.specs.Plain.{Plain, Plains, none, more, trimmed_object_or_null, array_or_null}
 use Rattle.adb_view.specs.Values.{text_in, value_at}
 use Rattle.adb_view.specs.declared.tables.Kind.TheVariants.{Text}
 use Rattle.adb_values.specs.Drafts.{DraftState, draft_with, draft_with_all, draft_with_open_list}
@@ -18,10 +18,10 @@ module _ (payload : List ℕ) (texts : KnownTexts) (d later : DraftState) (known
   pub known_opened : later ≡ draft_with_open_list d → AreRememberedBlobsOfDraft payload later texts
   known_opened e = record { known = λ word x at. has_opened d later _ x (known.known word x at) e; periodic = known.periodic }
 
-  pub known_closed_array : (vs : Plains) (before : DraftState) → d ≡ draft_with_all vs (draft_with_open_list before) → later ≡ draft_with (arr_value vs) before → AreRememberedBlobsOfDraft payload later texts
+  pub known_closed_array : (vs : Plains) (before : DraftState) → d ≡ draft_with_all vs (draft_with_open_list before) → later ≡ draft_with (array_or_null vs) before → AreRememberedBlobsOfDraft payload later texts
   known_closed_array vs before is e = record { known = λ word x at. has_closed_array vs before d later _ x (known.known word x at) is e; periodic = known.periodic }
 
-  pub known_closed_object : (vs : Plains) (before : DraftState) → d ≡ draft_with_all vs (draft_with_open_list before) → later ≡ draft_with (obj_value vs) before → AreRememberedBlobsOfDraft payload later texts
+  pub known_closed_object : (vs : Plains) (before : DraftState) → d ≡ draft_with_all vs (draft_with_open_list before) → later ≡ draft_with (trimmed_object_or_null vs) before → AreRememberedBlobsOfDraft payload later texts
   known_closed_object vs before is e = record { known = λ word x at. has_closed_object vs before d later _ x (known.known word x at) is e; periodic = known.periodic }
 
 -- some values more

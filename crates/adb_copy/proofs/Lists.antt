@@ -5,7 +5,7 @@ use Rattle.adb_view.specs.Plain.{Plain, Plains, none, more, blob_or_null}
 use Rattle.adb_view.specs.Values.{nth, count_of}
 use Rattle.adb_values.specs.Drafts.{DraftState, draft_with_open_list, draft_with, draft_with_all}
 use Rattle.adb_values.proofs.Lists.{left_more, left_none}
-use Rattle.adb_copy.specs.Fields.{int_plains}
+use Rattle.adb_copy.specs.Fields.{ints_or_nulls}
 use Rattle.adb_copy.specs.Zeros.{int_or_null, without_zeros, all_without_zeros}
 
 -- ---- the values from a place on
@@ -50,9 +50,9 @@ blob_zeros (x ∷ xs) = refl
 
 -- ---- integers
 
-pub ints_left : (ns : List ℕ) (i : ℕ) (old new whole : DraftState) → i < length ns → draft_with_all (int_plains (drop i ns)) old ≡ whole → new ≡ draft_with (int_or_null (get_or ns i 0)) old
-    → draft_with_all (int_plains (drop (i + 1) ns)) new ≡ whole
-ints_left ns i old new whole h left one = left_more int_plains int_or_null ns whole (λ n ms. refl) i (get_or ns i 0) old new (slice_get-get_or ns i 0 h) left one
+pub ints_left : (ns : List ℕ) (i : ℕ) (old new whole : DraftState) → i < length ns → draft_with_all (ints_or_nulls (drop i ns)) old ≡ whole → new ≡ draft_with (int_or_null (get_or ns i 0)) old
+    → draft_with_all (ints_or_nulls (drop (i + 1) ns)) new ≡ whole
+ints_left ns i old new whole h left one = left_more ints_or_nulls int_or_null ns whole (λ n ms. refl) i (get_or ns i 0) old new (slice_get-get_or ns i 0 h) left one
 
-pub ints_given : (ns : List ℕ) (i : ℕ) (d whole : DraftState) → length ns ≤ i → draft_with_all (int_plains (drop i ns)) d ≡ whole → d ≡ whole
-ints_given ns i d whole h left = left_none int_plains int_or_null ns whole refl i d h left
+pub ints_given : (ns : List ℕ) (i : ℕ) (d whole : DraftState) → length ns ≤ i → draft_with_all (ints_or_nulls (drop i ns)) d ≡ whole → d ≡ whole
+ints_given ns i d whole h left = left_none ints_or_nulls int_or_null ns whole refl i d h left

@@ -1,7 +1,7 @@
 -- The text of a word is the blob that is read there.
 use Rattle.std.proofs.Common.{◌≡◌, ℕ, Bool, true, false, List, [], Option, Some, refl, sym, ap, ◌∙◌, cond, eqb}
 use Rattle.std.specs.Prelude.{Ok, unwrap_or}
-use Rattle.adb_view.specs.Plain.{Plain, null, blob_or_null, from_answer, plain_of}
+use Rattle.adb_view.specs.Plain.{Plain, null, blob_or_null, option_of_ok_value, plain_of}
 use Rattle.adb_view.specs.Readers.{blob_of}
 use Rattle.adb_view.specs.Visits.{or_empty}
 use Rattle.adb_view.specs.Schema.{shape_of}
@@ -19,4 +19,4 @@ by_null value bytes false read other none found b empty same is e h =
 
 pub text_read : (p : List ℕ) (w : ℕ) (b : List ℕ) → blob_of p w ≡ Ok b → text_in (value_at p Kinds.Text w) ≡ b
 unfolding value_at plain_of shape_of blob_of
-text_read p w b e = by_null (from_answer (λ x. Some (blob_or_null x))) or_empty (eqb w 0) (blob_of p w) _ (Ok []) (Ok b) b refl refl refl refl e
+text_read p w b e = by_null (option_of_ok_value (λ x. Some (blob_or_null x))) or_empty (eqb w 0) (blob_of p w) _ (Ok []) (Ok b) b refl refl refl refl e

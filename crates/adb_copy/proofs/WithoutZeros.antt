@@ -1,6 +1,6 @@
 -- Values without zeros are normal, and keep their shape, their numbers and their texts.
 use Rattle.std.proofs.Common.{◌≡◌, ℕ, zero, suc, ◌^◌, ◌<◌, [], ◌∷◌, refl, arith}
-use Rattle.adb_view.specs.Plain.{Plain, null, int, blob, arr, obj, Plains, none, more, Shape, number, text, hash, array, object, Fields, no_fields, field, obj_of, without_last_nulls, IsNormal, AreNormal}
+use Rattle.adb_view.specs.Plain.{Plain, null, int, blob, arr, obj, Plains, none, more, Shape, number, text, hash, array, object, Fields, no_fields, field, object_or_null, without_last_nulls, IsNormal, AreNormal}
 use Rattle.adb_view.specs.Shaped.{Each, HasShape, HaveShapes}
 use Rattle.adb_view.specs.Values.{nth, entries_in, int_in, text_in}
 use Rattle.adb_copy.specs.Zeros.{int_or_null, with_value_at_index, without_zeros, all_without_zeros}
@@ -176,7 +176,7 @@ text_zeros (arr none) = refl
 text_zeros (arr (more v vs)) = refl
 text_zeros (obj vs) = go (without_last_nulls (all_without_zeros vs))
   where
-    go : (us : Plains) → text_in (obj_of us) ≡ []
+    go : (us : Plains) → text_in (object_or_null us) ≡ []
     go none = refl
     go (more u us) = refl
 
@@ -191,6 +191,6 @@ int_zeros (arr none) = refl
 int_zeros (arr (more v vs)) = refl
 int_zeros (obj vs) = go (without_last_nulls (all_without_zeros vs))
   where
-    go : (us : Plains) → int_in (obj_of us) ≡ 0
+    go : (us : Plains) → int_in (object_or_null us) ≡ 0
     go none = refl
     go (more u us) = refl

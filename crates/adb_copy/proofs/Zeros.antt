@@ -1,6 +1,6 @@
 -- Values without zeros, field by field.
 use Rattle.std.proofs.Common.{◌≡◌, ℕ, suc, zero, List, [], ◌∷◌, refl, ap, sym, ◌∙◌}
-use Rattle.adb_view.specs.Plain.{Plain, null, int, blob, arr, obj, Plains, none, more, blob_or_null, arr_value, obj_of, obj_value, put_first_without_last_null, without_last_nulls}
+use Rattle.adb_view.specs.Plain.{Plain, null, int, blob, arr, obj, Plains, none, more, blob_or_null, array_or_null, object_or_null, trimmed_object_or_null, prepend_plain_unless_last_null, without_last_nulls}
 use Rattle.adb_view.specs.Shaped.{IsNumberOrNull, IsBlobOrNull, IsArrayOrNullOf, IsObjectOrNullOf}
 use Rattle.adb_view.specs.Values.{nth, entries_in, int_in, text_in}
 use Rattle.adb_view.proofs.ValueEntries.{nth_trimmed}
@@ -24,7 +24,7 @@ zeros_number (blob b) h = absurd h
 zeros_number (arr vs) h = absurd h
 zeros_number (obj vs) h = absurd h
 
-pub zeros_array : (P : Plain → Type 0) (v : Plain) → IsArrayOrNullOf P v → without_zeros v ≡ arr_value (all_without_zeros (entries_in v))
+pub zeros_array : (P : Plain → Type 0) (v : Plain) → IsArrayOrNullOf P v → without_zeros v ≡ array_or_null (all_without_zeros (entries_in v))
 unfolding without_zeros
 zeros_array P null h = refl
 zeros_array P (int n) h = absurd h
@@ -32,7 +32,7 @@ zeros_array P (blob b) h = absurd h
 zeros_array P (arr vs) h = refl
 zeros_array P (obj vs) h = absurd h
 
-pub zeros_object : (P : Plains → Type 0) (v : Plain) → IsObjectOrNullOf P v → without_zeros v ≡ obj_value (all_without_zeros (entries_in v))
+pub zeros_object : (P : Plains → Type 0) (v : Plain) → IsObjectOrNullOf P v → without_zeros v ≡ trimmed_object_or_null (all_without_zeros (entries_in v))
 unfolding without_zeros
 zeros_object P null h = refl
 zeros_object P (int n) h = absurd h
@@ -50,13 +50,13 @@ nth_zeros (more v vs) (suc i) = nth_zeros vs i
 
 null_trimmed : (vs : Plains) → ((i : ℕ) → nth vs i ≡ null) → without_last_nulls vs ≡ none
 null_trimmed none h = refl
-null_trimmed (more v vs) h = (λ j. put_first_without_last_null (h zero j) (null_trimmed vs (λ i. h (suc i)) j))
+null_trimmed (more v vs) h = (λ j. prepend_plain_unless_last_null (h zero j) (null_trimmed vs (λ i. h (suc i)) j))
 
 -- two lists with the same entries, Nulls after them, are one without the Nulls that are last
 pub trimmed_same : (us vs : Plains) → ((i : ℕ) → nth us i ≡ nth vs i) → without_last_nulls us ≡ without_last_nulls vs
 trimmed_same none vs h = sym (null_trimmed vs (λ i. sym (h i)))
 trimmed_same (more u us) none h = null_trimmed (more u us) h
-trimmed_same (more u us) (more v vs) h = (λ j. put_first_without_last_null (h zero j) (trimmed_same us vs (λ i. h (suc i)) j))
+trimmed_same (more u us) (more v vs) h = (λ j. prepend_plain_unless_last_null (h zero j) (trimmed_same us vs (λ i. h (suc i)) j))
 
 -- ---- an entry in the place of another
 
@@ -87,16 +87,16 @@ unfolding without_zeros
 zeros_blob [] = refl
 zeros_blob (x ∷ xs) = refl
 
-pub zeros_arr : (vs : Plains) → without_zeros (arr_value vs) ≡ arr_value (all_without_zeros vs)
+pub zeros_arr : (vs : Plains) → without_zeros (array_or_null vs) ≡ array_or_null (all_without_zeros vs)
 unfolding without_zeros
 zeros_arr none = refl
 zeros_arr (more v vs) = refl
 
-pub zeros_obj : (vs : Plains) → without_zeros (obj_value vs) ≡ obj_value (all_without_zeros vs)
+pub zeros_obj : (vs : Plains) → without_zeros (trimmed_object_or_null vs) ≡ trimmed_object_or_null (all_without_zeros vs)
 unfolding without_zeros
-zeros_obj vs = go (without_last_nulls vs) ∙ ap obj_of (trimmed_same (all_without_zeros (without_last_nulls vs)) (all_without_zeros vs) (λ i. nth_zeros (without_last_nulls vs) i ∙ (ap without_zeros (nth_trimmed vs i) ∙ sym (nth_zeros vs i))))
+zeros_obj vs = go (without_last_nulls vs) ∙ ap object_or_null (trimmed_same (all_without_zeros (without_last_nulls vs)) (all_without_zeros vs) (λ i. nth_zeros (without_last_nulls vs) i ∙ (ap without_zeros (nth_trimmed vs i) ∙ sym (nth_zeros vs i))))
   where
-    go : (us : Plains) → without_zeros (obj_of us) ≡ obj_value (all_without_zeros us)
+    go : (us : Plains) → without_zeros (object_or_null us) ≡ trimmed_object_or_null (all_without_zeros us)
     go none = refl
     go (more u us) = refl
 
@@ -107,8 +107,8 @@ mutual
   zeros_twice null = refl
   zeros_twice (int n) = zeros_int n
   zeros_twice (blob b) = zeros_blob b
-  zeros_twice (arr vs) = zeros_arr (all_without_zeros vs) ∙ ap arr_value (all_zeros_twice vs)
-  zeros_twice (obj vs) = zeros_obj (all_without_zeros vs) ∙ ap obj_value (all_zeros_twice vs)
+  zeros_twice (arr vs) = zeros_arr (all_without_zeros vs) ∙ ap array_or_null (all_zeros_twice vs)
+  zeros_twice (obj vs) = zeros_obj (all_without_zeros vs) ∙ ap trimmed_object_or_null (all_zeros_twice vs)
 
   pub all_zeros_twice : (vs : Plains) → all_without_zeros (all_without_zeros vs) ≡ all_without_zeros vs
   all_zeros_twice none = refl

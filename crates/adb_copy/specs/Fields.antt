@@ -8,9 +8,9 @@ use Rattle.adb_view.specs.Values.{entry_in, text_in}
 use Rattle.adb_copy.specs.Zeros.{int_or_null}
 
 -- the values of some integers, in their order: each is an integer, or Null for 0
-abbrev pub int_plains : List ℕ → Plains
-int_plains [] = none
-int_plains (n ∷ ns) = more (int_or_null n) (int_plains ns)
+abbrev pub ints_or_nulls : List ℕ → Plains
+ints_or_nulls [] = none
+ints_or_nulls (n ∷ ns) = more (int_or_null n) (ints_or_nulls ns)
 
 -- the texts and hashes with which an information begins: its first ten fields, with `id` as its
 -- hash

@@ -21,8 +21,11 @@ HasPeriod payload range =
 
 -- the text is in the range, and `phase` is its distance from the beginning of a period
 pub record IsPhaseOf (range : PeriodicRange) (text : TextPlace) (phase : ℕ) : Type 0 where
+  -- the text begins in the range
   pub behind : range.from ≤ text.from
+  -- the text ends in the range
   pub within : text.from + text.len ≤ range.end
+  -- its phase is the distance modulo the period
   pub is : phase ≡ (text.from - range.from) % range.period
 
 -- the range proves that two texts are equal: they are in each payload in which the range has its period
@@ -32,13 +35,19 @@ AreEqualByPeriod range left right = (payload : List ℕ) → HasPeriod payload r
 
 -- `known` is remembered for a text of the payload that equals the text of the word
 pub record IsRememberedTextWord (payload : List ℕ) (words : BTreeMap ℕ ℕ) (word known : ℕ) : Type 0 where
+  -- the word of a text in the payload
   pub kept : ℕ
+  -- `known` is remembered for it
   pub has : get nat_cmp words kept ≡ Some known
+  -- its text equals that of the word
   pub same : text_in (value_at payload Text kept) ≡ text_in (value_at payload Text word)
 
 -- the remembered texts are blobs of the draft: each has there the word that is remembered for it; and
 -- the remembered ranges have their periods
-pub record AreRememberedBlobsOfDraft (payload : List ℕ) (draft : DraftState) (texts : KnownTexts) : Type 0 where
+pub record AreRememberedBlobsOfDraft (payload : List ℕ) (draft : DraftState)
+    (texts : KnownTexts) : Type 0 where
+  -- each text has in the draft the word that is remembered for it
   pub known : (word known : ℕ) → get nat_cmp texts.words word ≡ Some known
       → HasBlob draft (text_in (value_at payload Text word)) known
+  -- each remembered range has its period
   pub periodic : All (HasPeriod payload) texts.overlaps.ranges.items

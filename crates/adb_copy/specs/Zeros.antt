@@ -2,7 +2,7 @@
 -- are in `docs/formats.md`, "The database after a change": "An integer 0 is NULL, at every depth", and
 -- the information of an added package.
 use Rattle.std.specs.Prelude.{ℕ, zero, suc, List}
-use Rattle.adb_view.specs.Plain.{Plain, null, int, blob, arr, obj, Plains, none, more, blob_or_null, arr_value, obj_value}
+use Rattle.adb_view.specs.Plain.{Plain, null, int, blob, arr, obj, Plains, none, more, blob_or_null, array_or_null, trimmed_object_or_null}
 use Rattle.adb_view.specs.Values.{entries_in}
 
 -- an integer as it is written: 0 is Null
@@ -17,8 +17,8 @@ unfoldable mutual
   without_zeros null = null
   without_zeros (int n) = int_or_null n
   without_zeros (blob b) = blob_or_null b
-  without_zeros (arr vs) = arr_value (all_without_zeros vs)
-  without_zeros (obj vs) = obj_value (all_without_zeros vs)
+  without_zeros (arr vs) = array_or_null (all_without_zeros vs)
+  without_zeros (obj vs) = trimmed_object_or_null (all_without_zeros vs)
 
   -- the entries of an array or an object, each without zeros
   pub all_without_zeros : Plains → Plains
@@ -37,4 +37,5 @@ with_value_at_index (suc i) v (more u us) = more u (with_value_at_index i v us)
 -- as 3 and 13
 unfoldable pub info_with_id_and_size : Plain → List ℕ → ℕ → Plain
 info_with_id_and_size info id len =
-    without_zeros (obj (with_value_at_index 12 (int len) (with_value_at_index 2 (blob id) (entries_in info))))
+    without_zeros (obj (with_value_at_index 12 (int len)
+    (with_value_at_index 2 (blob id) (entries_in info))))

@@ -8,11 +8,11 @@ ghost use Rattle.adb_view.specs.declared.tables.Kind.TheVariants as Kinds;
 ghost use Rattle.adb_view.specs.declared.tables.Which.TheVariants as Tables;
 ghost use Rattle.adb_values.specs.Drafts.{draft_with, draft_with_all};
 ghost use Rattle.adb_copy.specs.Zeros.{int_or_null, without_zeros, info_with_id_and_size};
-ghost use Rattle.adb_copy.specs.Fields.{info_texts, int_plains};
+ghost use Rattle.adb_copy.specs.Fields.{info_texts, ints_or_nulls};
 ghost use Rattle.adb_copy.specs.Known.{AreRememberedBlobsOfDraft};
 ghost use Rattle.adb_view.specs.Adb.{payload_of};
 ghost use Rattle.adb_view.specs.Entries.{array_entries};
-ghost use Rattle.adb_view.specs.Plain.{text_plains};
+ghost use Rattle.adb_view.specs.Plain.{plains_of_texts};
 
 use crate::known_texts::KnownTexts;
 use adb_fields::{hash_field, int_field, objects_field, texts_field};
@@ -26,8 +26,8 @@ use adb_view::field_indexes::{
 use adb_view::{Adb, Arr, Val, Which, entry_word, values_have_their_shape};
 use std::alloc::AllocError;
 
-/// Copies the information with a word of a payload, with `id` as its hash and `len` as the size of
-/// the package's file. An integer 0 is NULL.
+/// Copies the information of a package, which has this word in its payload. The copy has `id` as
+/// its hash and `len` as the size of the package's file. An integer 0 is NULL.
 pub fn write_info(
     draft: &mut Draft,
     adb: Adb<'_>,
@@ -36,11 +36,15 @@ pub fn write_info(
     id: &[u8],
     len: u64,
 ) -> Result<(), AllocError>
+    // The word has a plain value of its kind.
     requires sound { is_sound (payload_of adb) (Kinds.Obj Tables.PkgInfo) info ≡ true }
+    // The remembered texts are blobs of the draft.
     requires known { AreRememberedBlobsOfDraft (payload_of adb) draft.old known.old }
     ensures info { OnOk result (draft.new ≡ draft_with (info_with_id_and_size
         (value_at (payload_of adb.entry) (Kinds.Obj Tables.PkgInfo) info) id.now len) draft.old) }
-    ensures known { OnOk result (AreRememberedBlobsOfDraft (payload_of adb.entry) draft.new known.new) }
+    // The remembered texts are blobs of the new draft.
+    ensures known { OnOk result (AreRememberedBlobsOfDraft
+        (payload_of adb.entry) draft.new known.new) }
 {
     values_have_their_shape();
     draft.open_list()?;
@@ -78,11 +82,15 @@ fn write_info_texts(
     info: Val,
     id: &[u8],
 ) -> Result<(), AllocError>
+    // The word has a plain value of its kind.
     requires sound { is_sound (payload_of adb) (Kinds.Obj Tables.PkgInfo) info ≡ true }
+    // The remembered texts are blobs of the draft.
     requires known { AreRememberedBlobsOfDraft (payload_of adb) draft.old known.old }
-    ensures texts { OnOk result (draft.new ≡ draft_with_all (text_plains (info_texts
+    ensures texts { OnOk result (draft.new ≡ draft_with_all (plains_of_texts (info_texts
         (value_at (payload_of adb.entry) (Kinds.Obj Tables.PkgInfo) info) id.now)) draft.old) }
-    ensures known { OnOk result (AreRememberedBlobsOfDraft (payload_of adb.entry) draft.new known.new) }
+    // The remembered texts are blobs of the new draft.
+    ensures known { OnOk result (AreRememberedBlobsOfDraft
+        (payload_of adb.entry) draft.new known.new) }
 {
     known.write_field(draft, adb, Which::PkgInfo, info, INFO_NAME)?;
     known.write_field(draft, adb, Which::PkgInfo, info, INFO_VERSION)?;
@@ -98,7 +106,7 @@ fn write_info_texts(
 
 /// Writes integers one after another; 0 is NULL.
 fn write_ints(draft: &mut Draft, ints: &[u64]) -> Result<(), AllocError>
-    ensures { OnOk result (draft.new ≡ draft_with_all (int_plains ints.now) draft.old) }
+    ensures { OnOk result (draft.new ≡ draft_with_all (ints_or_nulls ints.now) draft.old) }
 {
     for n in ints {
         write_int(draft, *n)?;
@@ -124,11 +132,15 @@ pub fn write_text_list<'a>(
     known: &mut KnownTexts,
     texts: Arr<'a>,
 ) -> Result<(), AllocError>
+    // Each word has a plain value of its kind.
     requires sound { are_all_sound (payload_of adb) Kinds.Text (array_entries texts) ≡ true }
+    // The remembered texts are blobs of the draft.
     requires known { AreRememberedBlobsOfDraft (payload_of adb) draft.old known.old }
     ensures texts { OnOk result (draft.new ≡ draft_with (without_zeros
         (array_at (payload_of adb.entry) Kinds.Text (array_entries texts.entry))) draft.old) }
-    ensures known { OnOk result (AreRememberedBlobsOfDraft (payload_of adb.entry) draft.new known.new) }
+    // The remembered texts are blobs of the new draft.
+    ensures known { OnOk result (AreRememberedBlobsOfDraft
+        (payload_of adb.entry) draft.new known.new) }
 {
     values_have_their_shape();
     draft.open_list()?;
@@ -146,12 +158,16 @@ fn write_deps(
     info: Val,
     field: usize,
 ) -> Result<(), AllocError>
+    // The word has a plain value of its kind.
     requires sound { is_sound (payload_of adb) (Kinds.Obj Tables.PkgInfo) info ≡ true }
     requires kind { kind_at Tables.PkgInfo field ≡ Some (Kinds.ObjArr Tables.Dep) }
+    // The remembered texts are blobs of the draft.
     requires known { AreRememberedBlobsOfDraft (payload_of adb) draft.old known.old }
     ensures deps { OnOk result (draft.new ≡ draft_with (without_zeros (entry_in
         (value_at (payload_of adb.entry) (Kinds.Obj Tables.PkgInfo) info) field)) draft.old) }
-    ensures known { OnOk result (AreRememberedBlobsOfDraft (payload_of adb.entry) draft.new known.new) }
+    // The remembered texts are blobs of the new draft.
+    ensures known { OnOk result (AreRememberedBlobsOfDraft
+        (payload_of adb.entry) draft.new known.new) }
 {
     let deps = objects_field(adb, Which::PkgInfo, info, field, Which::Dep);
     write_dep_list(draft, adb, known, deps)
@@ -164,12 +180,16 @@ fn write_dep_list<'a>(
     known: &mut KnownTexts,
     deps: Arr<'a>,
 ) -> Result<(), AllocError>
+    // Each word has a plain value of its kind.
     requires sound { are_all_sound (payload_of adb) (Kinds.Obj Tables.Dep) (array_entries deps)
         ≡ true }
+    // The remembered texts are blobs of the draft.
     requires known { AreRememberedBlobsOfDraft (payload_of adb) draft.old known.old }
     ensures deps { OnOk result (draft.new ≡ draft_with (without_zeros (array_at
         (payload_of adb.entry) (Kinds.Obj Tables.Dep) (array_entries deps.entry))) draft.old) }
-    ensures known { OnOk result (AreRememberedBlobsOfDraft (payload_of adb.entry) draft.new known.new) }
+    // The remembered texts are blobs of the new draft.
+    ensures known { OnOk result (AreRememberedBlobsOfDraft
+        (payload_of adb.entry) draft.new known.new) }
 {
     values_have_their_shape();
     draft.open_list()?;
@@ -186,11 +206,15 @@ fn write_dep(
     known: &mut KnownTexts,
     dep: Val,
 ) -> Result<(), AllocError>
+    // The word has a plain value of its kind.
     requires sound { is_sound (payload_of adb) (Kinds.Obj Tables.Dep) dep ≡ true }
+    // The remembered texts are blobs of the draft.
     requires known { AreRememberedBlobsOfDraft (payload_of adb) draft.old known.old }
     ensures dep { OnOk result (draft.new ≡ draft_with (without_zeros
         (value_at (payload_of adb.entry) (Kinds.Obj Tables.Dep) dep)) draft.old) }
-    ensures known { OnOk result (AreRememberedBlobsOfDraft (payload_of adb.entry) draft.new known.new) }
+    // The remembered texts are blobs of the new draft.
+    ensures known { OnOk result (AreRememberedBlobsOfDraft
+        (payload_of adb.entry) draft.new known.new) }
 {
     values_have_their_shape();
     draft.open_list()?;

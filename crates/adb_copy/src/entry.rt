@@ -23,18 +23,22 @@ use adb_view::field_indexes::{
 use adb_view::{Adb, Val, Which, values_have_their_shape};
 use std::alloc::AllocError;
 
-/// Copies the access list with a word of a payload.
+/// Copies the access list that has this word in its payload.
 pub fn write_acl(
     draft: &mut Draft,
     adb: Adb<'_>,
     known: &mut KnownTexts,
     acl: Val,
 ) -> Result<(), AllocError>
+    // The word has a plain value of its kind.
     requires sound { is_sound (payload_of adb) (Kinds.Obj Tables.Acl) acl ≡ true }
+    // The remembered texts are blobs of the draft.
     requires known { AreRememberedBlobsOfDraft (payload_of adb) draft.old known.old }
     ensures acl { OnOk result (draft.new ≡ draft_with (without_zeros
         (value_at (payload_of adb.entry) (Kinds.Obj Tables.Acl) acl)) draft.old) }
-    ensures known { OnOk result (AreRememberedBlobsOfDraft (payload_of adb.entry) draft.new known.new) }
+    // The remembered texts are blobs of the new draft.
+    ensures known { OnOk result (AreRememberedBlobsOfDraft
+        (payload_of adb.entry) draft.new known.new) }
 {
     values_have_their_shape();
     draft.open_list()?;
@@ -50,19 +54,23 @@ pub fn write_acl(
     draft.close_object()
 }
 
-/// Copies the file with a word of a payload: its name, access list, size, time, hash and target,
-/// without its contents.
+/// Copies the file that has this word in its payload: its name, access list, size, time, hash and
+/// target, without its contents.
 pub fn write_file(
     draft: &mut Draft,
     adb: Adb<'_>,
     known: &mut KnownTexts,
     file: Val,
 ) -> Result<(), AllocError>
+    // The word has a plain value of its kind.
     requires sound { is_sound (payload_of adb) (Kinds.Obj Tables.File) file ≡ true }
+    // The remembered texts are blobs of the draft.
     requires known { AreRememberedBlobsOfDraft (payload_of adb) draft.old known.old }
     ensures file { OnOk result (draft.new ≡ draft_with (without_zeros
         (value_at (payload_of adb.entry) (Kinds.Obj Tables.File) file)) draft.old) }
-    ensures known { OnOk result (AreRememberedBlobsOfDraft (payload_of adb.entry) draft.new known.new) }
+    // The remembered texts are blobs of the new draft.
+    ensures known { OnOk result (AreRememberedBlobsOfDraft
+        (payload_of adb.entry) draft.new known.new) }
 {
     values_have_their_shape();
     draft.open_list()?;
@@ -81,18 +89,22 @@ pub fn write_file(
     draft.close_object()
 }
 
-/// Copies the scripts with a word of a payload, in the order of table 6.
+/// Copies the scripts that have this word in their payload, in the order of table 6.
 pub fn write_scripts(
     draft: &mut Draft,
     adb: Adb<'_>,
     known: &mut KnownTexts,
     scripts: Val,
 ) -> Result<(), AllocError>
+    // The word has a plain value of its kind.
     requires sound { is_sound (payload_of adb) (Kinds.Obj Tables.Scripts) scripts ≡ true }
+    // The remembered texts are blobs of the draft.
     requires known { AreRememberedBlobsOfDraft (payload_of adb) draft.old known.old }
     ensures scripts { OnOk result (draft.new ≡ draft_with (without_zeros
         (value_at (payload_of adb.entry) (Kinds.Obj Tables.Scripts) scripts)) draft.old) }
-    ensures known { OnOk result (AreRememberedBlobsOfDraft (payload_of adb.entry) draft.new known.new) }
+    // The remembered texts are blobs of the new draft.
+    ensures known { OnOk result (AreRememberedBlobsOfDraft
+        (payload_of adb.entry) draft.new known.new) }
 {
     values_have_their_shape();
     draft.open_list()?;

@@ -21,7 +21,7 @@ pub struct Fingerprints {
 }
 
 impl Fingerprints {
-    /// No text is noted.
+    /// No text is remembered yet.
     pub(crate) fn new(alloc: Global) -> Fingerprints {
         Fingerprints {
             compared: 0,

@@ -26,7 +26,7 @@ const SHORT: usize = 64;
 /// The long texts of one payload that one draft contains.
 #[derive(Drop)]
 pub struct KnownTexts {
-    /// The word of each of them in the draft, by its word in the payload.
+    /// By the word of a long text in the payload: the word of that text in the draft.
     words: BTreeMap<u32, u32>,
     /// Which of the texts overlap, and the periods of their bytes.
     overlaps: Overlaps,
@@ -39,7 +39,8 @@ impl KnownTexts {
 
     /// No text is known.
     pub fn new(alloc: Global) -> KnownTexts
-        ensures { (payload : List ℕ) (draft : DraftState) → AreRememberedBlobsOfDraft payload draft result }
+        ensures { (payload : List ℕ) (draft : DraftState)
+            → AreRememberedBlobsOfDraft payload draft result }
     {
         KnownTexts {
             words: BTreeMap::new(alloc),
@@ -55,11 +56,15 @@ impl KnownTexts {
         adb: Adb<'_>,
         word: Val,
     ) -> Result<(), AllocError>
+        // The word has a plain value of its kind.
         requires sound { is_sound (payload_of adb) Kinds.Text word ≡ true }
+        // The remembered texts are blobs of the draft.
         requires known { AreRememberedBlobsOfDraft (payload_of adb) draft.old self.old }
         ensures text { OnOk result (draft.new ≡ draft_with
             (blob_or_null (text_in (value_at (payload_of adb.entry) Kinds.Text word))) draft.old) }
-        ensures known { OnOk result (AreRememberedBlobsOfDraft (payload_of adb.entry) draft.new self.new) }
+        // The remembered texts are blobs of the new draft.
+        ensures known { OnOk result (AreRememberedBlobsOfDraft
+            (payload_of adb.entry) draft.new self.new) }
     {
         let text = text_word(adb, word);
         if text.len() <= SHORT {
@@ -80,12 +85,16 @@ impl KnownTexts {
         object: Val,
         field: usize,
     ) -> Result<(), AllocError>
+        // The word has a plain value of its kind.
         requires sound { is_sound (payload_of adb) (Kinds.Obj which) object ≡ true }
         requires kind { kind_at which field ≡ Some Kinds.Text }
+        // The remembered texts are blobs of the draft.
         requires known { AreRememberedBlobsOfDraft (payload_of adb) draft.old self.old }
         ensures text { OnOk result (draft.new ≡ draft_with (blob_or_null (text_in (entry_in
             (value_at (payload_of adb.entry) (Kinds.Obj which) object) field))) draft.old) }
-        ensures known { OnOk result (AreRememberedBlobsOfDraft (payload_of adb.entry) draft.new self.new) }
+        // The remembered texts are blobs of the new draft.
+        ensures known { OnOk result (AreRememberedBlobsOfDraft
+            (payload_of adb.entry) draft.new self.new) }
     {
         self.write(draft, adb, field_word(adb, which, object, field))
     }
@@ -133,11 +142,15 @@ impl KnownTexts {
         adb: Adb<'_>,
         word: Val,
     ) -> Result<(), AllocError>
+        // The word has a plain value of its kind.
         requires sound { is_sound (payload_of adb) Kinds.Text word ≡ true }
+        // The remembered texts are blobs of the draft.
         requires known { AreRememberedBlobsOfDraft (payload_of adb) draft.old self.old }
         ensures text { OnOk result (draft.new ≡ draft_with
             (blob_or_null (text_in (value_at (payload_of adb.entry) Kinds.Text word))) draft.old) }
-        ensures known { OnOk result (AreRememberedBlobsOfDraft (payload_of adb.entry) draft.new self.new) }
+        // The remembered texts are blobs of the new draft.
+        ensures known { OnOk result (AreRememberedBlobsOfDraft
+            (payload_of adb.entry) draft.new self.new) }
     {
         match self.word_of_equal(adb, word)? {
             Some(known) => {
@@ -150,11 +163,15 @@ impl KnownTexts {
 
     /// Writes a text that is not known, and remembers its word in the draft.
     fn write_new(&mut self, draft: &mut Draft, adb: Adb<'_>, word: Val) -> Result<(), AllocError>
+        // The word has a plain value of its kind.
         requires sound { is_sound (payload_of adb) Kinds.Text word ≡ true }
+        // The remembered texts are blobs of the draft.
         requires known { AreRememberedBlobsOfDraft (payload_of adb) draft.old self.old }
         ensures text { OnOk result (draft.new ≡ draft_with
             (blob_or_null (text_in (value_at (payload_of adb.entry) Kinds.Text word))) draft.old) }
-        ensures known { OnOk result (AreRememberedBlobsOfDraft (payload_of adb.entry) draft.new self.new) }
+        // The remembered texts are blobs of the new draft.
+        ensures known { OnOk result (AreRememberedBlobsOfDraft
+            (payload_of adb.entry) draft.new self.new) }
     {
         let known = draft.blob_word(text_word(adb, word))?;
         self.words.insert(word.word(), known.word())?;

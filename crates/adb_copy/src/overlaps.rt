@@ -166,7 +166,7 @@ impl Overlaps {
         }
     }
 
-    /// That range.
+    /// The last range that was found with two texts of these relative places.
     fn repeat_of(&self, first: TextPlace, second: TextPlace) -> Option<PeriodicRange>
         ensures { (payload : List ℕ) → All (HasPeriod payload) self.now.ranges.items
             → IfSome result (HasPeriod payload) }
@@ -285,7 +285,8 @@ impl Overlaps {
         self.ranges.get(self.index_around(text)?).copied()
     }
 
-    /// The place of that range in `ranges`, counted from 0.
+    /// The index in `ranges` of the range that was found last around a text of this length in this
+    /// stretch.
     fn index_around(&self, text: TextPlace) -> Option<usize> {
         self.latest.get(&(text.len, text.stretch())).copied()
     }
@@ -401,7 +402,7 @@ fn end_by_steps(bytes: &[u8], start: usize, most: usize, period: usize, step: us
     end
 }
 
-/// The greatest number that divides both, by Euclid's steps.
+/// The greatest number that divides both arguments, by Euclid's algorithm.
 fn common_divisor(left: usize, right: usize) -> usize {
     let mut divided = left;
     let mut divisor = right;

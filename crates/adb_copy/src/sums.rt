@@ -21,9 +21,9 @@ const BLOCK: usize = 32;
 /// Two numbers below the prime, with the same operations on each.
 #[derive(Clone, Copy)]
 struct Pair {
-    /// The number by the first factor.
+    /// The number that is computed with the first factor.
     left: u64,
-    /// The number by the second factor.
+    /// The number that is computed with the second factor.
     right: u64,
 }
 
@@ -77,7 +77,7 @@ impl Pair {
         power
     }
 
-    /// Both numbers in one of 64 bits.
+    /// Both numbers of the pair in one number of 64 bits.
     fn number(self) -> u64 {
         self.left.wrapping_mul(1 << 32).wrapping_add(self.right)
     }

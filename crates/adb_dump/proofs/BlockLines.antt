@@ -3,8 +3,8 @@ use Rattle.std.proofs.Common.{◌≡◌, ℕ, Bool, true, false, cond, eqb, List
 use Rattle.std.specs.Prelude.{◌&&◌, is_some, codes}
 use Rattle.std.specs.Fmt.{decimal}
 use Rattle.hex.specs.Hex.{encode_lower}
-use Rattle.adb_view.specs.Plain.{Plain, null, int, blob, arr, obj, Plains, none, more, Shape, number, text, hash, array, object, Fields, no_fields, field, put_first_without_last_null, without_last_nulls, blob_or_null, arr_value, obj_value, unless_null, from_answer, each_plain, plain_of, plains_of}
-use Rattle.adb_view.specs.Readers.{run_of, ARRAY, OBJECT}
+use Rattle.adb_view.specs.Plain.{Plain, null, int, blob, arr, obj, Plains, none, more, Shape, number, text, hash, array, object, Fields, no_fields, field, prepend_plain_unless_last_null, without_last_nulls, blob_or_null, array_or_null, trimmed_object_or_null, null_plain_if_null_word, option_of_ok_value, plains_of_all_words, plain_of, plains_of}
+use Rattle.adb_view.specs.Readers.{run_entries_of_word, ARRAY, OBJECT}
 use Rattle.base_core.specs.declared.cause.Cause.{Cause}
 use Rattle.adb_schema.specs.adb_fields.Fields.{values_at}
 use Rattle.adb_schema.proofs.adb_fields.FieldReads.{then_more_is}
@@ -42,11 +42,11 @@ pub hash_lines : (p : List ℕ) (w : ℕ) (b : List ℕ) → b ≡ text_in (valu
 unfolding shape_of
 hash_lines p w b e some = hash_line_of (value_at p Hash w) b (hash_plain p w ∙ ap blob_or_null (sym e)) some
 
-pub texts_lines : (p : List ℕ) (w : ℕ) (ws : List ℕ) → arr_value (values_at p Text ws) ≡ value_at p TextArr w → block_lines (shape_of TextArr) (value_at p TextArr w) ≡ array_lines (block_lines (shape_of Text)) (values_at p Text ws)
+pub texts_lines : (p : List ℕ) (w : ℕ) (ws : List ℕ) → array_or_null (values_at p Text ws) ≡ value_at p TextArr w → block_lines (shape_of TextArr) (value_at p TextArr w) ≡ array_lines (block_lines (shape_of Text)) (values_at p Text ws)
 unfolding block_lines shape_of
 texts_lines p w ws e = ap (λ (v : Plain). array_lines (block_lines text) (entries_in v)) (sym e) ∙ ap (array_lines (block_lines text)) (entries_arr (values_at p Text ws))
 
-pub objects_lines : (p : List ℕ) (which : Which) (w : ℕ) (ws : List ℕ) → arr_value (values_at p (Obj which) ws) ≡ value_at p (ObjArr which) w → block_lines (shape_of (ObjArr which)) (value_at p (ObjArr which) w) ≡ array_lines (block_lines (shape_of (Obj which))) (values_at p (Obj which) ws)
+pub objects_lines : (p : List ℕ) (which : Which) (w : ℕ) (ws : List ℕ) → array_or_null (values_at p (Obj which) ws) ≡ value_at p (ObjArr which) w → block_lines (shape_of (ObjArr which)) (value_at p (ObjArr which) w) ≡ array_lines (block_lines (shape_of (Obj which))) (values_at p (Obj which) ws)
 unfolding block_lines shape_of
 objects_lines p which w ws e = ap (λ (v : Plain). array_lines (block_lines (shape_of (Obj which))) (entries_in v)) (sym e) ∙ ap (array_lines (block_lines (shape_of (Obj which)))) (entries_arr (values_at p (Obj which) ws))
 
@@ -57,7 +57,7 @@ unfolding fields_lines
 no_lines no_fields = refl
 no_lines (field name s fs) = refl
 
-kept_lines : (name : List ℕ) (s : Shape) (fs : Fields) (v : Plain) (vs : Plains) → fields_lines (field name s fs) (put_first_without_last_null v vs) ≡ field_lines_unless_null v (named_lines s name v) ++ fields_lines fs vs
+kept_lines : (name : List ℕ) (s : Shape) (fs : Fields) (v : Plain) (vs : Plains) → fields_lines (field name s fs) (prepend_plain_unless_last_null v vs) ≡ field_lines_unless_null v (named_lines s name v) ++ fields_lines fs vs
 unfolding fields_lines
 kept_lines name s fs null none = sym (no_lines fs)
 kept_lines name s fs null (more v vs) = refl
@@ -72,14 +72,14 @@ trimmed_lines no_fields vs = refl
 trimmed_lines (field name s fs) none = refl
 trimmed_lines (field name s fs) (more v vs) = kept_lines name s fs v (without_last_nulls vs) ∙ ap (λ (ls : List Line). field_lines_unless_null v (named_lines s name v) ++ ls) (trimmed_lines fs vs)
 
-object_value_lines : (fs : Fields) (vs : Plains) → fields_lines fs (entries_in (obj_value vs)) ≡ fields_lines fs vs
+object_value_lines : (fs : Fields) (vs : Plains) → fields_lines fs (entries_in (trimmed_object_or_null vs)) ≡ fields_lines fs vs
 object_value_lines fs vs = ap (fields_lines fs) (entries_obj (without_last_nulls vs)) ∙ trimmed_lines fs vs
 
 pub object_block : (n : ℕ) (fs : Fields) (v : Plain) → block_lines (object n fs) v ≡ fields_lines fs (entries_in v)
 unfolding block_lines
 object_block n fs v = refl
 
-pub object_lines : (p : List ℕ) (which : Which) (w : ℕ) (ws : List ℕ) → value_at p (Obj which) w ≡ obj_value (fields_at p (table which) ws) → block_lines (shape_of (Obj which)) (value_at p (Obj which) w) ≡ fields_lines (shapes_of (table which)) (fields_at p (table which) ws)
+pub object_lines : (p : List ℕ) (which : Which) (w : ℕ) (ws : List ℕ) → value_at p (Obj which) w ≡ trimmed_object_or_null (fields_at p (table which) ws) → block_lines (shape_of (Obj which)) (value_at p (Obj which) w) ≡ fields_lines (shapes_of (table which)) (fields_at p (table which) ws)
 object_lines p which w ws e =
     ap (λ (s : Shape). block_lines s (value_at p (Obj which) w)) (object_shape which) ∙ object_block _ (shapes_of (table which)) (value_at p (Obj which) w) ∙ ap (λ (v : Plain). fields_lines (shapes_of (table which)) (entries_in v)) e
     ∙ object_value_lines (shapes_of (table which)) (fields_at p (table which) ws)
@@ -128,10 +128,10 @@ fields_line p (field name s fs) (w ∷ ws) vs e some =
     rw is (first_or_later u (named_lines s name u) (fields_lines fs us) (are_null us) (sym (ap are_null is) ∙ some) (named_line s name u) (fields_line p fs ws us others))
 
 -- a value that is not Null was found
-found_some : {A : Type 0} (w : ℕ) (f : A → Option Plain) (r : Result A Cause) (v : Plain) → unless_null w (from_answer f r) ≡ Some v → is_null v ≡ false → (x : A) × (f x ≡ Some v)
+found_some : {A : Type 0} (w : ℕ) (f : A → Option Plain) (r : Result A Cause) (v : Plain) → null_plain_if_null_word w (option_of_ok_value f r) ≡ Some v → is_null v ≡ false → (x : A) × (f x ≡ Some v)
 found_some {A = A} w f r v e some = go (eqb w 0) r e
   where
-    go : (b : Bool) (r : Result A Cause) → cond b (Some null) (from_answer f r) ≡ Some v → (x : A) × (f x ≡ Some v)
+    go : (b : Bool) (r : Result A Cause) → cond b (Some null) (option_of_ok_value f r) ≡ Some v → (x : A) × (f x ≡ Some v)
     go true r e = let same : null ≡ v = cc in absurd (let no : is_null null ≡ false = ap is_null same ∙ some in cc)
     go false (Ok x) e = (x, e)
     go false (Err c) e = absurd cc
@@ -141,11 +141,11 @@ some_map f (Some x) y e = (x, refl, cc)
 some_map f None y e = absurd cc
 
 -- entries are as many as their words
-entries_line : (f : Plain → List Line) (g : ℕ → Option Plain) → ((w : ℕ) (v : Plain) → g w ≡ Some v → is_null v ≡ false → HasLine (f v)) → (ws : List ℕ) (vs : Plains) (v : Plain) → each_plain g ws ≡ Some vs → arr_value vs ≡ v → is_null v ≡ false → HasLine (array_lines f (entries_in v))
-entries_line f g h [] vs v e is some = let same : none ≡ vs = cc in absurd (let no : is_null (arr_value none) ≡ false = ap (λ (x : Plains). is_null (arr_value x)) same ∙ ap is_null is ∙ some in cc)
+entries_line : (f : Plain → List Line) (g : ℕ → Option Plain) → ((w : ℕ) (v : Plain) → g w ≡ Some v → is_null v ≡ false → HasLine (f v)) → (ws : List ℕ) (vs : Plains) (v : Plain) → plains_of_all_words g ws ≡ Some vs → array_or_null vs ≡ v → is_null v ≡ false → HasLine (array_lines f (entries_in v))
+entries_line f g h [] vs v e is some = let same : none ≡ vs = cc in absurd (let no : is_null (array_or_null none) ≡ false = ap (λ (x : Plains). is_null (array_or_null x)) same ∙ ap is_null is ∙ some in cc)
 entries_line f g h (w ∷ ws) vs v e is some =
-    let (u, us, one, others, parts) = then_more_is (g w) (each_plain g ws) vs e in
-    let lines : array_lines f (entries_in v) ≡ array_lines f (more u us) = ap (λ (x : Plain). array_lines f (entries_in x)) (sym is) ∙ ap (λ (x : Plains). array_lines f (entries_in (arr_value x))) parts in
+    let (u, us, one, others, parts) = then_more_is (g w) (plains_of_all_words g ws) vs e in
+    let lines : array_lines f (entries_in v) ≡ array_lines f (more u us) = ap (λ (x : Plain). array_lines f (entries_in x)) (sym is) ∙ ap (λ (x : Plains). array_lines f (entries_in (array_or_null x))) parts in
     rw lines (dashed_line (entry_lines_or_null_line u (f u)) (array_lines f us) (or_null_line u (f u) (h w u one)))
 
 plain_line : (p : List ℕ) (s : Shape) (w : ℕ) (v : Plain) → plain_of p s w ≡ Some v → is_null v ≡ false → HasLine (block_lines s v)
@@ -154,12 +154,12 @@ plain_line p number w v e some = record { first = _; others = []; is = refl }
 plain_line p text w v e some = record { first = _; others = []; is = refl }
 plain_line p hash w v e some = record { first = _; others = []; is = refl }
 plain_line p (array s) w v e some =
-    let (ws, is) = found_some w (λ ws. option_map arr_value (each_plain (plain_of p s) ws)) (run_of ARRAY p w) v e some in
-    let (vs, each, made) = some_map arr_value (each_plain (plain_of p s) ws) v is in
+    let (ws, is) = found_some w (λ ws. option_map array_or_null (plains_of_all_words (plain_of p s) ws)) (run_entries_of_word ARRAY p w) v e some in
+    let (vs, each, made) = some_map array_or_null (plains_of_all_words (plain_of p s) ws) v is in
     entries_line (block_lines s) (plain_of p s) (plain_line p s) ws vs v each made some
 plain_line p (object n fs) w v e some =
-    let (ws, is) = found_some w (λ ws. option_map obj_value (plains_of p fs ws)) (run_of OBJECT p w) v e some in
-    let (vs, all, made) = some_map obj_value (plains_of p fs ws) v is in
+    let (ws, is) = found_some w (λ ws. option_map trimmed_object_or_null (plains_of p fs ws)) (run_entries_of_word OBJECT p w) v e some in
+    let (vs, all, made) = some_map trimmed_object_or_null (plains_of p fs ws) v is in
     let lines : fields_lines fs (entries_in v) ≡ fields_lines fs vs = ap (λ (x : Plain). fields_lines fs (entries_in x)) (sym made) ∙ object_value_lines fs vs in
     rw lines (fields_line p fs ws vs all (sym (obj_null vs) ∙ ap is_null made ∙ some))
 

@@ -2,7 +2,7 @@
 use Rattle.std.proofs.Common.{◌≡◌, ℕ, ◌+◌, ◌<◌, ◌≤◌, true, false, List, [], ◌∷◌, ◌++◌, length, get_or, drop, Option, Some, None, refl, ap, ◌∙◌}
 use Rattle.std.specs.Prelude.{is_some, unwrap_or}
 use Rattle.std.proofs.lemmas.List.{drop_more, drop_all}
-use Rattle.adb_view.specs.Plain.{Plain, null, int, blob, arr, obj, Plains, none, more, then_more, each_plain, plain_of, plains_of}
+use Rattle.adb_view.specs.Plain.{Plain, null, int, blob, arr, obj, Plains, none, more, plains_if_first_and_rest, plains_of_all_words, plain_of, plains_of}
 use Rattle.adb_schema.specs.adb_fields.Fields.{are_all_sound, values_at}
 use Rattle.adb_view.specs.Schema.{field_name_text, shape_of, shapes_of}
 use Rattle.adb_view.specs.Values.{is_sound, value_at}
@@ -21,9 +21,9 @@ fields_left p fields words i = fields_lines (shapes_of (drop i fields)) (fields_
 record Found (v : Option Plain) (vs : Option Plains) : Type 0 where
   first : is_some v ≡ true
   others : is_some vs ≡ true
-  value : unwrap_or (then_more v vs) none ≡ more (unwrap_or v null) (unwrap_or vs none)
+  value : unwrap_or (plains_if_first_and_rest v vs) none ≡ more (unwrap_or v null) (unwrap_or vs none)
 
-found : (v : Option Plain) (vs : Option Plains) → is_some (then_more v vs) ≡ true → Found v vs
+found : (v : Option Plain) (vs : Option Plains) → is_some (plains_if_first_and_rest v vs) ≡ true → Found v vs
 found (Some v) (Some vs) e = record { first = refl; others = refl; value = refl }
 found (Some v) None e = absurd cc
 found None vs e = absurd cc
@@ -37,7 +37,7 @@ pub record EntryStep (p : List ℕ) (k : Kind) (word : ℕ) (words : List ℕ) (
 
 first_entry : (p : List ℕ) (k : Kind) (word : ℕ) (rest : List ℕ) → are_all_sound p k (word ∷ rest) ≡ true → EntryStep p k word (word ∷ rest) rest
 unfolding are_all_sound values_at is_sound value_at
-first_entry p k word rest h = let f = found (plain_of p (shape_of k) word) (each_plain (plain_of p (shape_of k)) rest) h in record { here = f.first; later = f.others; value = f.value }
+first_entry p k word rest h = let f = found (plain_of p (shape_of k) word) (plains_of_all_words (plain_of p (shape_of k)) rest) h in record { here = f.first; later = f.others; value = f.value }
 
 pub entry_step : (p : List ℕ) (k : Kind) (words : List ℕ) (i : ℕ) → i < length words → are_all_sound p k (drop i words) ≡ true → EntryStep p k (get_or words i 0) (drop i words) (drop (i + 1) words)
 entry_step p k words i lt h =

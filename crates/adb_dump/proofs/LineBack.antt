@@ -11,8 +11,8 @@ use Rattle.std.proofs.lemmas.Str.Parse.{digit_at}
 use Rattle.hex.specs.Hex.{encode_with, encode_lower, lower_digits}
 use Rattle.base_core.proofs.AtName.{own_name}
 use Rattle.adb_view.specs.Plain.{Plain, int, blob}
-use Rattle.adb_dump.specs.Dump.{is_printable, begins_with_byte, needs_no_quotes, escape_of, bare_or_quoted_text, int_line, text_line, hash_line}
-use Rattle.adb_dump.specs.ReadBack.{hex_value, quoted_read, unhex, blob_read, int_read, text_read, hash_read, if_line_prints_value}
+use Rattle.adb_dump.specs.Dump.{is_printable, begins_with_byte, needs_no_quotes, quoted_form_of_byte, bare_or_quoted_text, int_line, text_line, hash_line}
+use Rattle.adb_dump.specs.ReadBack.{hex_digit_value_unchecked, quoted_read, bytes_of_hex_digits, blob_unless_empty, int_read, text_read, hash_read, if_line_prints_value}
 
 abbrev pub AreBytes : List ℕ → Type 0
 AreBytes b = AllByRecursion (λ c. c < 256) b
@@ -44,43 +44,43 @@ digit_not_n n = tested (λ c. not (eqb c 0x6e)) lower_digits n refl refl
 -- the first n digits are read back
 abbrev all_back : ℕ → Bool
 all_back zero = true
-all_back (suc n) = eqb (hex_value (slice_index lower_digits n)) n && all_back n
+all_back (suc n) = eqb (hex_digit_value_unchecked (slice_index lower_digits n)) n && all_back n
 
-back_at : (n k : ℕ) → all_back n ≡ true → k < n → hex_value (slice_index lower_digits k) ≡ k
+back_at : (n k : ℕ) → all_back n ≡ true → k < n → hex_digit_value_unchecked (slice_index lower_digits k) ≡ k
 back_at zero k h lt = absurd (omega arith)
 back_at (suc n) k h lt =
-    let a = and_parts (eqb (hex_value (slice_index lower_digits n)) n) (all_back n) h in
+    let a = and_parts (eqb (hex_digit_value_unchecked (slice_index lower_digits n)) n) (all_back n) h in
     elim (cases_lt k n) [
       | inl below ↦ back_at n k a.1 below
-      | inr top ↦ let e : k ≡ n = omega arith in rw e (eqb-true (hex_value (slice_index lower_digits n)) n a.0)
+      | inr top ↦ let e : k ≡ n = omega arith in rw e (eqb-true (hex_digit_value_unchecked (slice_index lower_digits n)) n a.0)
     ]
 
-pub hex_value-digit : (n : ℕ) → n < 16 → hex_value (slice_index lower_digits n) ≡ n
-hex_value-digit n lt = back_at 16 n refl lt
+pub hex_digit_value_unchecked-digit : (n : ℕ) → n < 16 → hex_digit_value_unchecked (slice_index lower_digits n) ≡ n
+hex_digit_value_unchecked-digit n lt = back_at 16 n refl lt
 
-hex_byte_back : (c : ℕ) → c < 256 → hex_value (slice_index lower_digits (c / 16)) * 16 + hex_value (slice_index lower_digits (c % 16)) ≡ c
+hex_byte_back : (c : ℕ) → c < 256 → hex_digit_value_unchecked (slice_index lower_digits (c / 16)) * 16 + hex_digit_value_unchecked (slice_index lower_digits (c % 16)) ≡ c
 hex_byte_back c lt =
-    let h : hex_value (slice_index lower_digits (c / 16)) ≡ c / 16 = hex_value-digit (c / 16) (omega arith) in
-    let l : hex_value (slice_index lower_digits (c % 16)) ≡ c % 16 = hex_value-digit (c % 16) (omega arith) in
+    let h : hex_digit_value_unchecked (slice_index lower_digits (c / 16)) ≡ c / 16 = hex_digit_value_unchecked-digit (c / 16) (omega arith) in
+    let l : hex_digit_value_unchecked (slice_index lower_digits (c % 16)) ≡ c % 16 = hex_digit_value_unchecked-digit (c % 16) (omega arith) in
     rw (h, l) (omega arith)
 
-unhex-pairs : (b : List ℕ) → AreBytes b → unhex (encode_lower b) ≡ b
+bytes_of_hex_digits-pairs : (b : List ℕ) → AreBytes b → bytes_of_hex_digits (encode_lower b) ≡ b
 unfolding encode_with
-unhex-pairs [] fits = refl
-unhex-pairs (c ∷ cs) fits =
-    ap (λ (x : ℕ). x ∷ unhex (encode_lower cs)) (hex_byte_back c fits.0) ∙ ap (λ (x : List ℕ). c ∷ x) (unhex-pairs cs fits.1)
+bytes_of_hex_digits-pairs [] fits = refl
+bytes_of_hex_digits-pairs (c ∷ cs) fits =
+    ap (λ (x : ℕ). x ∷ bytes_of_hex_digits (encode_lower cs)) (hex_byte_back c fits.0) ∙ ap (λ (x : List ℕ). c ∷ x) (bytes_of_hex_digits-pairs cs fits.1)
 
-made_blob-is : (b : List ℕ) → b ≢ [] → blob_read b ≡ Some (blob b)
+made_blob-is : (b : List ℕ) → b ≢ [] → blob_unless_empty b ≡ Some (blob b)
 made_blob-is [] ne = absurd (ne refl)
 made_blob-is (c ∷ cs) ne = refl
 
 pub hash_back : (b : List ℕ) → AreBytes b → b ≢ [] → if_line_prints_value hash_line (encode_lower b) (hash_read (encode_lower b)) ≡ Ok (blob b)
-hash_back b fits ne = ap (λ (x : List ℕ). if_line_prints_value hash_line (encode_lower b) (blob_read x)) (unhex-pairs b fits) ∙ ap (if_line_prints_value hash_line (encode_lower b)) (made_blob-is b ne) ∙ if_line_prints_value-same hash_line (blob b)
+hash_back b fits ne = ap (λ (x : List ℕ). if_line_prints_value hash_line (encode_lower b) (blob_unless_empty x)) (bytes_of_hex_digits-pairs b fits) ∙ ap (if_line_prints_value hash_line (encode_lower b)) (made_blob-is b ne) ∙ if_line_prints_value-same hash_line (blob b)
 
 -- ---- texts
 
 -- one escape in front of what follows is read as its byte
-escaped-len : (c : ℕ) → 0 < length (escape_of c)
+escaped-len : (c : ℕ) → 0 < length (quoted_form_of_byte c)
 unfolding encode_with
 escaped-len c = by_test (eqb c 10) (eqb c 92) (eqb c 34) (is_printable c)
   where
@@ -91,7 +91,7 @@ escaped-len c = by_test (eqb c 10) (eqb c 92) (eqb c 34) (is_printable c)
     by_test false false false true = lit< tt
     by_test false false false false = lit< tt
 
-pub unquoted-escaped : (n c : ℕ) (more : List ℕ) → c < 256 → quoted_read (suc n) (escape_of c ++ more) ≡ option_map (λ b. c ∷ b) (quoted_read n more)
+pub unquoted-escaped : (n c : ℕ) (more : List ℕ) → c < 256 → quoted_read (suc n) (quoted_form_of_byte c ++ more) ≡ option_map (λ b. c ∷ b) (quoted_read n more)
 unfolding encode_with
 unquoted-escaped n c more lt = go (eqb c 10) refl
   where
@@ -111,29 +111,29 @@ unquoted-escaped n c more lt = go (eqb c 10) refl
     go true e = let is : c ≡ 10 = eqb-true _ _ e in rw is refl
     go false e = back (eqb c 92) refl
 
-escapes-len : (b : List ℕ) → length b ≤ length (flat_map escape_of b)
+escapes-len : (b : List ℕ) → length b ≤ length (flat_map quoted_form_of_byte b)
 escapes-len [] = lit≤ tt
-escapes-len (c ∷ cs) = omega (arith, ap length (flat_map-cons escape_of c cs), length-append (escape_of c) (flat_map escape_of cs), escapes-len cs, escaped-len c)
+escapes-len (c ∷ cs) = omega (arith, ap length (flat_map-cons quoted_form_of_byte c cs), length-append (quoted_form_of_byte c) (flat_map quoted_form_of_byte cs), escapes-len cs, escaped-len c)
 
-unquoted-all : (b : List ℕ) (n : ℕ) → AreBytes b → length b < n → quoted_read n (flat_map escape_of b ++ 34 ∷ []) ≡ Some b
+unquoted-all : (b : List ℕ) (n : ℕ) → AreBytes b → length b < n → quoted_read n (flat_map quoted_form_of_byte b ++ 34 ∷ []) ≡ Some b
 unquoted-all b zero fits lt = absurd (omega arith)
 unquoted-all [] (suc n) fits lt = refl
 unquoted-all (c ∷ cs) (suc n) fits lt =
-    let regroup : flat_map escape_of (c ∷ cs) ++ 34 ∷ [] ≡ escape_of c ++ (flat_map escape_of cs ++ 34 ∷ []) = ap (λ (x : List ℕ). x ++ 34 ∷ []) (flat_map-cons escape_of c cs) ∙ append_assoc (escape_of c) (flat_map escape_of cs) (34 ∷ []) in
-    ap (quoted_read (suc n)) regroup ∙ unquoted-escaped n c (flat_map escape_of cs ++ 34 ∷ []) fits.0 ∙ ap (option_map (λ b. c ∷ b)) (unquoted-all cs n fits.1 (omega arith))
+    let regroup : flat_map quoted_form_of_byte (c ∷ cs) ++ 34 ∷ [] ≡ quoted_form_of_byte c ++ (flat_map quoted_form_of_byte cs ++ 34 ∷ []) = ap (λ (x : List ℕ). x ++ 34 ∷ []) (flat_map-cons quoted_form_of_byte c cs) ∙ append_assoc (quoted_form_of_byte c) (flat_map quoted_form_of_byte cs) (34 ∷ []) in
+    ap (quoted_read (suc n)) regroup ∙ unquoted-escaped n c (flat_map quoted_form_of_byte cs ++ 34 ∷ []) fits.0 ∙ ap (option_map (λ b. c ∷ b)) (unquoted-all cs n fits.1 (omega arith))
 
 pub text_back : (b : List ℕ) → AreBytes b → b ≢ [] → if_line_prints_value text_line (bare_or_quoted_text b) (text_read (bare_or_quoted_text b)) ≡ Ok (blob b)
 text_back b fits ne = ap (if_line_prints_value text_line (bare_or_quoted_text b)) (go (needs_no_quotes b) refl) ∙ if_line_prints_value-same text_line (blob b)
   where
-    go : (t : Bool) → needs_no_quotes b ≡ t → text_read (cond t b (34 ∷ (flat_map escape_of b ++ 34 ∷ []))) ≡ Some (blob b)
+    go : (t : Bool) → needs_no_quotes b ≡ t → text_read (cond t b (34 ∷ (flat_map quoted_form_of_byte b ++ 34 ∷ []))) ≡ Some (blob b)
     go true e =
         let four = and_parts _ _ e in
         let three = and_parts _ _ four.0 in
         let quote : begins_with_byte 34 b ≡ false = not-true _ three.1 in
         rw quote (made_blob-is b ne)
     go false e =
-        let q : List ℕ = flat_map escape_of b ++ 34 ∷ [] in
-        ap (option_and_then blob_read) (unquoted-all b (suc (length q)) fits (omega (arith, escapes-len b, length-append (flat_map escape_of b) (34 ∷ [])))) ∙ made_blob-is b ne
+        let q : List ℕ = flat_map quoted_form_of_byte b ++ 34 ∷ [] in
+        ap (option_and_then blob_unless_empty) (unquoted-all b (suc (length q)) fits (omega (arith, escapes-len b, length-append (flat_map quoted_form_of_byte b) (34 ∷ [])))) ∙ made_blob-is b ne
 
 -- no value has the form `null`
 begins_otherwise : (c : ℕ) (cs : List ℕ) → c ≢ 110 → bytes_eq (c ∷ cs) (codes "null") ≡ false
@@ -142,7 +142,7 @@ begins_otherwise c cs ne = let t : eqb c 110 ≡ false = ne_eqb c 110 ne in rw t
 pub text_not_null : (b : List ℕ) → bytes_eq (bare_or_quoted_text b) (codes "null") ≡ false
 text_not_null b = go (needs_no_quotes b) refl
   where
-    go : (t : Bool) → needs_no_quotes b ≡ t → bytes_eq (cond t b (34 ∷ (flat_map escape_of b ++ 34 ∷ []))) (codes "null") ≡ false
+    go : (t : Bool) → needs_no_quotes b ≡ t → bytes_eq (cond t b (34 ∷ (flat_map quoted_form_of_byte b ++ 34 ∷ []))) (codes "null") ≡ false
     go true e = not-true _ (and_parts _ _ e).1
     go false e = refl
 

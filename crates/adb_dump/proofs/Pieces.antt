@@ -5,7 +5,7 @@ use Rattle.std.specs.List.{flat_map, list_all}
 use Rattle.std.proofs.lemmas.List.{drop-take, drop_more, drop_all, take_rest, take-take}
 use Rattle.std.proofs.lemmas.List.Concat.{flat_map-cons}
 use Rattle.hex.specs.Hex.{encode_with, encode_lower}
-use Rattle.adb_dump.specs.Dump.{escape_of, is_printable, begins_with_byte, ends_with_byte}
+use Rattle.adb_dump.specs.Dump.{quoted_form_of_byte, is_printable, begins_with_byte, ends_with_byte}
 use Rattle.adb_dump.specs.Margin.{margin}
 
 pub hex_more : (bytes : List ℕ) (i : ℕ) → i < length bytes → encode_lower (drop i bytes) ≡ encode_lower (get_or bytes i 0 ∷ []) ++ encode_lower (drop (i + 1) bytes)
@@ -16,11 +16,11 @@ pub hex_over : (bytes : List ℕ) (i : ℕ) → length bytes ≤ i → encode_lo
 unfolding encode_with
 hex_over bytes i le = rw (drop_all i bytes le) refl
 
-pub escapes_more : (text : List ℕ) (i : ℕ) → i < length text → flat_map escape_of (drop i text) ≡ escape_of (get_or text i 0) ++ flat_map escape_of (drop (i + 1) text)
-escapes_more text i lt = ap (flat_map escape_of) (drop_more text i 0 lt) ∙ flat_map-cons escape_of (get_or text i 0) (drop (i + 1) text)
+pub escapes_more : (text : List ℕ) (i : ℕ) → i < length text → flat_map quoted_form_of_byte (drop i text) ≡ quoted_form_of_byte (get_or text i 0) ++ flat_map quoted_form_of_byte (drop (i + 1) text)
+escapes_more text i lt = ap (flat_map quoted_form_of_byte) (drop_more text i 0 lt) ∙ flat_map-cons quoted_form_of_byte (get_or text i 0) (drop (i + 1) text)
 
-pub escapes_over : (text : List ℕ) (i : ℕ) → length text ≤ i → flat_map escape_of (drop i text) ≡ []
-escapes_over text i le = ap (flat_map escape_of) (drop_all i text le)
+pub escapes_over : (text : List ℕ) (i : ℕ) → length text ≤ i → flat_map quoted_form_of_byte (drop i text) ≡ []
+escapes_over text i le = ap (flat_map quoted_form_of_byte) (drop_all i text le)
 
 printable_more : (text : List ℕ) (i : ℕ) → i < length text → list_all is_printable (drop i text) ≡ (is_printable (get_or text i 0) && list_all is_printable (drop (i + 1) text))
 printable_more text i lt = ap (list_all is_printable) (drop_more text i 0 lt)

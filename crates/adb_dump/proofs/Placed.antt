@@ -2,7 +2,7 @@
 use Rattle.std.proofs.Common.{◌≡◌, ℕ, zero, suc, Bool, true, false, List, [], ◌∷◌, ◌++◌, refl, sym, ap, ◌∙◌, append_assoc}
 use Rattle.std.specs.Prelude.{codes}
 use Rattle.std.proofs.lemmas.List.Concat.{flat_map-cons}
-use Rattle.adb_dump.specs.Dump.{Line, indent, with_dash, named_block, named_line, text_of}
+use Rattle.adb_dump.specs.Dump.{Line, indent, with_dash, named_block, named_line, dump_text_of_lines}
 use Rattle.adb_dump.specs.Margin.{margin, margin_unless_begun, indented_lines_text}
 
 -- all lines but the first are at the margin
@@ -54,6 +54,6 @@ pub laid_line : (d : ℕ) (b : Bool) (l : Line) → (margin_unless_begun d b ++ 
 laid_line d b l = append_assoc (margin_unless_begun d b) l (codes "\n")
 
 -- at no depth lines are a text
-pub laid_text : (ls : List Line) → indented_lines_text 0 false ls ≡ text_of ls
+pub laid_text : (ls : List Line) → indented_lines_text 0 false ls ≡ dump_text_of_lines ls
 laid_text [] = refl
-laid_text (l ∷ ls) = ap (λ (t : List ℕ). l ++ (codes "\n" ++ t)) (laid_text ls) ∙ sym (append_assoc l (codes "\n") (text_of ls)) ∙ sym (flat_map-cons (λ (x : Line). x ++ codes "\n") l ls)
+laid_text (l ∷ ls) = ap (λ (t : List ℕ). l ++ (codes "\n" ++ t)) (laid_text ls) ∙ sym (append_assoc l (codes "\n") (dump_text_of_lines ls)) ∙ sym (flat_map-cons (λ (x : Line). x ++ codes "\n") l ls)

@@ -4,20 +4,20 @@ use Rattle.std.specs.Prelude.{codes, bytes_eq}
 use Rattle.std.specs.Str.Parse.{digits_value}
 use Rattle.std.proofs.lemmas.Bool.{eqb-true, ltb-true}
 use Rattle.std.proofs.lemmas.List.{length-append}
-use Rattle.adb_view.specs.Plain.{Plain, null, int, blob, arr, obj, Plains, none, more, put_first_without_last_null, without_last_nulls, Shape, number, text, hash, array, object, Fields, no_fields, field, IsNormal, AreNormal}
+use Rattle.adb_view.specs.Plain.{Plain, null, int, blob, arr, obj, Plains, none, more, prepend_plain_unless_last_null, without_last_nulls, Shape, number, text, hash, array, object, Fields, no_fields, field, IsNormal, AreNormal}
 use Rattle.adb_view.specs.Shaped.{Each, HasShape, HaveShapes}
 use Rattle.adb_view.proofs.FoundShapes.{shape_null}
 use Rattle.adb_dump.specs.Dump.{Line, begins_with_byte, int_line, text_line, hash_line, indent, with_dash, entry_lines_or_null_line, array_lines, named_line, named_block, field_lines_unless_null, block_lines, named_lines, fields_lines}
 use Rattle.base_core.specs.Lists.{and_then}
 use Rattle.base_core.proofs.AtName.{is_name}
-use Rattle.adb_dump.specs.ReadBack.{ResultOrBadLine, after_lines, strip_prefix, end_block_or_add_line, split_block, quoted_read, unhex, blob_read, int_read, text_read, hash_read, if_line_prints_value, single_line_value, entry_read, entries_after_dash, entries_read, arr_read, obj_read, field_on_line, field_with_value_below, if_named, block_read, named_read, fields_read}
+use Rattle.adb_dump.specs.ReadBack.{ResultOrBadLine, mapped_or_bad_line_shifted_by, strip_prefix, end_block_or_add_line, block_and_lines_after, quoted_read, bytes_of_hex_digits, blob_unless_empty, int_read, text_read, hash_read, if_line_prints_value, single_line_value, entry_read, entries_from_dash_line, entries_read, array_unless_empty, object_unless_empty, fields_read_with_value_on_line, fields_read_with_value_below, fields_read_by_name_match, block_read, named_read, fields_read}
 use Rattle.adb_dump.proofs.Booleans.{chosen}
 
 bind_ok : {A B : Type 0} (r : ResultOrBadLine A) (f : A → ResultOrBadLine B) (y : B) → and_then r f ≡ Ok y → (x : A) × (r ≡ Ok x) × (f x ≡ Ok y)
 bind_ok (Ok x) f y e = (x, refl, e)
 bind_ok (Err k) f y e = absurd cc
 
-behind_ok : {A B : Type 0} (n : ℕ) (f : A → B) (r : ResultOrBadLine A) (y : B) → after_lines n f r ≡ Ok y → (x : A) × (r ≡ Ok x) × (f x ≡ y)
+behind_ok : {A B : Type 0} (n : ℕ) (f : A → B) (r : ResultOrBadLine A) (y : B) → mapped_or_bad_line_shifted_by n f r ≡ Ok y → (x : A) × (r ≡ Ok x) × (f x ≡ y)
 behind_ok n f (Ok x) y e = (x, refl, cc)
 behind_ok n f (Err k) y e = absurd cc
 
@@ -43,11 +43,11 @@ strip_prefix_some (p ∷ ps) (c ∷ cs) r e =
       | inr x ↦ absurd (let f = x.1 in cc)
     ]
 
-pub split_block_parts : (ls : List Line) → ls ≡ indent (split_block ls).0 ++ (split_block ls).1
+pub split_block_parts : (ls : List Line) → ls ≡ indent (block_and_lines_after ls).0 ++ (block_and_lines_after ls).1
 split_block_parts [] = refl
 split_block_parts (l ∷ ls) = go (strip_prefix (32 ∷ 32 ∷ []) l) refl (split_block_parts ls)
   where
-    go : (o : Option Line) → strip_prefix (32 ∷ 32 ∷ []) l ≡ o → ls ≡ indent (split_block ls).0 ++ (split_block ls).1 → l ∷ ls ≡ indent (end_block_or_add_line l ls o (split_block ls)).0 ++ (end_block_or_add_line l ls o (split_block ls)).1
+    go : (o : Option Line) → strip_prefix (32 ∷ 32 ∷ []) l ≡ o → ls ≡ indent (block_and_lines_after ls).0 ++ (block_and_lines_after ls).1 → l ∷ ls ≡ indent (end_block_or_add_line l ls o (block_and_lines_after ls)).0 ++ (end_block_or_add_line l ls o (block_and_lines_after ls)).1
     go None e h = refl
     go (Some inner) e h = let is = strip_prefix_some (32 ∷ 32 ∷ []) l inner e in cc
 
@@ -56,7 +56,7 @@ split_block_parts (l ∷ ls) = go (strip_prefix (32 ∷ 32 ∷ []) l) refl (spli
 abbrev pub Fits1 : Shape → Plain → Type 0
 Fits1 s v = (v ≢ null) × IsNormal v × HasShape s v
 
-pub made_blob_some : (b : List ℕ) (v : Plain) → blob_read b ≡ Some v → (v ≡ blob b) × (b ≢ [])
+pub made_blob_some : (b : List ℕ) (v : Plain) → blob_unless_empty b ≡ Some v → (v ≡ blob b) × (b ≢ [])
 made_blob_some [] v e = absurd cc
 made_blob_some (c ∷ cs) v e = (cc, λ f. cc)
 
@@ -76,7 +76,7 @@ text_fits : (l : Line) (v : Plain) → text_read l ≡ Some v → Fits1 text v
 unfolding HasShape
 text_fits l v e =
     elim (chosen (begins_with_byte 34 l) _ _ _ e) [
-      | inl x ↦ let (b, is, made) = some_then blob_read (quoted_read (length l) (drop 1 l)) v x.1 in blob_fits text b v (λ y. tt) (made_blob_some b v made)
+      | inl x ↦ let (b, is, made) = some_then blob_unless_empty (quoted_read (length l) (drop 1 l)) v x.1 in blob_fits text b v (λ y. tt) (made_blob_some b v made)
       | inr x ↦ blob_fits text l v (λ y. tt) (made_blob_some l v x.1)
     ]
   where
@@ -86,7 +86,7 @@ text_fits l v e =
 
 hash_fits : (l : Line) (v : Plain) → hash_read l ≡ Some v → Fits1 hash v
 unfolding HasShape
-hash_fits l v e = blob_fits hash (unhex l) v (λ y. tt) (made_blob_some (unhex l) v e)
+hash_fits l v e = blob_fits hash (bytes_of_hex_digits l) v (λ y. tt) (made_blob_some (bytes_of_hex_digits l) v e)
 
 -- ---- entries
 
@@ -95,15 +95,15 @@ abbrev EntryOnly : (Plain → List Line) → (List Line → ResultOrBadLine Plai
 EntryOnly f r Q = (l : Line) (ls : List Line) (v : Plain) → entry_read r l ls ≡ Ok v → (entry_lines_or_null_line v (f v) ≡ l ∷ ls) × Q v
 
 dash_only : (f : Plain → List Line) (r : List Line → ResultOrBadLine Plain) (Q : Plain → Type 0) → EntryOnly f r Q → (n : ℕ) (l : Line) (ls : List Line) (o : Option Line) (vs : Plains) → strip_prefix (45 ∷ 32 ∷ []) l ≡ o
-    → ((us : Plains) → entries_read r n (split_block ls).1 ≡ Ok us → (array_lines f us ≡ (split_block ls).1) × Each Q us) → entries_after_dash r (entries_read r n) (split_block ls) o ≡ Ok vs → (array_lines f vs ≡ l ∷ ls) × Each Q vs
+    → ((us : Plains) → entries_read r n (block_and_lines_after ls).1 ≡ Ok us → (array_lines f us ≡ (block_and_lines_after ls).1) × Each Q us) → entries_from_dash_line r (entries_read r n) (block_and_lines_after ls) o ≡ Ok vs → (array_lines f vs ≡ l ∷ ls) × Each Q vs
 dash_only f r Q h n l ls None vs i g e = absurd cc
 dash_only f r Q h n l ls (Some inner) vs i g e =
-    let (v, one, a) = bind_ok (entry_read r inner (split_block ls).0) (λ v. after_lines (1 + length (split_block ls).0) (more v) (entries_read r n (split_block ls).1)) vs e in
-    let (us, others, is) = behind_ok (1 + length (split_block ls).0) (more v) (entries_read r n (split_block ls).1) vs a in
-    let first = h inner (split_block ls).0 v one in
+    let (v, one, a) = bind_ok (entry_read r inner (block_and_lines_after ls).0) (λ v. mapped_or_bad_line_shifted_by (1 + length (block_and_lines_after ls).0) (more v) (entries_read r n (block_and_lines_after ls).1)) vs e in
+    let (us, others, is) = behind_ok (1 + length (block_and_lines_after ls).0) (more v) (entries_read r n (block_and_lines_after ls).1) vs a in
+    let first = h inner (block_and_lines_after ls).0 v one in
     let rest = g us others in
     let line = strip_prefix_some (45 ∷ 32 ∷ []) l inner i in
-    let lines : array_lines f (more v us) ≡ l ∷ ls = ap (λ (x : List Line). with_dash x ++ array_lines f us) first.0 ∙ ap (λ (x : List Line). ((45 ∷ 32 ∷ inner) ∷ indent (split_block ls).0) ++ x) rest.0 ∙ cons_same (45 ∷ 32 ∷ inner) l (indent (split_block ls).0 ++ (split_block ls).1) ls (sym line) (sym (split_block_parts ls)) in
+    let lines : array_lines f (more v us) ≡ l ∷ ls = ap (λ (x : List Line). with_dash x ++ array_lines f us) first.0 ∙ ap (λ (x : List Line). ((45 ∷ 32 ∷ inner) ∷ indent (block_and_lines_after ls).0) ++ x) rest.0 ∙ cons_same (45 ∷ 32 ∷ inner) l (indent (block_and_lines_after ls).0 ++ (block_and_lines_after ls).1) ls (sym line) (sym (split_block_parts ls)) in
     subst (λ (x : Plains). (array_lines f x ≡ l ∷ ls) × Each Q x) is (lines, (first.1, rest.1))
   where
     cons_same : (x y : Line) (xs ys : List Line) → x ≡ y → xs ≡ ys → x ∷ xs ≡ y ∷ ys
@@ -114,8 +114,8 @@ entries_only f r Q h zero [] vs le e = let is : vs ≡ none = cc in (rw is refl,
 entries_only f r Q h zero (l ∷ ls) vs le e = absurd (omega arith)
 entries_only f r Q h (suc n) [] vs le e = let is : vs ≡ none = cc in (rw is refl, rw is tt)
 entries_only f r Q h (suc n) (l ∷ ls) vs le e =
-    let shorter = ap length (split_block_parts ls) ∙ length-append (indent (split_block ls).0) (split_block ls).1 in
-    dash_only f r Q h n l ls (strip_prefix (45 ∷ 32 ∷ []) l) vs refl (λ us g. entries_only f r Q h n (split_block ls).1 us (omega arith) g) e
+    let shorter = ap length (split_block_parts ls) ∙ length-append (indent (block_and_lines_after ls).0) (block_and_lines_after ls).1 in
+    dash_only f r Q h n l ls (strip_prefix (45 ∷ 32 ∷ []) l) vs refl (λ us g. entries_only f r Q h n (block_and_lines_after ls).1 us (omega arith) g) e
 
 -- ---- values
 
@@ -123,7 +123,7 @@ entries_only f r Q h (suc n) (l ∷ ls) vs le e =
 abbrev pub BlockOnly : Shape → Type 0
 BlockOnly s = (ls : List Line) (v : Plain) → block_read s ls ≡ Ok v → (block_lines s v ≡ ls) × Fits1 s v
 
-pub keeps : (v : Plain) (us : Plains) → v ≢ null → put_first_without_last_null v us ≡ more v us
+pub keeps : (v : Plain) (us : Plains) → v ≢ null → prepend_plain_unless_last_null v us ≡ more v us
 keeps null us ne = absurd (ne refl)
 keeps (int n) us ne = refl
 keeps (blob b) us ne = refl
@@ -172,18 +172,18 @@ one_only form read s h ls v e =
     let (some, line) = if_form_ok form l (read l) v ok in
     (ap (λ (x : Line). x ∷ []) line ∙ sym is, h l v some)
 
-arr_read_ok : (vs : Plains) (v : Plain) → arr_read vs ≡ Ok v → (v ≡ arr vs) × (vs ≢ none)
+arr_read_ok : (vs : Plains) (v : Plain) → array_unless_empty vs ≡ Ok v → (v ≡ arr vs) × (vs ≢ none)
 arr_read_ok none v e = absurd cc
 arr_read_ok (more u us) v e = (cc, λ f. cc)
 
-obj_read_ok : (vs : Plains) (v : Plain) → obj_read vs ≡ Ok v → (v ≡ obj vs) × (vs ≢ none)
+obj_read_ok : (vs : Plains) (v : Plain) → object_unless_empty vs ≡ Ok v → (v ≡ obj vs) × (vs ≢ none)
 obj_read_ok none v e = absurd cc
 obj_read_ok (more u us) v e = (cc, λ f. cc)
 
 array_only : (s : Shape) → BlockOnly s → BlockOnly (array s)
 unfolding block_read block_lines IsNormal HasShape
 array_only s h ls v e =
-    let (vs, some, made) = bind_ok (entries_read (block_read s) (length ls) ls) arr_read v e in
+    let (vs, some, made) = bind_ok (entries_read (block_read s) (length ls) ls) array_unless_empty v e in
     let (is, ne) = arr_read_ok vs v made in
     let (lines, fit) = entries_only (block_lines s) (block_read s) (EntryFits s) (entry_only s h) (length ls) ls vs (omega arith) some in
     let (normal, shapes) = each_split s vs fit in
@@ -199,7 +199,7 @@ pub record FieldsOnly (fs : Fields) (ls : List Line) (vs : Plains) : Type 0 wher
 object_only : (which : ℕ) (fs : Fields) → ((ls : List Line) (vs : Plains) → fields_read fs ls ≡ Ok vs → FieldsOnly fs ls vs) → BlockOnly (object which fs)
 unfolding block_read block_lines IsNormal HasShape
 object_only which fs h ls v e =
-    let (vs, some, made) = bind_ok (fields_read fs ls) obj_read v e in
+    let (vs, some, made) = bind_ok (fields_read fs ls) object_unless_empty v e in
     let (is, ne) = obj_read_ok vs v made in
     let r = h ls vs some in
     subst (λ (u : Plain). (block_lines (object which fs) u ≡ ls) × Fits1 (object which fs) u) (sym is) (r.lines, (λ f. cc, (ne, r.trim, r.normal), r.shapes))
@@ -215,10 +215,10 @@ record NamedOnly (s : Shape) (fs : Fields) (name : List ℕ) (rest : Line) (ls :
   lines : named_lines s name v ++ others ≡ (name ++ 58 ∷ rest) ∷ ls
 
 line_only : (s : Shape) (fs : Fields) (name : List ℕ) (form : Plain → Line) (read : Line → Option Plain) → ((l : Line) (v : Plain) → read l ≡ Some v → Fits1 s v) → ((v : Plain) → named_lines s name v ≡ named_line name (form v)) → (rest : Line) (ls : List Line) (vs : Plains) (o : Option Line)
-    → strip_prefix (32 ∷ []) rest ≡ o → field_on_line (λ l. if_line_prints_value form l (read l)) (fields_read fs) ls o ≡ Ok vs → NamedOnly s fs name rest ls vs
+    → strip_prefix (32 ∷ []) rest ≡ o → fields_read_with_value_on_line (λ l. if_line_prints_value form l (read l)) (fields_read fs) ls o ≡ Ok vs → NamedOnly s fs name rest ls vs
 line_only s fs name form read h k rest ls vs None i e = absurd cc
 line_only s fs name form read h k rest ls vs (Some l) i e =
-    let (v, one, a) = bind_ok (if_line_prints_value form l (read l)) (λ v. after_lines 1 (more v) (fields_read fs ls)) vs e in
+    let (v, one, a) = bind_ok (if_line_prints_value form l (read l)) (λ v. mapped_or_bad_line_shifted_by 1 (more v) (fields_read fs ls)) vs e in
     let (us, others, is) = behind_ok 1 (more v) (fields_read fs ls) vs a in
     let (some, line) = if_form_ok form l (read l) v one in
     let word = strip_prefix_some (32 ∷ []) rest l i in
@@ -233,21 +233,21 @@ line_only s fs name form read h k rest ls vs (Some l) i e =
     }
 
 below_only : (s : Shape) (fs : Fields) (name : List ℕ) → BlockOnly s → ((v : Plain) → named_lines s name v ≡ named_block name (block_lines s v)) → (rest : Line) (ls : List Line) (vs : Plains)
-    → field_with_value_below (block_read s) (fields_read fs) (split_block ls) rest ≡ Ok vs → NamedOnly s fs name rest ls vs
+    → fields_read_with_value_below (block_read s) (fields_read fs) (block_and_lines_after ls) rest ≡ Ok vs → NamedOnly s fs name rest ls vs
 below_only s fs name h k (c ∷ cs) ls vs e = absurd cc
 below_only s fs name h k [] ls vs e =
-    let (v, one, a) = bind_ok (after_lines 1 (λ v. v) (block_read s (split_block ls).0)) (λ v. after_lines (1 + length (split_block ls).0) (more v) (fields_read fs (split_block ls).1)) vs e in
-    let (u, ok, same) = behind_ok 1 (λ v. v) (block_read s (split_block ls).0) v one in
-    let (us, others, is) = behind_ok (1 + length (split_block ls).0) (more v) (fields_read fs (split_block ls).1) vs a in
-    let r = h (split_block ls).0 v (ok ∙ ap Ok same) in
+    let (v, one, a) = bind_ok (mapped_or_bad_line_shifted_by 1 (λ v. v) (block_read s (block_and_lines_after ls).0)) (λ v. mapped_or_bad_line_shifted_by (1 + length (block_and_lines_after ls).0) (more v) (fields_read fs (block_and_lines_after ls).1)) vs e in
+    let (u, ok, same) = behind_ok 1 (λ v. v) (block_read s (block_and_lines_after ls).0) v one in
+    let (us, others, is) = behind_ok (1 + length (block_and_lines_after ls).0) (more v) (fields_read fs (block_and_lines_after ls).1) vs a in
+    let r = h (block_and_lines_after ls).0 v (ok ∙ ap Ok same) in
     record {
       v = v;
       us = us;
       is = sym is;
       fits = r.1;
-      others = (split_block ls).1;
+      others = (block_and_lines_after ls).1;
       read = others;
-      lines = ap (λ (x : List Line). x ++ (split_block ls).1) (k v) ∙ ap (λ (x : List Line). (name ++ 58 ∷ []) ∷ (indent x ++ (split_block ls).1)) r.0 ∙ ap (λ (x : List Line). (name ++ 58 ∷ []) ∷ x) (sym (split_block_parts ls));
+      lines = ap (λ (x : List Line). x ++ (block_and_lines_after ls).1) (k v) ∙ ap (λ (x : List Line). (name ++ 58 ∷ []) ∷ (indent x ++ (block_and_lines_after ls).1)) r.0 ∙ ap (λ (x : List Line). (name ++ 58 ∷ []) ∷ x) (sym (split_block_parts ls));
     }
 
 named_only : (s : Shape) (fs : Fields) (name : List ℕ) → BlockOnly s → (rest : Line) (ls : List Line) (vs : Plains) → named_read s (fields_read fs) ls rest ≡ Ok vs → NamedOnly s fs name rest ls vs
@@ -264,15 +264,15 @@ some_line no_fields l ls e = cc
 some_line (field name s fs) l ls e = cc
 
 one_field : (s : Shape) (fs : Fields) (name : List ℕ) → BlockOnly s → ((ls : List Line) (vs : Plains) → fields_read fs ls ≡ Ok vs → FieldsOnly fs ls vs) → (l : Line) (ls : List Line) (vs : Plains) (o : Option Line)
-    → strip_prefix (name ++ 58 ∷ []) l ≡ o → if_named (after_lines 0 (more null) (fields_read fs (l ∷ ls))) (named_read s (fields_read fs) ls) o ≡ Ok vs → FieldsOnly (field name s fs) (l ∷ ls) vs
+    → strip_prefix (name ++ 58 ∷ []) l ≡ o → fields_read_by_name_match (mapped_or_bad_line_shifted_by 0 (more null) (fields_read fs (l ∷ ls))) (named_read s (fields_read fs) ls) o ≡ Ok vs → FieldsOnly (field name s fs) (l ∷ ls) vs
 unfolding fields_lines IsNormal HasShape
 one_field s fs name h k l ls vs None i e =
     let (us, some, is) = behind_ok 0 (more null) (fields_read fs (l ∷ ls)) vs e in
     let r = k (l ∷ ls) us some in
     let ne : us ≢ none = λ f. some_line fs l ls (subst (λ (x : Plains). fields_lines fs x ≡ l ∷ ls) f r.lines) in
-    subst (FieldsOnly (field name s fs) (l ∷ ls)) is (record { lines = r.lines; trim = ap (put_first_without_last_null null) r.trim ∙ keep_null us ne; normal = (tt, r.normal); shapes = (shape_null s, r.shapes) })
+    subst (FieldsOnly (field name s fs) (l ∷ ls)) is (record { lines = r.lines; trim = ap (prepend_plain_unless_last_null null) r.trim ∙ keep_null us ne; normal = (tt, r.normal); shapes = (shape_null s, r.shapes) })
   where
-    keep_null : (us : Plains) → us ≢ none → put_first_without_last_null null us ≡ more null us
+    keep_null : (us : Plains) → us ≢ none → prepend_plain_unless_last_null null us ≡ more null us
     keep_null none ne = absurd (ne refl)
     keep_null (more u us) ne = refl
 one_field s fs name h k l ls vs (Some rest) i e =
@@ -281,7 +281,7 @@ one_field s fs name h k l ls vs (Some rest) i e =
     let line : l ≡ name ++ 58 ∷ rest = strip_prefix_some (name ++ 58 ∷ []) l rest i ∙ append_assoc name (58 ∷ []) rest in
     let lines : field_lines_unless_null n.v (named_lines s name n.v) ++ fields_lines fs n.us ≡ l ∷ ls =
     ap (λ (x : List Line). x ++ fields_lines fs n.us) (field_lines_unless_null-is n.v (named_lines s name n.v) n.fits.0) ∙ ap (λ (x : List Line). named_lines s name n.v ++ x) r.lines ∙ n.lines ∙ ap (λ (x : Line). x ∷ ls) (sym line) in
-    subst (FieldsOnly (field name s fs) (l ∷ ls)) (sym n.is) (record { lines = lines; trim = ap (put_first_without_last_null n.v) r.trim ∙ keeps n.v n.us n.fits.0; normal = (n.fits.1, r.normal); shapes = (n.fits.2, r.shapes) })
+    subst (FieldsOnly (field name s fs) (l ∷ ls)) (sym n.is) (record { lines = lines; trim = ap (prepend_plain_unless_last_null n.v) r.trim ∙ keeps n.v n.us n.fits.0; normal = (n.fits.1, r.normal); shapes = (n.fits.2, r.shapes) })
 
 no_fields_only : (ls : List Line) (vs : Plains) → fields_read no_fields ls ≡ Ok vs → FieldsOnly no_fields ls vs
 unfolding fields_read fields_lines IsNormal HasShape

@@ -11,7 +11,7 @@ use Rattle.std.proofs.lemmas.Str.Parse.{digit_at}
 use Rattle.hex.specs.Hex.{encode_with, encode_lower}
 use Rattle.adb_view.specs.Plain.{Plain, null, int, blob, arr, obj, Plains, none, more, Shape, number, text, hash, array, object, Fields, no_fields, field, IsNormal, AreNormal}
 use Rattle.adb_view.specs.Values.{entries_in}
-use Rattle.adb_dump.specs.Dump.{Line, is_printable, needs_no_quotes, escape_of, bare_or_quoted_text, int_line, text_line, hash_line, indent, with_dash, entry_lines_or_null_line, array_lines, named_line, named_block, field_lines_unless_null, block_lines, named_lines, fields_lines, text_of}
+use Rattle.adb_dump.specs.Dump.{Line, is_printable, needs_no_quotes, quoted_form_of_byte, bare_or_quoted_text, int_line, text_line, hash_line, indent, with_dash, entry_lines_or_null_line, array_lines, named_line, named_block, field_lines_unless_null, block_lines, named_lines, fields_lines, dump_text_of_lines}
 use Rattle.adb_dump.specs.ReadBack.{split_lines, add_char}
 use Rattle.adb_dump.proofs.LineBack.{digit_not_end}
 use Rattle.adb_dump.proofs.Booleans.{chosen}
@@ -28,11 +28,11 @@ lines_of-line (c ∷ cs) rest ls h e =
     let t : eqb c 10 ≡ false = not-true (eqb c 10) a.0 in
     rw (t, lines_of-line cs rest ls a.1 e) refl
 
-pub lines_of-text : (ls : List Line) → are_lines ls ≡ true → split_lines (text_of ls) ≡ Some ls
+pub lines_of-text : (ls : List Line) → are_lines ls ≡ true → split_lines (dump_text_of_lines ls) ≡ Some ls
 lines_of-text [] h = refl
 lines_of-text (l ∷ ls) h =
     let a = and_parts (no_end l) (are_lines ls) h in
-    ap split_lines (flat_map-cons (λ (x : Line). x ++ 10 ∷ []) l ls ∙ append_assoc l (10 ∷ []) (text_of ls)) ∙ lines_of-line l (text_of ls) ls a.0 (lines_of-text ls a.1)
+    ap split_lines (flat_map-cons (λ (x : Line). x ++ 10 ∷ []) l ls ∙ append_assoc l (10 ∷ []) (dump_text_of_lines ls)) ∙ lines_of-line l (dump_text_of_lines ls) ls a.0 (lines_of-text ls a.1)
 
 -- ---- no line of a dump has a line end
 
@@ -58,7 +58,7 @@ unfolding encode_with
 hash_end [] = refl
 hash_end (c ∷ cs) = and_from _ _ (digit_not_end (c / 16)) (and_from _ _ (digit_not_end (c % 16)) (hash_end cs))
 
-escaped_end : (c : ℕ) → no_end (escape_of c) ≡ true
+escaped_end : (c : ℕ) → no_end (quoted_form_of_byte c) ≡ true
 escaped_end c = go (eqb c 10) (eqb c 92) (eqb c 34) (is_printable c) refl
   where
     go : (b1 b2 b3 b4 : Bool) → eqb c 10 ≡ b1 → no_end (cond b1 (92 ∷ 110 ∷ []) (cond b2 (92 ∷ 92 ∷ []) (cond b3 (92 ∷ 34 ∷ []) (cond b4 (c ∷ []) (codes "\\x" ++ encode_lower (c ∷ [])))))) ≡ true
@@ -68,9 +68,9 @@ escaped_end c = go (eqb c 10) (eqb c 92) (eqb c 34) (is_printable c) refl
     go false false false true e = rw e refl
     go false false false false e = append_chars (codes "\\x") (encode_lower (c ∷ [])) refl (hash_end (c ∷ []))
 
-escapes_end : (b : List ℕ) → no_end (flat_map escape_of b) ≡ true
+escapes_end : (b : List ℕ) → no_end (flat_map quoted_form_of_byte b) ≡ true
 escapes_end [] = refl
-escapes_end (c ∷ cs) = ap no_end (flat_map-cons escape_of c cs) ∙ append_chars (escape_of c) (flat_map escape_of cs) (escaped_end c) (escapes_end cs)
+escapes_end (c ∷ cs) = ap no_end (flat_map-cons quoted_form_of_byte c cs) ∙ append_chars (quoted_form_of_byte c) (flat_map quoted_form_of_byte cs) (escaped_end c) (escapes_end cs)
 
 printable_end : (b : List ℕ) → list_all is_printable b ≡ true → no_end b ≡ true
 printable_end [] h = refl
@@ -82,9 +82,9 @@ printable_end (c ∷ cs) h =
 text_end : (b : List ℕ) → no_end (bare_or_quoted_text b) ≡ true
 text_end b = go (needs_no_quotes b) refl
   where
-    go : (t : Bool) → needs_no_quotes b ≡ t → no_end (cond t b (34 ∷ (flat_map escape_of b ++ 34 ∷ []))) ≡ true
+    go : (t : Bool) → needs_no_quotes b ≡ t → no_end (cond t b (34 ∷ (flat_map quoted_form_of_byte b ++ 34 ∷ []))) ≡ true
     go true e = printable_end b (and_parts _ _ (and_parts _ _ (and_parts _ _ (and_parts _ _ e).0).0).0).0
-    go false e = append_chars (flat_map escape_of b) (34 ∷ []) (escapes_end b) refl
+    go false e = append_chars (flat_map quoted_form_of_byte b) (34 ∷ []) (escapes_end b) refl
 
 digits_end : (ds : List ℕ) → AllDigits 10 ds → no_end ds ≡ true
 digits_end [] h = refl
@@ -195,18 +195,18 @@ mapped_some : (o : Option (List Line)) (ls : List Line) → option_map (λ (xs :
 mapped_some None ls e = absurd cc
 mapped_some (Some rest) ls e = (rest, refl, cc)
 
-pub line_first : (l : Line) (ls : List Line) → text_of (l ∷ ls) ≡ l ++ 10 ∷ text_of ls
-line_first l ls = flat_map-cons (λ (x : Line). x ++ codes "\n") l ls ∙ append_assoc l (10 ∷ []) (text_of ls)
+pub line_first : (l : Line) (ls : List Line) → dump_text_of_lines (l ∷ ls) ≡ l ++ 10 ∷ dump_text_of_lines ls
+line_first l ls = flat_map-cons (λ (x : Line). x ++ codes "\n") l ls ∙ append_assoc l (10 ∷ []) (dump_text_of_lines ls)
 
-pub text_of-lines : (t : List ℕ) (ls : List Line) → split_lines t ≡ Some ls → text_of ls ≡ t
-text_of-lines [] ls e = let same : [] ≡ ls = cc in rw (sym same) refl
-text_of-lines (c ∷ cs) ls e =
+pub dump_text_of_lines-lines : (t : List ℕ) (ls : List Line) → split_lines t ≡ Some ls → dump_text_of_lines ls ≡ t
+dump_text_of_lines-lines [] ls e = let same : [] ≡ ls = cc in rw (sym same) refl
+dump_text_of_lines-lines (c ∷ cs) ls e =
     elim (chosen (eqb c 10) _ _ _ e) [
       | inl x ↦
           let (rest, some, is) = mapped_some (split_lines cs) ls x.1 in
           let end : c ≡ 10 = eqb-true _ _ x.0 in
-          rw (is, end) (line_first [] rest ∙ ap (λ (t : List ℕ). 10 ∷ t) (text_of-lines cs rest some))
+          rw (is, end) (line_first [] rest ∙ ap (λ (t : List ℕ). 10 ∷ t) (dump_text_of_lines-lines cs rest some))
       | inr x ↦
           let (l, rest, some, is) = add_some c (split_lines cs) ls x.1 in
-          rw is (line_first (c ∷ l) rest ∙ ap (λ (t : List ℕ). c ∷ t) (sym (line_first l rest) ∙ text_of-lines cs (l ∷ rest) some))
+          rw is (line_first (c ∷ l) rest ∙ ap (λ (t : List ℕ). c ∷ t) (sym (line_first l rest) ∙ dump_text_of_lines-lines cs (l ∷ rest) some))
     ]

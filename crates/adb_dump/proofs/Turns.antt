@@ -1,7 +1,7 @@
 -- What a turn of a loop writes.
 use Rattle.std.proofs.Common.{◌≡◌, ℕ, suc, ◌+◌, ◌<◌, ◌≤◌, Bool, true, false, List, [], ◌∷◌, ◌++◌, length, get_or, drop, refl, sym, ap, ◌∙◌, append_assoc, arith}
 use Rattle.std.specs.Prelude.{codes}
-use Rattle.adb_view.specs.Plain.{Plain, null, int, blob, arr, obj, obj_value, Plains, none, more, Fields, no_fields, field}
+use Rattle.adb_view.specs.Plain.{Plain, null, int, blob, arr, obj, trimmed_object_or_null, Plains, none, more, Fields, no_fields, field}
 use Rattle.adb_schema.specs.adb_fields.Fields.{are_all_sound}
 use Rattle.adb_view.specs.Schema.{field_name_text, shape_of, shapes_of, table}
 use Rattle.adb_view.specs.Values.{is_sound, text_in, value_at}
@@ -59,11 +59,11 @@ some_entry (arr vs) ls e = refl
 some_entry (obj vs) ls e = refl
 
 -- an object's lines are those of its fields
-object_fields : (p : List ℕ) (which : Which) (w : ℕ) (ws : List ℕ) (fields : List Field) → fields ≡ table which → value_at p (Obj which) w ≡ obj_value (fields_at p (table which) ws)
+object_fields : (p : List ℕ) (which : Which) (w : ℕ) (ws : List ℕ) (fields : List Field) → fields ≡ table which → value_at p (Obj which) w ≡ trimmed_object_or_null (fields_at p (table which) ws)
     → fields_lines (shapes_of fields) (fields_at p fields ws) ≡ block_lines (shape_of (Obj which)) (value_at p (Obj which) w)
 object_fields p which w ws fields e value = rw e (sym (object_lines p which w ws value))
 
-object_null : (p : List ℕ) (which : Which) (w : ℕ) (ws : List ℕ) (fields : List Field) → fields ≡ table which → value_at p (Obj which) w ≡ obj_value (fields_at p (table which) ws)
+object_null : (p : List ℕ) (which : Which) (w : ℕ) (ws : List ℕ) (fields : List Field) → fields ≡ table which → value_at p (Obj which) w ≡ trimmed_object_or_null (fields_at p (table which) ws)
     → is_null (value_at p (Obj which) w) ≡ are_null (fields_at p fields ws)
 object_null p which w ws fields e value = rw e (ap is_null value ∙ obj_null (fields_at p (table which) ws))
 
@@ -78,13 +78,13 @@ null_lines (field name s fs) (more (arr us) vs) e = absurd cc
 null_lines (field name s fs) (more (obj us) vs) e = absurd cc
 
 -- an entry that is an object: without a field it is Null
-pub object_entry_null : (d : ℕ) (p : List ℕ) (which : Which) (w : ℕ) (ws : List ℕ) (fields : List Field) → fields ≡ table which → value_at p (Obj which) w ≡ obj_value (fields_at p (table which) ws) → are_null (fields_at p fields ws) ≡ true
+pub object_entry_null : (d : ℕ) (p : List ℕ) (which : Which) (w : ℕ) (ws : List ℕ) (fields : List Field) → fields ≡ table which → value_at p (Obj which) w ≡ trimmed_object_or_null (fields_at p (table which) ws) → are_null (fields_at p fields ws) ≡ true
     → indented_lines_text d true (fields_lines (shapes_of fields) (fields_at p fields ws)) ++ codes "null\n" ≡ indented_lines_text d true (entry_lines_or_null_line (value_at p (Obj which) w) (block_lines (shape_of (Obj which)) (value_at p (Obj which) w)))
 object_entry_null d p which w ws fields e value all =
     ap (λ (ls : List Line). indented_lines_text d true ls ++ codes "null\n") (null_lines (shapes_of fields) (fields_at p fields ws) all)
     ∙ sym (null_entry d (value_at p (Obj which) w) (block_lines (shape_of (Obj which)) (value_at p (Obj which) w)) (object_null p which w ws fields e value ∙ all))
 
-pub object_entry_some : (d : ℕ) (p : List ℕ) (which : Which) (w : ℕ) (ws : List ℕ) (fields : List Field) → fields ≡ table which → value_at p (Obj which) w ≡ obj_value (fields_at p (table which) ws) → are_null (fields_at p fields ws) ≡ false
+pub object_entry_some : (d : ℕ) (p : List ℕ) (which : Which) (w : ℕ) (ws : List ℕ) (fields : List Field) → fields ≡ table which → value_at p (Obj which) w ≡ trimmed_object_or_null (fields_at p (table which) ws) → are_null (fields_at p fields ws) ≡ false
     → indented_lines_text d true (fields_lines (shapes_of fields) (fields_at p fields ws)) ≡ indented_lines_text d true (entry_lines_or_null_line (value_at p (Obj which) w) (block_lines (shape_of (Obj which)) (value_at p (Obj which) w)))
 object_entry_some d p which w ws fields e value some =
     ap (λ (ls : List Line). indented_lines_text d true ls) (object_fields p which w ws fields e value ∙ sym (some_entry (value_at p (Obj which) w) (block_lines (shape_of (Obj which)) (value_at p (Obj which) w)) (object_null p which w ws fields e value ∙ some)))
@@ -112,8 +112,8 @@ several_lines (ObjArr w) d b name v h = laid_below d b name _
 pub field_after : (k : Kind) (d : ℕ) (b : Bool) (name : Line) (v : Plain) → has_one_line k ≡ true → ((margin_unless_begun d b ++ name) ++ codes ": ") ++ indented_lines_text d true (block_lines (shape_of k) v) ≡ indented_lines_text d b (named_lines (shape_of k) name v)
 field_after k d b name v h = ap (λ (t : List ℕ). t ++ indented_lines_text d true (block_lines (shape_of k) v)) (sym (append_assoc (margin_unless_begun d b ++ name) (codes ":") (codes " "))) ∙ sym (one_line k d b name v h)
 
-pub field_with_value_below : (k : Kind) (d : ℕ) (b : Bool) (name : Line) (v : Plain) → has_one_line k ≡ false → ((margin_unless_begun d b ++ name) ++ codes ":\n") ++ indented_lines_text (d + 1) false (block_lines (shape_of k) v) ≡ indented_lines_text d b (named_lines (shape_of k) name v)
-field_with_value_below k d b name v h =
+pub fields_read_with_value_below : (k : Kind) (d : ℕ) (b : Bool) (name : Line) (v : Plain) → has_one_line k ≡ false → ((margin_unless_begun d b ++ name) ++ codes ":\n") ++ indented_lines_text (d + 1) false (block_lines (shape_of k) v) ≡ indented_lines_text d b (named_lines (shape_of k) name v)
+fields_read_with_value_below k d b name v h =
     let e : d + 1 ≡ suc d = omega arith in
     rw e (ap (λ (t : List ℕ). t ++ indented_lines_text (suc d) false (block_lines (shape_of k) v)) (sym (append_assoc (margin_unless_begun d b ++ name) (codes ":") (codes "\n"))) ∙ sym (several_lines k d b name v h))
 

@@ -10,7 +10,7 @@ use Rattle.adb_view.proofs.Normal.{trimmed-more}
 use Rattle.adb_dump.specs.Dump.{Line, int_line, text_line, hash_line, bare_or_quoted_text, indent, with_dash, entry_lines_or_null_line, array_lines, block_lines, named_lines, fields_lines}
 use Rattle.base_core.specs.Lists.{and_then}
 use Rattle.base_core.proofs.AtName.{own_name, other_name as differs}
-use Rattle.adb_dump.specs.ReadBack.{ResultOrBadLine, after_lines, strip_prefix, split_block, entry_read, entries_read, arr_read, obj_read, field_with_value_below, block_read, named_read, fields_read}
+use Rattle.adb_dump.specs.ReadBack.{ResultOrBadLine, mapped_or_bad_line_shifted_by, strip_prefix, block_and_lines_after, entry_read, entries_read, array_unless_empty, object_unless_empty, fields_read_with_value_below, block_read, named_read, fields_read}
 use Rattle.adb_dump.specs.Values.{IsOfBytes, AreOfBytes}
 use Rattle.adb_dump.proofs.LineBack.{AreBytes, int_back, text_back, hash_back, int_not_null, text_not_null, hash_not_null}
 
@@ -50,13 +50,13 @@ abbrev pub IsFresh : List Line → Type 0
 IsFresh [] = Unit {0}
 IsFresh (l ∷ ls) = strip_prefix (32 ∷ 32 ∷ []) l ≡ None
 
-split_block-fresh : (ys : List Line) → IsFresh ys → split_block ys ≡ ([], ys)
-split_block-fresh [] h = refl
-split_block-fresh (l ∷ ls) h = rw h refl
+block_and_lines_after-fresh : (ys : List Line) → IsFresh ys → block_and_lines_after ys ≡ ([], ys)
+block_and_lines_after-fresh [] h = refl
+block_and_lines_after-fresh (l ∷ ls) h = rw h refl
 
-split_block-indent : (xs ys : List Line) → IsFresh ys → split_block (indent xs ++ ys) ≡ (xs, ys)
-split_block-indent [] ys h = split_block-fresh ys h
-split_block-indent (x ∷ xs) ys h = rw (split_block-indent xs ys h) refl
+block_and_lines_after-indent : (xs ys : List Line) → IsFresh ys → block_and_lines_after (indent xs ++ ys) ≡ (xs, ys)
+block_and_lines_after-indent [] ys h = block_and_lines_after-fresh ys h
+block_and_lines_after-indent (x ∷ xs) ys h = rw (block_and_lines_after-indent xs ys h) refl
 
 -- ---- entries
 
@@ -81,7 +81,7 @@ entries_back f r zero (more v vs) h le =
 entries_back f r (suc n) (more v vs) h le =
     let e = h.0 in
     let lines : array_lines f (more v vs) ≡ (45 ∷ 32 ∷ e.first) ∷ (indent e.others ++ array_lines f vs) = ap (λ (ls : List Line). with_dash ls ++ array_lines f vs) e.lines in
-    let split : split_block (indent e.others ++ array_lines f vs) ≡ (e.others, array_lines f vs) = split_block-indent e.others (array_lines f vs) (entries-fresh f r vs h.1) in
+    let split : block_and_lines_after (indent e.others ++ array_lines f vs) ≡ (e.others, array_lines f vs) = block_and_lines_after-indent e.others (array_lines f vs) (entries-fresh f r vs h.1) in
     let more_back : entries_read r n (array_lines f vs) ≡ Ok vs = entries_back f r n vs h.1 (omega (arith, ap length lines, length-append (indent e.others) (array_lines f vs))) in
     ap (entries_read r (suc n)) lines ∙ rw (split, e.back, more_back) refl
 
@@ -237,7 +237,7 @@ named_back number name v g ls b fresh = record {
   rest = 32 ∷ int_line v;
   lines = refl;
   is = refl;
-  back = λ vs h. ap (λ (r : ResultOrBadLine Plain). and_then r (λ u. after_lines 1 (more u) (g ls))) b.back ∙ ap (after_lines 1 (more v)) h;
+  back = λ vs h. ap (λ (r : ResultOrBadLine Plain). and_then r (λ u. mapped_or_bad_line_shifted_by 1 (more u) (g ls))) b.back ∙ ap (mapped_or_bad_line_shifted_by 1 (more v)) h;
 }
 named_back text name v g ls b fresh = record {
   first = name ++ (58 ∷ 32 ∷ text_line v);
@@ -245,7 +245,7 @@ named_back text name v g ls b fresh = record {
   rest = 32 ∷ text_line v;
   lines = refl;
   is = refl;
-  back = λ vs h. ap (λ (r : ResultOrBadLine Plain). and_then r (λ u. after_lines 1 (more u) (g ls))) b.back ∙ ap (after_lines 1 (more v)) h;
+  back = λ vs h. ap (λ (r : ResultOrBadLine Plain). and_then r (λ u. mapped_or_bad_line_shifted_by 1 (more u) (g ls))) b.back ∙ ap (mapped_or_bad_line_shifted_by 1 (more v)) h;
 }
 named_back hash name v g ls b fresh = record {
   first = name ++ (58 ∷ 32 ∷ hash_line v);
@@ -253,29 +253,29 @@ named_back hash name v g ls b fresh = record {
   rest = 32 ∷ hash_line v;
   lines = refl;
   is = refl;
-  back = λ vs h. ap (λ (r : ResultOrBadLine Plain). and_then r (λ u. after_lines 1 (more u) (g ls))) b.back ∙ ap (after_lines 1 (more v)) h;
+  back = λ vs h. ap (λ (r : ResultOrBadLine Plain). and_then r (λ u. mapped_or_bad_line_shifted_by 1 (more u) (g ls))) b.back ∙ ap (mapped_or_bad_line_shifted_by 1 (more v)) h;
 }
 named_back (array s) name v g ls b fresh =
     let block = block_lines (array s) v in
-    let split = split_block-indent block ls fresh in
+    let split = block_and_lines_after-indent block ls fresh in
     record {
       first = name ++ 58 ∷ [];
       after = indent block ++ ls;
       rest = [];
       lines = refl;
       is = refl;
-      back = λ vs h. ap (λ r. field_with_value_below (block_read (array s)) g r []) split ∙ ap (λ (r : ResultOrBadLine Plain). and_then (after_lines 1 (λ u. u) r) (λ u. after_lines (1 + length block) (more u) (g ls))) b.back ∙ ap (after_lines (1 + length block) (more v)) h;
+      back = λ vs h. ap (λ r. fields_read_with_value_below (block_read (array s)) g r []) split ∙ ap (λ (r : ResultOrBadLine Plain). and_then (mapped_or_bad_line_shifted_by 1 (λ u. u) r) (λ u. mapped_or_bad_line_shifted_by (1 + length block) (more u) (g ls))) b.back ∙ ap (mapped_or_bad_line_shifted_by (1 + length block) (more v)) h;
     }
 named_back (object which fs) name v g ls b fresh =
     let block = block_lines (object which fs) v in
-    let split = split_block-indent block ls fresh in
+    let split = block_and_lines_after-indent block ls fresh in
     record {
       first = name ++ 58 ∷ [];
       after = indent block ++ ls;
       rest = [];
       lines = refl;
       is = refl;
-      back = λ vs h. ap (λ r. field_with_value_below (block_read (object which fs)) g r []) split ∙ ap (λ (r : ResultOrBadLine Plain). and_then (after_lines 1 (λ u. u) r) (λ u. after_lines (1 + length block) (more u) (g ls))) b.back ∙ ap (after_lines (1 + length block) (more v)) h;
+      back = λ vs h. ap (λ r. fields_read_with_value_below (block_read (object which fs)) g r []) split ∙ ap (λ (r : ResultOrBadLine Plain). and_then (mapped_or_bad_line_shifted_by 1 (λ u. u) r) (λ u. mapped_or_bad_line_shifted_by (1 + length block) (more u) (g ls))) b.back ∙ ap (mapped_or_bad_line_shifted_by (1 + length block) (more v)) h;
     }
 
 -- one field more
@@ -317,7 +317,7 @@ array_back s (more v vs) ne h =
       others = indent e.others ++ array_lines (block_lines s) vs;
       lines = ap (λ (ls : List Line). with_dash ls ++ array_lines (block_lines s) vs) e.lines;
       not_null = refl;
-      back = ap (λ (r : ResultOrBadLine Plains). and_then r arr_read) (entries_back (block_lines s) (block_read s) (length (array_lines (block_lines s) (more v vs))) (more v vs) h (omega arith));
+      back = ap (λ (r : ResultOrBadLine Plains). and_then r array_unless_empty) (entries_back (block_lines s) (block_read s) (length (array_lines (block_lines s) (more v vs))) (more v vs) h (omega arith));
     }
 
 -- an object has a line
@@ -350,9 +350,9 @@ has_line (field name (object which gs) fs) (more (blob b) vs) t ne h e = h.0
 has_line (field name (object which gs) fs) (more (arr us) vs) t ne h e = h.0
 has_line (field name (object which gs) fs) (more (obj us) vs) t ne h e = cc
 
-obj_read-is : (vs : Plains) → vs ≢ none → obj_read vs ≡ Ok (obj vs)
-obj_read-is none ne = absurd (ne refl)
-obj_read-is (more v vs) ne = refl
+object_unless_empty-is : (vs : Plains) → vs ≢ none → object_unless_empty vs ≡ Ok (obj vs)
+object_unless_empty-is none ne = absurd (ne refl)
+object_unless_empty-is (more v vs) ne = refl
 
 object_back : (which : ℕ) (fs : Fields) (vs : Plains) → vs ≢ none → fields_lines fs vs ≢ [] → fields_read fs (fields_lines fs vs) ≡ Ok vs → BlockBack (object which fs) (obj vs)
 unfolding block_lines block_read
@@ -360,7 +360,7 @@ object_back which fs vs ne some h = go (fields_lines fs vs) refl (fields_first f
   where
     go : (ls : List Line) → fields_lines fs vs ≡ ls → FirstNamed fs ls → BlockBack (object which fs) (obj vs)
     go [] e f = absurd (some e)
-    go (l ∷ ls) e f = record { first = l; others = ls; lines = e; not_null = rw f.is (colon_not_null f.name f.rest); back = ap (λ (r : ResultOrBadLine Plains). and_then r obj_read) h ∙ obj_read-is vs ne }
+    go (l ∷ ls) e f = record { first = l; others = ls; lines = e; not_null = rw f.is (colon_not_null f.name f.rest); back = ap (λ (r : ResultOrBadLine Plains). and_then r object_unless_empty) h ∙ object_unless_empty-is vs ne }
 
 -- a field, whether it is Null or not
 one_more : (name : List ℕ) (s : Shape) (fs : Fields) (v : Plain) (vs : Plains) → Names name s fs → (without_last_nulls vs ≡ vs) × ((vs ≡ none) → v ≢ null) → (vs ≢ none → HaveShapes fs vs → fields_lines fs vs ≢ []) → HaveShapes fs vs

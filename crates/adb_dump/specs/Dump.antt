@@ -40,10 +40,10 @@ needs_no_quotes b =
     list_all is_printable b && not (begins_with_byte 0x20 b) && not (ends_with_byte 0x20 b)
     && not (begins_with_byte 0x22 b) && not (bytes_eq b (codes "null"))
 
--- the form of a byte of a text between quotes: an escape for a line end, a backslash and a quote, any
--- other printable byte as it is, and the rest in hexadecimal digits
-abbrev pub escape_of : ℕ → List ℕ
-escape_of c =
+-- how a byte of a text between quotes is written. A line end, a backslash and a quote are escapes; any
+-- other printable byte is written as it is. The rest are `\x` and two hexadecimal digits
+abbrev pub quoted_form_of_byte : ℕ → List ℕ
+quoted_form_of_byte c =
     if c == 0x0a then codes "\\n"
     else if c == 0x5c then codes "\\\\"
     else if c == 0x22 then codes "\\\""
@@ -52,9 +52,9 @@ escape_of c =
 
 -- a text between quotes, each byte escaped if that is needed
 abbrev pub quoted_text : List ℕ → Line
-quoted_text b = codes "\"" ++ flat_map escape_of b ++ codes "\""
+quoted_text b = codes "\"" ++ flat_map quoted_form_of_byte b ++ codes "\""
 
--- a text in its line: as it is if it may be, else between quotes
+-- a text on its line: as it is if it needs no quotes, else between quotes
 abbrev pub bare_or_quoted_text : List ℕ → Line
 bare_or_quoted_text b = if needs_no_quotes b then b else quoted_text b
 
@@ -151,9 +151,9 @@ abbrev pub dump_lines : Which → Plain → List Line
 dump_lines which v = schema_line (schema_word which) ∷ value_lines which v
 
 -- the bytes of a text: each line with its line end
-abbrev pub text_of : List Line → List ℕ
-text_of ls = flat_map (λ l. l ++ codes "\n") ls
+abbrev pub dump_text_of_lines : List Line → List ℕ
+dump_text_of_lines ls = flat_map (λ l. l ++ codes "\n") ls
 
 -- the text of a dump, by its root's table and the root's value
 abbrev pub dump_text : Which → Plain → List ℕ
-dump_text which v = text_of (dump_lines which v)
+dump_text which v = dump_text_of_lines (dump_lines which v)

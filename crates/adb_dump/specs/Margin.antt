@@ -1,6 +1,6 @@
--- The places of lines in the text. The rule is in `docs/formats.md`, "Dump text": a line is indented by
--- two spaces for each level. Serves the contracts of `src/line.rt` and `src/block.rt`, which write from
--- front to end.
+-- The indentation of the lines in the text. The rule is in `docs/formats.md`, "Dump text": a line is
+-- indented by two spaces for each level. Serves the contracts of `src/line.rt` and `src/block.rt`, which
+-- write the text from the first byte to the last.
 use Rattle.std.specs.Prelude.{ℕ, zero, suc, Bool, true, false, List, [], ◌∷◌, ◌++◌, codes}
 use Rattle.adb_dump.specs.Dump.{Line}
 
@@ -9,7 +9,7 @@ abbrev pub margin : ℕ → List ℕ
 margin zero = []
 margin (suc depth) = codes "  " ++ margin depth
 
--- the spaces still to be written before the next line: none if its front is written already
+-- the spaces that are still missing before the next line: none if the line has begun
 abbrev pub margin_unless_begun : ℕ → Bool → List ℕ
 margin_unless_begun depth true = []
 margin_unless_begun depth false = margin depth
@@ -17,7 +17,8 @@ margin_unless_begun depth false = margin depth
 -- the bytes of lines at a depth, of which the first may have begun
 abbrev pub indented_lines_text : ℕ → Bool → List Line → List ℕ
 indented_lines_text depth begun [] = []
-indented_lines_text depth begun (l ∷ ls) = margin_unless_begun depth begun ++ (l ++ (codes "\n" ++ indented_lines_text depth false ls))
+indented_lines_text depth begun (l ∷ ls) =
+    margin_unless_begun depth begun ++ (l ++ (codes "\n" ++ indented_lines_text depth false ls))
 
 -- a depth that all lines are below. Tables are nested a few levels deep (`docs/formats.md`, "Schemas"),
 -- so any such number serves; it keeps the depth of a line within 32 bits

@@ -15,10 +15,12 @@ use Rattle.adb_dump.specs.Dump.{Line, begins_with_byte, int_line, text_line, has
 abbrev pub ResultOrBadLine : Type 0 → Type 0
 ResultOrBadLine A = Result A ℕ
 
--- the result of reading after this many lines: the number of a bad line counts them too
-abbrev pub after_lines : {A B : Type 0} → ℕ → (A → B) → ResultOrBadLine A → ResultOrBadLine B
-after_lines n f (Ok x) = Ok (f x)
-after_lines n f (Err k) = Err (n + k)
+-- the result `f x` of reading after `n` other lines; the number of a bad line then counts these lines
+-- too
+abbrev pub mapped_or_bad_line_shifted_by : {A B : Type 0} → ℕ → (A → B) → ResultOrBadLine A
+    → ResultOrBadLine B
+mapped_or_bad_line_shifted_by n f (Ok x) = Ok (f x)
+mapped_or_bad_line_shifted_by n f (Err k) = Err (n + k)
 
 -- the rest of a line after a prefix, if the line begins with that
 abbrev pub strip_prefix : List ℕ → List ℕ → Option (List ℕ)
@@ -26,49 +28,55 @@ strip_prefix [] l = Some l
 strip_prefix (p ∷ ps) [] = None
 strip_prefix (p ∷ ps) (c ∷ cs) = if p == c then strip_prefix ps cs else None
 
--- a block and the lines after it, with one line more in front of the block
+-- a block and the lines after it (`r`), with one more line at the front of the block
 abbrev pub with_line_before_block : Line → List Line × List Line → List Line × List Line
 with_line_before_block l r = (l ∷ r.0, r.1)
 
--- a block and the lines after it, with one line more in front. An indented line (`inner` is its text
--- after the spaces) belongs to the block; another one ends it, and is the first after it
+-- the block and the lines after it, from the line `l` on. If `l` is indented, its text after the
+-- spaces (`inner`) is put in front of the block `r.0` of the lines after it. Otherwise the block is
+-- empty, and all lines are after it
 abbrev pub end_block_or_add_line : Line → List Line → Option Line → List Line × List Line
     → List Line × List Line
 end_block_or_add_line l ls None r = ([], l ∷ ls)
 end_block_or_add_line l ls (Some inner) r = with_line_before_block inner r
 
--- the indented lines in front, without their two spaces, which are a block; and the lines after them
-abbrev pub split_block : List Line → List Line × List Line
-split_block [] = ([], [])
-split_block (l ∷ ls) = end_block_or_add_line l ls (strip_prefix (codes "  ") l) (split_block ls)
+-- the block at the front: the lines that are indented, without their two spaces; and the lines after
+-- the block
+abbrev pub block_and_lines_after : List Line → List Line × List Line
+block_and_lines_after [] = ([], [])
+block_and_lines_after (l ∷ ls) =
+    end_block_or_add_line l ls (strip_prefix (codes "  ") l) (block_and_lines_after ls)
 
 -- ---- a value on one line
 
 -- the number that a lower-case hexadecimal digit represents
-abbrev pub hex_value : ℕ → ℕ
-hex_value c = if nat_lt c 0x3a then c - 0x30 else c - 0x57
+abbrev pub hex_digit_value_unchecked : ℕ → ℕ
+hex_digit_value_unchecked c = if nat_lt c 0x3a then c - 0x30 else c - 0x57
 
 -- the bytes of hexadecimal digits, two for each; a single digit at the end is dropped
-abbrev pub unhex : List ℕ → List ℕ
-unhex [] = []
-unhex (h ∷ []) = []
-unhex (h ∷ l ∷ cs) = (hex_value h * 16 + hex_value l) ∷ unhex cs
+abbrev pub bytes_of_hex_digits : List ℕ → List ℕ
+bytes_of_hex_digits [] = []
+bytes_of_hex_digits (h ∷ []) = []
+bytes_of_hex_digits (h ∷ l ∷ cs) =
+    (hex_digit_value_unchecked h * 16 + hex_digit_value_unchecked l) ∷ bytes_of_hex_digits cs
 
--- a byte by its two digits after `\x`, and the bytes of the rest of the text (`f`)
-abbrev pub hex_escape_read : (List ℕ → Option (List ℕ)) → List ℕ → Option (List ℕ)
-hex_escape_read f [] = None
-hex_escape_read f (h ∷ []) = None
-hex_escape_read f (h ∷ l ∷ cs) = option_map (λ b. (hex_value h * 16 + hex_value l) ∷ b) (f cs)
+-- the bytes of a text from after a `\x` on. First is the byte of the next two digits; `f` reads the
+-- rest
+abbrev pub text_read_after_backslash_x : (List ℕ → Option (List ℕ)) → List ℕ → Option (List ℕ)
+text_read_after_backslash_x f [] = None
+text_read_after_backslash_x f (h ∷ []) = None
+text_read_after_backslash_x f (h ∷ l ∷ cs) =
+    option_map (λ b. (hex_digit_value_unchecked h * 16 + hex_digit_value_unchecked l) ∷ b) (f cs)
 
--- the byte of an escape, from after its backslash on (`n`, a backslash, a quote, or `x` and two
--- digits), and the bytes of the rest of the text (`f`)
-abbrev pub escape_read : (List ℕ → Option (List ℕ)) → List ℕ → Option (List ℕ)
-escape_read f [] = None
-escape_read f (d ∷ cs) =
+-- the bytes of a text from after a backslash on. First is the byte of the escape (`n`, a backslash, a
+-- quote, or `x` and two digits); `f` reads the rest
+abbrev pub text_read_after_backslash : (List ℕ → Option (List ℕ)) → List ℕ → Option (List ℕ)
+text_read_after_backslash f [] = None
+text_read_after_backslash f (d ∷ cs) =
     if d == 0x6e then option_map (λ b. 0x0a ∷ b) (f cs)
     else if d == 0x5c then option_map (λ b. 0x5c ∷ b) (f cs)
     else if d == 0x22 then option_map (λ b. 0x22 ∷ b) (f cs)
-    else if d == 0x78 then hex_escape_read f cs
+    else if d == 0x78 then text_read_after_backslash_x f cs
     else None
 
 -- the bytes of a text from after its first quote on, up to a quote that ends the line. The number `n`
@@ -78,13 +86,13 @@ quoted_read zero cs = None
 quoted_read (suc n) [] = None
 quoted_read (suc n) (c ∷ cs) =
     if c == 0x22 then (if length cs == 0 then Some [] else None)
-    else if c == 0x5c then escape_read (quoted_read n) cs
+    else if c == 0x5c then text_read_after_backslash (quoted_read n) cs
     else option_map (λ b. c ∷ b) (quoted_read n cs)
 
 -- the value of a text; an empty one has none, since no line represents it
-abbrev pub blob_read : List ℕ → Option Plain
-blob_read [] = None
-blob_read (c ∷ cs) = Some (blob (c ∷ cs))
+abbrev pub blob_unless_empty : List ℕ → Option Plain
+blob_unless_empty [] = None
+blob_unless_empty (c ∷ cs) = Some (blob (c ∷ cs))
 
 -- the value of a number below 2^64 in decimal digits; *if_line_prints_value* tests that the line has nothing else
 abbrev pub int_read : Line → Option Plain
@@ -93,14 +101,15 @@ int_read l = if nat_lt (digits_value 10 l) (2 ^ 64) then Some (int (digits_value
 -- the value of a text, between quotes or as it is
 abbrev pub text_read : Line → Option Plain
 text_read l =
-    if begins_with_byte 0x22 l then option_and_then blob_read (quoted_read (length l) (drop 1 l))
-    else blob_read l
+    if begins_with_byte 0x22 l then option_and_then blob_unless_empty (quoted_read (length l) (drop 1 l))
+    else blob_unless_empty l
 
 -- the value of a hash, by its digits
 abbrev pub hash_read : Line → Option Plain
-hash_read l = blob_read (unhex l)
+hash_read l = blob_unless_empty (bytes_of_hex_digits l)
 
--- the value of a line, if the line is the one form of the value; else the line is bad
+-- the value that was read from a line, if it is printed as exactly this line (`form`); else the line
+-- is bad
 abbrev pub if_line_prints_value : (Plain → Line) → Line → Option Plain → ResultOrBadLine Plain
 if_line_prints_value form l None = Err 0
 if_line_prints_value form l (Some v) = if bytes_eq (form v) l then Ok v else Err 0
@@ -113,57 +122,64 @@ single_line_value f (l ∷ m ∷ ls) = and_then (f l) (λ v. Err 1)
 
 -- ---- lists
 
--- an entry of an array by its lines, of which the first (`l`) is without its dash; `null` is the only
--- line of its entry
+-- an entry of an array by its lines, which `f` reads; its first line is `l`, without the dash. If that
+-- is `null`, the entry is Null, and any further line is bad
 abbrev pub entry_read : (List Line → ResultOrBadLine Plain) → Line → List Line → ResultOrBadLine Plain
 entry_read f l ls =
     if bytes_eq l (codes "null") then single_line_value (λ x. Ok null) (l ∷ ls) else f (l ∷ ls)
 
--- an entry of an array and the entries after it; a line without a dash begins no entry
-abbrev pub entries_after_dash : (List Line → ResultOrBadLine Plain) → (List Line → ResultOrBadLine Plains)
+-- an entry of an array, which `f` reads, and the entries after it, which `g` reads; `l` is the first
+-- line without its dash. A line without a dash (None) is bad
+abbrev pub entries_from_dash_line : (List Line → ResultOrBadLine Plain)
+    → (List Line → ResultOrBadLine Plains)
     → List Line × List Line → Option Line → ResultOrBadLine Plains
-entries_after_dash f g r None = Err 0
-entries_after_dash f g r (Some l) =
-    and_then (entry_read f l r.0) (λ v. after_lines (1 + length r.0) (more v) (g r.1))
+entries_from_dash_line f g r None = Err 0
+entries_from_dash_line f g r (Some l) =
+    and_then (entry_read f l r.0) (λ v. mapped_or_bad_line_shifted_by (1 + length r.0) (more v) (g r.1))
 
--- the entries of an array by their lines. The number `n` bounds the turns; the number of lines is
--- enough
+-- the entries of an array by their lines; `f` reads one entry. The number `n` bounds the recursion;
+-- the number of lines is enough
 abbrev pub entries_read : (List Line → ResultOrBadLine Plain) → ℕ → List Line → ResultOrBadLine Plains
 entries_read f zero ls = Ok none
 entries_read f (suc n) [] = Ok none
 entries_read f (suc n) (l ∷ ls) =
-    entries_after_dash f (entries_read f n) (split_block ls) (strip_prefix (codes "- ") l)
+    entries_from_dash_line f (entries_read f n) (block_and_lines_after ls) (strip_prefix (codes "- ") l)
 
 -- the value of an array; one without an entry has no lines, so it cannot be read
-abbrev pub arr_read : Plains → ResultOrBadLine Plain
-arr_read none = Err 0
-arr_read (more v vs) = Ok (arr (more v vs))
+abbrev pub array_unless_empty : Plains → ResultOrBadLine Plain
+array_unless_empty none = Err 0
+array_unless_empty (more v vs) = Ok (arr (more v vs))
 
 -- the value of an object; one without a field has no lines, so it cannot be read
-abbrev pub obj_read : Plains → ResultOrBadLine Plain
-obj_read none = Err 0
-obj_read (more v vs) = Ok (obj (more v vs))
+abbrev pub object_unless_empty : Plains → ResultOrBadLine Plain
+object_unless_empty none = Err 0
+object_unless_empty (more v vs) = Ok (obj (more v vs))
 
--- a field whose value follows `name:` on its line, and then the other fields
-abbrev pub field_on_line :
+-- a field whose value follows `name:` on its line, and then the other fields: `f` reads the value, `g`
+-- the other fields
+abbrev pub fields_read_with_value_on_line :
     (Line → ResultOrBadLine Plain) → (List Line → ResultOrBadLine Plains) → List Line
     → Option Line → ResultOrBadLine Plains
-field_on_line f g ls None = Err 0
-field_on_line f g ls (Some l) = and_then (f l) (λ v. after_lines 1 (more v) (g ls))
+fields_read_with_value_on_line f g ls None = Err 0
+fields_read_with_value_on_line f g ls (Some l) =
+    and_then (f l) (λ v. mapped_or_bad_line_shifted_by 1 (more v) (g ls))
 
--- a field whose value is below its name, which is alone on its line, and then the other fields
-abbrev pub field_with_value_below : (List Line → ResultOrBadLine Plain) → (List Line → ResultOrBadLine Plains)
+-- a field whose value is in the block `r.0` below its name, and then the other fields: `f` reads the
+-- block, `g` the lines after it. Nothing may follow `name:` on its line
+abbrev pub fields_read_with_value_below : (List Line → ResultOrBadLine Plain)
+    → (List Line → ResultOrBadLine Plains)
     → List Line × List Line → Line → ResultOrBadLine Plains
-field_with_value_below f g r [] =
-    and_then (after_lines 1 (λ v. v) (f r.0)) (λ v. after_lines (1 + length r.0) (more v) (g r.1))
-field_with_value_below f g r (c ∷ cs) = Err 0
+fields_read_with_value_below f g r [] =
+    and_then (mapped_or_bad_line_shifted_by 1 (λ v. v) (f r.0))
+    (λ v. mapped_or_bad_line_shifted_by (1 + length r.0) (more v) (g r.1))
+fields_read_with_value_below f g r (c ∷ cs) = Err 0
 
 -- the fields from a line on: if the line does not have the name of this field, those after it
 -- (`other`), else this one (`this`, of the text after `name:`)
-abbrev pub if_named :
+abbrev pub fields_read_by_name_match :
     ResultOrBadLine Plains → (Line → ResultOrBadLine Plains) → Option Line → ResultOrBadLine Plains
-if_named other this None = other
-if_named other this (Some rest) = this rest
+fields_read_by_name_match other this None = other
+fields_read_by_name_match other this (Some rest) = this rest
 
 unfoldable mutual
   -- the value of a shape with exactly these lines
@@ -171,42 +187,48 @@ unfoldable mutual
   block_read number ls = single_line_value (λ l. if_line_prints_value int_line l (int_read l)) ls
   block_read text ls = single_line_value (λ l. if_line_prints_value text_line l (text_read l)) ls
   block_read hash ls = single_line_value (λ l. if_line_prints_value hash_line l (hash_read l)) ls
-  block_read (array s) ls = and_then (entries_read (block_read s) (length ls) ls) arr_read
-  block_read (object schema fs) ls = and_then (fields_read fs ls) obj_read
+  block_read (array s) ls = and_then (entries_read (block_read s) (length ls) ls) array_unless_empty
+  block_read (object schema fs) ls = and_then (fields_read fs ls) object_unless_empty
 
   -- The value of a field, followed by the other fields. `l` is the rest of the line after `name:`, `ls`
   -- has the lines below it, and `g` reads the other fields. The entries of an array or an object are in
   -- the indented block below the line.
   pub named_read :
       Shape → (List Line → ResultOrBadLine Plains) → List Line → Line → ResultOrBadLine Plains
-  named_read number g ls l = field_on_line (λ l. if_line_prints_value int_line l (int_read l)) g ls
+  named_read number g ls l =
+      fields_read_with_value_on_line (λ l. if_line_prints_value int_line l (int_read l)) g ls
       (strip_prefix (codes " ") l)
-  named_read text g ls l = field_on_line (λ l. if_line_prints_value text_line l (text_read l)) g ls
+  named_read text g ls l =
+      fields_read_with_value_on_line (λ l. if_line_prints_value text_line l (text_read l)) g ls
       (strip_prefix (codes " ") l)
-  named_read hash g ls l = field_on_line (λ l. if_line_prints_value hash_line l (hash_read l)) g ls
+  named_read hash g ls l =
+      fields_read_with_value_on_line (λ l. if_line_prints_value hash_line l (hash_read l)) g ls
       (strip_prefix (codes " ") l)
-  named_read (array s) g ls l = field_with_value_below
-      (λ ls. and_then (entries_read (block_read s) (length ls) ls) arr_read) g (split_block ls) l
-  named_read (object schema fs) g ls l = field_with_value_below (λ ls. and_then (fields_read fs ls) obj_read) g
-      (split_block ls) l
+  named_read (array s) g ls l = fields_read_with_value_below
+      (λ ls. and_then (entries_read (block_read s) (length ls) ls) array_unless_empty) g
+      (block_and_lines_after ls) l
+  named_read (object schema fs) g ls l =
+      fields_read_with_value_below (λ ls. and_then (fields_read fs ls) object_unless_empty) g
+      (block_and_lines_after ls) l
 
   -- the fields of an object in order; a field whose name is not next is Null
   pub fields_read : Fields → List Line → ResultOrBadLine Plains
   fields_read no_fields [] = Ok none
   fields_read no_fields (l ∷ ls) = Err 0
   fields_read (field name s fs) [] = Ok none
-  fields_read (field name s fs) (l ∷ ls) = if_named
-      (after_lines 0 (more null) (fields_read fs (l ∷ ls))) (named_read s (fields_read fs) ls)
+  fields_read (field name s fs) (l ∷ ls) = fields_read_by_name_match
+      (mapped_or_bad_line_shifted_by 0 (more null) (fields_read fs (l ∷ ls)))
+      (named_read s (fields_read fs) ls)
       (strip_prefix (name ++ codes ":") l)
 
--- the value of a table by the lines of a text after its first; Null has none
+-- the value of a table by the lines of a text after its first line; without lines it is Null
 abbrev pub value_read : Which → List Line → ResultOrBadLine Plain
 value_read which [] = Ok null
 value_read which (l ∷ ls) = block_read (shape_of (Obj which)) (l ∷ ls)
 
 -- ---- the lines of a text, in which the last one has its line end
 
--- the lines of a text with a byte in front of the first, if there is a first line
+-- the lines of a text with one more byte at the front of the first line; None if there is no line
 abbrev pub add_char : ℕ → Option (List Line) → Option (List Line)
 add_char c None = None
 add_char c (Some []) = None

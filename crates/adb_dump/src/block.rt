@@ -37,6 +37,7 @@ use std::alloc::{AllocError, Global};
 /// most four times the payload's bytes is written at once. The bytes of a longer one are counted
 /// first, and its memory is allocated once.
 pub fn dump(alloc: Global, shaped: &Shaped<'_>) -> Result<Text, AllocError>
+    // The table is one of the four that a root may have.
     requires { is_some (schema_word (table_of shaped.now)) ≡ true }
     ensures { IfOk result
         (λ text. text ≡ dump_text (table_of shaped.now) (shaped_value shaped.now)) }
@@ -55,6 +56,7 @@ const MOST_TEXT_PER_PAYLOAD_BYTE: usize = 4;
 /// The text of a payload, if it has at most `MOST_TEXT_PER_PAYLOAD_BYTE` as many bytes as the
 /// payload, and there is memory for that.
 fn short_dump(alloc: Global, shaped: &Shaped<'_>) -> Result<Text, AllocError>
+    // The table is one of the four that a root may have.
     requires { is_some (schema_word (table_of shaped.now)) ≡ true }
     ensures { IfOk result
         (λ text. text ≡ dump_text (table_of shaped.now) (shaped_value shaped.now)) }
@@ -71,6 +73,7 @@ fn short_dump(alloc: Global, shaped: &Shaped<'_>) -> Result<Text, AllocError>
 
 /// The text of a payload, whose bytes are counted first.
 fn counted_dump(alloc: Global, shaped: &Shaped<'_>) -> Result<Text, AllocError>
+    // The table is one of the four that a root may have.
     requires { is_some (schema_word (table_of shaped.now)) ≡ true }
     ensures { IfOk result
         (λ text. text ≡ dump_text (table_of shaped.now) (shaped_value shaped.now)) }
@@ -86,6 +89,7 @@ fn counted_dump(alloc: Global, shaped: &Shaped<'_>) -> Result<Text, AllocError>
 
 /// How many bytes the text of a payload has.
 fn dump_len(alloc: Global, shaped: &Shaped<'_>) -> Result<usize, AllocError>
+    // The table is one of the four that a root may have.
     requires { is_some (schema_word (table_of shaped.now)) ≡ true }
     ensures { IfOk result
         (λ len. len ≡ length (dump_text (table_of shaped.now) (shaped_value shaped.now))) }
@@ -95,8 +99,10 @@ fn dump_len(alloc: Global, shaped: &Shaped<'_>) -> Result<usize, AllocError>
     Ok(count.len.bytes)
 }
 
-/// Puts the text of a payload into an out: the line of the schema, and then the lines of the root.
+/// Puts the text of a payload into an output: the line of the schema, and then the lines of the
+/// root.
 fn write_dump<O: BlobOut>(out: &mut O, shaped: &Shaped<'_>) -> Result<(), AllocError>
+    // The table is one of the four that a root may have.
     requires { is_some (schema_word (table_of shaped.now)) ≡ true }
     ensures { OnOk result (Puts (O.holds (payload_of (adb_of shaped.now))) out.old out.new
         (dump_text (table_of shaped.now) (shaped_value shaped.now))) }
@@ -115,6 +121,7 @@ fn write_dump<O: BlobOut>(out: &mut O, shaped: &Shaped<'_>) -> Result<(), AllocE
 
 /// Writes the first line of a text, with the schema of its root.
 fn write_schema<O: Out>(out: &mut O, which: Which) -> Result<(), AllocError>
+    // The table is one of the four that a root may have.
     requires { is_some (schema_word which) ≡ true }
     ensures { OnOk result (PutsForAnyPayload O.holds out.old out.new
         (schema_line (schema_word which) ++ codes "\n")) }
@@ -142,6 +149,7 @@ fn write_block<O: BlobOut>(
     word: Val,
     start: LineStart,
 ) -> Result<(), AllocError>
+    // The word has a plain value of its kind.
     requires sound { is_sound (payload_of adb) kind word ≡ true }
     requires some { is_null (value_at (payload_of adb) kind word) ≡ false }
     // No value is so deep that its lines exceed the greatest depth.
@@ -177,7 +185,9 @@ fn write_entries<O: BlobOut>(
     words: Arr<'_>,
     start: LineStart,
 ) -> Result<(), AllocError>
+    // Each word has a plain value of its kind.
     requires sound { are_all_sound (payload_of adb) kind (array_entries words) ≡ true }
+    // No value is so deep that its lines exceed the greatest depth.
     requires deep { start.depth + rank kind < DEPTH_LIMIT }
     ensures { OnOk result (Puts (O.holds (payload_of adb.entry)) out.old out.new
         (indented_lines_text start.depth start.begun
@@ -204,7 +214,9 @@ fn write_entry<O: BlobOut>(
     word: Val,
     depth: u32,
 ) -> Result<(), AllocError>
+    // The word has a plain value of its kind.
     requires sound { is_sound (payload_of adb) kind word ≡ true }
+    // No value is so deep that its lines exceed the greatest depth.
     requires deep { depth + rank kind ≤ DEPTH_LIMIT }
     ensures { OnOk result (Puts (O.holds (payload_of adb.entry)) out.old out.new
         (indented_lines_text depth true
@@ -230,7 +242,9 @@ fn write_object_entry<O: BlobOut>(
     word: Val,
     depth: u32,
 ) -> Result<(), AllocError>
+    // The word has a plain value of its kind.
     requires sound { is_sound (payload_of adb) (Kinds.Obj which) word ≡ true }
+    // No value is so deep that its lines exceed the greatest depth.
     requires deep { depth + rank (Kinds.Obj which) ≤ DEPTH_LIMIT }
     ensures { OnOk result (Puts (O.holds (payload_of adb.entry)) out.old out.new
         (indented_lines_text depth true
@@ -257,7 +271,9 @@ pub(crate) fn write_fields<O: BlobOut>(
     words: Arr<'_>,
     start: LineStart,
 ) -> Result<bool, AllocError>
+    // Each word has a plain value of its kind.
     requires sound { fields_sound (payload_of adb) fields.now (array_entries words) ≡ true }
+    // No value is so deep that its lines exceed the greatest depth.
     requires deep { start.depth + rank_of_all fields.now < DEPTH_LIMIT }
     ensures null { IfOk result (λ null. null
         ≡ are_null (fields_at (payload_of adb.entry) fields.now (array_entries words.entry))) }
@@ -293,7 +309,9 @@ fn write_field<O: BlobOut>(
     word: Val,
     start: LineStart,
 ) -> Result<bool, AllocError>
+    // The word has a plain value of its kind.
     requires sound { is_sound (payload_of adb) field.kind word ≡ true }
+    // No value is so deep that its lines exceed the greatest depth.
     requires deep { start.depth + rank field.kind < DEPTH_LIMIT }
     ensures null { IfOk result (λ null. null
         ≡ is_null (value_at (payload_of adb.entry) field.kind word)) }
@@ -323,6 +341,7 @@ fn write_text_field<O: BlobOut>(
     word: Val,
     start: LineStart,
 ) -> Result<bool, AllocError>
+    // The word has a plain value: a text, or Null.
     requires { is_sound (payload_of adb) Kinds.Text word ≡ true }
     ensures null { IfOk result (λ null. null
         ≡ is_null (value_at (payload_of adb.entry) Kinds.Text word)) }
@@ -344,7 +363,7 @@ fn write_text_field<O: BlobOut>(
 
 /// Writes the lines of a field whose value is not Null: after its name, or below it.
 #[cycle(block)]
-#[tactic(auto, using(crate::proofs::Turns::field_after, crate::proofs::Turns::field_with_value_below))]
+#[tactic(auto, using(crate::proofs::Turns::field_after, crate::proofs::Turns::fields_read_with_value_below))]
 #[inline(always)]
 fn write_named<O: BlobOut>(
     out: &mut O,
@@ -353,8 +372,10 @@ fn write_named<O: BlobOut>(
     word: Val,
     start: LineStart,
 ) -> Result<(), AllocError>
+    // The word has a plain value of its kind.
     requires sound { is_sound (payload_of adb) field.kind word ≡ true }
     requires some { is_null (value_at (payload_of adb) field.kind word) ≡ false }
+    // No value is so deep that its lines exceed the greatest depth.
     requires deep { start.depth + rank field.kind < DEPTH_LIMIT }
     ensures { OnOk result (Puts (O.holds (payload_of adb.entry)) out.old out.new
         (indented_lines_text start.depth start.begun

@@ -15,10 +15,10 @@ use adb_schema::FieldName;
 /// begun by one call.
 pub(crate) const FRONT_LEVELS: u32 = 8;
 
-/// How many spaces these are: two for each level.
+/// How many spaces each front has: two for each level.
 pub(crate) const FRONT_LEN: usize = 16;
 
-/// The front of a line that begins with its spaces only.
+/// The front of a line that has only spaces before its value.
 pub(crate) fn blank_front() -> &'static [u8]
     ensures { result.now ≡ margin 8 }
 {

@@ -7,7 +7,7 @@ ghost use Rattle.adb_view.specs.Plain.{Plain, IsNormal, plain_of};
 ghost use Rattle.adb_view.specs.Schema.{shape_of};
 ghost use Rattle.adb_view.specs.declared.tables.Which.{Which};
 ghost use Rattle.adb_view.specs.declared.tables.Kind.TheVariants as Kinds;
-ghost use Rattle.adb_dump.specs.Dump.{Line, dump_lines, dump_text, text_of, value_lines};
+ghost use Rattle.adb_dump.specs.Dump.{Line, dump_lines, dump_text, dump_text_of_lines, value_lines};
 ghost use Rattle.adb_dump.specs.ReadBack.{split_lines, value_read};
 ghost use Rattle.adb_dump.specs.Values.{IsOfBytes, IsNormalValueOfTable};
 
@@ -38,7 +38,7 @@ pub fn texts_are_split_into_their_lines()
     ensures split { (which : Which) (v : Plain) → IsNormal v
         → split_lines (dump_text which v) ≡ Some (dump_lines which v) }
     ensures joined { (text : List ℕ) (ls : List Line) → split_lines text ≡ Some ls
-        → text_of ls ≡ text }
+        → dump_text_of_lines ls ≡ text }
 {}
 
 /// Each plain value that is read from bytes, as an object of a table, is a normal value of that

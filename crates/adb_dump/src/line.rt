@@ -6,7 +6,7 @@ ghost use Rattle.std.specs.Prelude.{◌≡◌, ◌+◌, ◌≤◌, [], ◌∷◌
 ghost use Rattle.std.specs.Fmt.{decimal};
 ghost use Rattle.std.specs.List.{flat_map, list_all};
 ghost use Rattle.hex.specs.Hex.{encode_lower};
-ghost use Rattle.adb_dump.specs.Dump.{begins_with_byte, ends_with_byte, escape_of, needs_no_quotes, is_printable, quoted_text, bare_or_quoted_text};
+ghost use Rattle.adb_dump.specs.Dump.{begins_with_byte, ends_with_byte, quoted_form_of_byte, needs_no_quotes, is_printable, quoted_text, bare_or_quoted_text};
 ghost use Rattle.adb_dump.specs.Margin.{indented_lines_text, margin_unless_begun, margin};
 ghost use Rattle.adb_dump.specs.Out.{Puts, PutsForAnyPayload};
 ghost use Rattle.adb_view.specs.Values.{text_in, value_at};
@@ -119,7 +119,8 @@ fn hex_digits(byte: u8) -> [u8; 2]
 /// Writes a text as it is if it is bare, else between quotes.
 #[inline(always)]
 pub(crate) fn write_text<O: Out>(out: &mut O, text: &[u8]) -> Result<(), AllocError>
-    ensures { OnOk result (PutsForAnyPayload O.holds out.old out.new (bare_or_quoted_text text.now)) }
+    ensures { OnOk result (PutsForAnyPayload O.holds out.old out.new
+        (bare_or_quoted_text text.now)) }
 {
     if needs_no_quotes(text) {
         out.put(text)
@@ -144,7 +145,7 @@ fn write_quoted<O: Out>(out: &mut O, text: &[u8]) -> Result<(), AllocError>
 
 /// Writes a byte of a text between quotes: as it is, or its escape.
 fn write_escaped<O: Out>(out: &mut O, byte: u8) -> Result<(), AllocError>
-    ensures { OnOk result (PutsForAnyPayload O.holds out.old out.new (escape_of byte)) }
+    ensures { OnOk result (PutsForAnyPayload O.holds out.old out.new (quoted_form_of_byte byte)) }
 {
     match byte {
         b'\n' => out.put(b"\\n"),

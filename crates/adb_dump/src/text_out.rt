@@ -49,7 +49,8 @@ pub(crate) trait BlobOut: Out {
 
     /// Puts a hash as it is in a line, in hexadecimal digits.
     fn put_hash(&mut self, hash: &[u8]) -> Result<(), AllocError>
-        ensures { OnOk result (PutsForAnyPayload Self.holds self.old self.new (encode_lower hash.now)) };
+        ensures { OnOk result (PutsForAnyPayload Self.holds self.old self.new
+            (encode_lower hash.now)) };
 }
 
 /// The bytes themselves, in memory that grows on demand, or was allocated for all of them.
@@ -193,7 +194,7 @@ pub(crate) struct Count {
     lens: BTreeMap<u32, usize>,
     /// The allocator.
     alloc: Global,
-    /// Up to how many bytes no memory is tried.
+    /// The count in bytes up to which no allocation is tried.
     room: usize,
 }
 

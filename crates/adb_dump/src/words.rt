@@ -5,7 +5,7 @@
 ghost use Rattle.std.specs.Prelude.{◌≡◌, ◌<◌, ◌^◌, true, length, slice_index, ◌==◌, if◌then◌else◌};
 ghost use Rattle.adb_view.specs.Adb.{payload_of};
 ghost use Rattle.adb_view.specs.Entries.{array_entries};
-ghost use Rattle.adb_view.specs.Plain.{null, int, blob_or_null, arr_value, obj_value};
+ghost use Rattle.adb_view.specs.Plain.{null, int, blob_or_null, array_or_null, trimmed_object_or_null};
 ghost use Rattle.adb_schema.specs.adb_fields.Fields.{are_all_sound, values_at};
 ghost use Rattle.adb_view.specs.Schema.{table};
 ghost use Rattle.adb_view.specs.Values.{is_sound, value_at};
@@ -22,7 +22,8 @@ pub(crate) fn field_words<'a>(adb: Adb<'a>, which: Which, word: Val) -> Arr<'a>
     ensures sound { fields_sound (payload_of adb.entry) (table which) (array_entries result)
         ≡ true }
     ensures value { value_at (payload_of adb.entry) (Kinds.Obj which) word
-        ≡ obj_value (fields_at (payload_of adb.entry) (table which) (array_entries result)) }
+        ≡ trimmed_object_or_null (fields_at (payload_of adb.entry) (table which)
+        (array_entries result)) }
 {
     match adb.find_entries(word) {
         Some(entries) => entries,

@@ -3,8 +3,8 @@ use Rattle.std.proofs.Common.{◌≡◌, ℕ, zero, suc, ◌<◌, Bool, true, fa
 use Rattle.std.specs.Prelude.{is_some, slice_get}
 use Rattle.std.specs.Result.{result_ok}
 use Rattle.std.proofs.lemmas.Bool.{eqb-true}
-use Rattle.adb_view.specs.Plain.{Plain, null, int, Plains, none, more, without_last_nulls, Shape, number, text, hash, array, object, blob_or_null, obj_of, obj_value, arr_value, unless_null, from_answer, then_more, each_plain, plain_of, plains_of}
-use Rattle.adb_view.specs.Readers.{int_of, blob_of, run_of, ARRAY, OBJECT}
+use Rattle.adb_view.specs.Plain.{Plain, null, int, Plains, none, more, without_last_nulls, Shape, number, text, hash, array, object, blob_or_null, object_or_null, trimmed_object_or_null, array_or_null, null_plain_if_null_word, option_of_ok_value, plains_if_first_and_rest, plains_of_all_words, plain_of, plains_of}
+use Rattle.adb_view.specs.Readers.{int_of, blob_of, run_entries_of_word, ARRAY, OBJECT}
 use Rattle.adb_view.specs.Schema.{table, shape_of, shapes_of, table_number}
 use Rattle.adb_fields.specs.Fields.{AreFieldsOf, are_all_sound, values_at, array_at}
 use Rattle.adb_view.specs.Values.{is_sound, value_at, kind_at, nth, count_of, entries_in, entry_in, int_in, text_in}
@@ -15,7 +15,7 @@ use Rattle.adb_view.specs.declared.tables.Which.{Which}
 use Rattle.adb_view.specs.declared.tables.Kind.{Kind}
 use Rattle.adb_view.specs.declared.tables.Kind.TheVariants.{Int, Text, Hash, Obj, TextArr, ObjArr}
 use Rattle.adb_view.specs.declared.tables.Field.{Field}
-use Rattle.adb_view.proofs.Found.{run_of-null, int_of-null, blob_of-null}
+use Rattle.adb_view.proofs.Found.{run_entries_of_word-null, int_of-null, blob_of-null}
 
 -- what was read, whatever it is shown as
 pub read_ok : {A : Type 0} (r : Result A Cause) (x : A) → result_ok r ≡ Some x → r ≡ Ok x
@@ -34,7 +34,7 @@ null_or_not w = go (eqb w 0) refl
     go true e = inl (eqb-true _ _ e)
     go false e = inr e
 
-found_is : {A : Type 0} (f : A → Option Plain) (r : Result A Cause) (v : Plain) → from_answer f r ≡ Some v → (x : A) × (r ≡ Ok x) × (f x ≡ Some v)
+found_is : {A : Type 0} (f : A → Option Plain) (r : Result A Cause) (v : Plain) → option_of_ok_value f r ≡ Some v → (x : A) × (r ≡ Ok x) × (f x ≡ Some v)
 found_is f (Ok x) v e = (x, refl, e)
 found_is f (Err c) v e = absurd cc
 
@@ -49,21 +49,21 @@ number_value p w v e =
           let same : v ≡ null = cc in
           rw (z, same) (int_of-null p)
       | inr t ↦
-          let g : unless_null w (from_answer (λ n. Some (int n)) (int_of p w)) ≡ from_answer (λ n. Some (int n)) (int_of p w) = rw t refl in
+          let g : null_plain_if_null_word w (option_of_ok_value (λ n. Some (int n)) (int_of p w)) ≡ option_of_ok_value (λ n. Some (int n)) (int_of p w) = rw t refl in
           let (n, ok, is) = found_is (λ n. Some (int n)) (int_of p w) v (sym g ∙ e) in
           let same : v ≡ int n = cc in
           rw same ok
     ]
 
-blob_shape_value : (p : List ℕ) (w : ℕ) (v : Plain) → unless_null w (from_answer (λ b. Some (blob_or_null b)) (blob_of p w)) ≡ Some v → blob_of p w ≡ Ok (text_in v)
+blob_shape_value : (p : List ℕ) (w : ℕ) (v : Plain) → null_plain_if_null_word w (option_of_ok_value (λ b. Some (blob_or_null b)) (blob_of p w)) ≡ Some v → blob_of p w ≡ Ok (text_in v)
 blob_shape_value p w v e =
     elim (null_or_not w) [
       | inl z ↦
-          let null_is : unless_null w (from_answer (λ b. Some (blob_or_null b)) (blob_of p w)) ≡ Some null = rw z refl in
+          let null_is : null_plain_if_null_word w (option_of_ok_value (λ b. Some (blob_or_null b)) (blob_of p w)) ≡ Some null = rw z refl in
           let same : v ≡ null = cc in
           rw (z, same) (blob_of-null p)
       | inr t ↦
-          let g : unless_null w (from_answer (λ b. Some (blob_or_null b)) (blob_of p w)) ≡ from_answer (λ b. Some (blob_or_null b)) (blob_of p w) = rw t refl in
+          let g : null_plain_if_null_word w (option_of_ok_value (λ b. Some (blob_or_null b)) (blob_of p w)) ≡ option_of_ok_value (λ b. Some (blob_or_null b)) (blob_of p w) = rw t refl in
           let (b, ok, is) = found_is (λ b. Some (blob_or_null b)) (blob_of p w) v (sym g ∙ e) in
           let same : v ≡ blob_or_null b = cc in
           rw (same, text_blob b) ok
@@ -87,9 +87,9 @@ hash_read_of p w h = blob_shape_value p w _ (ap (λ s. plain_of p s w) (sym hash
 
 -- ---- fields
 
-entry_in-obj_of : (vs : Plains) (i : ℕ) → entry_in (obj_of vs) i ≡ nth vs i
-entry_in-obj_of none i = refl
-entry_in-obj_of (more v vs) i = refl
+entry_in-object_or_null : (vs : Plains) (i : ℕ) → entry_in (object_or_null vs) i ≡ nth vs i
+entry_in-object_or_null none i = refl
+entry_in-object_or_null (more v vs) i = refl
 
 null_plain : (p : List ℕ) (s : Shape) → plain_of p s 0 ≡ Some null
 unfolding plain_of
@@ -99,7 +99,7 @@ null_plain p hash = refl
 null_plain p (array s) = refl
 null_plain p (object which fs) = refl
 
-pub then_more_is : (v : Option Plain) (vs : Option Plains) (us : Plains) → then_more v vs ≡ Some us → (u : Plain) × (more_us : Plains) × (v ≡ Some u) × (vs ≡ Some more_us) × (us ≡ more u more_us)
+pub then_more_is : (v : Option Plain) (vs : Option Plains) (us : Plains) → plains_if_first_and_rest v vs ≡ Some us → (u : Plain) × (more_us : Plains) × (v ≡ Some u) × (vs ≡ Some more_us) × (us ≡ more u more_us)
 then_more_is (Some v) (Some vs) us e = (v, vs, refl, refl, cc)
 then_more_is (Some v) None us e = absurd cc
 then_more_is None vs us e = absurd cc
@@ -122,7 +122,7 @@ some_map f None y e = absurd cc
 
 -- what a sound object's run has
 pub record ObjectRead (p : List ℕ) (which : Which) (w : ℕ) (ws : List ℕ) : Type 0 where
-  pub run : run_of OBJECT p w ≡ Ok ws
+  pub run : run_entries_of_word OBJECT p w ≡ Ok ws
   pub fields : (i : ℕ) (d : Field) → i < length (table which) → plain_of p (shape_of (get_or (table which) i d).kind) (get_or ws i 0) ≡ Some (entry_in (value_at p (Obj which) w) i)
 
 object_value : (p : List ℕ) (which : Which) (w : ℕ) (v : Plain) → plain_of p (object (table_number which) (shapes_of (table which))) w ≡ Some v → value_at p (Obj which) w ≡ v → (ws : List ℕ) × ObjectRead p which w ws
@@ -132,17 +132,17 @@ object_value p which w v e at =
       | inl z ↦
           let null_is : plain_of p (object (table_number which) (shapes_of (table which))) w ≡ Some null = rw z refl in
           let same : v ≡ null = cc in
-          ([], record { run = rw z (run_of-null OBJECT p); fields = λ i d lt. rw (at, same) (null_plain p (shape_of (get_or (table which) i d).kind)) })
+          ([], record { run = rw z (run_entries_of_word-null OBJECT p); fields = λ i d lt. rw (at, same) (null_plain p (shape_of (get_or (table which) i d).kind)) })
       | inr t ↦
-          let g : unless_null w (from_answer (λ ws. option_map obj_value (plains_of p (shapes_of (table which)) ws)) (run_of OBJECT p w)) ≡ from_answer (λ ws. option_map obj_value (plains_of p (shapes_of (table which)) ws)) (run_of OBJECT p w) = rw t refl in
-          let (ws, ok, is) = found_is (λ ws. option_map obj_value (plains_of p (shapes_of (table which)) ws)) (run_of OBJECT p w) v (sym g ∙ e) in
-          let (vs, some, made) = some_map obj_value (plains_of p (shapes_of (table which)) ws) v is in (
+          let g : null_plain_if_null_word w (option_of_ok_value (λ ws. option_map trimmed_object_or_null (plains_of p (shapes_of (table which)) ws)) (run_entries_of_word OBJECT p w)) ≡ option_of_ok_value (λ ws. option_map trimmed_object_or_null (plains_of p (shapes_of (table which)) ws)) (run_entries_of_word OBJECT p w) = rw t refl in
+          let (ws, ok, is) = found_is (λ ws. option_map trimmed_object_or_null (plains_of p (shapes_of (table which)) ws)) (run_entries_of_word OBJECT p w) v (sym g ∙ e) in
+          let (vs, some, made) = some_map trimmed_object_or_null (plains_of p (shapes_of (table which)) ws) v is in (
             ws,
             record {
               run = ok;
               fields = λ i d lt.
                   let one = fields_value p (table which) ws vs i d some lt in
-                  let two : nth vs i ≡ entry_in (value_at p (Obj which) w) i = sym (ap (λ u. entry_in u i) (at ∙ sym made) ∙ entry_in-obj_of (without_last_nulls vs) i ∙ nth_trimmed vs i) in
+                  let two : nth vs i ≡ entry_in (value_at p (Obj which) w) i = sym (ap (λ u. entry_in u i) (at ∙ sym made) ∙ entry_in-object_or_null (without_last_nulls vs) i ∙ nth_trimmed vs i) in
                   one ∙ ap Some two;
             },
           )
@@ -152,7 +152,7 @@ pub object_read_of : (p : List ℕ) (which : Which) (w : ℕ) → is_sound p (Ob
 object_read_of p which w h = object_value p which w (value_at p (Obj which) w) (ap (λ s. plain_of p s w) (sym (object_shape which)) ∙ value_is p (Obj which) w h) refl
 
 -- so the field is sound, and its value is the field of the value
-pub field_is : (p : List ℕ) (which : Which) (w : ℕ) (ws : List ℕ) (i : ℕ) (d : Field) → is_sound p (Obj which) w ≡ true → run_of OBJECT p w ≡ Ok ws → i < length (table which)
+pub field_is : (p : List ℕ) (which : Which) (w : ℕ) (ws : List ℕ) (i : ℕ) (d : Field) → is_sound p (Obj which) w ≡ true → run_entries_of_word OBJECT p w ≡ Ok ws → i < length (table which)
     → (is_sound p (get_or (table which) i d).kind (get_or ws i 0) ≡ true) × (value_at p (get_or (table which) i d).kind (get_or ws i 0) ≡ entry_in (value_at p (Obj which) w) i)
 unfolding is_sound value_at
 field_is p which w ws i d h run lt =
@@ -171,17 +171,17 @@ pub record FieldRead (p : List ℕ) (which : Which) (w : ℕ) (i : ℕ) (k : Kin
   pub sound : is_sound p k word ≡ true
   pub value : value_at p k word ≡ entry_in (value_at p (Obj which) w) i
 
-pub field_read : (p : List ℕ) (which : Which) (w : ℕ) (ws : List ℕ) (i : ℕ) (k : Kind) → is_sound p (Obj which) w ≡ true → run_of OBJECT p w ≡ Ok ws → kind_at which i ≡ Some k → FieldRead p which w i k (get_or ws i 0)
+pub field_read : (p : List ℕ) (which : Which) (w : ℕ) (ws : List ℕ) (i : ℕ) (k : Kind) → is_sound p (Obj which) w ≡ true → run_entries_of_word OBJECT p w ≡ Ok ws → kind_at which i ≡ Some k → FieldRead p which w i k (get_or ws i 0)
 field_read p which w ws i k h run e =
     let (d, lt, is) = kind_found (table which) i k e in
     let r = field_is p which w ws i d h run lt in
     subst (λ (x : Kind). FieldRead p which w i x (get_or ws i 0)) is (record { sound = r.0; value = r.1 })
 
-pub fields_read : (p : List ℕ) (which : Which) (w : ℕ) (ws : List ℕ) → is_sound p (Obj which) w ≡ true → run_of OBJECT p w ≡ Ok ws → AreFieldsOf p which w ws
+pub fields_read : (p : List ℕ) (which : Which) (w : ℕ) (ws : List ℕ) → is_sound p (Obj which) w ≡ true → run_entries_of_word OBJECT p w ≡ Ok ws → AreFieldsOf p which w ws
 fields_read p which w ws h run i k e = let r = field_read p which w ws i k h run e in (r.sound, r.value)
 
 -- a sound object has a run
-pub object_runs : (p : List ℕ) (which : Which) (w : ℕ) → is_sound p (Obj which) w ≡ true → result_ok (run_of OBJECT p w) ≡ None → ⊥
+pub object_runs : (p : List ℕ) (which : Which) (w : ℕ) → is_sound p (Obj which) w ≡ true → result_ok (run_entries_of_word OBJECT p w) ≡ None → ⊥
 object_runs p which w h e = let (ws, r) = object_read_of p which w h in let run = ap result_ok r.run in cc
 
 pub text_reads : (p : List ℕ) (w : ℕ) → is_sound p Text w ≡ true → result_ok (blob_of p w) ≡ None → ⊥
@@ -195,18 +195,18 @@ hash_reads p w h e = let r = ap result_ok (hash_read_of p w h) in cc
 
 -- ---- arrays
 
-array_shape_value : (p : List ℕ) (s : Shape) (w : ℕ) (v : Plain) → plain_of p (array s) w ≡ Some v → (ws : List ℕ) × (vs : Plains) × (run_of ARRAY p w ≡ Ok ws) × (each_plain (plain_of p s) ws ≡ Some vs) × (arr_value vs ≡ v)
+array_shape_value : (p : List ℕ) (s : Shape) (w : ℕ) (v : Plain) → plain_of p (array s) w ≡ Some v → (ws : List ℕ) × (vs : Plains) × (run_entries_of_word ARRAY p w ≡ Ok ws) × (plains_of_all_words (plain_of p s) ws ≡ Some vs) × (array_or_null vs ≡ v)
 unfolding plain_of
 array_shape_value p s w v e =
     elim (null_or_not w) [
       | inl z ↦
           let null_is : plain_of p (array s) w ≡ Some null = rw z refl in
           let same : null ≡ v = cc in
-          ([], none, rw z (run_of-null ARRAY p), refl, same)
+          ([], none, rw z (run_entries_of_word-null ARRAY p), refl, same)
       | inr t ↦
-          let g : unless_null w (from_answer (λ ws. option_map arr_value (each_plain (plain_of p s) ws)) (run_of ARRAY p w)) ≡ from_answer (λ ws. option_map arr_value (each_plain (plain_of p s) ws)) (run_of ARRAY p w) = rw t refl in
-          let (ws, ok, is) = found_is (λ ws. option_map arr_value (each_plain (plain_of p s) ws)) (run_of ARRAY p w) v (sym g ∙ e) in
-          let (vs, some, made) = some_map arr_value (each_plain (plain_of p s) ws) v is in
+          let g : null_plain_if_null_word w (option_of_ok_value (λ ws. option_map array_or_null (plains_of_all_words (plain_of p s) ws)) (run_entries_of_word ARRAY p w)) ≡ option_of_ok_value (λ ws. option_map array_or_null (plains_of_all_words (plain_of p s) ws)) (run_entries_of_word ARRAY p w) = rw t refl in
+          let (ws, ok, is) = found_is (λ ws. option_map array_or_null (plains_of_all_words (plain_of p s) ws)) (run_entries_of_word ARRAY p w) v (sym g ∙ e) in
+          let (vs, some, made) = some_map array_or_null (plains_of_all_words (plain_of p s) ws) v is in
           (ws, vs, ok, some, made)
     ]
 
@@ -215,52 +215,52 @@ pub record ArrayRead (p : List ℕ) (k inner : Kind) (w : ℕ) (ws : List ℕ) :
   pub sound : are_all_sound p inner ws ≡ true
   pub value : array_at p inner ws ≡ value_at p k w
 
-array_read_of : (p : List ℕ) (k inner : Kind) (w : ℕ) → shape_of k ≡ array (shape_of inner) → is_sound p k w ≡ true → (ws : List ℕ) × (run_of ARRAY p w ≡ Ok ws) × ArrayRead p k inner w ws
+array_read_of : (p : List ℕ) (k inner : Kind) (w : ℕ) → shape_of k ≡ array (shape_of inner) → is_sound p k w ≡ true → (ws : List ℕ) × (run_entries_of_word ARRAY p w ≡ Ok ws) × ArrayRead p k inner w ws
 unfolding are_all_sound values_at
 array_read_of p k inner w is h =
     let (ws, vs, run, each, made) = array_shape_value p (shape_of inner) w (value_at p k w) (ap (λ s. plain_of p s w) (sym is) ∙ value_is p k w h) in
     (ws, run, record { sound = rw each refl; value = rw each made })
 
-array_read : (p : List ℕ) (k inner : Kind) (w : ℕ) (ws : List ℕ) → shape_of k ≡ array (shape_of inner) → is_sound p k w ≡ true → run_of ARRAY p w ≡ Ok ws → ArrayRead p k inner w ws
+array_read : (p : List ℕ) (k inner : Kind) (w : ℕ) (ws : List ℕ) → shape_of k ≡ array (shape_of inner) → is_sound p k w ≡ true → run_entries_of_word ARRAY p w ≡ Ok ws → ArrayRead p k inner w ws
 array_read p k inner w ws is h run =
     let (us, ok, r) = array_read_of p k inner w is h in
     let same : us ≡ ws = cc (ok, run) in
     subst (λ (xs : List ℕ). ArrayRead p k inner w xs) same r
 
-pub texts_sound : (p : List ℕ) (w : ℕ) (ws : List ℕ) → is_sound p TextArr w ≡ true → run_of ARRAY p w ≡ Ok ws → are_all_sound p Text ws ≡ true
+pub texts_sound : (p : List ℕ) (w : ℕ) (ws : List ℕ) → is_sound p TextArr w ≡ true → run_entries_of_word ARRAY p w ≡ Ok ws → are_all_sound p Text ws ≡ true
 texts_sound p w ws h run = (array_read p TextArr Text w ws texts_shape h run).sound
 
-pub texts_value : (p : List ℕ) (w : ℕ) (ws : List ℕ) → is_sound p TextArr w ≡ true → run_of ARRAY p w ≡ Ok ws → array_at p Text ws ≡ value_at p TextArr w
+pub texts_value : (p : List ℕ) (w : ℕ) (ws : List ℕ) → is_sound p TextArr w ≡ true → run_entries_of_word ARRAY p w ≡ Ok ws → array_at p Text ws ≡ value_at p TextArr w
 texts_value p w ws h run = (array_read p TextArr Text w ws texts_shape h run).value
 
-pub texts_run : (p : List ℕ) (w : ℕ) → is_sound p TextArr w ≡ true → result_ok (run_of ARRAY p w) ≡ None → ⊥
+pub texts_run : (p : List ℕ) (w : ℕ) → is_sound p TextArr w ≡ true → result_ok (run_entries_of_word ARRAY p w) ≡ None → ⊥
 texts_run p w h e = let (ws, run, r) = array_read_of p TextArr Text w texts_shape h in let read = ap result_ok run in cc
 
-pub objects_sound : (p : List ℕ) (which : Which) (w : ℕ) (ws : List ℕ) → is_sound p (ObjArr which) w ≡ true → run_of ARRAY p w ≡ Ok ws → are_all_sound p (Obj which) ws ≡ true
+pub objects_sound : (p : List ℕ) (which : Which) (w : ℕ) (ws : List ℕ) → is_sound p (ObjArr which) w ≡ true → run_entries_of_word ARRAY p w ≡ Ok ws → are_all_sound p (Obj which) ws ≡ true
 objects_sound p which w ws h run = (array_read p (ObjArr which) (Obj which) w ws (objects_shape which) h run).sound
 
-pub objects_value : (p : List ℕ) (which : Which) (w : ℕ) (ws : List ℕ) → is_sound p (ObjArr which) w ≡ true → run_of ARRAY p w ≡ Ok ws → array_at p (Obj which) ws ≡ value_at p (ObjArr which) w
+pub objects_value : (p : List ℕ) (which : Which) (w : ℕ) (ws : List ℕ) → is_sound p (ObjArr which) w ≡ true → run_entries_of_word ARRAY p w ≡ Ok ws → array_at p (Obj which) ws ≡ value_at p (ObjArr which) w
 objects_value p which w ws h run = (array_read p (ObjArr which) (Obj which) w ws (objects_shape which) h run).value
 
-pub objects_run : (p : List ℕ) (which : Which) (w : ℕ) → is_sound p (ObjArr which) w ≡ true → result_ok (run_of ARRAY p w) ≡ None → ⊥
+pub objects_run : (p : List ℕ) (which : Which) (w : ℕ) → is_sound p (ObjArr which) w ≡ true → result_ok (run_entries_of_word ARRAY p w) ≡ None → ⊥
 objects_run p which w h e = let (ws, run, r) = array_read_of p (ObjArr which) (Obj which) w (objects_shape which) h in let read = ap result_ok run in cc
 
 -- ---- entries
 
-each_found : (f : ℕ → Option Plain) (ws : List ℕ) (vs : Plains) (i : ℕ) → each_plain f ws ≡ Some vs → i < length ws → f (get_or ws i 0) ≡ Some (nth vs i)
+each_found : (f : ℕ → Option Plain) (ws : List ℕ) (vs : Plains) (i : ℕ) → plains_of_all_words f ws ≡ Some vs → i < length ws → f (get_or ws i 0) ≡ Some (nth vs i)
 each_found f [] vs i e lt = absurd (omega arith)
-each_found f (w ∷ ws) vs zero e lt = let (u, us, one, others, is) = then_more_is (f w) (each_plain f ws) vs e in rw is one
+each_found f (w ∷ ws) vs zero e lt = let (u, us, one, others, is) = then_more_is (f w) (plains_of_all_words f ws) vs e in rw is one
 each_found f (w ∷ ws) vs (suc i) e lt =
-    let (u, us, one, others, is) = then_more_is (f w) (each_plain f ws) vs e in rw is (each_found f ws us i others (omega arith))
+    let (u, us, one, others, is) = then_more_is (f w) (plains_of_all_words f ws) vs e in rw is (each_found f ws us i others (omega arith))
 
-each_count : (f : ℕ → Option Plain) (ws : List ℕ) (vs : Plains) → each_plain f ws ≡ Some vs → length ws ≡ count_of vs
+each_count : (f : ℕ → Option Plain) (ws : List ℕ) (vs : Plains) → plains_of_all_words f ws ≡ Some vs → length ws ≡ count_of vs
 each_count f [] vs e = let same : vs ≡ none = cc in rw same refl
 each_count f (w ∷ ws) vs e =
-    let (u, us, one, others, is) = then_more_is (f w) (each_plain f ws) vs e in rw is (ap suc (each_count f ws us others))
+    let (u, us, one, others, is) = then_more_is (f w) (plains_of_all_words f ws) vs e in rw is (ap suc (each_count f ws us others))
 
-values_are : (p : List ℕ) (k : Kind) (ws : List ℕ) → are_all_sound p k ws ≡ true → each_plain (plain_of p (shape_of k)) ws ≡ Some (values_at p k ws)
+values_are : (p : List ℕ) (k : Kind) (ws : List ℕ) → are_all_sound p k ws ≡ true → plains_of_all_words (plain_of p (shape_of k)) ws ≡ Some (values_at p k ws)
 unfolding are_all_sound values_at
-values_are p k ws h = let (vs, e) = some_is (each_plain (plain_of p (shape_of k)) ws) h in rw e refl
+values_are p k ws h = let (vs, e) = some_is (plains_of_all_words (plain_of p (shape_of k)) ws) h in rw e refl
 
 -- each word of a sound array is sound, and has the value of the entry
 pub entry_sound : (p : List ℕ) (k : Kind) (ws : List ℕ) (i : ℕ) → are_all_sound p k ws ≡ true → i < length ws → is_sound p k (get_or ws i 0) ≡ true
@@ -276,15 +276,15 @@ pub entry_count : (p : List ℕ) (k : Kind) (ws : List ℕ) → are_all_sound p 
 entry_count p k ws h = each_count (plain_of p (shape_of k)) ws (values_at p k ws) (values_are p k ws h) ∙ ap count_of (sym (entries_arr (values_at p k ws)))
 
 -- a text's value is its bytes
-text_is : (p : List ℕ) (w : ℕ) (v : Plain) → unless_null w (from_answer (λ b. Some (blob_or_null b)) (blob_of p w)) ≡ Some v → blob_or_null (text_in v) ≡ v
+text_is : (p : List ℕ) (w : ℕ) (v : Plain) → null_plain_if_null_word w (option_of_ok_value (λ b. Some (blob_or_null b)) (blob_of p w)) ≡ Some v → blob_or_null (text_in v) ≡ v
 text_is p w v e =
     elim (null_or_not w) [
       | inl z ↦
-          let null_is : unless_null w (from_answer (λ b. Some (blob_or_null b)) (blob_of p w)) ≡ Some null = rw z refl in
+          let null_is : null_plain_if_null_word w (option_of_ok_value (λ b. Some (blob_or_null b)) (blob_of p w)) ≡ Some null = rw z refl in
           let same : v ≡ null = cc in
           rw same refl
       | inr t ↦
-          let g : unless_null w (from_answer (λ b. Some (blob_or_null b)) (blob_of p w)) ≡ from_answer (λ b. Some (blob_or_null b)) (blob_of p w) = rw t refl in
+          let g : null_plain_if_null_word w (option_of_ok_value (λ b. Some (blob_or_null b)) (blob_of p w)) ≡ option_of_ok_value (λ b. Some (blob_or_null b)) (blob_of p w) = rw t refl in
           let (b, ok, is) = found_is (λ b. Some (blob_or_null b)) (blob_of p w) v (sym g ∙ e) in
           let same : v ≡ blob_or_null b = cc in
           rw (same, text_blob b) refl

@@ -4,7 +4,7 @@ use Rattle.adb_view.specs.Plain.{Plain, null, Plains, none, more}
 use Rattle.adb_view.specs.Values.{value_at, entry_in, entries_in, count_of, nth}
 use Rattle.adb_fields.specs.Fields.{are_all_sound, array_at}
 use Rattle.adb_fields.specs.Pairs.{NameWithPosition}
-use Rattle.adb_fields.specs.Repeated.{list_of, numbered_from, all_with_position, names_with_list_positions, name_of, paths_under, paths_in}
+use Rattle.adb_fields.specs.Repeated.{list_of, numbered_from, names_all_at_position, names_with_list_positions, name_of, paths_of_folder_files, paths_of_package_files}
 use Rattle.adb_fields.specs.Paths.{path_of}
 use Rattle.std.specs.List.{flat_map}
 use Rattle.adb_fields.specs.NamedTexts.{plains_at, name_with_position}
@@ -69,9 +69,9 @@ no_word p kind f ws i m done all sound past so =
 
 -- ---- names at one position
 
-pub all_with_position-append : (n : ℕ) (xs ys : List (List ℕ)) → all_with_position n (xs ++ ys) ≡ all_with_position n xs ++ all_with_position n ys
-all_with_position-append n [] ys = refl
-all_with_position-append n (x ∷ xs) ys = ap (λ rest. name_with_position x n ∷ rest) (all_with_position-append n xs ys)
+pub names_all_at_position-append : (n : ℕ) (xs ys : List (List ℕ)) → names_all_at_position n (xs ++ ys) ≡ names_all_at_position n xs ++ names_all_at_position n ys
+names_all_at_position-append n [] ys = refl
+names_all_at_position-append n (x ∷ xs) ys = ap (λ rest. name_with_position x n ∷ rest) (names_all_at_position-append n xs ys)
 
 -- the piece of the value at a place, and those after
 pub pieces : {X : Type 0} (piece : Plain → List X) (values : List Plain) (i : ℕ) → i < length values → flat_map piece (drop i values) ≡ piece (get_or values i null) ++ flat_map piece (drop (i + 1) values)
@@ -107,22 +107,22 @@ pub map_pieces : {X : Type 0} (f : Plain → X) (values : List Plain) → flat_m
 map_pieces f [] = refl
 map_pieces f (v ∷ vs) = ap (λ rest. f v ∷ rest) (map_pieces f vs)
 
-pub all_with_position-pieces : (n : ℕ) (piece : Plain → List (List ℕ)) (values : List Plain) → flat_map (λ v. all_with_position n (piece v)) values ≡ all_with_position n (flat_map piece values)
-all_with_position-pieces n piece [] = refl
-all_with_position-pieces n piece (v ∷ vs) = ap (λ rest. all_with_position n (piece v) ++ rest) (all_with_position-pieces n piece vs) ∙ sym (all_with_position-append n (piece v) (flat_map piece vs))
+pub names_all_at_position-pieces : (n : ℕ) (piece : Plain → List (List ℕ)) (values : List Plain) → flat_map (λ v. names_all_at_position n (piece v)) values ≡ names_all_at_position n (flat_map piece values)
+names_all_at_position-pieces n piece [] = refl
+names_all_at_position-pieces n piece (v ∷ vs) = ap (λ rest. names_all_at_position n (piece v) ++ rest) (names_all_at_position-pieces n piece vs) ∙ sym (names_all_at_position-append n (piece v) (flat_map piece vs))
 
-pub all_with_position-map : (n : ℕ) (f : Plain → List ℕ) (values : List Plain) → flat_map (λ v. name_with_position (f v) n ∷ []) values ≡ all_with_position n (map f values)
-all_with_position-map n f [] = refl
-all_with_position-map n f (v ∷ vs) = ap (λ rest. name_with_position (f v) n ∷ rest) (all_with_position-map n f vs)
+pub names_all_at_position-map : (n : ℕ) (f : Plain → List ℕ) (values : List Plain) → flat_map (λ v. name_with_position (f v) n ∷ []) values ≡ names_all_at_position n (map f values)
+names_all_at_position-map n f [] = refl
+names_all_at_position-map n f (v ∷ vs) = ap (λ rest. name_with_position (f v) n ∷ rest) (names_all_at_position-map n f vs)
 
 -- ---- lists of names, each at the position of its value
 
-more_lists : (f : Plain → List (List ℕ)) (values : List Plain) (i m : ℕ) → i < length values → names_with_list_positions m (map f (drop i values)) ≡ all_with_position m (f (get_or values i null)) ++ names_with_list_positions (m + 1) (map f (drop (i + 1) values))
+more_lists : (f : Plain → List (List ℕ)) (values : List Plain) (i m : ℕ) → i < length values → names_with_list_positions m (map f (drop i values)) ≡ names_all_at_position m (f (get_or values i null)) ++ names_with_list_positions (m + 1) (map f (drop (i + 1) values))
 more_lists f [] i m h = absurd (omega arith)
 more_lists f (v ∷ vs) zero m h = refl
 more_lists f (v ∷ vs) (suc i) m h =
     let e : suc i + 1 ≡ suc (i + 1) = omega arith in
-    let P : ℕ → Type 0 = λ n. names_with_list_positions m (map f (drop i vs)) ≡ all_with_position m (f (get_or vs i null)) ++ names_with_list_positions (m + 1) (map f (drop n (v ∷ vs))) in
+    let P : ℕ → Type 0 = λ n. names_with_list_positions m (map f (drop i vs)) ≡ names_all_at_position m (f (get_or vs i null)) ++ names_with_list_positions (m + 1) (map f (drop n (v ∷ vs))) in
     subst P (sym e) (more_lists f vs i m (omega arith))
 
 no_lists : (f : Plain → List (List ℕ)) (values : List Plain) (i m : ℕ) → length values ≤ i → names_with_list_positions m (map f (drop i values)) ≡ []
@@ -131,13 +131,13 @@ no_lists f [] (suc i) m h = refl
 no_lists f (v ∷ vs) zero m h = absurd (omega arith)
 no_lists f (v ∷ vs) (suc i) m h = no_lists f vs i m (omega arith)
 
-pub one_list : (p : List ℕ) (kind : Kind) (f : Plain → List (List ℕ)) (ws : List ℕ) (i w : ℕ) (done next all : List NameWithPosition) → are_all_sound p kind ws ≡ true → i < length ws → w ≡ get_or ws i 0 → next ≡ done ++ all_with_position (i + 1) (f (value_at p kind w)) → done ++ names_with_list_positions (i + 1) (map f (drop i (plains_at p kind ws))) ≡ all → next ++ names_with_list_positions (i + 1 + 1) (map f (drop (i + 1) (plains_at p kind ws))) ≡ all
+pub one_list : (p : List ℕ) (kind : Kind) (f : Plain → List (List ℕ)) (ws : List ℕ) (i w : ℕ) (done next all : List NameWithPosition) → are_all_sound p kind ws ≡ true → i < length ws → w ≡ get_or ws i 0 → next ≡ done ++ names_all_at_position (i + 1) (f (value_at p kind w)) → done ++ names_with_list_positions (i + 1) (map f (drop i (plains_at p kind ws))) ≡ all → next ++ names_with_list_positions (i + 1 + 1) (map f (drop (i + 1) (plains_at p kind ws))) ≡ all
 one_list p kind f ws i w done next all sound lt word n so =
     let c : length (plains_at p kind ws) ≡ length ws = plain_count p kind ws sound in
     let here : value_at p kind w ≡ get_or (plains_at p kind ws) i null = ap (value_at p kind) word ∙ plain_is p kind ws i sound lt in
     let left : List NameWithPosition = names_with_list_positions (i + 1 + 1) (map f (drop (i + 1) (plains_at p kind ws))) in
-    ap (λ front. front ++ left) (n ∙ ap (λ v. done ++ all_with_position (i + 1) (f v)) here)
-    ∙ (append_assoc done (all_with_position (i + 1) (f (get_or (plains_at p kind ws) i null))) left
+    ap (λ front. front ++ left) (n ∙ ap (λ v. done ++ names_all_at_position (i + 1) (f v)) here)
+    ∙ (append_assoc done (names_all_at_position (i + 1) (f (get_or (plains_at p kind ws) i null))) left
     ∙ (ap (λ rest. done ++ rest) (sym (more_lists f (plains_at p kind ws) i (i + 1) (omega arith))) ∙ so))
 
 pub no_list : (p : List ℕ) (kind : Kind) (f : Plain → List (List ℕ)) (ws : List ℕ) (i m : ℕ) (done all : List NameWithPosition) → are_all_sound p kind ws ≡ true → length ws ≤ i → done ++ names_with_list_positions m (map f (drop i (plains_at p kind ws))) ≡ all → done ≡ all
@@ -147,10 +147,10 @@ no_list p kind f ws i m done all sound past so =
 
 -- ---- the paths of a folder, and of a package
 
-pub under_folder : (n : ℕ) (name : List ℕ) (folder files : Plain) → name ≡ name_of folder → files ≡ entry_in folder 2 → flat_map (λ file. name_with_position (path_of name (name_of file)) n ∷ []) (list_of (entries_in files)) ≡ all_with_position n (paths_under folder)
+pub under_folder : (n : ℕ) (name : List ℕ) (folder files : Plain) → name ≡ name_of folder → files ≡ entry_in folder 2 → flat_map (λ file. name_with_position (path_of name (name_of file)) n ∷ []) (list_of (entries_in files)) ≡ names_all_at_position n (paths_of_folder_files folder)
 under_folder n name folder files e v =
-    all_with_position-map n (λ file. path_of name (name_of file)) (list_of (entries_in files))
-    ∙ (λ i. all_with_position n (map (λ file. path_of (e i) (name_of file)) (list_of (entries_in (v i)))))
+    names_all_at_position-map n (λ file. path_of name (name_of file)) (list_of (entries_in files))
+    ∙ (λ i. names_all_at_position n (map (λ file. path_of (e i) (name_of file)) (list_of (entries_in (v i)))))
 
-pub in_package : (n : ℕ) (pkg folders : Plain) → folders ≡ entry_in pkg 1 → flat_map (λ folder. all_with_position n (paths_under folder)) (list_of (entries_in folders)) ≡ all_with_position n (paths_in pkg)
-in_package n pkg folders v = all_with_position-pieces n paths_under (list_of (entries_in folders)) ∙ (λ i. all_with_position n (flat_map paths_under (list_of (entries_in (v i)))))
+pub in_package : (n : ℕ) (pkg folders : Plain) → folders ≡ entry_in pkg 1 → flat_map (λ folder. names_all_at_position n (paths_of_folder_files folder)) (list_of (entries_in folders)) ≡ names_all_at_position n (paths_of_package_files pkg)
+in_package n pkg folders v = names_all_at_position-pieces n paths_of_folder_files (list_of (entries_in folders)) ∙ (λ i. names_all_at_position n (flat_map paths_of_folder_files (list_of (entries_in (v i)))))

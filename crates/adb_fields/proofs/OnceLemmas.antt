@@ -11,7 +11,7 @@ use Rattle.adb_fields.specs.FirstPair.{IsLeastPairIfAny}
 use Rattle.adb_fields.specs.FirstPair.{IsPairOfEqualNames}
 use Rattle.adb_fields.specs.FirstPair.{IsIn}
 use Rattle.adb_view.specs.FieldIndexes.{DIR_NAME, FILE_NAME, IDB_PACKAGES, INTENT_WRITES}
-use Rattle.adb_fields.specs.Repeated.{field_number, numbered_from, all_with_position, names_with_list_positions, first_repeat, repeated_pair_in_one_list, first_name_in_two_lists, entries_at, folder_twice, file_twice, package_twice, path_of_two_packages, repeated_intent_name, repeated_cause, repeated_within_package_fault, repeated_between_packages_fault, repeated_fault}
+use Rattle.adb_fields.specs.Repeated.{field_number, numbered_from, names_all_at_position, names_with_list_positions, first_repeat, repeated_pair_in_one_list, repeated_pair_in_two_lists, entries_at, folder_twice, file_twice, package_twice, path_of_two_packages, repeated_intent_name, repeated_cause, repeated_within_package_fault, repeated_between_packages_fault, repeated_fault}
 use Rattle.adb_fields.specs.Once.{AreDistinctNames, EachHasDistinctNames, IsInOneOf, ShareNoName, HaveNoRepeatInside, HaveNoRepeatBetween, HasNoRepeatedName}
 use Rattle.adb_fields.proofs.Members.{in-front, in-behind, in-either, in-map, from-map}
 use Rattle.adb_fields.proofs.FirstPair.{least_pair_of_equal_names-first}
@@ -132,14 +132,14 @@ stands_in_one : (name : List ℕ) (n : ℕ) (lists : List (List (List ℕ))) →
 stands_in_one name n [] h = absurd h
 stands_in_one name n (names ∷ lists) (inl h) = record {
   one = record { name = name; position = n };
-  inside = in-front _ (all_with_position n names) (names_with_list_positions (n + 1) lists) (in-map (λ m. record { name = m; position = n }) name names h);
+  inside = in-front _ (names_all_at_position n names) (names_with_list_positions (n + 1) lists) (in-map (λ m. record { name = m; position = n }) name names h);
   alike = refl;
   later = omega arith;
 }
 stands_in_one name n (names ∷ lists) (inr h) =
     let r = stands_in_one name (n + 1) lists h in
     let l : n + 1 ≤ r.one.position = r.later in
-    record { one = r.one; inside = in-behind r.one (all_with_position n names) (names_with_list_positions (n + 1) lists) r.inside; alike = r.alike; later = omega arith }
+    record { one = r.one; inside = in-behind r.one (names_all_at_position n names) (names_with_list_positions (n + 1) lists) r.inside; alike = r.alike; later = omega arith }
 
 pub record IsOfOne (one : NameWithPosition) (n : ℕ) (lists : List (List (List ℕ))) : Type 0 where
   pub inside : IsInOneOf one.name lists
@@ -150,7 +150,7 @@ pub record IsHere (one : NameWithPosition) (n : ℕ) (names : List (List ℕ)) :
   pub inside : IsIn one.name names
   pub at : one.position ≡ n
 
-here : (one : NameWithPosition) (n : ℕ) (names : List (List ℕ)) → IsIn one (all_with_position n names) → IsHere one n names
+here : (one : NameWithPosition) (n : ℕ) (names : List (List ℕ)) → IsIn one (names_all_at_position n names) → IsHere one n names
 here one n names h =
     let r = from-map (λ m. record { name = m; position = n }) one names h in
     let P : List ℕ → Type 0 = λ m. IsIn m names in
@@ -159,7 +159,7 @@ here one n names h =
 of_lists : (one : NameWithPosition) (n : ℕ) (lists : List (List (List ℕ))) → IsIn one (names_with_list_positions n lists) → IsOfOne one n lists
 of_lists one n [] h = absurd h
 of_lists one n (names ∷ lists) h =
-    elim (in-either one (all_with_position n names) (names_with_list_positions (n + 1) lists) h) [
+    elim (in-either one (names_all_at_position n names) (names_with_list_positions (n + 1) lists) h) [
       | inl k ↦ let r = here one n names k in let e = r.at in record { inside = inl r.inside; later = omega arith }
       | inr k ↦ let r = of_lists one (n + 1) lists k in let l : n + 1 ≤ one.position = r.later in record { inside = inr r.inside; later = omega arith }
     ]
@@ -172,14 +172,14 @@ apart n (names ∷ lists) h = (
       let l : n + 1 ≤ r.one.position = r.later in
       h _
       (pair_of_two (names_with_list_positions n (names ∷ lists)) (record { name = name; position = n }) r.one
-      (in-front _ (all_with_position n names) (names_with_list_positions (n + 1) lists) (in-map (λ m. record { name = m; position = n }) name names k))
-      (in-behind r.one (all_with_position n names) (names_with_list_positions (n + 1) lists) r.inside) r.alike (omega arith)),
+      (in-front _ (names_all_at_position n names) (names_with_list_positions (n + 1) lists) (in-map (λ m. record { name = m; position = n }) name names k))
+      (in-behind r.one (names_all_at_position n names) (names_with_list_positions (n + 1) lists) r.inside) r.alike (omega arith)),
   apart (n + 1) lists
       (λ q k. h q (record {
         one = k.one;
         other = k.other;
-        one_in = in-behind k.one (all_with_position n names) (names_with_list_positions (n + 1) lists) k.one_in;
-        other_in = in-behind k.other (all_with_position n names) (names_with_list_positions (n + 1) lists) k.other_in;
+        one_in = in-behind k.one (names_all_at_position n names) (names_with_list_positions (n + 1) lists) k.one_in;
+        other_in = in-behind k.other (names_all_at_position n names) (names_with_list_positions (n + 1) lists) k.other_in;
         alike = k.alike;
         first = k.first;
         second = k.second;
@@ -188,7 +188,7 @@ apart n (names ∷ lists) h = (
 )
 
 no_pair_between : (n : ℕ) (names : List (List ℕ)) (lists : List (List (List ℕ))) (a b : NameWithPosition) → ((name : List ℕ) → IsIn name names → ¬ IsInOneOf name lists) → NoPair (names_with_list_positions (n + 1) lists)
-    → IsIn a (all_with_position n names) ⊎ IsIn a (names_with_list_positions (n + 1) lists) → IsIn b (all_with_position n names) ⊎ IsIn b (names_with_list_positions (n + 1) lists) → a.name ≡ b.name → a.position < b.position → ⊥
+    → IsIn a (names_all_at_position n names) ⊎ IsIn a (names_with_list_positions (n + 1) lists) → IsIn b (names_all_at_position n names) ⊎ IsIn b (names_with_list_positions (n + 1) lists) → a.name ≡ b.name → a.position < b.position → ⊥
 no_pair_between n names lists a b once none (inl h) (inl k) same less =
     let e = (here a n names h).at in let f = (here b n names k).at in omega arith
 no_pair_between n names lists a b once none (inl h) (inr k) same less =
@@ -203,13 +203,13 @@ none_between n [] d = λ q k. k.one_in
 none_between n (names ∷ lists) d = λ q k.
     let e = k.first in let f = k.second in let g = k.rises in
     no_pair_between n names lists k.one k.other d.0 (none_between (n + 1) lists d.1)
-    (in-either k.one (all_with_position n names) (names_with_list_positions (n + 1) lists) k.one_in) (in-either k.other (all_with_position n names) (names_with_list_positions (n + 1) lists) k.other_in) k.alike (omega arith)
+    (in-either k.one (names_all_at_position n names) (names_with_list_positions (n + 1) lists) k.one_in) (in-either k.other (names_all_at_position n names) (names_with_list_positions (n + 1) lists) k.other_in) k.alike (omega arith)
 
-two_none : (lists : List (List (List ℕ))) → first_name_in_two_lists lists ≡ None → ShareNoName lists
-two_none lists e = apart 1 lists (none_of (IsPairOfEqualNames (names_with_list_positions 1 lists)) (first_name_in_two_lists lists) (least_pair_of_equal_names-first (names_with_list_positions 1 lists)) e)
+two_none : (lists : List (List (List ℕ))) → repeated_pair_in_two_lists lists ≡ None → ShareNoName lists
+two_none lists e = apart 1 lists (none_of (IsPairOfEqualNames (names_with_list_positions 1 lists)) (repeated_pair_in_two_lists lists) (least_pair_of_equal_names-first (names_with_list_positions 1 lists)) e)
 
-none_two : (lists : List (List (List ℕ))) → ShareNoName lists → first_name_in_two_lists lists ≡ None
-none_two lists d = is_none_by (IsPairOfEqualNames (names_with_list_positions 1 lists)) (first_name_in_two_lists lists) (least_pair_of_equal_names-first (names_with_list_positions 1 lists)) (none_between 1 lists d)
+none_two : (lists : List (List (List ℕ))) → ShareNoName lists → repeated_pair_in_two_lists lists ≡ None
+none_two lists d = is_none_by (IsPairOfEqualNames (names_with_list_positions 1 lists)) (repeated_pair_in_two_lists lists) (least_pair_of_equal_names-first (names_with_list_positions 1 lists)) (none_between 1 lists d)
 
 -- ---- kind by kind
 

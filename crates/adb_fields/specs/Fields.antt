@@ -1,7 +1,7 @@
 -- The words of fields and of entries. The rule is in `docs/formats.md`, "Values": an object has the
 -- values of its first fields; past the last entry is NULL.
 use Rattle.std.specs.Prelude.{◌≡◌, ℕ, true, Bool, List, is_some, slice_index_or, unwrap_or, Some}
-use Rattle.adb_view.specs.Plain.{Plain, Plains, none, arr_value, each_plain, plain_of}
+use Rattle.adb_view.specs.Plain.{Plain, Plains, none, array_or_null, plains_of_all_words, plain_of}
 use Rattle.adb_view.specs.Schema.{shape_of}
 use Rattle.adb_view.specs.Values.{is_sound, value_at, kind_at, entry_in}
 use Rattle.adb_view.specs.declared.tables.Which.{Which}
@@ -20,12 +20,12 @@ AreFieldsOf p which object words = (i : ℕ) → IsFieldOf p which object i (sli
 
 -- whether each of an array's words has a plain value of the kind
 unfoldable pub are_all_sound : List ℕ → Kind → List ℕ → Bool
-are_all_sound p k words = is_some (each_plain (plain_of p (shape_of k)) words)
+are_all_sound p k words = is_some (plains_of_all_words (plain_of p (shape_of k)) words)
 
 -- the plain values of an array's words by the kind; none if one of them has no value
 unfoldable pub values_at : List ℕ → Kind → List ℕ → Plains
-values_at p k words = unwrap_or (each_plain (plain_of p (shape_of k)) words) none
+values_at p k words = unwrap_or (plains_of_all_words (plain_of p (shape_of k)) words) none
 
 -- the plain value of an array of these words
 abbrev pub array_at : List ℕ → Kind → List ℕ → Plain
-array_at p k words = arr_value (values_at p k words)
+array_at p k words = array_or_null (values_at p k words)

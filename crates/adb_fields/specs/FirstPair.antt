@@ -12,17 +12,23 @@ pub record IsPairOfEqualNames (names : List NameWithPosition) (p : Pair) : Type 
   pub one : NameWithPosition
   -- the name at the second one
   pub other : NameWithPosition
+  -- it is in the list
   pub one_in : IsIn one names
+  -- it is in the list too
   pub other_in : IsIn other names
   -- it is one name
   pub alike : one.name ≡ other.name
+  -- the first position of the pair is that of the one name
   pub first : p.first ≡ one.position
+  -- the second position of the pair is that of the other name
   pub second : p.second ≡ other.position
+  -- the first position is the smaller one
   pub rises : p.first < p.second
 
 -- a pair of a kind is the first: none has a smaller second position, and none with the same second
 -- position has a smaller first one
 pub record IsLeastPair (IsOne : Pair → Type 0) (p : Pair) : Type 0 where
+  -- the pair is of that kind
   pub is_one : IsOne p
   -- no pair has a smaller second position
   pub second : (q : Pair) → IsOne q → p.second ≤ q.second
@@ -38,5 +44,7 @@ IsLeastPairIfAny IsOne (Some p) = IsLeastPair IsOne p
 pub record IsPairInOne (lists : List (List (List ℕ))) (p : Pair) : Type 0 where
   -- the list that has the name twice
   pub names : List (List ℕ)
+  -- it is one of the lists
   pub names_in : IsIn names lists
+  -- the pair has the positions of the name in it, counted from 1
   pub is_pair : IsPairOfEqualNames (numbered_from 1 names) p

@@ -8,7 +8,7 @@ use Rattle.adb_view.specs.Values.{text_in}
 use Rattle.adb_view.specs.declared.tables.Which.{Which}
 use Rattle.adb_view.specs.declared.tables.Which.TheVariants.{Package, Idb, Intent}
 use Rattle.adb_fields.specs.FirstPair.{IsIn}
-use Rattle.adb_fields.specs.Repeated.{entries_at, files_in, folders_in, name_of, package_name, paths_in}
+use Rattle.adb_fields.specs.Repeated.{entries_at, files_in, folders_in, name_of, package_name, paths_of_package_files}
 
 -- no name occurs twice in the list
 abbrev pub AreDistinctNames : List (List ℕ) → Type 0
@@ -44,7 +44,7 @@ pub record HaveNoRepeatBetween (packages : List Plain) : Type 0 where
   -- each package occurs once
   pub packages_once : AreDistinctNames (map package_name packages)
   -- no path is in two packages
-  pub paths_once : ShareNoName (map paths_in packages)
+  pub paths_once : ShareNoName (map paths_of_package_files packages)
 
 -- no name that must not repeat occurs twice in a container, by the table of its root; other tables
 -- demand nothing

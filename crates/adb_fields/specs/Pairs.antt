@@ -6,29 +6,33 @@ use Rattle.adb_fields.specs.declared.pairs.Pair.{Pair}
 
 -- a name and its position, which counts from 1
 pub record NameWithPosition : Type 0 where
+  -- a name, or a path
   pub name : List ℕ
+  -- its position, counted from 1
   pub position : ℕ
 
 -- whether a pair has priority over another: by the smaller second position, then the smaller first one
 abbrev pub is_lesser_pair : Pair → Pair → Bool
 is_lesser_pair p q = nat_lt p.second q.second || (p.second == q.second && nat_lt p.first q.first)
 
--- the pair of two that is reported; None if there is neither
+-- of two pairs the one that is reported; None if neither exists
 abbrev pub lesser_pair : Option Pair → Option Pair → Option Pair
 lesser_pair None q = q
 lesser_pair (Some p) None = Some p
 lesser_pair (Some p) (Some q) = if is_lesser_pair q p then Some q else Some p
 
--- the pair of several that is reported; None if there is none
+-- of several pairs the one that is reported; None if none exists
 abbrev pub least_pair : List (Option Pair) → Option Pair
 least_pair [] = None
 least_pair (p ∷ ps) = lesser_pair p (least_pair ps)
 
--- the positions of two entries, if they have one name and the first precedes the second
+-- the pair of the positions of two entries, if they have the same name and the first precedes the
+-- second
 abbrev pub pair_if_same_name : NameWithPosition → NameWithPosition → Option Pair
 pair_if_same_name x y = if bytes_eq x.name y.name && nat_lt x.position y.position
     then Some (record { first = x.position; second = y.position }) else None
 
--- the pair that is reported of all pairs of positions of one name
+-- of all pairs of positions at which a name occurs twice the one that is reported; None if no name
+-- does
 unfoldable pub least_pair_of_equal_names : List NameWithPosition → Option Pair
 least_pair_of_equal_names names = least_pair (flat_map (λ x. map (pair_if_same_name x) names) names)

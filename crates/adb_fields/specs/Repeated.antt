@@ -22,27 +22,30 @@ abbrev pub numbered_from : ℕ → List (List ℕ) → List NameWithPosition
 numbered_from n [] = []
 numbered_from n (name ∷ names) = record { name = name; position = n } ∷ numbered_from (n + 1) names
 
--- the pair that is reported of the names of a list; None if each occurs once
+-- the pair of positions at which a list has one name twice: of all such pairs the one that is
+-- reported. None if each name occurs once
 abbrev pub first_repeat : List (List ℕ) → Option Pair
 first_repeat names = least_pair_of_equal_names (numbered_from 1 names)
 
--- the pair that is reported of several lists, if a name occurs twice in one of them
+-- the pair of positions at which one of several lists has one name twice: of the pairs of all lists
+-- the one that is reported
 abbrev pub repeated_pair_in_one_list : List (List (List ℕ)) → Option Pair
 repeated_pair_in_one_list lists = least_pair (map first_repeat lists)
 
 -- these names, all of them at position n
-abbrev pub all_with_position : ℕ → List (List ℕ) → List NameWithPosition
-all_with_position n names = map (λ name. record { name = name; position = n }) names
+abbrev pub names_all_at_position : ℕ → List (List ℕ) → List NameWithPosition
+names_all_at_position n names = map (λ name. record { name = name; position = n }) names
 
 -- the names of several lists, each at the position of its list; the first list has position n
 abbrev pub names_with_list_positions : ℕ → List (List (List ℕ)) → List NameWithPosition
 names_with_list_positions n [] = []
-names_with_list_positions n (names ∷ lists) = all_with_position n names ++ names_with_list_positions (n + 1) lists
+names_with_list_positions n (names ∷ lists) =
+    names_all_at_position n names ++ names_with_list_positions (n + 1) lists
 
 -- the positions of two lists with a common name, of all such pairs the one that is reported; None if there
 -- is none
-abbrev pub first_name_in_two_lists : List (List (List ℕ)) → Option Pair
-first_name_in_two_lists lists = least_pair_of_equal_names (names_with_list_positions 1 lists)
+abbrev pub repeated_pair_in_two_lists : List (List (List ℕ)) → Option Pair
+repeated_pair_in_two_lists lists = least_pair_of_equal_names (names_with_list_positions 1 lists)
 
 -- ---- the names of a container
 
@@ -76,14 +79,14 @@ abbrev pub files_in : Plain → List Plain
 files_in folder = entries_at DIR_FILES folder
 
 -- the paths of the files of a folder
-abbrev pub paths_under : Plain → List (List ℕ)
-paths_under folder = map (λ file. path_of (name_of folder) (name_of file)) (files_in folder)
+abbrev pub paths_of_folder_files : Plain → List (List ℕ)
+paths_of_folder_files folder = map (λ file. path_of (name_of folder) (name_of file)) (files_in folder)
 
 -- the paths of all files of a package
-abbrev pub paths_in : Plain → List (List ℕ)
-paths_in pkg = flat_map paths_under (folders_in pkg)
+abbrev pub paths_of_package_files : Plain → List (List ℕ)
+paths_of_package_files pkg = flat_map paths_of_folder_files (folders_in pkg)
 
--- ---- kind by kind
+-- ---- the pairs of each kind of names
 
 -- the pair of positions in `paths` at which one of these packages lists a folder twice
 abbrev pub folder_twice : List Plain → Option Pair
@@ -94,15 +97,16 @@ abbrev pub file_twice : List Plain → Option Pair
 file_twice packages = repeated_pair_in_one_list
     (flat_map (λ pkg. map (λ folder. map name_of (files_in folder)) (folders_in pkg)) packages)
 
--- the pair of positions of two packages of one name in a database
+-- the pair of positions at which two packages of a database have the same name
 abbrev pub package_twice : List Plain → Option Pair
 package_twice packages = first_repeat (map package_name packages)
 
--- the pair of positions of two packages that list one path
+-- the pair of positions of two packages that list the same path
 abbrev pub path_of_two_packages : List Plain → Option Pair
-path_of_two_packages packages = first_name_in_two_lists (map paths_in packages)
+path_of_two_packages packages = repeated_pair_in_two_lists (map paths_of_package_files packages)
 
--- the pair of positions at which an intent has one name, in its removals followed by its writes
+-- the pair of positions at which a journal entry has one name twice, in its removals followed by its
+-- writes
 abbrev pub repeated_intent_name : Plain → Option Pair
 repeated_intent_name intent = first_repeat
     (map text_in (entries_at INTENT_REMOVALS intent) ++ map text_in (entries_at INTENT_WRITES intent))
@@ -117,20 +121,21 @@ field_number which index = 100 * table_number which + (index + 1)
 abbrev pub repeated_cause : ℕ → Option Pair → Option Cause
 repeated_cause number pair = option_map (λ p. Repeated number p.first p.second) pair
 
--- the cause for names within one package: a folder, or else a file of a folder
+-- the cause if one of these packages lists a folder twice, or else if one of its folders lists a file
+-- twice
 abbrev pub repeated_within_package_fault : List Plain → Option Cause
 repeated_within_package_fault packages =
     option_or (repeated_cause (field_number Dir DIR_NAME) (folder_twice packages))
     (repeated_cause (field_number File FILE_NAME) (file_twice packages))
 
--- the cause for names in two packages: the name of a package, or else a path
+-- the cause if two of these packages have the same name, or else if two list the same path
 abbrev pub repeated_between_packages_fault : List Plain → Option Cause
 repeated_between_packages_fault packages =
     option_or (repeated_cause (field_number Idb IDB_PACKAGES) (package_twice packages))
     (repeated_cause (field_number File FILE_NAME) (path_of_two_packages packages))
 
--- the cause for a container with this table at its root: that of the first kind of names of which one
--- repeats
+-- the cause of a repeated name in a container with this table at its root. The kinds of names are
+-- searched in this order, and the first kind with a repeated name is reported
 unfoldable pub repeated_fault : Which → Plain → Option Cause
 repeated_fault Package v = repeated_within_package_fault (v ∷ [])
 repeated_fault Idb v = option_or (repeated_within_package_fault (entries_at IDB_PACKAGES v))

@@ -30,7 +30,7 @@ const LONGEST_SHORT_LIST: usize = 16;
 pub(crate) struct KnownLists<'a> {
     /// The payload that contains the lists.
     adb: Adb<'a>,
-    /// The table of their objects.
+    /// The table of the objects in these lists.
     which: Which,
     /// By the word of a list: its first pair, or None if no name occurs twice in it.
     pairs: BTreeMap<u32, Option<Pair>>,

@@ -8,7 +8,7 @@ ghost use Rattle.adb_view.specs.Adb.{payload_of};
 ghost use Rattle.adb_view.specs.Entries.{array_entries};
 ghost use Rattle.adb_view.specs.Values.{is_sound, value_at, kind_at, text_in};
 ghost use Rattle.adb_fields.specs.Fields.{are_all_sound};
-ghost use Rattle.adb_fields.specs.Repeated.{NAME_INDEX, numbered_from, all_with_position, name_of, package_name, paths_in, paths_under, names_with_list_positions};
+ghost use Rattle.adb_fields.specs.Repeated.{NAME_INDEX, numbered_from, names_all_at_position, name_of, package_name, paths_of_package_files, paths_of_folder_files, names_with_list_positions};
 ghost use Rattle.adb_fields.specs.Paths.{path_of};
 ghost use Rattle.adb_fields.specs.NamedTexts.{joined_name_with_position, plains_at, name_with_position};
 ghost use Rattle.adb_view.specs.declared.tables.Kind.TheVariants as Kinds;
@@ -29,7 +29,8 @@ const NAME_INDEX: usize = DIR_NAME;
 /// Adds a name after the others, at the next position.
 fn add<'a>(names: &mut Vec<PathWithPosition<'a>>, name: &'a [u8]) -> Result<(), AllocError>
     requires { vec_len names.old + 1 < 2 ^ 32 }
-    ensures added { IfOk result (λ _. map joined_name_with_position names.new.items ≡ map joined_name_with_position names.old.items
+    ensures added { IfOk result (λ _. map joined_name_with_position names.new.items
+        ≡ map joined_name_with_position names.old.items
         ++ (name_with_position name.now (vec_len names.old + 1) ∷ [])) }
     ensures len { IfOk result (λ _. vec_len names.new ≡ vec_len names.old + 1) }
 {
@@ -105,7 +106,8 @@ pub(crate) fn add_texts<'a>(
 ) -> Result<(), AllocError>
     requires sound { are_all_sound (payload_of adb) Kinds.Text (array_entries texts) ≡ true }
     requires few { vec_len names.old + length (array_entries texts) < 2 ^ 32 }
-    ensures added { IfOk result (λ _. map joined_name_with_position names.new.items ≡ map joined_name_with_position names.old.items
+    ensures added { IfOk result (λ _. map joined_name_with_position names.new.items
+        ≡ map joined_name_with_position names.old.items
         ++ numbered_from (vec_len names.old + 1)
         (map text_in (plains_at (payload_of adb.entry) Kinds.Text (array_entries texts.entry)))) }
     ensures len { IfOk result (λ _. vec_len names.new
@@ -124,7 +126,8 @@ fn add_path<'a>(
     name: &'a [u8],
     position: u32,
 ) -> Result<(), AllocError>
-    ensures { IfOk result (λ _. map joined_name_with_position paths.new.items ≡ map joined_name_with_position paths.old.items
+    ensures { IfOk result (λ _. map joined_name_with_position paths.new.items
+        ≡ map joined_name_with_position paths.old.items
         ++ (name_with_position (path_of folder.now name.now) position ∷ [])) }
 {
     let path = FilePath { folder, name };
@@ -141,9 +144,10 @@ fn add_paths_under<'a>(
     position: u32,
 ) -> Result<(), AllocError>
     requires { is_sound (payload_of adb) (Kinds.Obj Tables.Dir) folder ≡ true }
-    ensures { IfOk result (λ _. map joined_name_with_position paths.new.items ≡ map joined_name_with_position paths.old.items
-        ++ all_with_position position
-        (paths_under (value_at (payload_of adb.entry) (Kinds.Obj Tables.Dir) folder))) }
+    ensures { IfOk result (λ _. map joined_name_with_position paths.new.items
+        ≡ map joined_name_with_position paths.old.items
+        ++ names_all_at_position position
+        (paths_of_folder_files (value_at (payload_of adb.entry) (Kinds.Obj Tables.Dir) folder))) }
 {
     let name = text_field(adb, Which::Dir, folder, DIR_NAME);
     let files = objects_field(adb, Which::Dir, folder, DIR_FILES, Which::File);
@@ -163,9 +167,10 @@ fn add_paths<'a>(
     position: u32,
 ) -> Result<(), AllocError>
     requires { is_sound (payload_of adb) (Kinds.Obj Tables.Package) pkg ≡ true }
-    ensures { IfOk result (λ _. map joined_name_with_position paths.new.items ≡ map joined_name_with_position paths.old.items
-        ++ all_with_position position
-        (paths_in (value_at (payload_of adb.entry) (Kinds.Obj Tables.Package) pkg))) }
+    ensures { IfOk result (λ _. map joined_name_with_position paths.new.items
+        ≡ map joined_name_with_position paths.old.items
+        ++ names_all_at_position position
+        (paths_of_package_files (value_at (payload_of adb.entry) (Kinds.Obj Tables.Package) pkg))) }
 {
     let folders = objects_field(adb, Which::Package, pkg, PACKAGE_PATHS, Which::Dir);
     for i in 0..folders.len() {
@@ -185,7 +190,7 @@ pub(crate) fn all_paths<'a>(
         ≡ true }
     ensures { IfOk result (λ paths. map joined_name_with_position paths.items
         ≡ names_with_list_positions 1
-        (map paths_in (plains_at (payload_of adb.entry) (Kinds.Obj Tables.Package)
+        (map paths_of_package_files (plains_at (payload_of adb.entry) (Kinds.Obj Tables.Package)
         (array_entries packages.entry)))) }
 {
     let mut paths = Vec::new(alloc);

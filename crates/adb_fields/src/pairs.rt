@@ -9,7 +9,7 @@ ghost use Rattle.adb_fields.specs.Pairs.{least_pair_of_equal_names, pair_if_same
 ghost use Rattle.adb_fields.specs.FirstPair.{IsLeastPairIfAny};
 ghost use Rattle.adb_fields.specs.FirstPair.{IsPairOfEqualNames};
 ghost use Rattle.adb_fields.specs.NamedTexts.{joined_name_with_position, name_with_position_cmp, neighbours};
-ghost use Rattle.adb_fields.specs.Repeated.{names_with_list_positions, first_name_in_two_lists, first_repeat, numbered_from, repeated_pair_in_one_list};
+ghost use Rattle.adb_fields.specs.Repeated.{names_with_list_positions, repeated_pair_in_two_lists, first_repeat, numbered_from, repeated_pair_in_one_list};
 ghost use Rattle.adb_fields.specs.FirstPair.{IsPairInOne};
 
 use crate::file_path::FilePath;
@@ -18,9 +18,9 @@ use std::cmp::Ordering;
 /// Two positions of one name. They count from 1.
 #[derive(Clone, Copy)]
 pub(crate) struct Pair {
-    /// The smaller one.
+    /// The smaller position.
     pub first: u32,
-    /// The greater one.
+    /// The greater position.
     pub second: u32,
 }
 
@@ -46,7 +46,7 @@ impl Pair {
     }
 }
 
-/// The one of two pairs that is reported; None if there is neither.
+/// Of two pairs the one that is reported; None if neither exists.
 pub(crate) fn lesser_pair(one: Option<Pair>, other: Option<Pair>) -> Option<Pair>
     ensures { result ≡ lesser_pair one other }
 {
@@ -84,7 +84,8 @@ fn first_of_neighbours(entries: &[PathWithPosition<'_>]) -> Option<Pair>
 /// The pair that an entry and a later one are, if they have one name.
 #[tactic(auto, using(crate::proofs::Compared::same_names))]
 fn pair_if_same_name(one: &PathWithPosition<'_>, other: &PathWithPosition<'_>) -> Option<Pair>
-    ensures { result ≡ pair_if_same_name (joined_name_with_position one.now) (joined_name_with_position other.now) }
+    ensures { result ≡ pair_if_same_name (joined_name_with_position one.now)
+        (joined_name_with_position other.now) }
 {
     if !one.path.compare(&other.path).is_eq() {
         return None;
@@ -100,7 +101,8 @@ fn pair_if_same_name(one: &PathWithPosition<'_>, other: &PathWithPosition<'_>) -
 
 /// The order in which names are sorted: by name, and equal names by position.
 fn compared(one: &PathWithPosition<'_>, other: &PathWithPosition<'_>) -> Ordering
-    ensures { result ≡ name_with_position_cmp (joined_name_with_position one.now) (joined_name_with_position other.now) }
+    ensures { result ≡ name_with_position_cmp (joined_name_with_position one.now)
+        (joined_name_with_position other.now) }
 {
     let names = one.path.compare(&other.path);
     names.then(one.position.cmp(&other.position))
@@ -114,12 +116,14 @@ pub fn the_first_pair_of_a_list_is_reported()
 
 /// A law: of the names of several lists, each for itself, the first pair is reported.
 pub fn the_first_pair_in_one_of_several_lists_is_reported()
-    ensures { (lists : List (List (List ℕ))) → IsLeastPairIfAny (IsPairInOne lists) (repeated_pair_in_one_list lists) }
+    ensures { (lists : List (List (List ℕ)))
+        → IsLeastPairIfAny (IsPairInOne lists) (repeated_pair_in_one_list lists) }
 {}
 
 /// A law: of the names that two of several lists have, the first pair of the lists' positions is
 /// reported.
 pub fn the_first_pair_of_two_lists_is_reported()
     ensures { (lists : List (List (List ℕ)))
-        → IsLeastPairIfAny (IsPairOfEqualNames (names_with_list_positions 1 lists)) (first_name_in_two_lists lists) }
+        → IsLeastPairIfAny (IsPairOfEqualNames (names_with_list_positions 1 lists))
+        (repeated_pair_in_two_lists lists) }
 {}

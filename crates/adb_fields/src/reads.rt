@@ -8,7 +8,7 @@
 ghost use Rattle.std.specs.Prelude.{◌≡◌, ◌<◌, true, Some, length, slice_index, slice_index_or};
 ghost use Rattle.adb_view.specs.Adb.{payload_of};
 ghost use Rattle.adb_view.specs.Entries.{array_entries};
-ghost use Rattle.adb_view.specs.Readers.{run_of, OBJECT};
+ghost use Rattle.adb_view.specs.Readers.{run_entries_of_word, OBJECT};
 ghost use Rattle.adb_view.specs.Values.{is_sound, value_at, int_in, text_in, kind_at, entry_in};
 ghost use Rattle.adb_fields.specs.Fields.{AreFieldsOf, IsFieldOf, are_all_sound, array_at};
 ghost use Rattle.adb_view.specs.declared.tables.Kind.TheVariants as Kinds;

@@ -94,7 +94,8 @@ fn repeated_cause(number: u16, pair: Option<Pair>) -> Option<Cause>
 fn in_package(alloc: Global, adb: Adb<'_>, pkg: Val) -> Result<Option<Cause>, AllocError>
     requires { is_sound (payload_of adb) (Kinds.Obj Tables.Package) pkg ≡ true }
     ensures { IfOk result (λ cause. cause
-        ≡ repeated_within_package_fault (value_at (payload_of adb.entry) (Kinds.Obj Tables.Package) pkg ∷ [])) }
+        ≡ repeated_within_package_fault (value_at (payload_of adb.entry)
+        (Kinds.Obj Tables.Package) pkg ∷ [])) }
 {
     let mut folders = KnownLists::new(alloc, adb, Which::Dir);
     match repeated_cause(
@@ -118,7 +119,8 @@ fn in_database(alloc: Global, adb: Adb<'_>, packages: Arr<'_>) -> Result<Option<
         ≡ option_or
         (repeated_within_package_fault (plains_at (payload_of adb.entry) (Kinds.Obj Tables.Package)
         (array_entries packages.entry)))
-        (repeated_between_packages_fault (plains_at (payload_of adb.entry) (Kinds.Obj Tables.Package)
+        (repeated_between_packages_fault (plains_at (payload_of adb.entry)
+        (Kinds.Obj Tables.Package)
         (array_entries packages.entry)))) }
 {
     match inside_packages(alloc, adb, packages)? {
@@ -154,7 +156,8 @@ fn between_packages(
     requires { are_all_sound (payload_of adb) (Kinds.Obj Tables.Package) (array_entries packages)
         ≡ true }
     ensures { IfOk result (λ cause. cause
-        ≡ repeated_between_packages_fault (plains_at (payload_of adb.entry) (Kinds.Obj Tables.Package)
+        ≡ repeated_between_packages_fault (plains_at (payload_of adb.entry)
+        (Kinds.Obj Tables.Package)
         (array_entries packages.entry))) }
 {
     let mut names = package_names(alloc, adb, packages)?;
@@ -197,7 +200,7 @@ fn in_intent(alloc: Global, adb: Adb<'_>, intent: Val) -> Result<Option<Cause>, 
     ))
 }
 
-/// The pair of positions at which a package lists one folder.
+/// The pair of positions at which a package lists one folder twice.
 fn folder_twice_in_package(
     alloc: Global,
     adb: Adb<'_>,
@@ -214,7 +217,7 @@ fn folder_twice_in_package(
     lists.first_repeat(alloc, field_word(adb, Which::Package, pkg, PACKAGE_PATHS))
 }
 
-/// The first pair of positions at which one of a package's folders lists one file.
+/// The first pair of positions at which one of a package's folders lists one file twice.
 #[tactic(auto, using(crate::proofs::FieldReads::entry_sound))]
 fn file_twice_in_package(
     alloc: Global,
@@ -238,7 +241,7 @@ fn file_twice_in_package(
     Ok(first)
 }
 
-/// The pair of positions at which a folder lists one file.
+/// The pair of positions at which a folder lists one file twice.
 fn file_twice_in_folder(
     alloc: Global,
     adb: Adb<'_>,
@@ -255,7 +258,7 @@ fn file_twice_in_folder(
     lists.first_repeat(alloc, field_word(adb, Which::Dir, folder, DIR_FILES))
 }
 
-/// The first pair of positions at which one of the packages lists one folder.
+/// The first pair of positions at which one of the packages lists one folder twice.
 #[tactic(auto, using(crate::proofs::FieldReads::entry_sound))]
 fn folder_twice(alloc: Global, adb: Adb<'_>, packages: Arr<'_>) -> Result<Option<Pair>, AllocError>
     requires { are_all_sound (payload_of adb) (Kinds.Obj Tables.Package) (array_entries packages)
@@ -273,7 +276,7 @@ fn folder_twice(alloc: Global, adb: Adb<'_>, packages: Arr<'_>) -> Result<Option
     Ok(first)
 }
 
-/// The first pair of positions at which a folder of one of the packages lists the same file.
+/// The first pair of positions at which a folder of one of the packages lists one file twice.
 #[tactic(auto, using(crate::proofs::FieldReads::entry_sound))]
 fn file_twice(alloc: Global, adb: Adb<'_>, packages: Arr<'_>) -> Result<Option<Pair>, AllocError>
     requires { are_all_sound (payload_of adb) (Kinds.Obj Tables.Package) (array_entries packages)

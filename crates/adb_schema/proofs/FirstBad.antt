@@ -3,7 +3,7 @@ use Rattle.std.proofs.Common.{◌≡◌, ℕ, zero, suc, ◌<◌, Bool, true, fa
 use Rattle.std.specs.Prelude.{slice_get, if◌then◌else◌}
 use Rattle.base_core.specs.declared.cause.Cause.{Cause}
 use Rattle.base_core.specs.declared.cause.Cause.TheVariants.{BadText}
-use Rattle.adb_schema.specs.Texts.{Leaf, keeps_rule, number_of_leaf, first_bad_leaf}
+use Rattle.adb_schema.specs.Texts.{Leaf, keeps_rule, field_number_of_leaf, first_bad_leaf}
 use Rattle.adb_schema.specs.FirstBad.{IsFirstBadLeafIfAny}
 use Rattle.adb_schema.specs.FirstBad.{IsFirstBadLeaf}
 
@@ -22,7 +22,7 @@ after_kept x xs c kept f = record {
     earlier zero other lt e = let same : x ≡ other = cc in cc
     earlier (suc j) other lt e = f.before j other (omega arith) e
 
-told : (x : Leaf) (xs : List Leaf) (b : Bool) → keeps_rule x ≡ b → (o : Option Cause) → IsFirstBadLeafIfAny xs o → IsFirstBadLeafIfAny (x ∷ xs) (if b then o else Some (BadText (number_of_leaf x)))
+told : (x : Leaf) (xs : List Leaf) (b : Bool) → keeps_rule x ≡ b → (o : Option Cause) → IsFirstBadLeafIfAny xs o → IsFirstBadLeafIfAny (x ∷ xs) (if b then o else Some (BadText (field_number_of_leaf x)))
 told x xs true e None h = rw (e, h) refl
 told x xs true e (Some c) h = after_kept x xs c e h
 told x xs false e o h = record {

@@ -12,7 +12,7 @@ use Rattle.std.proofs.lemmas.Map.Lookups.{CmpEqualImpliesEq}
 use Rattle.std.proofs.lemmas.Map.Views.{All-insert_key, Contains-from_any}
 use Rattle.std.proofs.lemmas.List.Elements.{All-contains}
 use Rattle.base_core.specs.declared.cause.Cause.{Cause}
-use Rattle.adb_view.specs.Plain.{null, blob_or_null, from_answer, plain_of}
+use Rattle.adb_view.specs.Plain.{null, blob_or_null, option_of_ok_value, plain_of}
 use Rattle.adb_view.specs.Readers.{blob_of}
 use Rattle.adb_view.specs.Schema.{shape_of}
 use Rattle.adb_view.specs.Values.{text_in, value_at}
@@ -44,9 +44,9 @@ all-inserted cmp P old new k (Err e) ok err all here = let Q : List _ → Type 0
 
 -- ---- the text of a word, as it is read
 
-text_by : (is_null : Bool) (read other : Result (List ℕ) Cause) (b : List ℕ) → read ≡ cond is_null (Ok []) other → read ≡ Ok b → text_in (unwrap_or (cond is_null (Some null) (from_answer (λ x. Some (blob_or_null x)) read)) null) ≡ b
+text_by : (is_null : Bool) (read other : Result (List ℕ) Cause) (b : List ℕ) → read ≡ cond is_null (Ok []) other → read ≡ Ok b → text_in (unwrap_or (cond is_null (Some null) (option_of_ok_value (λ x. Some (blob_or_null x)) read)) null) ≡ b
 text_by true read other b e h = let same : Ok [] ≡ Ok b = sym e ∙ h in cc
-text_by false read other b e h = ap (λ (r : Result (List ℕ) Cause). text_in (unwrap_or (from_answer (λ x. Some (blob_or_null x)) r) null)) h ∙ text_blob b
+text_by false read other b e h = ap (λ (r : Result (List ℕ) Cause). text_in (unwrap_or (option_of_ok_value (λ x. Some (blob_or_null x)) r) null)) h ∙ text_blob b
 
 pub text_at-blob : (p : List ℕ) (w : ℕ) (b : List ℕ) → blob_of p w ≡ Ok b → text_at p w ≡ b
 unfolding value_at plain_of shape_of blob_of

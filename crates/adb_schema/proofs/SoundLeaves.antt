@@ -12,11 +12,11 @@ use Rattle.adb_view.specs.Schema.{shape_of, shapes_of, table}
 use Rattle.adb_view.specs.declared.tables.Which.{Which}
 use Rattle.adb_view.specs.declared.tables.Which.TheVariants as Tables
 use Rattle.adb_view.specs.declared.tables.Kind.TheVariants.{Obj, ObjArr, TextArr}
-use Rattle.adb_schema.specs.Texts.{Surroundings, Leaf, each_leaf, leaves, field_leaves, first_bad_leaf, text_fault, text_rule, surroundings_of_root, surroundings_of_fields, may_list}
+use Rattle.adb_schema.specs.Texts.{Surroundings, Leaf, leaves_of_all_values, leaves, field_leaves, first_bad_leaf, text_fault, is_allowed_text_of_field, surroundings_of_root, surroundings_of_fields, can_root_table_list_path}
 use Rattle.dep_core.specs.Value.{is_match_number}
 use Rattle.adb_fields.specs.Paths.{path_of}
-use Rattle.adb_schema.specs.Rules.{is_file_name}
-use Rattle.adb_schema.specs.SoundValues.{IsSoundDependency, IsSoundInformation, IsSoundFileOf, IsSoundFolder, IsSoundPackage, IsSoundIndex, IsSoundIntent, IsChangeableName, KeepsRules}
+use Rattle.adb_schema.specs.Rules.{is_file_name_in_folder}
+use Rattle.adb_schema.specs.SoundValues.{IsSoundDependency, IsSoundInformation, IsSoundFileOf, IsSoundFolder, IsSoundPackage, IsSoundIndex, IsSoundIntent, IsNameAllowedInIntent, KeepsRules}
 use Rattle.adb_schema.proofs.TextSteps.{first_bad_leaf-append, behind, behind-zero, nth-behind, behind-behind}
 
 abbrev pub Good : List Leaf → Type 0
@@ -40,17 +40,17 @@ good-append xs ys h k = first_bad_leaf-append xs ys ∙ none_both (first_bad_lea
 
 -- ---- the entries of an array
 
-each_good : (P : Plain → Type 0) (f : Plain → List Leaf) → ((v : Plain) → Good (f v) → P v) → (vs : Plains) → Good (each_leaf f vs) → Each P vs
+each_good : (P : Plain → Type 0) (f : Plain → List Leaf) → ((v : Plain) → Good (f v) → P v) → (vs : Plains) → Good (leaves_of_all_values f vs) → Each P vs
 each_good P f h none g = tt
-each_good P f h (more v vs) g = let (a, b) = good-parts (f v) (each_leaf f vs) g in (h v a, each_good P f h vs b)
+each_good P f h (more v vs) g = let (a, b) = good-parts (f v) (leaves_of_all_values f vs) g in (h v a, each_good P f h vs b)
 
-good_each : (P : Plain → Type 0) (f : Plain → List Leaf) → ((v : Plain) → P v → Good (f v)) → (vs : Plains) → Each P vs → Good (each_leaf f vs)
+good_each : (P : Plain → Type 0) (f : Plain → List Leaf) → ((v : Plain) → P v → Good (f v)) → (vs : Plains) → Each P vs → Good (leaves_of_all_values f vs)
 good_each P f h none g = refl
-good_each P f h (more v vs) g = good-append (f v) (each_leaf f vs) (h v g.0) (good_each P f h vs g.1)
+good_each P f h (more v vs) g = good-append (f v) (leaves_of_all_values f vs) (h v g.0) (good_each P f h vs g.1)
 
-always_each : (f : Plain → List Leaf) → ((v : Plain) → Good (f v)) → (vs : Plains) → Good (each_leaf f vs)
+always_each : (f : Plain → List Leaf) → ((v : Plain) → Good (f v)) → (vs : Plains) → Good (leaves_of_all_values f vs)
 always_each f h none = refl
-always_each f h (more v vs) = good-append (f v) (each_leaf f vs) (h v) (always_each f h vs)
+always_each f h (more v vs) = good-append (f v) (leaves_of_all_values f vs) (h v) (always_each f h vs)
 
 -- ---- the fields of an object
 
@@ -91,26 +91,26 @@ fields_good fs k a vs g = sym (ap (λ us. first_bad_leaf (field_leaves fs k a us
 
 -- ---- texts
 
-text_kept : (k : ℕ) (a : Surroundings) (v : Plain) → Good (leaves text k a v) → text_rule k a (text_in v) ≡ true
+text_kept : (k : ℕ) (a : Surroundings) (v : Plain) → Good (leaves text k a v) → is_allowed_text_of_field k a (text_in v) ≡ true
 unfolding leaves
-text_kept k a v g = kept (text_rule k a (text_in v)) (BadText k) g
+text_kept k a v g = kept (is_allowed_text_of_field k a (text_in v)) (BadText k) g
 
-kept_text : (k : ℕ) (a : Surroundings) (v : Plain) → text_rule k a (text_in v) ≡ true → Good (leaves text k a v)
+kept_text : (k : ℕ) (a : Surroundings) (v : Plain) → is_allowed_text_of_field k a (text_in v) ≡ true → Good (leaves text k a v)
 unfolding leaves
-kept_text k a v e = good_if (text_rule k a (text_in v)) (BadText k) e
+kept_text k a v e = good_if (is_allowed_text_of_field k a (text_in v)) (BadText k) e
 
-hash_kept : (k : ℕ) (a : Surroundings) (v : Plain) → Good (leaves hash k a v) → text_rule k a (text_in v) ≡ true
+hash_kept : (k : ℕ) (a : Surroundings) (v : Plain) → Good (leaves hash k a v) → is_allowed_text_of_field k a (text_in v) ≡ true
 unfolding leaves
-hash_kept k a v g = kept (text_rule k a (text_in v)) (BadText k) g
+hash_kept k a v g = kept (is_allowed_text_of_field k a (text_in v)) (BadText k) g
 
-kept_hash : (k : ℕ) (a : Surroundings) (v : Plain) → text_rule k a (text_in v) ≡ true → Good (leaves hash k a v)
+kept_hash : (k : ℕ) (a : Surroundings) (v : Plain) → is_allowed_text_of_field k a (text_in v) ≡ true → Good (leaves hash k a v)
 unfolding leaves
-kept_hash k a v e = good_if (text_rule k a (text_in v)) (BadText k) e
+kept_hash k a v e = good_if (is_allowed_text_of_field k a (text_in v)) (BadText k) e
 
 -- ---- table by table, from the leaves and back to them
 
 dependency_of : (k : ℕ) (a : Surroundings) (v : Plain) → Good (leaves (shape_of (Obj Tables.Dep)) k a v) → IsSoundDependency v
-unfolding leaves shape_of text_rule
+unfolding leaves shape_of is_allowed_text_of_field
 dependency_of k a v g =
     let b : Surroundings = surroundings_of_fields 1 a v in
     let h = good_fields (shapes_of (table Tables.Dep)) 101 b (entries_in v) g in
@@ -121,7 +121,7 @@ dependency_of k a v g =
     }
 
 of_dependency : (k : ℕ) (a : Surroundings) (v : Plain) → IsSoundDependency v → Good (leaves (shape_of (Obj Tables.Dep)) k a v)
-unfolding leaves shape_of text_rule
+unfolding leaves shape_of is_allowed_text_of_field
 of_dependency k a v d =
     let b : Surroundings = surroundings_of_fields 1 a v in
     fields_good (shapes_of (table Tables.Dep)) 101 b (entries_in v)
@@ -136,12 +136,12 @@ unfolding leaves shape_of
 of_dependencies k a v d = good_each IsSoundDependency (leaves (shape_of (Obj Tables.Dep)) k a) (of_dependency k a) (entries_in v) d
 
 -- texts without a rule are never bad
-plain_texts : (k : ℕ) (a : Surroundings) (v : Plain) → ((bytes : List ℕ) → text_rule k a bytes ≡ true) → Good (leaves (shape_of TextArr) k a v)
+plain_texts : (k : ℕ) (a : Surroundings) (v : Plain) → ((bytes : List ℕ) → is_allowed_text_of_field k a bytes ≡ true) → Good (leaves (shape_of TextArr) k a v)
 unfolding leaves shape_of
 plain_texts k a v h = always_each (leaves text k a) (λ u. kept_text k a u (h (text_in u))) (entries_in v)
 
 information_of : (k : ℕ) (a : Surroundings) (v : Plain) → Good (leaves (shape_of (Obj Tables.PkgInfo)) k a v) → IsSoundInformation a.root v
-unfolding leaves shape_of text_rule
+unfolding leaves shape_of is_allowed_text_of_field
 information_of k a v g =
     let b : Surroundings = surroundings_of_fields 3 a v in
     let h = good_fields (shapes_of (table Tables.PkgInfo)) 301 b (entries_in v) g in
@@ -158,26 +158,26 @@ information_of k a v g =
     }
 
 of_information : (k : ℕ) (a : Surroundings) (v : Plain) → IsSoundInformation a.root v → Good (leaves (shape_of (Obj Tables.PkgInfo)) k a v)
-unfolding leaves shape_of text_rule
+unfolding leaves shape_of is_allowed_text_of_field
 of_information k a v d =
     let b : Surroundings = surroundings_of_fields 3 a v in
     fields_good (shapes_of (table Tables.PkgInfo)) 301 b (entries_in v)
     (kept_text 301 b (entry_in v 0) d.name, (kept_text 302 b (entry_in v 1) d.version, (kept_hash 303 b (entry_in v 2) d.hash, (refl, (refl, (refl, (refl, (refl, (refl, (refl, (refl, (refl, (refl, (refl, (of_dependencies 315 b (entry_in v 14) d.depends, (of_dependencies 316 b (entry_in v 15) d.provides, (of_dependencies 317 b (entry_in v 16) d.replaces, (of_dependencies 318 b (entry_in v 17) d.install_if, (of_dependencies 319 b (entry_in v 18) d.recommends, (refl, (plain_texts 321 b (entry_in v 20) (λ bytes. refl), (refl, tt))))))))))))))))))))))
 
 rights_good : (k : ℕ) (a : Surroundings) (v : Plain) → Good (leaves (shape_of (Obj Tables.Acl)) k a v)
-unfolding leaves shape_of text_rule
+unfolding leaves shape_of is_allowed_text_of_field
 rights_good k a v = fields_good (shapes_of (table Tables.Acl)) 201 (surroundings_of_fields 2 a v) (entries_in v) (refl, (refl, (refl, (plain_texts 204 (surroundings_of_fields 2 a v) (entry_in v 3) (λ bytes. refl), tt))))
 
 scripts_good : (k : ℕ) (a : Surroundings) (v : Plain) → Good (leaves (shape_of (Obj Tables.Scripts)) k a v)
-unfolding leaves shape_of text_rule
+unfolding leaves shape_of is_allowed_text_of_field
 scripts_good k a v = fields_good (shapes_of (table Tables.Scripts)) 601 (surroundings_of_fields 6 a v) (entries_in v) (refl, (refl, (refl, (refl, (refl, (refl, (refl, tt)))))))
 
 file_of : (k : ℕ) (a : Surroundings) (v : Plain) → Good (leaves (shape_of (Obj Tables.File)) k a v) → IsSoundFileOf a.root a.folder v
-unfolding leaves shape_of text_rule
+unfolding leaves shape_of is_allowed_text_of_field
 file_of k a v g =
     let b : Surroundings = surroundings_of_fields 4 a v in
     let h = good_fields (shapes_of (table Tables.File)) 401 b (entries_in v) g in
-    let (name, listed) = and_parts (is_file_name a.folder (text_in (entry_in v 0))) (may_list a.root (path_of a.folder (text_in (entry_in v 0)))) (text_kept 401 b (entry_in v 0) h.0) in
+    let (name, listed) = and_parts (is_file_name_in_folder a.folder (text_in (entry_in v 0))) (can_root_table_list_path a.root (path_of a.folder (text_in (entry_in v 0)))) (text_kept 401 b (entry_in v 0) h.0) in
     record {
       name = name;
       listed = listed;
@@ -186,15 +186,15 @@ file_of k a v g =
     }
 
 of_file : (k : ℕ) (a : Surroundings) (v : Plain) → IsSoundFileOf a.root a.folder v → Good (leaves (shape_of (Obj Tables.File)) k a v)
-unfolding leaves shape_of text_rule
+unfolding leaves shape_of is_allowed_text_of_field
 of_file k a v d =
     let b : Surroundings = surroundings_of_fields 4 a v in
-    let named = and_from (is_file_name a.folder (text_in (entry_in v 0))) (may_list a.root (path_of a.folder (text_in (entry_in v 0)))) d.name d.listed in
+    let named = and_from (is_file_name_in_folder a.folder (text_in (entry_in v 0))) (can_root_table_list_path a.root (path_of a.folder (text_in (entry_in v 0)))) d.name d.listed in
     fields_good (shapes_of (table Tables.File)) 401 b (entries_in v)
     (kept_text 401 b (entry_in v 0) named, (rights_good 402 b (entry_in v 1), (refl, (refl, (kept_hash 405 b (entry_in v 4) d.hash, (kept_text 406 b (entry_in v 5) d.target, (refl, tt)))))))
 
 folder_of : (k : ℕ) (a : Surroundings) (v : Plain) → Good (leaves (shape_of (Obj Tables.Dir)) k a v) → IsSoundFolder a.root v
-unfolding leaves shape_of text_rule
+unfolding leaves shape_of is_allowed_text_of_field
 folder_of k a v g =
     let b : Surroundings = surroundings_of_fields 5 a v in
     let h = good_fields (shapes_of (table Tables.Dir)) 501 b (entries_in v) g in
@@ -204,14 +204,14 @@ folder_of k a v g =
     }
 
 of_folder : (k : ℕ) (a : Surroundings) (v : Plain) → IsSoundFolder a.root v → Good (leaves (shape_of (Obj Tables.Dir)) k a v)
-unfolding leaves shape_of text_rule
+unfolding leaves shape_of is_allowed_text_of_field
 of_folder k a v d =
     let b : Surroundings = surroundings_of_fields 5 a v in
     fields_good (shapes_of (table Tables.Dir)) 501 b (entries_in v)
     (kept_text 501 b (entry_in v 0) d.name, (rights_good 502 b (entry_in v 1), (good_each (IsSoundFileOf b.root b.folder) (leaves (shape_of (Obj Tables.File)) 503 b) (of_file 503 b) (entries_in (entry_in v 2)) d.files, tt)))
 
 package_of : (k : ℕ) (a : Surroundings) (v : Plain) → Good (leaves (shape_of (Obj Tables.Package)) k a v) → IsSoundPackage a.root v
-unfolding leaves shape_of text_rule
+unfolding leaves shape_of is_allowed_text_of_field
 package_of k a v g =
     let b : Surroundings = surroundings_of_fields 7 a v in
     let h = good_fields (shapes_of (table Tables.Package)) 701 b (entries_in v) g in
@@ -221,14 +221,14 @@ package_of k a v g =
     }
 
 of_package : (k : ℕ) (a : Surroundings) (v : Plain) → IsSoundPackage a.root v → Good (leaves (shape_of (Obj Tables.Package)) k a v)
-unfolding leaves shape_of text_rule
+unfolding leaves shape_of is_allowed_text_of_field
 of_package k a v d =
     let b : Surroundings = surroundings_of_fields 7 a v in
     fields_good (shapes_of (table Tables.Package)) 701 b (entries_in v)
     (of_information 701 b (entry_in v 0) d.info, (good_each (IsSoundFolder b.root) (leaves (shape_of (Obj Tables.Dir)) 702 b) (of_folder 702 b) (entries_in (entry_in v 1)) d.folders, (scripts_good 703 b (entry_in v 2), (plain_texts 704 b (entry_in v 3) (λ bytes. refl), (refl, tt)))))
 
 index_of : (v : Plain) → Good (leaves (shape_of (Obj Tables.Index)) 0 (surroundings_of_root Tables.Index) v) → IsSoundIndex v
-unfolding leaves shape_of text_rule
+unfolding leaves shape_of is_allowed_text_of_field
 index_of v g =
     let b : Surroundings = surroundings_of_fields 8 (surroundings_of_root Tables.Index) v in
     let h = good_fields (shapes_of (table Tables.Index)) 801 b (entries_in v) g in
@@ -238,42 +238,42 @@ index_of v g =
     }
 
 of_index : (v : Plain) → IsSoundIndex v → Good (leaves (shape_of (Obj Tables.Index)) 0 (surroundings_of_root Tables.Index) v)
-unfolding leaves shape_of text_rule
+unfolding leaves shape_of is_allowed_text_of_field
 of_index v d =
     let b : Surroundings = surroundings_of_fields 8 (surroundings_of_root Tables.Index) v in
     fields_good (shapes_of (table Tables.Index)) 801 b (entries_in v)
     (refl, (good_each (IsSoundInformation Tables.Index) (leaves (shape_of (Obj Tables.PkgInfo)) 802 b) (of_information 802 b) (entries_in (entry_in v 1)) d.packages, (kept_text 803 b (entry_in v 2) d.pattern, tt)))
 
 database_of : (v : Plain) → Good (leaves (shape_of (Obj Tables.Idb)) 0 (surroundings_of_root Tables.Idb) v) → Each (IsSoundPackage Tables.Idb) (entries_in (entry_in v 0))
-unfolding leaves shape_of text_rule
+unfolding leaves shape_of is_allowed_text_of_field
 database_of v g =
     let b : Surroundings = surroundings_of_fields 9 (surroundings_of_root Tables.Idb) v in
     let h = good_fields (shapes_of (table Tables.Idb)) 901 b (entries_in v) g in
     each_good (IsSoundPackage Tables.Idb) (leaves (shape_of (Obj Tables.Package)) 901 b) (package_of 901 b) (entries_in (entry_in v 0)) h.0
 
 of_database : (v : Plain) → Each (IsSoundPackage Tables.Idb) (entries_in (entry_in v 0)) → Good (leaves (shape_of (Obj Tables.Idb)) 0 (surroundings_of_root Tables.Idb) v)
-unfolding leaves shape_of text_rule
+unfolding leaves shape_of is_allowed_text_of_field
 of_database v d =
     let b : Surroundings = surroundings_of_fields 9 (surroundings_of_root Tables.Idb) v in
     fields_good (shapes_of (table Tables.Idb)) 901 b (entries_in v)
     (good_each (IsSoundPackage Tables.Idb) (leaves (shape_of (Obj Tables.Package)) 901 b) (of_package 901 b) (entries_in (entry_in v 0)) d, tt)
 
 intent_of : (v : Plain) → Good (leaves (shape_of (Obj Tables.Intent)) 0 (surroundings_of_root Tables.Intent) v) → IsSoundIntent v
-unfolding leaves shape_of text_rule
+unfolding leaves shape_of is_allowed_text_of_field
 intent_of v g =
     let b : Surroundings = surroundings_of_fields 10 (surroundings_of_root Tables.Intent) v in
     let h = good_fields (shapes_of (table Tables.Intent)) 1001 b (entries_in v) g in
     record {
-      removals = each_good IsChangeableName (leaves text 1001 b) (text_kept 1001 b) (entries_in (entry_in v 0)) h.0;
-      writes = each_good IsChangeableName (leaves text 1002 b) (text_kept 1002 b) (entries_in (entry_in v 1)) h.1.0;
+      removals = each_good IsNameAllowedInIntent (leaves text 1001 b) (text_kept 1001 b) (entries_in (entry_in v 0)) h.0;
+      writes = each_good IsNameAllowedInIntent (leaves text 1002 b) (text_kept 1002 b) (entries_in (entry_in v 1)) h.1.0;
     }
 
 of_intent : (v : Plain) → IsSoundIntent v → Good (leaves (shape_of (Obj Tables.Intent)) 0 (surroundings_of_root Tables.Intent) v)
-unfolding leaves shape_of text_rule
+unfolding leaves shape_of is_allowed_text_of_field
 of_intent v d =
     let b : Surroundings = surroundings_of_fields 10 (surroundings_of_root Tables.Intent) v in
     fields_good (shapes_of (table Tables.Intent)) 1001 b (entries_in v)
-    (good_each IsChangeableName (leaves text 1001 b) (kept_text 1001 b) (entries_in (entry_in v 0)) d.removals, (good_each IsChangeableName (leaves text 1002 b) (kept_text 1002 b) (entries_in (entry_in v 1)) d.writes, tt))
+    (good_each IsNameAllowedInIntent (leaves text 1001 b) (kept_text 1001 b) (entries_in (entry_in v 0)) d.removals, (good_each IsNameAllowedInIntent (leaves text 1002 b) (kept_text 1002 b) (entries_in (entry_in v 1)) d.writes, tt))
 
 pub rules_kept : (which : Which) (v : Plain) → (text_fault which v ≡ None) ↔ KeepsRules which v
 rules_kept Tables.Dep v = (dependency_of 0 (surroundings_of_root Tables.Dep) v, of_dependency 0 (surroundings_of_root Tables.Dep) v)

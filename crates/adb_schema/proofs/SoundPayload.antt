@@ -2,7 +2,7 @@
 use Rattle.std.proofs.Common.{◌≡◌, ◌↔◌, ◌≤◌, ℕ, true, List, length, Option, Some, None, refl, ap}
 use Rattle.std.specs.Prelude.{is_none, is_some}
 use Rattle.base_core.proofs.Causes.{first_none, second_none}
-use Rattle.adb_view.specs.Head.{head_fault, root_of}
+use Rattle.adb_view.specs.Head.{payload_head_fault, root_word_of_payload}
 use Rattle.adb_view.specs.Plain.{Plain, Shape, plain_of}
 use Rattle.adb_view.specs.Visits.{visits, MOST_VALUES}
 use Rattle.adb_view.specs.Schema.{shape_of}
@@ -13,7 +13,7 @@ use Rattle.adb_view.specs.declared.tables.Kind.TheVariants as Kinds
 use Rattle.adb_fields.specs.Repeated.{repeated_fault}
 use Rattle.adb_schema.specs.SoundValues.{KeepsRules}
 use Rattle.adb_schema.specs.Texts.{text_fault}
-use Rattle.adb_schema.specs.Soundness.{payload_fault, first_fault, payload_in, root_value}
+use Rattle.adb_schema.specs.Soundness.{payload_fault, container_fault_except_contents, payload_in, root_value}
 use Rattle.adb_schema.proofs.Sound.{sound_payload}
 
 -- what a law of `adb_view` says
@@ -25,14 +25,14 @@ pub none_of : {A : Type 0} (o : Option A) → is_none o ≡ true → o ≡ None
 none_of None h = refl
 none_of (Some a) h = absurd (cc)
 
-pub payload_head : (which : Which) (p : List ℕ) → payload_fault which p ≡ None → is_none (head_fault p) ≡ true
-payload_head which p h = ap is_none (first_none (head_fault p) _ h)
+pub payload_head : (which : Which) (p : List ℕ) → payload_fault which p ≡ None → is_none (payload_head_fault p) ≡ true
+payload_head which p h = ap is_none (first_none (payload_head_fault p) _ h)
 
-pub payload_sound : Visited → (which : Which) (p : List ℕ) → payload_fault which p ≡ None → is_sound p (Kinds.Obj which) (root_of p) ≡ true
+pub payload_sound : Visited → (which : Which) (p : List ℕ) → payload_fault which p ≡ None → is_sound p (Kinds.Obj which) (root_word_of_payload p) ≡ true
 unfolding is_sound
 payload_sound visited which p h =
-    ((visited p (shape_of (Kinds.Obj which)) (root_of p)).0
-    (first_none (shape_fault p (shape_of (Kinds.Obj which)) (root_of p)) _ (second_none (head_fault p) _ h))).0
+    ((visited p (shape_of (Kinds.Obj which)) (root_word_of_payload p)).0
+    (first_none (shape_fault p (shape_of (Kinds.Obj which)) (root_word_of_payload p)) _ (second_none (payload_head_fault p) _ h))).0
 
 -- what a law of `adb_schema` says
 abbrev pub Kept : Type 0
@@ -41,17 +41,17 @@ Kept = (which : Which) (v : Plain) → (text_fault which v ≡ None) ↔ KeepsRu
 pub payload_texts : (which : Which) (p : List ℕ) → payload_fault which p ≡ None → text_fault which (root_value which p) ≡ None
 payload_texts which p h =
     first_none (text_fault which (root_value which p)) (repeated_fault which (root_value which p))
-    (second_none (shape_fault p (shape_of (Kinds.Obj which)) (root_of p)) _ (second_none (head_fault p) _ h))
+    (second_none (shape_fault p (shape_of (Kinds.Obj which)) (root_word_of_payload p)) _ (second_none (payload_head_fault p) _ h))
 
 pub payload_rules : Kept → (which : Which) (p : List ℕ) → payload_fault which p ≡ None → KeepsRules which (root_value which p)
 payload_rules kept which p h =
     (kept which (root_value which p)).0 (payload_texts which p h)
 
-pub file_head : (which : Which) (file : List ℕ) → first_fault which file ≡ None → is_none (head_fault (payload_in file)) ≡ true
+pub file_head : (which : Which) (file : List ℕ) → container_fault_except_contents which file ≡ None → is_none (payload_head_fault (payload_in file)) ≡ true
 file_head which file h = payload_head which (payload_in file) (sound_payload which file h)
 
-pub file_sound : Visited → (which : Which) (file : List ℕ) → first_fault which file ≡ None → is_sound (payload_in file) (Kinds.Obj which) (root_of (payload_in file)) ≡ true
+pub file_sound : Visited → (which : Which) (file : List ℕ) → container_fault_except_contents which file ≡ None → is_sound (payload_in file) (Kinds.Obj which) (root_word_of_payload (payload_in file)) ≡ true
 file_sound visited which file h = payload_sound visited which (payload_in file) (sound_payload which file h)
 
-pub file_texts : (which : Which) (file : List ℕ) → first_fault which file ≡ None → text_fault which (root_value which (payload_in file)) ≡ None
+pub file_texts : (which : Which) (file : List ℕ) → container_fault_except_contents which file ≡ None → text_fault which (root_value which (payload_in file)) ≡ None
 file_texts which file h = payload_texts which (payload_in file) (sound_payload which file h)

@@ -5,7 +5,7 @@ use Rattle.std.specs.Option.{option_or}
 use Rattle.std.proofs.lemmas.List.{drop_more, drop_all}
 use Rattle.base_core.specs.declared.cause.Cause.{Cause}
 use Rattle.base_core.specs.declared.cause.Cause.TheVariants.{BadText}
-use Rattle.adb_view.specs.Plain.{Plain, Plains, none, more, then_more, each_plain, plain_of}
+use Rattle.adb_view.specs.Plain.{Plain, Plains, none, more, plains_if_first_and_rest, plains_of_all_words, plain_of}
 use Rattle.adb_view.specs.Schema.{table_number, table, shape_of, shapes_of}
 use Rattle.adb_fields.specs.Fields.{IsFieldOf, are_all_sound, values_at, array_at}
 use Rattle.adb_view.specs.Values.{is_sound, value_at, entries_in, nth, int_in, text_in}
@@ -13,7 +13,7 @@ use Rattle.adb_view.specs.Rank.{rank, rank_of_all}
 use Rattle.adb_view.proofs.ValueEntries.{entries_arr}
 use Rattle.adb_view.proofs.WalkSteps.{field_rank}
 use Rattle.adb_schema.specs.TextWalk.{IsSameWordAsPrevious, bad_text_at}
-use Rattle.adb_schema.specs.Texts.{Surroundings, Leaf, number_leaf, text_leaf, keeps_rule, number_of_leaf, each_leaf, leaves, field_leaves, surroundings_of_fields, first_bad_leaf}
+use Rattle.adb_schema.specs.Texts.{Surroundings, Leaf, number_leaf, text_leaf, keeps_rule, field_number_of_leaf, leaves_of_all_values, leaves, field_leaves, surroundings_of_fields, first_bad_leaf}
 use Rattle.adb_view.specs.Shapes.{object_shape, objects_shape, texts_shape, int_shape, text_shape, hash_shape}
 use Rattle.adb_view.specs.declared.tables.Which.{Which}
 use Rattle.adb_view.specs.declared.tables.Which.TheVariants.{Dep, Acl, PkgInfo, File, Dir, Scripts, Package, Index, Idb, Intent}
@@ -35,11 +35,11 @@ pub hash_leaves : (field_number : ℕ) (a : Surroundings) (v : Plain) → leaves
 unfolding leaves
 hash_leaves field_number a v = ap (λ s. leaves s field_number a v) hash_shape
 
-pub texts_leaves : (field_number : ℕ) (a : Surroundings) (v : Plain) → leaves (shape_of TextArr) field_number a v ≡ each_leaf (leaves (shape_of Text) field_number a) (entries_in v)
+pub texts_leaves : (field_number : ℕ) (a : Surroundings) (v : Plain) → leaves (shape_of TextArr) field_number a v ≡ leaves_of_all_values (leaves (shape_of Text) field_number a) (entries_in v)
 unfolding leaves
 texts_leaves field_number a v = ap (λ s. leaves s field_number a v) texts_shape
 
-pub objects_leaves : (which : Which) (field_number : ℕ) (a : Surroundings) (v : Plain) → leaves (shape_of (ObjArr which)) field_number a v ≡ each_leaf (leaves (shape_of (Obj which)) field_number a) (entries_in v)
+pub objects_leaves : (which : Which) (field_number : ℕ) (a : Surroundings) (v : Plain) → leaves (shape_of (ObjArr which)) field_number a v ≡ leaves_of_all_values (leaves (shape_of (Obj which)) field_number a) (entries_in v)
 unfolding leaves
 objects_leaves which field_number a v = ap (λ s. leaves s field_number a v) (objects_shape which)
 
@@ -54,7 +54,7 @@ first_bad_leaf-append [] ys = refl
 first_bad_leaf-append (x ∷ xs) ys = go (keeps_rule x) (first_bad_leaf-append xs ys)
   where
     go : (b : Bool) → first_bad_leaf (xs ++ ys) ≡ option_or (first_bad_leaf xs) (first_bad_leaf ys)
-        → (if b then first_bad_leaf (xs ++ ys) else Some (BadText (number_of_leaf x))) ≡ option_or (if b then first_bad_leaf xs else Some (BadText (number_of_leaf x))) (first_bad_leaf ys)
+        → (if b then first_bad_leaf (xs ++ ys) else Some (BadText (field_number_of_leaf x))) ≡ option_or (if b then first_bad_leaf xs else Some (BadText (field_number_of_leaf x))) (first_bad_leaf ys)
     go true h = h
     go false h = refl
 
@@ -77,11 +77,11 @@ pub record OneMore (p : List ℕ) (k : Kind) (w : ℕ) (ws : List ℕ) : Type 0 
   pub others : are_all_sound p k ws ≡ true
   pub values : values_at p k (w ∷ ws) ≡ more (value_at p k w) (values_at p k ws)
 
-one_more : (p : List ℕ) (k : Kind) (w : ℕ) (ws : List ℕ) (v : Plain) (us : Plains) → plain_of p (shape_of k) w ≡ Some v → each_plain (plain_of p (shape_of k)) ws ≡ Some us → OneMore p k w ws
+one_more : (p : List ℕ) (k : Kind) (w : ℕ) (ws : List ℕ) (v : Plain) (us : Plains) → plain_of p (shape_of k) w ≡ Some v → plains_of_all_words (plain_of p (shape_of k)) ws ≡ Some us → OneMore p k w ws
 unfolding are_all_sound values_at is_sound value_at
 one_more p k w ws v us first behind = record { first = rw first refl; others = rw behind refl; values = rw (first, behind) refl }
 
-both : (o : Option Plain) (os : Option Plains) → is_some (then_more o os) ≡ true → ((v : Plain) × (o ≡ Some v)) × ((us : Plains) × (os ≡ Some us))
+both : (o : Option Plain) (os : Option Plains) → is_some (plains_if_first_and_rest o os) ≡ true → ((v : Plain) × (o ≡ Some v)) × ((us : Plains) × (os ≡ Some us))
 both (Some v) (Some us) e = ((v, refl), (us, refl))
 both (Some v) None e = absurd cc
 both None os e = absurd cc
@@ -89,7 +89,7 @@ both None os e = absurd cc
 pub are_sound-cons : (p : List ℕ) (k : Kind) (w : ℕ) (ws : List ℕ) → are_all_sound p k (w ∷ ws) ≡ true → OneMore p k w ws
 unfolding are_all_sound
 are_sound-cons p k w ws h =
-    let (one, others) = both (plain_of p (shape_of k) w) (each_plain (plain_of p (shape_of k)) ws) h in
+    let (one, others) = both (plain_of p (shape_of k) w) (plains_of_all_words (plain_of p (shape_of k)) ws) h in
     one_more p k w ws one.0 others.0 one.1 others.1
 
 -- what is left at i
@@ -100,16 +100,16 @@ values_here : (p : List ℕ) (k : Kind) (ws : List ℕ) (i : ℕ) → i < length
 values_here p k ws i lt h = let r = at_entry p k ws i lt h in ap (values_at p k) (drop_more ws i 0 lt) ∙ r.values
 
 pub entries_more : (p : List ℕ) (k : Kind) (f : Plain → List Leaf) (ws : List ℕ) (i : ℕ) → i < length ws → are_all_sound p k (drop i ws) ≡ true → first_bad_leaf (f (value_at p k (get_or ws i 0))) ≡ None
-    → first_bad_leaf (each_leaf f (values_at p k (drop i ws))) ≡ first_bad_leaf (each_leaf f (values_at p k (drop (i + 1) ws)))
+    → first_bad_leaf (leaves_of_all_values f (values_at p k (drop i ws))) ≡ first_bad_leaf (leaves_of_all_values f (values_at p k (drop (i + 1) ws)))
 entries_more p k f ws i lt h good =
-    ap (λ vs. first_bad_leaf (each_leaf f vs)) (values_here p k ws i lt h) ∙ behind_good (f (value_at p k (get_or ws i 0))) (each_leaf f (values_at p k (drop (i + 1) ws))) good
+    ap (λ vs. first_bad_leaf (leaves_of_all_values f vs)) (values_here p k ws i lt h) ∙ behind_good (f (value_at p k (get_or ws i 0))) (leaves_of_all_values f (values_at p k (drop (i + 1) ws))) good
 
 pub entries_stop : (p : List ℕ) (k : Kind) (f : Plain → List Leaf) (ws : List ℕ) (i : ℕ) (c : Cause) → i < length ws → are_all_sound p k (drop i ws) ≡ true → first_bad_leaf (f (value_at p k (get_or ws i 0))) ≡ Some c
-    → first_bad_leaf (each_leaf f (values_at p k (drop i ws))) ≡ Some c
+    → first_bad_leaf (leaves_of_all_values f (values_at p k (drop i ws))) ≡ Some c
 entries_stop p k f ws i c lt h bad =
-    ap (λ vs. first_bad_leaf (each_leaf f vs)) (values_here p k ws i lt h) ∙ after_bad (f (value_at p k (get_or ws i 0))) (each_leaf f (values_at p k (drop (i + 1) ws))) c bad
+    ap (λ vs. first_bad_leaf (leaves_of_all_values f vs)) (values_here p k ws i lt h) ∙ after_bad (f (value_at p k (get_or ws i 0))) (leaves_of_all_values f (values_at p k (drop (i + 1) ws))) c bad
 
-pub entries_end : (p : List ℕ) (k : Kind) (f : Plain → List Leaf) (ws : List ℕ) (i : ℕ) → length ws ≤ i → first_bad_leaf (each_leaf f (values_at p k (drop i ws))) ≡ None
+pub entries_end : (p : List ℕ) (k : Kind) (f : Plain → List Leaf) (ws : List ℕ) (i : ℕ) → length ws ≤ i → first_bad_leaf (leaves_of_all_values f (values_at p k (drop i ws))) ≡ None
 unfolding values_at
 entries_end p k f ws i le = rw (drop_all i ws le) refl
 
@@ -192,11 +192,11 @@ pub others_sound : (p : List ℕ) (k : Kind) (ws : List ℕ) (i : ℕ) → i < l
 others_sound p k ws i lt h = let r = at_entry p k ws i lt h in r.others
 
 pub entry_good : (p : List ℕ) (k : Kind) (f : Plain → List Leaf) (ws : List ℕ) (i word : ℕ) → i < length ws → are_all_sound p k (drop i ws) ≡ true → word ≡ get_or ws i 0 → None ≡ first_bad_leaf (f (value_at p k word))
-    → first_bad_leaf (each_leaf f (values_at p k (drop i ws))) ≡ first_bad_leaf (each_leaf f (values_at p k (drop (i + 1) ws)))
+    → first_bad_leaf (leaves_of_all_values f (values_at p k (drop i ws))) ≡ first_bad_leaf (leaves_of_all_values f (values_at p k (drop (i + 1) ws)))
 entry_good p k f ws i word lt h e good = entries_more p k f ws i lt h (ap (λ (w : ℕ). first_bad_leaf (f (value_at p k w))) (sym e) ∙ sym good)
 
 pub entry_bad : (p : List ℕ) (k : Kind) (f : Plain → List Leaf) (ws : List ℕ) (i word : ℕ) (c : Cause) → i < length ws → are_all_sound p k (drop i ws) ≡ true → word ≡ get_or ws i 0 → Some c ≡ first_bad_leaf (f (value_at p k word))
-    → first_bad_leaf (each_leaf f (values_at p k (drop i ws))) ≡ Some c
+    → first_bad_leaf (leaves_of_all_values f (values_at p k (drop i ws))) ≡ Some c
 entry_bad p k f ws i word c lt h e bad = entries_stop p k f ws i c lt h (ap (λ (w : ℕ). first_bad_leaf (f (value_at p k w))) (sym e) ∙ sym bad)
 
 -- ---- entries that are the same word as the one before
@@ -286,15 +286,15 @@ pub hash_done : (p : List ℕ) (k : Kind) (field_number : ℕ) (a : Surroundings
 hash_done p k field_number a w bs r is read e =
     along r _ _ (ap (λ (b : List ℕ). first_bad_leaf (text_leaf field_number a b ∷ [])) read ∙ ap first_bad_leaf (sym (hash_leaves field_number a (value_at p Hash w))) ∙ at_kind p k Hash field_number a w is) e
 
-pub texts_done : (p : List ℕ) (k : Kind) (field_number : ℕ) (a : Surroundings) (w : ℕ) (ws : List ℕ) {E : Type 0} (r : Result (Option ℕ) E) → k ≡ TextArr → array_at p Text ws ≡ value_at p TextArr w → IfOk r (λ o. bad_text_at o ≡ first_bad_leaf (each_leaf (leaves (shape_of Text) field_number a) (values_at p Text ws)))
+pub texts_done : (p : List ℕ) (k : Kind) (field_number : ℕ) (a : Surroundings) (w : ℕ) (ws : List ℕ) {E : Type 0} (r : Result (Option ℕ) E) → k ≡ TextArr → array_at p Text ws ≡ value_at p TextArr w → IfOk r (λ o. bad_text_at o ≡ first_bad_leaf (leaves_of_all_values (leaves (shape_of Text) field_number a) (values_at p Text ws)))
     → IfOk r (λ o. bad_text_at o ≡ first_bad_leaf (leaves (shape_of k) field_number a (value_at p k w)))
 texts_done p k field_number a w ws r is read e =
-    along r _ _ (ap (λ vs. first_bad_leaf (each_leaf (leaves (shape_of Text) field_number a) vs)) (sym (entries_arr (values_at p Text ws)) ∙ ap entries_in read) ∙ ap first_bad_leaf (sym (texts_leaves field_number a (value_at p TextArr w))) ∙ at_kind p k TextArr field_number a w is) e
+    along r _ _ (ap (λ vs. first_bad_leaf (leaves_of_all_values (leaves (shape_of Text) field_number a) vs)) (sym (entries_arr (values_at p Text ws)) ∙ ap entries_in read) ∙ ap first_bad_leaf (sym (texts_leaves field_number a (value_at p TextArr w))) ∙ at_kind p k TextArr field_number a w is) e
 
 pub objects_done : (p : List ℕ) (k : Kind) (which : Which) (field_number : ℕ) (a : Surroundings) (w : ℕ) (ws : List ℕ) {E : Type 0} (r : Result (Option ℕ) E) → k ≡ ObjArr which → array_at p (Obj which) ws ≡ value_at p (ObjArr which) w
-    → IfOk r (λ o. bad_text_at o ≡ first_bad_leaf (each_leaf (leaves (shape_of (Obj which)) field_number a) (values_at p (Obj which) ws))) → IfOk r (λ o. bad_text_at o ≡ first_bad_leaf (leaves (shape_of k) field_number a (value_at p k w)))
+    → IfOk r (λ o. bad_text_at o ≡ first_bad_leaf (leaves_of_all_values (leaves (shape_of (Obj which)) field_number a) (values_at p (Obj which) ws))) → IfOk r (λ o. bad_text_at o ≡ first_bad_leaf (leaves (shape_of k) field_number a (value_at p k w)))
 objects_done p k which field_number a w ws r is read e =
-    along r _ _ (ap (λ vs. first_bad_leaf (each_leaf (leaves (shape_of (Obj which)) field_number a) vs)) (sym (entries_arr (values_at p (Obj which) ws)) ∙ ap entries_in read) ∙ ap first_bad_leaf (sym (objects_leaves which field_number a (value_at p (ObjArr which) w))) ∙ at_kind p k (ObjArr which) field_number a w is) e
+    along r _ _ (ap (λ vs. first_bad_leaf (leaves_of_all_values (leaves (shape_of (Obj which)) field_number a) vs)) (sym (entries_arr (values_at p (Obj which) ws)) ∙ ap entries_in read) ∙ ap first_bad_leaf (sym (objects_leaves which field_number a (value_at p (ObjArr which) w))) ∙ at_kind p k (ObjArr which) field_number a w is) e
 
 pub object_done : (p : List ℕ) (k : Kind) (which : Which) (field_number : ℕ) (a inside : Surroundings) (w : ℕ) {E : Type 0} (r : Result (Option ℕ) E) → k ≡ Obj which → inside ≡ surroundings_of_fields (table_number which) a (value_at p (Obj which) w)
     → IfOk r (λ o. bad_text_at o ≡ first_bad_leaf (field_leaves (shapes_of (table which)) (100 * table_number which + 1) inside (entries_in (value_at p (Obj which) w)))) → IfOk r (λ o. bad_text_at o ≡ first_bad_leaf (leaves (shape_of k) field_number a (value_at p k w)))

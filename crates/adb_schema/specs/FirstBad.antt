@@ -5,7 +5,7 @@ use Rattle.std.specs.Prelude.{◌≡◌, ℕ, ◌<◌, true, false, List, slice_
 use Rattle.std.specs.List.{list_all}
 use Rattle.base_core.specs.declared.cause.Cause.{Cause}
 use Rattle.base_core.specs.declared.cause.Cause.TheVariants.{BadText}
-use Rattle.adb_schema.specs.Texts.{Leaf, keeps_rule, number_of_leaf}
+use Rattle.adb_schema.specs.Texts.{Leaf, keeps_rule, field_number_of_leaf}
 
 -- a number or a text (a leaf) breaks the rule of its field, and none before it does
 pub record IsFirstBadLeaf (all : List Leaf) (c : Cause) : Type 0 where
@@ -13,9 +13,12 @@ pub record IsFirstBadLeaf (all : List Leaf) (c : Cause) : Type 0 where
   pub i : ℕ
   -- the leaf that breaks its rule
   pub leaf : Leaf
+  -- it is the leaf with the index i
   pub at : slice_get all i ≡ Some leaf
+  -- it breaks the rule of its field
   pub broken : keeps_rule leaf ≡ false
-  pub cause : c ≡ BadText (number_of_leaf leaf)
+  -- the cause has the number of its field
+  pub cause : c ≡ BadText (field_number_of_leaf leaf)
   -- each leaf before it obeys its rule
   pub before : (j : ℕ) → (other : Leaf) → j < i → slice_get all j ≡ Some other → keeps_rule other
       ≡ true

@@ -4,27 +4,27 @@ use Rattle.std.specs.Prelude.{ℕ, Bool, ◌||◌, List, [], ◌∷◌, ◌++◌
 use Rattle.std.specs.Str.{bytes_eq}
 use Rattle.std.specs.List.{list_any, starts_with}
 
--- whether a path is this name, or one below it
+-- whether `path` is the name `top`, or a name below the folder `top`
 abbrev pub is_at_or_below : List ℕ → List ℕ → Bool
 is_at_or_below top path = bytes_eq path top || starts_with nat_eq path (top ++ codes "/")
 
--- whether a path is one of these names, or below one
-abbrev pub is_below_any : List (List ℕ) → List ℕ → Bool
-is_below_any tops path = list_any (λ top. is_at_or_below top path) tops
+-- whether a path is one of these names, or a name below one of them
+abbrev pub is_at_or_below_any_of : List (List ℕ) → List ℕ → Bool
+is_at_or_below_any_of tops path = list_any (λ top. is_at_or_below top path) tops
 
 -- the names of the journal and of the staging area
 abbrev pub intent_and_stage_names : List (List ℕ)
 intent_and_stage_names = codes "lib/apk/intent" ∷ codes "lib/apk/stage" ∷ []
 
--- the reserved names: those of a change itself, world, and the folder of the database
+-- the reserved names: world, the journal, the staging area, and the folder of the database
 abbrev pub reserved_names : List (List ℕ)
 reserved_names = codes "etc/apk/world" ∷ codes "lib/apk/intent" ∷ codes "lib/apk/stage" ∷
     codes "lib/apk/db" ∷ []
 
 -- whether a path is the name of the journal or of the staging area, or below one of them
 abbrev pub is_intent_or_stage_name : List ℕ → Bool
-is_intent_or_stage_name path = is_below_any intent_and_stage_names path
+is_intent_or_stage_name path = is_at_or_below_any_of intent_and_stage_names path
 
--- whether a path is reserved: one of the reserved names, or below one
+-- whether a path is one of the reserved names, or a name below one of them
 abbrev pub is_reserved : List ℕ → Bool
-is_reserved path = is_below_any reserved_names path
+is_reserved path = is_at_or_below_any_of reserved_names path

@@ -33,14 +33,15 @@ is_folder_name (b ∷ rest) = is_name (b ∷ rest)
 abbrev pub is_one_part : List ℕ → Bool
 is_one_part name = is_name name && not (list_any (λ b. b == 47) name)
 
--- whether bytes name a file of this folder: one part, with which the file's path has at most 1,024
--- bytes
-abbrev pub is_file_name : List ℕ → List ℕ → Bool
-is_file_name folder name = is_one_part name && nat_le (length (path_of folder name)) 1024
+-- whether bytes name a file of this folder: one part of a path, and the path of the folder and the
+-- file has at most 1,024 bytes
+abbrev pub is_file_name_in_folder : List ℕ → List ℕ → Bool
+is_file_name_in_folder folder name = is_one_part name && nat_le (length (path_of folder name)) 1024
 
--- whether a change may remove or write the path: a name that is not in the journal or the staging area
-abbrev pub is_changeable_name : List ℕ → Bool
-is_changeable_name path = is_name path && not (is_intent_or_stage_name path)
+-- whether a change may remove or write the path: it is a name, and not the journal, the staging area,
+-- or a name below one of them
+abbrev pub is_name_allowed_in_intent : List ℕ → Bool
+is_name_allowed_in_intent path = is_name path && not (is_intent_or_stage_name path)
 
 -- ---- other texts
 
@@ -58,6 +59,6 @@ is_link_target_or_none (b ∷ rest) = is_link_target (b ∷ rest)
 
 -- whether bytes are a pattern by which an index names its packages' files: empty, or the only known
 -- pattern
-abbrev pub is_name_pattern : List ℕ → Bool
-is_name_pattern [] = true
-is_name_pattern (b ∷ rest) = bytes_eq (b ∷ rest) (codes "${name}-${version}.apk")
+abbrev pub is_pkgname_spec : List ℕ → Bool
+is_pkgname_spec [] = true
+is_pkgname_spec (b ∷ rest) = bytes_eq (b ∷ rest) (codes "${name}-${version}.apk")

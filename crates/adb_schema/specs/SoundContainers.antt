@@ -9,7 +9,7 @@ use Rattle.adb_view.specs.declared.tables.Which.{Which}
 use Rattle.adb_view.specs.declared.tables.Kind.TheVariants.{Obj}
 use Rattle.adb_fields.specs.Once.{HasNoRepeatedName}
 use Rattle.adb_schema.specs.SoundValues.{KeepsRules}
-use Rattle.adb_schema.specs.Soundness.{first_fault}
+use Rattle.adb_schema.specs.Soundness.{container_fault_except_contents}
 
 -- the value may be that of a sound container with this table at its root: by its shape, its rules, and
 -- its names
@@ -23,4 +23,4 @@ pub record IsSoundValue (which : Which) (v : Plain) : Type 0 where
 
 -- a file passes every test as a container with this table at its root
 abbrev pub IsSoundContainer : Which → List ℕ → Type 0
-IsSoundContainer which file = first_fault which file ≡ None
+IsSoundContainer which file = container_fault_except_contents which file ≡ None

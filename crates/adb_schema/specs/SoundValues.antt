@@ -12,28 +12,28 @@ use Rattle.adb_view.specs.Values.{entries_in, entry_in, int_in, text_in}
 use Rattle.adb_view.specs.declared.tables.Which.{Which}
 use Rattle.adb_view.specs.declared.tables.Which.TheVariants.{Dep, Acl, PkgInfo, File, Dir, Scripts, Package, Index, Idb, Intent}
 use Rattle.adb_fields.specs.Paths.{path_of}
-use Rattle.adb_schema.specs.Rules.{is_changeable_name, is_digest_length, is_digest_length_or_none, is_file_name, is_folder_name, is_name_pattern, is_link_target_or_none}
-use Rattle.adb_schema.specs.Texts.{is_package_hash, is_with_contents, may_list, needs_hash}
+use Rattle.adb_schema.specs.Rules.{is_name_allowed_in_intent, is_digest_length, is_digest_length_or_none, is_file_name_in_folder, is_folder_name, is_pkgname_spec, is_link_target_or_none}
+use Rattle.adb_schema.specs.Texts.{is_package_hash_length, is_file_with_contents, can_root_table_list_path, needs_file_hash}
 
 -- a dependency in a tested container: a name, a version or none, and a match number with an operator
 pub record IsSoundDependency (v : Plain) : Type 0 where
-  -- 101
+  -- the rule of field 101
   pub name : is_dep_name (text_in (entry_in v DEP_NAME)) ≡ true
-  -- 102
+  -- the rule of field 102
   pub version : is_version_or_empty (text_in (entry_in v DEP_VERSION)) ≡ true
-  -- 103
+  -- the rule of field 103
   pub matching : is_match_number (int_in (entry_in v DEP_MATCH)) ≡ true
 
 -- the information of a package obeys its rules, in a container with this table at its root: in an index
 -- it has its hash
 pub record IsSoundInformation (root : Which) (v : Plain) : Type 0 where
-  -- 301
+  -- the rule of field 301
   pub name : is_package_name (text_in (entry_in v INFO_NAME)) ≡ true
-  -- 302
+  -- the rule of field 302
   pub version : is_version (text_in (entry_in v INFO_VERSION)) ≡ true
-  -- 303
-  pub hash : is_package_hash root (length (text_in (entry_in v INFO_HASHES))) ≡ true
-  -- 315 to 319: lists of dependencies
+  -- the rule of field 303
+  pub hash : is_package_hash_length root (length (text_in (entry_in v INFO_HASHES))) ≡ true
+  -- the rules of fields 315 to 319: lists of dependencies
   pub depends : Each IsSoundDependency (entries_in (entry_in v INFO_DEPENDS))
   pub provides : Each IsSoundDependency (entries_in (entry_in v INFO_PROVIDES))
   pub replaces : Each IsSoundDependency (entries_in (entry_in v INFO_REPLACES))
@@ -43,47 +43,50 @@ pub record IsSoundInformation (root : Which) (v : Plain) : Type 0 where
 -- a file of the folder with this name obeys its rules; if it has contents, it has their hash, which may
 -- be missing in a database
 pub record IsSoundFileOf (root : Which) (folder : List ℕ) (v : Plain) : Type 0 where
-  -- 401
-  pub name : is_file_name folder (text_in (entry_in v FILE_NAME)) ≡ true
-  -- 401, in a database
-  pub listed : may_list root (path_of folder (text_in (entry_in v FILE_NAME))) ≡ true
-  -- 405
-  pub hash : (if needs_hash root (is_with_contents v)
+  -- the rule of field 401
+  pub name : is_file_name_in_folder folder (text_in (entry_in v FILE_NAME)) ≡ true
+  -- the rule of field 401 for a database
+  pub listed : can_root_table_list_path root (path_of folder (text_in (entry_in v FILE_NAME))) ≡ true
+  -- the rule of field 405
+  pub hash : (if needs_file_hash root (is_file_with_contents v)
       then is_digest_length (length (text_in (entry_in v FILE_HASHES)))
       else is_digest_length_or_none (length (text_in (entry_in v FILE_HASHES)))) ≡ true
-  -- 406
+  -- the rule of field 406
   pub target : is_link_target_or_none (text_in (entry_in v FILE_TARGET)) ≡ true
 
 -- a folder obeys its rules: its name is a path or empty, and each of its files obeys its own
 pub record IsSoundFolder (root : Which) (v : Plain) : Type 0 where
-  -- 501
+  -- the rule of field 501
   pub name : is_folder_name (text_in (entry_in v DIR_NAME)) ≡ true
+  -- each file obeys the rules of fields 401 to 406
   pub files : Each (IsSoundFileOf root (text_in (entry_in v DIR_NAME)))
       (entries_in (entry_in v DIR_FILES))
 
 -- a package obeys its rules: its information and its folders do
 pub record IsSoundPackage (root : Which) (v : Plain) : Type 0 where
+  -- its information obeys its rules
   pub info : IsSoundInformation root (entry_in v PACKAGE_INFO)
+  -- each of its folders obeys its rules
   pub folders : Each (IsSoundFolder root) (entries_in (entry_in v PACKAGE_PATHS))
 
 -- an index obeys its rules: the information of each of its packages does, and so does its pattern of
 -- file names
 pub record IsSoundIndex (v : Plain) : Type 0 where
-  -- 802: the rules of table 3
+  -- the rule of field 802: its entries obey the rules of table 3
   pub packages : Each (IsSoundInformation Index) (entries_in (entry_in v INDEX_PACKAGES))
-  -- 803
-  pub pattern : is_name_pattern (text_in (entry_in v INDEX_PKGNAME_SPEC)) ≡ true
+  -- the rule of field 803
+  pub pattern : is_pkgname_spec (text_in (entry_in v INDEX_PKGNAME_SPEC)) ≡ true
 
 -- the text is a name that a change may remove or write
-abbrev pub IsChangeableName : Plain → Type 0
-IsChangeableName v = is_changeable_name (text_in v) ≡ true
+abbrev pub IsNameAllowedInIntent : Plain → Type 0
+IsNameAllowedInIntent v = is_name_allowed_in_intent (text_in v) ≡ true
 
 -- a journal entry obeys its rules: a change may remove or write each of its names
 pub record IsSoundIntent (v : Plain) : Type 0 where
-  -- 1001
-  pub removals : Each IsChangeableName (entries_in (entry_in v INTENT_REMOVALS))
-  -- 1002
-  pub writes : Each IsChangeableName (entries_in (entry_in v INTENT_WRITES))
+  -- the rule of field 1001
+  pub removals : Each IsNameAllowedInIntent (entries_in (entry_in v INTENT_REMOVALS))
+  -- the rule of field 1002
+  pub writes : Each IsNameAllowedInIntent (entries_in (entry_in v INTENT_WRITES))
 
 -- the value of a payload with this table at its root obeys the rules of its fields
 abbrev pub KeepsRules : Which → Plain → Type 0

@@ -11,7 +11,7 @@ use Rattle.adb_block.specs.ReaderPosition.{first_block_position}
 use Rattle.adb_block.specs.Reading.{Reading, done, fault, more, block_stream_from}
 use Rattle.adb_block.specs.declared.block.BlockKind.{BlockKind}
 use Rattle.adb_block.specs.declared.block.BlockKind.TheVariants.{Contents}
-use Rattle.adb_view.specs.Head.{head_fault, root_of}
+use Rattle.adb_view.specs.Head.{payload_head_fault, root_word_of_payload}
 use Rattle.adb_view.specs.Plain.{Plain}
 use Rattle.adb_view.specs.Schema.{shape_of}
 use Rattle.adb_view.specs.Walk.{shape_fault}
@@ -36,52 +36,56 @@ schema_word which = None
 
 -- the plain value of a payload with this table at its root
 abbrev pub root_value : Which → List ℕ → Plain
-root_value which payload = value_at payload (Obj which) (root_of payload)
+root_value which payload = value_at payload (Obj which) (root_word_of_payload payload)
 
 -- the first fault of a payload: of its head, its shape, its texts, or a repeated name
 abbrev pub payload_fault : Which → List ℕ → Option Cause
 payload_fault which payload =
-    option_or (head_fault payload)
-    (option_or (shape_fault payload (shape_of (Obj which)) (root_of payload))
+    option_or (payload_head_fault payload)
+    (option_or (shape_fault payload (shape_of (Obj which)) (root_word_of_payload payload))
     (option_or (text_fault which (root_value which payload))
     (repeated_fault which (root_value which payload))))
 
--- ---- the blocks after it
+-- ---- the blocks after the first
 
--- the two numbers that contents begin with: the positions of the folder and of the file in it,
--- which count from 1
+-- the two numbers at the beginning of a block of contents: the position of the folder, and that of the
+-- file in the folder. Both count from 1
 abbrev pub contents_positions : List ℕ → ℕ × ℕ
 contents_positions payload = (
   from_le_bytes w32 (take 4 payload),
   from_le_bytes w32 (take 4 (drop 4 payload)),
 )
 
--- the cause for contents that are not allowed: they are too short for their two numbers (8 bytes), or
--- they are those of a file although 0.0, which is no file, was expected
+-- the cause for a block of contents that is not allowed. Either it is too short for its two positions
+-- (8 bytes), or it has the positions of a file, while (0, 0) was expected, which is no file
 abbrev pub unexpected_contents_cause : List ℕ → ℕ → Cause
 unexpected_contents_cause payload at = if nat_lt (length payload) 8 then Truncated at
     else DataOrder (0, 0) (contents_positions payload)
 
--- why a block is not allowed after the first in a container without files; only contents are not
+-- why a block is not allowed after the first in a container without files, if it has contents; a block
+-- of another kind is allowed
 abbrev pub further_block_fault : BlockKind → List ℕ → ℕ → Option Cause
 further_block_fault Contents payload at = Some (unexpected_contents_cause payload at)
 further_block_fault kind payload at = None
 
--- the first fault of the blocks after the first: of their framing, or contents
+-- the first fault of the blocks after the first, in a container without files: of their framing, or
+-- that one has contents
 unfoldable pub further_blocks_fault : Reading → Option Cause
 further_blocks_fault done = None
 further_blocks_fault (fault c) = Some c
-further_blocks_fault (more b at r) = option_or (further_block_fault b.kind b.payload at) (further_blocks_fault r)
+further_blocks_fault (more b at r) =
+    option_or (further_block_fault b.kind b.payload at) (further_blocks_fault r)
 
--- the first fault of the blocks after the first. For a package `pkg_core` tests them against its list
--- of files
-abbrev pub fault_after_first_block : Which → Reading → Option Cause
-fault_after_first_block Package r = None
-fault_after_first_block which r = further_blocks_fault r
+-- the first fault of the blocks after the first; none for a package, whose further blocks `pkg_core`
+-- tests against the list of files
+abbrev pub further_blocks_fault_unless_package : Which → Reading → Option Cause
+further_blocks_fault_unless_package Package r = None
+further_blocks_fault_unless_package which r = further_blocks_fault r
 
 -- ---- all tests in order
 
--- whether a file's schema is that of the table, if the table has one
+-- whether a file has the schema `word` of the wanted table; false if that table is no root and has
+-- none
 abbrev pub is_schema_wanted : Option ℕ → ℕ → Bool
 is_schema_wanted (Some word) schema = word == schema
 is_schema_wanted None schema = false
@@ -91,14 +95,16 @@ abbrev pub schema_fault : Which → ℕ → Option Cause
 schema_fault which schema = if is_schema_wanted (schema_word which) schema then None
     else Some (WrongSchema schema)
 
--- the first fault of a reading: of the first block, or, by its value, of the blocks after it
+-- the first fault of the blocks of a file: of the first block, or of the blocks after it. `rest` tests
+-- those, by the value of the first block
 abbrev pub blocks_fault : (Plain → Reading → Option Cause) → Which → Reading → Option Cause
 blocks_fault rest which done = None
 blocks_fault rest which (fault c) = Some c
 blocks_fault rest which (more b at r) = option_or (payload_fault which b.payload)
     (rest (root_value which b.payload) r)
 
--- the first fault of a file by its header: of the header, of the schema, or of the blocks
+-- the first fault of a file with this result for its header: of the header, of the schema, or of the
+-- blocks
 abbrev pub file_fault_after_header : (Plain → Reading → Option Cause) → Which → List ℕ → Result ℕ Cause
     → Option Cause
 file_fault_after_header rest which file (Err c) = Some c
@@ -111,10 +117,11 @@ file_fault_with_rest_test rest which file = file_fault_after_header rest which f
 
 -- the first failed test of a file as a container of this table; for a package, without the contents
 -- after its first block
-unfoldable pub first_fault : Which → List ℕ → Option Cause
-first_fault which file = file_fault_with_rest_test (λ v r. fault_after_first_block which r) which file
+unfoldable pub container_fault_except_contents : Which → List ℕ → Option Cause
+container_fault_except_contents which file =
+    file_fault_with_rest_test (λ v r. further_blocks_fault_unless_package which r) which file
 
--- ---- what is read
+-- ---- the payload of a file
 
 -- the payload of the first block of a reading; empty if there is no block
 abbrev pub first_block_payload : Reading → List ℕ
@@ -124,7 +131,8 @@ first_block_payload (more b at r) = b.payload
 
 -- the payload of the first block after a header; empty if the header has a fault
 abbrev pub payload_after_header : List ℕ → Result ℕ Cause → List ℕ
-payload_after_header file (Ok schema) = first_block_payload (block_stream_from (first_block_position schema file))
+payload_after_header file (Ok schema) =
+    first_block_payload (block_stream_from (first_block_position schema file))
 payload_after_header file (Err c) = []
 
 -- the payload of the first block of a file; empty if it has none

@@ -12,7 +12,7 @@ use Rattle.adb_view.specs.Plain.{Plain, null, Plains, none, more, Shape, number,
 use Rattle.adb_schema.specs.Reserved.{is_reserved}
 use Rattle.adb_fields.specs.Paths.{path_of}
 use Rattle.adb_fields.specs.Repeated.{field_number}
-use Rattle.adb_schema.specs.Rules.{is_changeable_name, is_digest_length, is_digest_length_or_none, is_file_name, is_folder_name, is_id_length, is_name_pattern, is_link_target_or_none}
+use Rattle.adb_schema.specs.Rules.{is_name_allowed_in_intent, is_digest_length, is_digest_length_or_none, is_file_name_in_folder, is_folder_name, is_id_length, is_pkgname_spec, is_link_target_or_none}
 use Rattle.adb_view.specs.FieldIndexes.{DEP_MATCH, DEP_NAME, DEP_VERSION, DIR_NAME, FILE_HASHES, FILE_NAME, FILE_SIZE, FILE_TARGET, INDEX_PKGNAME_SPEC, INFO_HASHES, INFO_NAME, INFO_VERSION, INTENT_REMOVALS, INTENT_WRITES}
 use Rattle.adb_view.specs.Schema.{shape_of, table_number}
 use Rattle.adb_view.specs.Values.{entries_in, entry_in, int_in, text_in}
@@ -30,58 +30,61 @@ pub record Surroundings : Type 0 where
   -- whether the file has contents; false outside of files
   pub has_contents : Bool
 
--- ---- rules that look around
+-- ---- rules that depend on the surroundings
 
 -- whether a package's hash may have this length in bytes, in a container with this table at its root:
 -- in an index each package has its hash
-abbrev pub is_package_hash : Which → ℕ → Bool
-is_package_hash Index len = is_id_length len
-is_package_hash root len = is_digest_length_or_none len
+abbrev pub is_package_hash_length : Which → ℕ → Bool
+is_package_hash_length Index len = is_id_length len
+is_package_hash_length root len = is_digest_length_or_none len
 
 -- whether a container with this table at its root may list a file under the path. A database may list
 -- none under a reserved name, since no change may remove one as a package's file
-abbrev pub may_list : Which → List ℕ → Bool
-may_list Idb path = not (is_reserved path)
-may_list root path = true
+abbrev pub can_root_table_list_path : Which → List ℕ → Bool
+can_root_table_list_path Idb path = not (is_reserved path)
+can_root_table_list_path root path = true
 
--- whether the container may list a file of this name in the folder around it
+-- whether a file in these surroundings may have this name: in their folder, and in a container with
+-- their root
 abbrev pub is_allowed_file_name : Surroundings → List ℕ → Bool
-is_allowed_file_name around name = is_file_name around.folder name
-    && may_list around.root (path_of around.folder name)
+is_allowed_file_name around name = is_file_name_in_folder around.folder name
+    && can_root_table_list_path around.root (path_of around.folder name)
 
 -- whether a file needs a hash: one with contents does, except in a database, which may be imported from
 -- a text database
-abbrev pub needs_hash : Which → Bool → Bool
-needs_hash Idb has_contents = false
-needs_hash root has_contents = has_contents
+abbrev pub needs_file_hash : Which → Bool → Bool
+needs_file_hash Idb has_contents = false
+needs_file_hash root has_contents = has_contents
 
 -- whether a file's hash may have this length in bytes: that of a digest, or 0 if no hash is needed
-abbrev pub is_file_hash : Surroundings → ℕ → Bool
-is_file_hash around len = if needs_hash around.root around.has_contents then is_digest_length len
+abbrev pub is_file_hash_length : Surroundings → ℕ → Bool
+is_file_hash_length around len =
+    if needs_file_hash around.root around.has_contents then is_digest_length len
     else is_digest_length_or_none len
 
 -- ---- the rule of each field
 
--- whether a number obeys the rule of the field with the number `place`; only the match number of a
--- dependency has one
-abbrev pub number_rule : ℕ → ℕ → Bool
-number_rule place n = if place == field_number Dep DEP_MATCH then is_match_number n else true
+-- whether a number obeys the rule of the field with the number `place`, which is 100 times that of its
+-- table plus its own. Only the match number of a dependency has a rule
+abbrev pub is_allowed_number_of_field : ℕ → ℕ → Bool
+is_allowed_number_of_field place n = if place == field_number Dep DEP_MATCH then is_match_number n else true
 
--- whether a text obeys the rule of the field with the number `place`; the other fields have no rule
-unfoldable pub text_rule : ℕ → Surroundings → List ℕ → Bool
-text_rule place around bytes =
+-- whether a text obeys the rule of the field with the number `place` (as in *is_allowed_number_of_field*); fields
+-- that are not listed here have no rule
+unfoldable pub is_allowed_text_of_field : ℕ → Surroundings → List ℕ → Bool
+is_allowed_text_of_field place around bytes =
     if place == field_number Dep DEP_NAME then is_dep_name bytes
     else if place == field_number Dep DEP_VERSION then is_version_or_empty bytes
     else if place == field_number PkgInfo INFO_NAME then is_package_name bytes
     else if place == field_number PkgInfo INFO_VERSION then is_version bytes
-    else if place == field_number PkgInfo INFO_HASHES then is_package_hash around.root (length bytes)
+    else if place == field_number PkgInfo INFO_HASHES then is_package_hash_length around.root (length bytes)
     else if place == field_number File FILE_NAME then is_allowed_file_name around bytes
-    else if place == field_number File FILE_HASHES then is_file_hash around (length bytes)
+    else if place == field_number File FILE_HASHES then is_file_hash_length around (length bytes)
     else if place == field_number File FILE_TARGET then is_link_target_or_none bytes
     else if place == field_number Dir DIR_NAME then is_folder_name bytes
-    else if place == field_number Index INDEX_PKGNAME_SPEC then is_name_pattern bytes
-    else if place == field_number Intent INTENT_REMOVALS then is_changeable_name bytes
-    else if place == field_number Intent INTENT_WRITES then is_changeable_name bytes
+    else if place == field_number Index INDEX_PKGNAME_SPEC then is_pkgname_spec bytes
+    else if place == field_number Intent INTENT_REMOVALS then is_name_allowed_in_intent bytes
+    else if place == field_number Intent INTENT_WRITES then is_name_allowed_in_intent bytes
     else true
 
 -- ---- the leaves of the walk, in order
@@ -93,17 +96,17 @@ pub data Leaf : Type 0 where
 
 -- whether a number or a text obeys the rule of its field
 abbrev pub keeps_rule : Leaf → Bool
-keeps_rule (number_leaf field_number n) = number_rule field_number n
-keeps_rule (text_leaf field_number around bytes) = text_rule field_number around bytes
+keeps_rule (number_leaf field_number n) = is_allowed_number_of_field field_number n
+keeps_rule (text_leaf field_number around bytes) = is_allowed_text_of_field field_number around bytes
 
--- the number of the field of a number or a text
-abbrev pub number_of_leaf : Leaf → ℕ
-number_of_leaf (number_leaf field_number n) = field_number
-number_of_leaf (text_leaf field_number around bytes) = field_number
+-- the number of the field that has this number or text
+abbrev pub field_number_of_leaf : Leaf → ℕ
+field_number_of_leaf (number_leaf field_number n) = field_number
+field_number_of_leaf (text_leaf field_number around bytes) = field_number
 
 -- whether a file has contents: it has no target, and a size above 0
-abbrev pub is_with_contents : Plain → Bool
-is_with_contents file = (length (text_in (entry_in file FILE_TARGET)) == 0)
+abbrev pub is_file_with_contents : Plain → Bool
+is_file_with_contents file = (length (text_in (entry_in file FILE_TARGET)) == 0)
     && nat_lt 0 (int_in (entry_in file FILE_SIZE))
 
 -- the surroundings of an object's fields, by the number of its table and the surroundings of the object
@@ -111,22 +114,23 @@ abbrev pub surroundings_of_fields : ℕ → Surroundings → Plain → Surroundi
 surroundings_of_fields schema around v = record {
   root = around.root;
   folder = if schema == table_number Dir then text_in (entry_in v DIR_NAME) else around.folder;
-  has_contents = if schema == table_number File then is_with_contents v else around.has_contents;
+  has_contents = if schema == table_number File then is_file_with_contents v else around.has_contents;
 }
 
--- the numbers and texts of each of the values, in order
-abbrev pub each_leaf : (Plain → List Leaf) → Plains → List Leaf
-each_leaf f none = []
-each_leaf f (more v vs) = f v ++ each_leaf f vs
+-- the numbers and texts in some values, in order; `f` returns those in one value
+abbrev pub leaves_of_all_values : (Plain → List Leaf) → Plains → List Leaf
+leaves_of_all_values f none = []
+leaves_of_all_values f (more v vs) = f v ++ leaves_of_all_values f vs
 
--- the numbers and texts of a value of a shape as a field, depth first. Of an object they are those of
--- each field of its table; a missing field is Null
+-- the numbers and texts in the value of a field, by the value's shape and the field's number, depth first.
+-- An object has those of each field of its table; a missing field is Null
 unfoldable mutual
   pub leaves : Shape → ℕ → Surroundings → Plain → List Leaf
   leaves number field_number around v = number_leaf field_number (int_in v) ∷ []
   leaves text field_number around v = text_leaf field_number around (text_in v) ∷ []
   leaves hash field_number around v = text_leaf field_number around (text_in v) ∷ []
-  leaves (array s) field_number around v = each_leaf (leaves s field_number around) (entries_in v)
+  leaves (array s) field_number around v =
+      leaves_of_all_values (leaves s field_number around) (entries_in v)
   leaves (object schema fs) field_number around v = field_leaves fs (100 * schema + 1)
       (surroundings_of_fields schema around v) (entries_in v)
 
@@ -153,7 +157,7 @@ leaves_of which v = leaves (shape_of (Obj which)) 0 (surroundings_of_root which)
 abbrev pub first_bad_leaf : List Leaf → Option Cause
 first_bad_leaf [] = None
 first_bad_leaf (leaf ∷ others) = if keeps_rule leaf then first_bad_leaf others
-    else Some (BadText (number_of_leaf leaf))
+    else Some (BadText (field_number_of_leaf leaf))
 
 -- the cause of the first text or number of a container that breaks its rule
 abbrev pub text_fault : Which → Plain → Option Cause

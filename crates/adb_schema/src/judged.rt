@@ -69,7 +69,8 @@ pub struct Judged<'a> {
     adb: Adb<'a>,
     /// Each rule with the words of the long texts that obey it.
     good: BTreeSet<(TextRule, u32)>,
-    /// The bytes of the payload, with the leaps over versions in it.
+    /// The bytes of the payload, and leaps by which judging a version skips bytes that an earlier
+    /// version has passed.
     versions: OverlappingVersions<'a>,
     ghost kept: { All (KeepsTextRule (payload_of adb)) good.keys },
     ghost same: { versions ≡ payload_of adb },

@@ -14,7 +14,7 @@ ghost use Rattle.adb_schema.specs.Checked.{checked_value, table_of_checked};
 ghost use Rattle.adb_view.specs.Plain.{IsNormal};
 ghost use Rattle.adb_view.specs.declared.tables.Which.{Which};
 ghost use Rattle.adb_schema.specs.SoundContainers.{IsSoundValue};
-ghost use Rattle.adb_schema.specs.Soundness.{further_block_fault, contents_positions, first_fault, further_blocks_fault, payload_fault, is_schema_wanted, payload_in, fault_after_first_block, root_value, schema_word, unexpected_contents_cause};
+ghost use Rattle.adb_schema.specs.Soundness.{further_block_fault, contents_positions, container_fault_except_contents, further_blocks_fault, payload_fault, is_schema_wanted, payload_in, further_blocks_fault_unless_package, root_value, schema_word, unexpected_contents_cause};
 ghost use Rattle.adb_schema.specs.ReadFaults.{first_block_fault};
 ghost use Rattle.adb_schema.specs.ReadFaults.{IsAfterFirstBlock};
 ghost use Rattle.adb_schema.specs.ReadFaults.{IsReadFault};
@@ -119,10 +119,12 @@ pub fn repeated(alloc: Global, checked: &Checked<'_>) -> Result<Option<Cause>, A
 ///
 /// `Bad` with the cause of the first failed test, or `Memory`. Each schema is wrong for a table
 /// that is no root.
-#[tactic(auto, unfolding(crate::specs::Soundness::first_fault, crate::specs::Soundness::payload_in))]
+#[tactic(auto, unfolding(crate::specs::Soundness::container_fault_except_contents, crate::specs::Soundness::payload_in))]
 pub fn read_adb<'a>(alloc: Global, bytes: &'a [u8], which: Which) -> Result<Checked<'a>, ReadFault>
-    ensures bad { IfErr result (λ fault. IsReadFault fault (first_fault which bytes.entry.now)) }
-    ensures sound { IfOk result (λ _. first_fault which bytes.entry.now ≡ None) }
+    ensures bad { IfErr result (λ fault. IsReadFault fault
+        (container_fault_except_contents which bytes.entry.now)) }
+    ensures sound { IfOk result (λ _. container_fault_except_contents which bytes.entry.now
+        ≡ None) }
     ensures table { IfOk result (λ checked. table_of_checked checked ≡ which) }
     ensures payload { IfOk result (λ checked. payload_of (adb_of checked.shaped)
         ≡ payload_in bytes.entry.now) }
@@ -192,10 +194,11 @@ fn check_payload<'a>(
     }
 }
 
-/// Tests the blocks after the first; those of a package `pkg_core` tests, against the files that it
-/// lists.
+/// Tests the blocks after the first. In a package nothing is tested here: `pkg_core` tests them
+/// against the files that the package lists.
 fn check_rest(blocks: &mut Blocks<'_>, which: Which) -> Result<(), Cause>
-    ensures { result_err result ≡ fault_after_first_block which (block_stream_from blocks.old) }
+    ensures { result_err result
+        ≡ further_blocks_fault_unless_package which (block_stream_from blocks.old) }
 {
     match which {
         Which::Package => Ok(()),

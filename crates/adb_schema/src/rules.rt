@@ -7,7 +7,7 @@ ghost use Rattle.std.specs.Str.{is_utf8};
 ghost use Rattle.version_core.specs.Order.{is_version};
 ghost use Rattle.dep_core.specs.Value.{is_match_number, is_version_or_empty};
 ghost use Rattle.adb_fields.specs.Paths.{path_of};
-ghost use Rattle.adb_schema.specs.Rules.{is_digest_length, is_digest_length_or_none, is_folder_name, is_id_length, is_link_target, is_name_pattern, is_one_part, is_link_target_or_none};
+ghost use Rattle.adb_schema.specs.Rules.{is_digest_length, is_digest_length_or_none, is_folder_name, is_id_length, is_link_target, is_pkgname_spec, is_one_part, is_link_target_or_none};
 ghost use Rattle.adb_schema.specs.Reserved.{is_at_or_below, is_intent_or_stage_name, is_reserved};
 
 use base_core::is_name;
@@ -129,8 +129,8 @@ fn is_text(bytes: &[u8]) -> bool
 }
 
 /// Whether the bytes are the pattern of an index: empty, or `${name}-${version}.apk`.
-pub(crate) fn is_name_pattern(pattern: &[u8]) -> bool
-    ensures { result ≡ is_name_pattern pattern.now }
+pub(crate) fn is_pkgname_spec(pattern: &[u8]) -> bool
+    ensures { result ≡ is_pkgname_spec pattern.now }
 {
     pattern.is_empty() || pattern == NAME_PATTERN
 }
@@ -164,7 +164,7 @@ pub fn is_reserved_file(folder: &[u8], name: &[u8]) -> bool
         || is_file_at_or_below(b"lib/apk/db", folder, name)
 }
 
-/// Whether the path is this name, or one below it.
+/// Whether `path` is the name `top`, or a name below the folder `top`.
 fn is_at_or_below(top: &[u8], path: &[u8]) -> bool
     ensures { result ≡ is_at_or_below top.now path.now }
 {
@@ -174,8 +174,8 @@ fn is_at_or_below(top: &[u8], path: &[u8]) -> bool
     }
 }
 
-/// Whether the path of this file of this folder is a name, or below it; the two parts are not
-/// joined.
+/// Whether the path of this file of this folder is the name `top`, or a name below it. The folder
+/// and the file name are compared separately, without joining them.
 fn is_file_at_or_below(top: &[u8], folder: &[u8], name: &[u8]) -> bool
     ensures { result ≡ is_at_or_below top.now (path_of folder.now name.now) }
 {

@@ -8,14 +8,14 @@ ghost use Rattle.adb_view.specs.Adb.{payload_of};
 ghost use Rattle.adb_view.specs.Schema.{shape_of, shapes_of, table, table_number};
 ghost use Rattle.adb_view.specs.Values.{is_sound, value_at, entries_in, entry_in, count_of};
 ghost use Rattle.adb_fields.specs.Paths.{path_of};
-ghost use Rattle.adb_schema.specs.Rules.{is_changeable_name, is_one_part};
+ghost use Rattle.adb_schema.specs.Rules.{is_name_allowed_in_intent, is_one_part};
 ghost use Rattle.adb_schema.specs.Surroundings.{surroundings_of};
 ghost use Rattle.adb_schema.specs.TextRules.{text_at};
 ghost use Rattle.adb_schema.specs.TextWalk.{IsSameWordAsPrevious, AllowsEachText, AllowsEachValueOfKind, bad_text_at};
 ghost use Rattle.adb_view.specs.ShapedPayload.{shaped_value, table_of};
 ghost use Rattle.adb_view.specs.Shaped.{Each};
-ghost use Rattle.adb_schema.specs.SoundValues.{IsChangeableName, IsSoundDependency, IsSoundFileOf, IsSoundFolder, IsSoundInformation, IsSoundPackage, KeepsRules};
-ghost use Rattle.adb_schema.specs.Texts.{surroundings_of_root, surroundings_of_fields, is_file_hash, is_allowed_file_name, is_package_hash, is_with_contents, may_list, needs_hash, number_rule, text_rule, each_leaf, field_leaves, first_bad_leaf, leaves, number_leaf, text_leaf, leaves_of, text_fault};
+ghost use Rattle.adb_schema.specs.SoundValues.{IsNameAllowedInIntent, IsSoundDependency, IsSoundFileOf, IsSoundFolder, IsSoundInformation, IsSoundPackage, KeepsRules};
+ghost use Rattle.adb_schema.specs.Texts.{surroundings_of_root, surroundings_of_fields, is_file_hash_length, is_allowed_file_name, is_package_hash_length, is_file_with_contents, can_root_table_list_path, needs_file_hash, is_allowed_number_of_field, is_allowed_text_of_field, leaves_of_all_values, field_leaves, first_bad_leaf, leaves, number_leaf, text_leaf, leaves_of, text_fault};
 ghost use Rattle.adb_schema.specs.FirstBad.{IsFirstBadLeafIfAny};
 ghost use Rattle.adb_view.specs.Entries.{array_entries};
 ghost use Rattle.adb_fields.specs.Fields.{are_all_sound, values_at};
@@ -128,13 +128,14 @@ impl<'a> Surroundings<'a> {
         requires { is_one_part name.now ≡ true }
         ensures { result ≡ is_allowed_file_name (surroundings_of self.now) name.now }
     {
-        fits_in(self.folder, name) && self.may_list(name)
+        fits_in(self.folder, name) && self.can_root_table_list_path(name)
     }
 
     /// Whether the container may list a file of this name in the folder: a database may list none
     /// under a reserved name.
-    fn may_list(&self, name: &[u8]) -> bool
-        ensures { result ≡ may_list self.now.root (path_of self.now.folder.now name.now) }
+    fn can_root_table_list_path(&self, name: &[u8]) -> bool
+        ensures { result ≡ can_root_table_list_path self.now.root
+            (path_of self.now.folder.now name.now) }
     {
         match self.root {
             Which::Idb => !is_reserved_file(self.folder, name),
@@ -144,7 +145,7 @@ impl<'a> Surroundings<'a> {
 
     /// Whether a package's hash may have this length in bytes.
     fn takes_package_hash(&self, len: usize) -> bool
-        ensures { result ≡ is_package_hash (surroundings_of self.now).root len }
+        ensures { result ≡ is_package_hash_length (surroundings_of self.now).root len }
     {
         match self.root {
             Which::Index => is_id_length(len),
@@ -154,7 +155,7 @@ impl<'a> Surroundings<'a> {
 
     /// Whether the file's hash may have this length in bytes.
     fn takes_file_hash(&self, len: usize) -> bool
-        ensures { result ≡ is_file_hash (surroundings_of self.now) len }
+        ensures { result ≡ is_file_hash_length (surroundings_of self.now) len }
     {
         if self.has_contents && self.root != Which::Idb {
             is_digest_length(len)
@@ -168,7 +169,7 @@ impl<'a> Surroundings<'a> {
 fn has_contents(adb: Adb<'_>, file: Val) -> bool
     requires { is_sound (payload_of adb) (Kinds.Obj Tables.File) file ≡ true }
     ensures { result
-        ≡ is_with_contents (value_at (payload_of adb.entry) (Kinds.Obj Tables.File) file) }
+        ≡ is_file_with_contents (value_at (payload_of adb.entry) (Kinds.Obj Tables.File) file) }
 {
     let target = text_field(adb, Which::File, file, FILE_TARGET);
     target.is_empty() && int_field(adb, Which::File, file, FILE_SIZE) > 0
@@ -177,7 +178,7 @@ fn has_contents(adb: Adb<'_>, file: Val) -> bool
 /// Whether a number obeys the rule of the field with this number; only the match number of a
 /// dependency has one.
 pub(crate) fn keeps_number_rule(field_number: u16, n: u64) -> bool
-    ensures { result ≡ number_rule field_number n }
+    ensures { result ≡ is_allowed_number_of_field field_number n }
 {
     match field_number {
         field_numbers::DEP_MATCH => is_match_number(n),
@@ -187,7 +188,7 @@ pub(crate) fn keeps_number_rule(field_number: u16, n: u64) -> bool
 
 /// Whether the text of a word obeys the rule of the field with this number; the other fields have
 /// no rule.
-#[tactic(auto, unfolding(crate::specs::Texts::text_rule))]
+#[tactic(auto, unfolding(crate::specs::Texts::is_allowed_text_of_field))]
 fn keeps_rule_of_field(
     judged: &mut Judged<'_>,
     field_number: u16,
@@ -195,9 +196,11 @@ fn keeps_rule_of_field(
     word: Val,
     text: &[u8],
 ) -> Result<bool, AllocError>
+    // `text` is the text of the word.
     requires { text.now ≡ text_at (payload_of judged.old.adb) word }
     ensures value { IfOk result (λ kept.
-        kept ≡ text_rule field_number (surroundings_of around.now) text.now) }
+        kept ≡ is_allowed_text_of_field field_number (surroundings_of around.now) text.now) }
+    // The payload is unchanged.
     ensures payload { judged.new.adb ≡ judged.old.adb }
 {
     match field_number {
@@ -210,7 +213,7 @@ fn keeps_rule_of_field(
         field_numbers::FILE_HASHES => Ok(around.takes_file_hash(text.len())),
         field_numbers::FILE_TARGET => judged.keeps(TextRule::Target, word, text),
         field_numbers::DIR_NAME => judged.keeps(TextRule::FolderName, word, text),
-        field_numbers::INDEX_PKGNAME_SPEC => Ok(is_name_pattern(text)),
+        field_numbers::INDEX_PKGNAME_SPEC => Ok(is_pkgname_spec(text)),
         field_numbers::INTENT_REMOVALS | field_numbers::INTENT_WRITES => {
             keeps_change_name(judged, word, text)
         }
@@ -225,9 +228,11 @@ fn keeps_file_name(
     word: Val,
     text: &[u8],
 ) -> Result<bool, AllocError>
+    // `text` is the text of the word.
     requires { text.now ≡ text_at (payload_of judged.old.adb) word }
     ensures value { IfOk result (λ kept.
         kept ≡ is_allowed_file_name (surroundings_of around.now) text.now) }
+    // The payload is unchanged.
     ensures payload { judged.new.adb ≡ judged.old.adb }
 {
     if !judged.keeps(TextRule::OnePart, word, text)? {
@@ -239,8 +244,10 @@ fn keeps_file_name(
 /// Whether a change may remove or write the text of a word: a path, but none of the journal or of
 /// the staging area.
 fn keeps_change_name(judged: &mut Judged<'_>, word: Val, text: &[u8]) -> Result<bool, AllocError>
+    // `text` is the text of the word.
     requires { text.now ≡ text_at (payload_of judged.old.adb) word }
-    ensures value { IfOk result (λ kept. kept ≡ is_changeable_name text.now) }
+    ensures value { IfOk result (λ kept. kept ≡ is_name_allowed_in_intent text.now) }
+    // The payload is unchanged.
     ensures payload { judged.new.adb ≡ judged.old.adb }
 {
     if !judged.keeps(TextRule::Name, word, text)? {
@@ -278,11 +285,15 @@ fn check_value<'a>(
     around: &Surroundings<'a>,
     word: Val,
 ) -> Result<Option<u16>, AllocError>
+    // The word has a plain value of its kind.
     requires sound { is_sound (payload_of adb) kind word ≡ true }
+    // The texts are judged in the payload that is walked.
     requires payload { payload_of judged.old.adb ≡ payload_of adb }
+    // The result is the number of the first field whose number or text breaks its rule.
     ensures place { IfOk result (λ place. bad_text_at place
         ≡ first_bad_leaf (leaves (shape_of kind) field_number (surroundings_of around.now)
         (value_at (payload_of adb.entry) kind word))) }
+    // The payload is unchanged.
     ensures payload { judged.new.adb ≡ judged.old.adb }
 {
     match kind {
@@ -314,11 +325,16 @@ fn check_entries<'a>(
     around: &Surroundings<'a>,
     entries: Arr<'a>,
 ) -> Result<Option<u16>, AllocError>
+    // Each word has a plain value of its kind.
     requires sound { are_all_sound (payload_of adb) kind (array_entries entries) ≡ true }
+    // The texts are judged in the payload that is walked.
     requires payload { payload_of judged.old.adb ≡ payload_of adb }
+    // The result is the number of the first field whose number or text breaks its rule.
     ensures place { IfOk result (λ place. bad_text_at place
-        ≡ first_bad_leaf (each_leaf (leaves (shape_of kind) field_number (surroundings_of around.now))
+        ≡ first_bad_leaf (leaves_of_all_values (leaves (shape_of kind) field_number
+        (surroundings_of around.now))
         (values_at (payload_of adb.entry) kind (array_entries entries.entry)))) }
+    // The payload is unchanged.
     ensures payload { judged.new.adb ≡ judged.old.adb }
 {
     for i in 0..entries.len() {
@@ -353,12 +369,16 @@ fn check_fields<'a>(
     around: &Surroundings<'a>,
     object: Val,
 ) -> Result<Option<u16>, AllocError>
+    // The word has a plain value of its kind.
     requires sound { is_sound (payload_of adb) (Kinds.Obj which) object ≡ true }
+    // The texts are judged in the payload that is walked.
     requires payload { payload_of judged.old.adb ≡ payload_of adb }
+    // The result is the number of the first field whose number or text breaks its rule.
     ensures place { IfOk result (λ place. bad_text_at place
         ≡ first_bad_leaf (field_leaves (shapes_of (table which)) (100 * table_number which + 1)
         (surroundings_of around.now)
         (entries_in (value_at (payload_of adb.entry) (Kinds.Obj which) object)))) }
+    // The payload is unchanged.
     ensures payload { judged.new.adb ≡ judged.old.adb }
 {
     let words = object_words(adb, which, object);
@@ -379,6 +399,7 @@ fn check_fields<'a>(
 /// Whether a value of this kind in this field may break a rule: the field, or a field below it, has
 /// one.
 fn has_rule(kind: Kind, field_number: u16) -> bool
+    // False is returned only if no value breaks a rule.
     ensures { result ≡ false → AllowsEachValueOfKind kind field_number }
 {
     match kind {
@@ -393,7 +414,9 @@ fn has_rule(kind: Kind, field_number: u16) -> bool
 
 /// Whether the objects of a table may break a rule.
 fn has_rule_below(which: Which) -> bool
-    ensures { result ≡ false → (field_number : ℕ) → AllowsEachValueOfKind (Kinds.Obj which) field_number }
+    // False is returned only if no value breaks a rule.
+    ensures { result ≡ false → (field_number : ℕ)
+        → AllowsEachValueOfKind (Kinds.Obj which) field_number }
 {
     match which {
         // No field of these two tables has a rule.
@@ -404,8 +427,9 @@ fn has_rule_below(which: Which) -> bool
 }
 
 /// Whether there is a rule for the texts of a field.
-#[tactic(auto, unfolding(crate::specs::Texts::text_rule))]
+#[tactic(auto, unfolding(crate::specs::Texts::is_allowed_text_of_field))]
 fn has_text_rule(field_number: u16) -> bool
+    // False is returned only if no value breaks a rule.
     ensures { result ≡ false → AllowsEachText field_number }
 {
     matches!(
@@ -444,9 +468,12 @@ fn check_text(
     word: Val,
     text: &[u8],
 ) -> Result<Option<u16>, AllocError>
+    // `text` is the text of the word.
     requires { text.now ≡ text_at (payload_of judged.old.adb) word }
+    // The result is the number of the first field whose number or text breaks its rule.
     ensures place { IfOk result (λ place. bad_text_at place
         ≡ first_bad_leaf (text_leaf field_number (surroundings_of around.now) text.now ∷ [])) }
+    // The payload is unchanged.
     ensures payload { judged.new.adb ≡ judged.old.adb }
 {
     if keeps_rule_of_field(judged, field_number, around, word, text)? {
@@ -490,6 +517,6 @@ pub fn entries_keep_the_rule_of_their_list()
         → Each (IsSoundPackage root) (entries_in list) → i < count_of (entries_in list)
         → IsSoundPackage root (entry_in list i) }
     ensures change_name { (list : Plain) (i : ℕ)
-        → Each IsChangeableName (entries_in list) → i < count_of (entries_in list)
-        → IsChangeableName (entry_in list i) }
+        → Each IsNameAllowedInIntent (entries_in list) → i < count_of (entries_in list)
+        → IsNameAllowedInIntent (entry_in list i) }
 {}

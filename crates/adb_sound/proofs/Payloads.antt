@@ -5,7 +5,7 @@ use Rattle.std.specs.Int.{w32, to_le_bytes}
 use Rattle.std.proofs.lemmas.Bool.{le-ltb}
 use Rattle.std.proofs.lemmas.List.{length-append}
 use Rattle.base_core.proofs.Causes.{none_both}
-use Rattle.adb_view.specs.Head.{head_fault, root_of}
+use Rattle.adb_view.specs.Head.{payload_head_fault, root_word_of_payload}
 use Rattle.adb_view.specs.Plain.{Plain, null}
 use Rattle.adb_view.specs.Schema.{shape_of}
 use Rattle.adb_view.specs.Values.{value_at}
@@ -22,16 +22,16 @@ use Rattle.adb_sound.proofs.Lower.{Lower}
 pub payload_long : (root : ℕ) (out : Layout) → 8 ≤ length (payload_with_root root out)
 payload_long root out = omega (arith, length-append (to_le_bytes w32 root) out.body)
 
-head_good : (root : ℕ) (out : Layout) → head_fault (payload_with_root root out) ≡ None
+head_good : (root : ℕ) (out : Layout) → payload_head_fault (payload_with_root root out) ≡ None
 head_good root out =
     let t : ltb (length (payload_with_root root out)) 8 ≡ false = le-ltb _ _ (payload_long root out) in
     rw t refl
 
-shape_good : Lower → (which : Which) (v : Plain) → IsRootOf which v → shape_fault (canonical v) (shape_of (Obj which)) (root_of (canonical v)) ≡ None
+shape_good : Lower → (which : Which) (v : Plain) → IsRootOf which v → shape_fault (canonical v) (shape_of (Obj which)) (root_word_of_payload (canonical v)) ≡ None
 shape_good laws which v g =
     let visits_are = laws.visited (shape_of (Obj which)) v g.normal g.shaped g.fits in
     let few = g.few in
-    (laws.faultless (canonical v) (shape_of (Obj which)) (root_of (canonical v))).1
+    (laws.faultless (canonical v) (shape_of (Obj which)) (root_word_of_payload (canonical v))).1
     (ap is_some (laws.back (shape_of (Obj which)) v g.normal g.shaped g.fits), omega arith)
 
 pub value_is : Lower → (which : Which) (v : Plain) → IsRootOf which v → root_value which (canonical v) ≡ v

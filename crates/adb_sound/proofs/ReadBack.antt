@@ -14,9 +14,9 @@ use Rattle.adb_view.specs.declared.tables.Which.{Which}
 use Rattle.adb_view.specs.declared.tables.Which.TheVariants.{Package}
 use Rattle.adb_write.specs.Canonical.{canonical, write, empty_layout}
 use Rattle.adb_write.specs.File.{adb_piece, file_of}
-use Rattle.pkg_core.specs.Contents.{Expected, Contents, contents_in, expected_contents, files_read_from_blocks, unless_fault, with_contents_of_next}
+use Rattle.pkg_core.specs.Contents.{ExpectedFile, Contents, contents_in, expected_files_of_package, files_read_from_blocks, files_unless_fault, with_contents_of_next}
 use Rattle.pkg_core.specs.GoodContents.{AreContentsOf}
-use Rattle.pkg_core.specs.Whole.{files_after_first_block, files_after_header, files_in_file, package_with_contents}
+use Rattle.pkg_core.specs.Whole.{files_after_first_block, files_after_header, files_read_from_package, package_with_contents}
 use Rattle.adb_sound.specs.Container.{contents_payload, contents_piece, container_of, packed_from_parts}
 use Rattle.adb_sound.specs.Root.{IsRootOf}
 use Rattle.adb_sound.proofs.ContentsBlocks.{IsFirstOf, block_good, contents_stand, first_of, none_of_blocks}
@@ -63,7 +63,7 @@ value_back laws which schema v word g = root_back laws which schema v [] g (laid
 same_contents : (c : Contents) (folder file : ℕ) → c.folder ≡ folder → c.file ≡ file → record { folder = folder; file = file; bytes = c.bytes } ≡ c
 same_contents c folder file a b = λ k. record { folder = sym a k; file = sym b k; bytes = c.bytes }
 
-contents_back : (es : List Expected) (cs : List Contents) (r : Reading) → blocks_of_stream r ≡ Ok (map contents_piece cs) → AreBelow (2 ^ 32) es → AreContentsOf es cs → contents_in (files_read_from_blocks es r) ≡ cs
+contents_back : (es : List ExpectedFile) (cs : List Contents) (r : Reading) → blocks_of_stream r ≡ Ok (map contents_piece cs) → AreBelow (2 ^ 32) es → AreContentsOf es cs → contents_in (files_read_from_blocks es r) ≡ cs
 unfolding files_read_from_blocks
 contents_back [] [] r p small all = subst (λ (q : Reading). contents_in (files_read_from_blocks [] q) ≡ []) (sym (none_of_blocks r p)) refl
 contents_back [] (c ∷ cs) r p small all = absurd all
@@ -74,18 +74,18 @@ contents_back (e ∷ es) (c ∷ cs) r p small all =
     let same = same_contents c e.folder e.file all.0.folder all.0.file in
     let rest = contents_back es cs first.later first.others small.2 all.1 in
     subst (λ (q : Reading). contents_in (files_read_from_blocks (e ∷ es) q) ≡ c ∷ cs) (sym first.is)
-    (ap (λ (o : Option Cause). contents_in (unless_fault o (with_contents_of_next (contents_payload c) (λ left. files_read_from_blocks left first.later) (e ∷ es)))) good ∙ (λ k. same k ∷ rest k))
+    (ap (λ (o : Option Cause). contents_in (files_unless_fault o (with_contents_of_next (contents_payload c) (λ left. files_read_from_blocks left first.later) (e ∷ es)))) good ∙ (λ k. same k ∷ rest k))
 
-pub package_back : Lower → (v : Plain) (contents : List Contents) → IsRootOf Package v → AreContentsOf (expected_contents v) contents → length (container_of PACKAGE_WORD v contents) < 2 ^ 64 → package_with_contents (container_of PACKAGE_WORD v contents) ≡ packed_from_parts v contents
-unfolding files_in_file
+pub package_back : Lower → (v : Plain) (contents : List Contents) → IsRootOf Package v → AreContentsOf (expected_files_of_package v) contents → length (container_of PACKAGE_WORD v contents) < 2 ^ 64 → package_with_contents (container_of PACKAGE_WORD v contents) ≡ packed_from_parts v contents
+unfolding files_read_from_package
 package_back laws v contents g all short =
     let few = g.few in
     let file : List ℕ = container_of PACKAGE_WORD v contents in
     let l = laid laws Package PACKAGE_WORD v contents (word_is Package PACKAGE_WORD refl) g (laid_short PACKAGE_WORD v contents short) in
-    let read = contents_back (expected_contents v) contents l.first.later l.first.others (expected_below (2 ^ 32) v (omega arith)) all in
+    let read = contents_back (expected_files_of_package v) contents l.first.later l.first.others (expected_below (2 ^ 32) v (omega arith)) all in
     let value = root_back laws Package PACKAGE_WORD v contents g l in
-    let by_root = ap (λ (u : Plain). contents_in (files_read_from_blocks (expected_contents u) l.first.later)) (value_is laws Package v g) in
-    let back : contents_in (files_in_file file) ≡ contents =
+    let by_root = ap (λ (u : Plain). contents_in (files_read_from_blocks (expected_files_of_package u) l.first.later)) (value_is laws Package v g) in
+    let back : contents_in (files_read_from_package file) ≡ contents =
     ap (λ o. contents_in (files_after_header file o)) l.header
     ∙ ap (λ r. contents_in (files_after_first_block r)) l.first.is
     ∙ by_root ∙ read in

@@ -15,7 +15,7 @@ use Rattle.adb_view.specs.declared.tables.Which.TheVariants.{Dep, Acl, PkgInfo, 
 use Rattle.pkg_core.specs.adb_schema.declared.read.TheConstants.{PACKAGE_WORD, INDEX_WORD, IDB_WORD, INTENT_WORD}
 use Rattle.adb_write.specs.Canonical.{canonical, write, empty_layout}
 use Rattle.adb_write.specs.File.{adb_piece, file_of}
-use Rattle.pkg_core.specs.Contents.{Contents, expected_contents}
+use Rattle.pkg_core.specs.Contents.{Contents, expected_files_of_package}
 use Rattle.pkg_core.specs.GoodContents.{AreContentsOf}
 use Rattle.pkg_core.specs.Whole.{fault_of_further_blocks, container_fault, container_fault_after_header, table_of_schema, container_fault_after_schema, container_fault_of_table}
 use Rattle.adb_sound.specs.Container.{contents_piece, container_of}
@@ -81,11 +81,11 @@ laid_good laws which schema v contents word g short behind =
 
 -- ---- a package, and the others
 
-pub package_good : Lower → (v : Plain) (contents : List Contents) → IsRootOf Package v → AreContentsOf (expected_contents v) contents → length (container_of PACKAGE_WORD v contents) < 2 ^ 64 → container_fault (container_of PACKAGE_WORD v contents) ≡ None
+pub package_good : Lower → (v : Plain) (contents : List Contents) → IsRootOf Package v → AreContentsOf (expected_files_of_package v) contents → length (container_of PACKAGE_WORD v contents) < 2 ^ 64 → container_fault (container_of PACKAGE_WORD v contents) ≡ None
 package_good laws v contents g all short =
     let few = g.few in
     laid_good laws Package PACKAGE_WORD v contents (word_is Package PACKAGE_WORD refl) g (laid_short PACKAGE_WORD v contents short)
-    (λ r p. blocks_good (expected_contents v) contents r p (expected_below (2 ^ 32) v (omega arith)) all)
+    (λ r p. blocks_good (expected_files_of_package v) contents r p (expected_below (2 ^ 32) v (omega arith)) all)
 
 behind_good : (which : Which) (schema : ℕ) (v : Plain) → schema_word which ≡ Some schema → which ≢ Package → fault_of_further_blocks which v done ≡ None
 unfolding further_blocks_fault

@@ -20,7 +20,7 @@ ghost use Rattle.adb_sound.specs.Root.{IsRootOf};
 ghost use Rattle.adb_view.specs.Plain.{Plain};
 ghost use Rattle.adb_write.specs.Canonical.{canonical};
 ghost use Rattle.adb_write.specs.File.{file_of};
-ghost use Rattle.pkg_core.specs.Contents.{Contents, expected_contents};
+ghost use Rattle.pkg_core.specs.Contents.{Contents, expected_files_of_package};
 ghost use Rattle.pkg_core.specs.GoodContents.{AreContentsOf};
 ghost use Rattle.pkg_core.specs.Whole.{container_fault, package_with_contents};
 ghost use Rattle.std.specs.List.{flat_map};
@@ -48,7 +48,7 @@ pub fn a_container_of_a_good_value_is_sound()
 /// order and no others, is sound if it has fewer than 2^64 bytes.
 pub fn a_package_of_a_good_value_and_its_contents_is_sound()
     ensures { (v : Plain) (contents : List Contents)
-        → IsRootOf Tables.Package v → AreContentsOf (expected_contents v) contents
+        → IsRootOf Tables.Package v → AreContentsOf (expected_files_of_package v) contents
         → length (container_of PACKAGE_WORD v contents) < 2 ^ 64
         → container_fault (container_of PACKAGE_WORD v contents) ≡ None }
 {
@@ -75,9 +75,10 @@ pub fn what_a_container_is_made_of_is_read_back()
         → schema_word which ≡ Some schema → IsRootOf which v
         → root_value which (payload_in (file_of schema (canonical v))) ≡ v }
     ensures contents { (v : Plain) (contents : List Contents)
-        → IsRootOf Tables.Package v → AreContentsOf (expected_contents v) contents
+        → IsRootOf Tables.Package v → AreContentsOf (expected_files_of_package v) contents
         → length (container_of PACKAGE_WORD v contents) < 2 ^ 64
-        → package_with_contents (container_of PACKAGE_WORD v contents) ≡ packed_from_parts v contents }
+        → package_with_contents (container_of PACKAGE_WORD v contents)
+        ≡ packed_from_parts v contents }
 {
     what_is_written_is_spelled();
     what_is_spelled_is_read();

@@ -1,6 +1,6 @@
 -- For callers: a blob has its word in whatever a draft becomes.
 use Rattle.std.proofs.Common.{◌≡◌, ℕ, Bool, true, false, List, [], ◌∷◌, ◌++◌, length, refl, sym, ap, subst, ◌∙◌}
-use Rattle.adb_view.specs.Plain.{Plain, null, int, blob, arr, obj, Plains, none, more, arr_value, blob_or_null, obj_value}
+use Rattle.adb_view.specs.Plain.{Plain, null, int, blob, arr, obj, Plains, none, more, array_or_null, blob_or_null, trimmed_object_or_null}
 use Rattle.adb_write.specs.Again.{HasAllItemsUnlessPastLimit, IsWordOfBlob}
 use Rattle.adb_write.specs.Canonical.{Cell, in_place, apart, blob_cell}
 use Rattle.adb_write.specs.DepthFirst.{WritesValue}
@@ -89,7 +89,7 @@ open_writing vs before d is =
     ap (λ (e : DraftState). e.writing) (is ∙ takes_all vs before.writing before.words (before.starts ++ length before.words ∷ []))
 
 -- a list is closed
-pub has_closed_array : (vs : Plains) (before d later : DraftState) (b : List ℕ) (word : ℕ) → HasBlob d b word → d ≡ draft_with_all vs (draft_with_open_list before) → later ≡ draft_with (arr_value vs) before → HasBlob later b word
+pub has_closed_array : (vs : Plains) (before d later : DraftState) (b : List ℕ) (word : ℕ) → HasBlob d b word → d ≡ draft_with_all vs (draft_with_open_list before) → later ≡ draft_with (array_or_null vs) before → HasBlob later b word
 unfolding draft_with
 has_closed_array vs before d later b word h is e =
     let there : d.writing ≡ (calls_all vs before.writing).1 = open_writing vs before d is in
@@ -97,7 +97,7 @@ has_closed_array vs before d later b word h is e =
     ap (λ (x : DraftState). x.writing) e ∙ ap (λ (r : ℕ × Writing). r.1) (calls_arr vs before.writing) ∙ ap (λ (w : Writing). (arr_call (calls_all vs before.writing).0 w).1) (sym there) in
     has_by d (arr_call (calls_all vs before.writing).0 d.writing).1 b word (arr_keeps (calls_all vs before.writing).0 d.writing h.whole) h later closed
 
-pub has_closed_object : (vs : Plains) (before d later : DraftState) (b : List ℕ) (word : ℕ) → HasBlob d b word → d ≡ draft_with_all vs (draft_with_open_list before) → later ≡ draft_with (obj_value vs) before → HasBlob later b word
+pub has_closed_object : (vs : Plains) (before d later : DraftState) (b : List ℕ) (word : ℕ) → HasBlob d b word → d ≡ draft_with_all vs (draft_with_open_list before) → later ≡ draft_with (trimmed_object_or_null vs) before → HasBlob later b word
 unfolding draft_with
 has_closed_object vs before d later b word h is e =
     let there : d.writing ≡ (calls_all vs before.writing).1 = open_writing vs before d is in

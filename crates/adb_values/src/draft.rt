@@ -4,7 +4,7 @@
 //! call, and `err` that a call that fails leaves it unchanged.
 
 ghost use Rattle.std.specs.Prelude.{◌≡◌, ℕ, ◌<◌, ◌≤◌, List, ◌∷◌, ◌++◌, [], length, take, true, false, IfOk, OnErr, OnOk, vec_capacity, vec_len};
-ghost use Rattle.adb_view.specs.Plain.{Plain, Plains, arr_value, blob_or_null, int, null, obj_value};
+ghost use Rattle.adb_view.specs.Plain.{Plain, Plains, array_or_null, blob_or_null, int, null, trimmed_object_or_null};
 ghost use Rattle.adb_values.specs.Drafts.{empty_draft, draft_with_open_list, draft_with, draft_with_all, DraftState};
 ghost use Rattle.adb_values.specs.LastList.{last_open_list_start, last_word};
 ghost use Rattle.adb_values.specs.Words.{HasBlob};
@@ -118,7 +118,7 @@ impl Draft {
     pub fn close_array(&mut self) -> Result<(), AllocError>
         ensures ok { OnOk result ((vs : Plains) (before : DraftState)
             → self.old ≡ draft_with_all vs (draft_with_open_list before)
-            → self.new ≡ draft_with (arr_value vs) before) }
+            → self.new ≡ draft_with (array_or_null vs) before) }
         ensures err { OnErr result (self.new ≡ self.old) }
     {
         self.words.reserve(1)?;
@@ -135,7 +135,7 @@ impl Draft {
     pub fn close_object(&mut self) -> Result<(), AllocError>
         ensures ok { OnOk result ((vs : Plains) (before : DraftState)
             → self.old ≡ draft_with_all vs (draft_with_open_list before)
-            → self.new ≡ draft_with (obj_value vs) before) }
+            → self.new ≡ draft_with (trimmed_object_or_null vs) before) }
         ensures err { OnErr result (self.new ≡ self.old) }
     {
         self.words.reserve(1)?;

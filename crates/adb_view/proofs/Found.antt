@@ -5,9 +5,9 @@ use Rattle.std.specs.Result.{result_err}
 use Rattle.std.specs.List.{list_all}
 use Rattle.std.proofs.lemmas.Bool.{eqb-true}
 use Rattle.std.proofs.lemmas.List.Folds.{list_all-append}
-use Rattle.adb_view.specs.Plain.{Plain, null, int, Plains, none, more, Shape, number, text, hash, array, object, Fields, no_fields, field, blob_or_null, arr_value, obj_value, unless_null, from_answer, then_more, each_plain, plain_of, plains_of}
-use Rattle.adb_view.specs.Readers.{int_of, blob_of, run_of, ARRAY, OBJECT}
-use Rattle.adb_view.specs.Visits.{Visit, or_empty, each_visit, visits, field_visits, is_sound_visit}
+use Rattle.adb_view.specs.Plain.{Plain, null, int, Plains, none, more, Shape, number, text, hash, array, object, Fields, no_fields, field, blob_or_null, array_or_null, trimmed_object_or_null, null_plain_if_null_word, option_of_ok_value, plains_if_first_and_rest, plains_of_all_words, plain_of, plains_of}
+use Rattle.adb_view.specs.Readers.{int_of, blob_of, run_entries_of_word, ARRAY, OBJECT}
+use Rattle.adb_view.specs.Visits.{Visit, or_empty, visits_of_all_words, visits, field_visits, is_sound_visit}
 use Rattle.base_core.specs.declared.cause.Cause.{Cause}
 
 abbrev all_sound : List ℕ → List Visit → Bool
@@ -17,8 +17,8 @@ all_sound-append : (p : List ℕ) (us vs : List Visit) → all_sound p (us ++ vs
 all_sound-append p us vs = list_all-append (is_sound_visit p) us vs
 
 -- NULL is read by each reader, so it changes nothing
-unless_null-is_some : (w : ℕ) (v : Option Plain) → (w ≡ 0 → is_some v ≡ true) → is_some (unless_null w v) ≡ is_some v
-unless_null-is_some w v h = by_test (eqb w 0) refl
+null_plain_if_null_word-is_some : (w : ℕ) (v : Option Plain) → (w ≡ 0 → is_some v ≡ true) → is_some (null_plain_if_null_word w v) ≡ is_some v
+null_plain_if_null_word-is_some w v h = by_test (eqb w 0) refl
   where
     by_test : (b : Bool) → eqb w 0 ≡ b → is_some (cond b (Some null) v) ≡ is_some v
     by_test true e = sym (h (eqb-true _ _ e))
@@ -32,11 +32,11 @@ pub blob_of-null : (p : List ℕ) → blob_of p 0 ≡ Ok []
 unfolding blob_of
 blob_of-null p = refl
 
-pub run_of-null : (tag : ℕ) (p : List ℕ) → run_of tag p 0 ≡ Ok []
-unfolding run_of
-run_of-null tag p = refl
+pub run_entries_of_word-null : (tag : ℕ) (p : List ℕ) → run_entries_of_word tag p 0 ≡ Ok []
+unfolding run_entries_of_word
+run_entries_of_word-null tag p = refl
 
-found-one : {A : Type 0} (f : A → Plain) (r : Result A Cause) → is_some (from_answer (λ x. Some (f x)) r) ≡ (is_none (result_err r) && true)
+found-one : {A : Type 0} (f : A → Plain) (r : Result A Cause) → is_some (option_of_ok_value (λ x. Some (f x)) r) ≡ (is_none (result_err r) && true)
 found-one f (Ok x) = refl
 found-one f (Err c) = refl
 
@@ -44,16 +44,16 @@ is_some-map : {A B : Type 0} (f : A → B) (o : Option A) → is_some (option_ma
 is_some-map f (Some x) = refl
 is_some-map f None = refl
 
-is_some-then_more : (v : Option Plain) (vs : Option Plains) → is_some (then_more v vs) ≡ (is_some v && is_some vs)
-is_some-then_more (Some v) vs = is_some-map (more v) vs
-is_some-then_more None vs = refl
+is_some-plains_if_first_and_rest : (v : Option Plain) (vs : Option Plains) → is_some (plains_if_first_and_rest v vs) ≡ (is_some v && is_some vs)
+is_some-plains_if_first_and_rest (Some v) vs = is_some-map (more v) vs
+is_some-plains_if_first_and_rest None vs = refl
 
-found-each : (p : List ℕ) (f : ℕ → Option Plain) (g : ℕ → List Visit) → ((w : ℕ) → is_some (f w) ≡ all_sound p (g w)) → (ws : List ℕ) → is_some (each_plain f ws) ≡ all_sound p (each_visit g ws)
+found-each : (p : List ℕ) (f : ℕ → Option Plain) (g : ℕ → List Visit) → ((w : ℕ) → is_some (f w) ≡ all_sound p (g w)) → (ws : List ℕ) → is_some (plains_of_all_words f ws) ≡ all_sound p (visits_of_all_words g ws)
 found-each p f g h [] = refl
 found-each p f g h (w ∷ ws) =
-    is_some-then_more (f w) (each_plain f ws) ∙ ap (λ b. b && is_some (each_plain f ws)) (h w) ∙ ap (λ b. all_sound p (g w) && b) (found-each p f g h ws) ∙ sym (all_sound-append p (g w) (each_visit g ws))
+    is_some-plains_if_first_and_rest (f w) (plains_of_all_words f ws) ∙ ap (λ b. b && is_some (plains_of_all_words f ws)) (h w) ∙ ap (λ b. all_sound p (g w) && b) (found-each p f g h ws) ∙ sym (all_sound-append p (g w) (visits_of_all_words g ws))
 
-found-entries : (p : List ℕ) (f : Plains → Plain) (g : List ℕ → Option Plains) (h : List ℕ → List Visit) → ((ws : List ℕ) → is_some (g ws) ≡ all_sound p (h ws)) → h [] ≡ [] → (r : Result (List ℕ) Cause) → is_some (from_answer (λ ws. option_map f (g ws)) r) ≡ (is_none (result_err r) && all_sound p (h (or_empty r)))
+found-entries : (p : List ℕ) (f : Plains → Plain) (g : List ℕ → Option Plains) (h : List ℕ → List Visit) → ((ws : List ℕ) → is_some (g ws) ≡ all_sound p (h ws)) → h [] ≡ [] → (r : Result (List ℕ) Cause) → is_some (option_of_ok_value (λ ws. option_map f (g ws)) r) ≡ (is_none (result_err r) && all_sound p (h (or_empty r)))
 found-entries p f g h e z (Ok ws) = is_some-map f (g ws) ∙ e ws
 found-entries p f g h e z (Err c) = refl
 
@@ -71,19 +71,19 @@ mutual
   unfolding plain_of visits
 
   pub plain_of-found : (p : List ℕ) (s : Shape) (w : ℕ) → is_some (plain_of p s w) ≡ all_sound p (visits p s w)
-  plain_of-found p number w = unless_null-is_some w _ (λ e. rw (e, int_of-null p) refl) ∙ found-one int (int_of p w)
-  plain_of-found p text w = unless_null-is_some w _ (λ e. rw (e, blob_of-null p) refl) ∙ found-one blob_or_null (blob_of p w)
-  plain_of-found p hash w = unless_null-is_some w _ (λ e. rw (e, blob_of-null p) refl) ∙ found-one blob_or_null (blob_of p w)
+  plain_of-found p number w = null_plain_if_null_word-is_some w _ (λ e. rw (e, int_of-null p) refl) ∙ found-one int (int_of p w)
+  plain_of-found p text w = null_plain_if_null_word-is_some w _ (λ e. rw (e, blob_of-null p) refl) ∙ found-one blob_or_null (blob_of p w)
+  plain_of-found p hash w = null_plain_if_null_word-is_some w _ (λ e. rw (e, blob_of-null p) refl) ∙ found-one blob_or_null (blob_of p w)
   plain_of-found p (array s) w =
-      unless_null-is_some w _ (λ e. rw (e, run_of-null ARRAY p) refl)
-      ∙ found-entries p arr_value (each_plain (plain_of p s)) (each_visit (visits p s)) (found-each p (plain_of p s) (visits p s) (plain_of-found p s)) refl (run_of ARRAY p w)
+      null_plain_if_null_word-is_some w _ (λ e. rw (e, run_entries_of_word-null ARRAY p) refl)
+      ∙ found-entries p array_or_null (plains_of_all_words (plain_of p s)) (visits_of_all_words (visits p s)) (found-each p (plain_of p s) (visits p s) (plain_of-found p s)) refl (run_entries_of_word ARRAY p w)
   plain_of-found p (object schema fs) w =
-      unless_null-is_some w _ (λ e. rw (e, run_of-null OBJECT p, no_fields_found p fs) refl)
-      ∙ found-entries p obj_value (plains_of p fs) (field_visits p fs) (plains_of-found p fs) (no_field_visits p fs) (run_of OBJECT p w)
+      null_plain_if_null_word-is_some w _ (λ e. rw (e, run_entries_of_word-null OBJECT p, no_fields_found p fs) refl)
+      ∙ found-entries p trimmed_object_or_null (plains_of p fs) (field_visits p fs) (plains_of-found p fs) (no_field_visits p fs) (run_entries_of_word OBJECT p w)
 
   pub plains_of-found : (p : List ℕ) (fs : Fields) (ws : List ℕ) → is_some (plains_of p fs ws) ≡ all_sound p (field_visits p fs ws)
   plains_of-found p no_fields ws = refl
   plains_of-found p (field name s fs) [] = refl
   plains_of-found p (field name s fs) (w ∷ ws) =
-      is_some-then_more (plain_of p s w) (plains_of p fs ws) ∙ ap (λ b. b && is_some (plains_of p fs ws)) (plain_of-found p s w) ∙ ap (λ b. all_sound p (visits p s w) && b) (plains_of-found p fs ws)
+      is_some-plains_if_first_and_rest (plain_of p s w) (plains_of p fs ws) ∙ ap (λ b. b && is_some (plains_of p fs ws)) (plain_of-found p s w) ∙ ap (λ b. all_sound p (visits p s w) && b) (plains_of-found p fs ws)
       ∙ sym (all_sound-append p (visits p s w) (field_visits p fs ws))

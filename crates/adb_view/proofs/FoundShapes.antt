@@ -1,14 +1,14 @@
 -- Each plain value that is found has the shape under which it was looked for.
 use Rattle.std.proofs.Common.{ℕ, Bool, true, false, cond, eqb, List, [], ◌∷◌, Option, Some, None, option_map, Result, Ok, Err}
 use Rattle.std.specs.Prelude.{IfSome}
-use Rattle.adb_view.specs.Plain.{Plain, null, int, blob, arr, obj, Plains, none, more, Shape, number, text, hash, array, object, Fields, no_fields, field, blob_or_null, arr_value, obj_of, put_first_without_last_null, without_last_nulls, obj_value, unless_null, from_answer, then_more, each_plain, plain_of, plains_of}
-use Rattle.adb_view.specs.Readers.{int_of, blob_of, run_of, ARRAY, OBJECT}
+use Rattle.adb_view.specs.Plain.{Plain, null, int, blob, arr, obj, Plains, none, more, Shape, number, text, hash, array, object, Fields, no_fields, field, blob_or_null, array_or_null, object_or_null, prepend_plain_unless_last_null, without_last_nulls, trimmed_object_or_null, null_plain_if_null_word, option_of_ok_value, plains_if_first_and_rest, plains_of_all_words, plain_of, plains_of}
+use Rattle.adb_view.specs.Readers.{int_of, blob_of, run_entries_of_word, ARRAY, OBJECT}
 use Rattle.adb_view.specs.Shaped.{Each, HasShape, HaveShapes}
 use Rattle.base_core.specs.declared.cause.Cause.{Cause}
 
 -- whatever a value is, if each way to read it gives such
-pub unless_null-all : (P : Plain → Type 0) (w : ℕ) (v : Option Plain) → P null → IfSome v P → IfSome (unless_null w v) P
-unless_null-all P w v h k = go (eqb w 0)
+pub null_plain_if_null_word-all : (P : Plain → Type 0) (w : ℕ) (v : Option Plain) → P null → IfSome v P → IfSome (null_plain_if_null_word w v) P
+null_plain_if_null_word-all P w v h k = go (eqb w 0)
   where
     go : (b : Bool) → IfSome (cond b (Some null) v) P
     go true = h
@@ -18,7 +18,7 @@ pub mapped : (P : Plain → Type 0) (Q : Plains → Type 0) (f : Plains → Plai
 mapped P Q f h None k = tt
 mapped P Q f h (Some vs) k = h vs k
 
-pub run_found : (P : Plain → Type 0) (g : List ℕ → Option Plain) → ((ws : List ℕ) → IfSome (g ws) P) → (r : Result (List ℕ) Cause) → IfSome (from_answer g r) P
+pub run_found : (P : Plain → Type 0) (g : List ℕ → Option Plain) → ((ws : List ℕ) → IfSome (g ws) P) → (r : Result (List ℕ) Cause) → IfSome (option_of_ok_value g r) P
 run_found P g h (Ok ws) = h ws
 run_found P g h (Err c) = tt
 
@@ -32,7 +32,7 @@ shape_null hash = tt
 shape_null (array s) = tt
 shape_null (object n fs) = tt
 
-int_shape : (r : Result ℕ Cause) → IfSome (from_answer (λ n. Some (int n)) r) (HasShape number)
+int_shape : (r : Result ℕ Cause) → IfSome (option_of_ok_value (λ n. Some (int n)) r) (HasShape number)
 unfolding HasShape
 int_shape (Ok n) = tt
 int_shape (Err c) = tt
@@ -47,15 +47,15 @@ unfolding HasShape
 blob_value_hash [] = tt
 blob_value_hash (c ∷ cs) = tt
 
-text_shape : (r : Result (List ℕ) Cause) → IfSome (from_answer (λ b. Some (blob_or_null b)) r) (HasShape text)
+text_shape : (r : Result (List ℕ) Cause) → IfSome (option_of_ok_value (λ b. Some (blob_or_null b)) r) (HasShape text)
 text_shape (Ok b) = blob_value_text b
 text_shape (Err c) = tt
 
-hash_shape : (r : Result (List ℕ) Cause) → IfSome (from_answer (λ b. Some (blob_or_null b)) r) (HasShape hash)
+hash_shape : (r : Result (List ℕ) Cause) → IfSome (option_of_ok_value (λ b. Some (blob_or_null b)) r) (HasShape hash)
 hash_shape (Ok b) = blob_value_hash b
 hash_shape (Err c) = tt
 
-pub arr_value_shape : (s : Shape) (vs : Plains) → Each (HasShape s) vs → HasShape (array s) (arr_value vs)
+pub arr_value_shape : (s : Shape) (vs : Plains) → Each (HasShape s) vs → HasShape (array s) (array_or_null vs)
 unfolding HasShape
 arr_value_shape s none h = tt
 arr_value_shape s (more v vs) h = h
@@ -65,7 +65,7 @@ unfolding HasShape
 shapes_none no_fields = tt
 shapes_none (field name s fs) = tt
 
-keep_shape : (name : List ℕ) (s : Shape) (fs : Fields) (v : Plain) (vs : Plains) → HasShape s v → HaveShapes fs vs → HaveShapes (field name s fs) (put_first_without_last_null v vs)
+keep_shape : (name : List ℕ) (s : Shape) (fs : Fields) (v : Plain) (vs : Plains) → HasShape s v → HaveShapes fs vs → HaveShapes (field name s fs) (prepend_plain_unless_last_null v vs)
 unfolding HasShape
 keep_shape name s fs null none h hs = tt
 keep_shape name s fs null (more v vs) h hs = (h, hs)
@@ -81,24 +81,24 @@ trimmed_shapes no_fields (more v vs) h = absurd h
 trimmed_shapes (field name s fs) none h = tt
 trimmed_shapes (field name s fs) (more v vs) h = keep_shape name s fs v (without_last_nulls vs) h.0 (trimmed_shapes fs vs h.1)
 
-obj_of_shape : (n : ℕ) (fs : Fields) (vs : Plains) → HaveShapes fs vs → HasShape (object n fs) (obj_of vs)
+obj_of_shape : (n : ℕ) (fs : Fields) (vs : Plains) → HaveShapes fs vs → HasShape (object n fs) (object_or_null vs)
 unfolding HasShape
 obj_of_shape n fs none h = tt
 obj_of_shape n fs (more v vs) h = h
 
-pub obj_value_shape : (n : ℕ) (fs : Fields) (vs : Plains) → HaveShapes fs vs → HasShape (object n fs) (obj_value vs)
+pub obj_value_shape : (n : ℕ) (fs : Fields) (vs : Plains) → HaveShapes fs vs → HasShape (object n fs) (trimmed_object_or_null vs)
 obj_value_shape n fs vs h = obj_of_shape n fs (without_last_nulls vs) (trimmed_shapes fs vs h)
 
-both_found : (P : Plain → Type 0) (v : Option Plain) (vs : Option Plains) → IfSome v P → IfSome vs (Each P) → IfSome (then_more v vs) (Each P)
+both_found : (P : Plain → Type 0) (v : Option Plain) (vs : Option Plains) → IfSome v P → IfSome vs (Each P) → IfSome (plains_if_first_and_rest v vs) (Each P)
 both_found P (Some v) (Some vs) h hs = (h, hs)
 both_found P (Some v) None h hs = tt
 both_found P None vs h hs = tt
 
-pub each_found : (P : Plain → Type 0) (f : ℕ → Option Plain) → ((w : ℕ) → IfSome (f w) P) → (ws : List ℕ) → IfSome (each_plain f ws) (Each P)
+pub each_found : (P : Plain → Type 0) (f : ℕ → Option Plain) → ((w : ℕ) → IfSome (f w) P) → (ws : List ℕ) → IfSome (plains_of_all_words f ws) (Each P)
 each_found P f h [] = tt
-each_found P f h (w ∷ ws) = both_found P (f w) (each_plain f ws) (h w) (each_found P f h ws)
+each_found P f h (w ∷ ws) = both_found P (f w) (plains_of_all_words f ws) (h w) (each_found P f h ws)
 
-fields_more : (name : List ℕ) (s : Shape) (fs : Fields) (v : Option Plain) (vs : Option Plains) → IfSome v (HasShape s) → IfSome vs (HaveShapes fs) → IfSome (then_more v vs) (HaveShapes (field name s fs))
+fields_more : (name : List ℕ) (s : Shape) (fs : Fields) (v : Option Plain) (vs : Option Plains) → IfSome v (HasShape s) → IfSome vs (HaveShapes fs) → IfSome (plains_if_first_and_rest v vs) (HaveShapes (field name s fs))
 unfolding HasShape
 fields_more name s fs (Some v) (Some vs) h hs = (h, hs)
 fields_more name s fs (Some v) None h hs = tt
@@ -108,13 +108,13 @@ mutual
   unfolding plain_of
 
   pub plain_shape : (p : List ℕ) (s : Shape) (w : ℕ) → IfSome (plain_of p s w) (HasShape s)
-  plain_shape p number w = unless_null-all (HasShape number) w _ (shape_null number) (int_shape (int_of p w))
-  plain_shape p text w = unless_null-all (HasShape text) w _ (shape_null text) (text_shape (blob_of p w))
-  plain_shape p hash w = unless_null-all (HasShape hash) w _ (shape_null hash) (hash_shape (blob_of p w))
+  plain_shape p number w = null_plain_if_null_word-all (HasShape number) w _ (shape_null number) (int_shape (int_of p w))
+  plain_shape p text w = null_plain_if_null_word-all (HasShape text) w _ (shape_null text) (text_shape (blob_of p w))
+  plain_shape p hash w = null_plain_if_null_word-all (HasShape hash) w _ (shape_null hash) (hash_shape (blob_of p w))
   plain_shape p (array s) w =
-      unless_null-all (HasShape (array s)) w _ (shape_null (array s)) (run_found (HasShape (array s)) (λ ws. option_map arr_value (each_plain (plain_of p s) ws)) (λ ws. mapped (HasShape (array s)) (Each (HasShape s)) arr_value (arr_value_shape s) (each_plain (plain_of p s) ws) (each_found (HasShape s) (plain_of p s) (plain_shape p s) ws)) (run_of ARRAY p w))
+      null_plain_if_null_word-all (HasShape (array s)) w _ (shape_null (array s)) (run_found (HasShape (array s)) (λ ws. option_map array_or_null (plains_of_all_words (plain_of p s) ws)) (λ ws. mapped (HasShape (array s)) (Each (HasShape s)) array_or_null (arr_value_shape s) (plains_of_all_words (plain_of p s) ws) (each_found (HasShape s) (plain_of p s) (plain_shape p s) ws)) (run_entries_of_word ARRAY p w))
   plain_shape p (object n fs) w =
-      unless_null-all (HasShape (object n fs)) w _ (shape_null (object n fs)) (run_found (HasShape (object n fs)) (λ ws. option_map obj_value (plains_of p fs ws)) (λ ws. mapped (HasShape (object n fs)) (HaveShapes fs) obj_value (obj_value_shape n fs) (plains_of p fs ws) (plains_shape p fs ws)) (run_of OBJECT p w))
+      null_plain_if_null_word-all (HasShape (object n fs)) w _ (shape_null (object n fs)) (run_found (HasShape (object n fs)) (λ ws. option_map trimmed_object_or_null (plains_of p fs ws)) (λ ws. mapped (HasShape (object n fs)) (HaveShapes fs) trimmed_object_or_null (obj_value_shape n fs) (plains_of p fs ws) (plains_shape p fs ws)) (run_entries_of_word OBJECT p w))
 
   pub plains_shape : (p : List ℕ) (fs : Fields) (ws : List ℕ) → IfSome (plains_of p fs ws) (HaveShapes fs)
   plains_shape p no_fields ws = shapes_none no_fields

@@ -4,9 +4,9 @@ use Rattle.std.specs.Prelude.{All, IfSome, if◌then◌else◌}
 use Rattle.std.proofs.lemmas.List.Elements.{All-head, All-tail, All-take, All-drop}
 use Rattle.std.specs.Int.{Width, w32, w64, byte_len, from_le_bytes}
 use Rattle.adb_view.specs.Bytes.{number_at}
-use Rattle.adb_view.specs.Plain.{Plain, null, int, blob, arr, obj, Plains, none, more, Shape, number, text, hash, array, object, Fields, no_fields, field, blob_or_null, arr_value, obj_of, put_first_without_last_null, without_last_nulls, obj_value, from_answer, then_more, each_plain, plain_of, plains_of, IsNormal, AreNormal}
-use Rattle.adb_view.specs.Readers.{kind_of, low_28_bits, or_outside_cause, int_of, blob_of, run_of, ARRAY, OBJECT}
-use Rattle.adb_view.proofs.FoundShapes.{unless_null-all, mapped, run_found}
+use Rattle.adb_view.specs.Plain.{Plain, null, int, blob, arr, obj, Plains, none, more, Shape, number, text, hash, array, object, Fields, no_fields, field, blob_or_null, array_or_null, object_or_null, prepend_plain_unless_last_null, without_last_nulls, trimmed_object_or_null, option_of_ok_value, plains_if_first_and_rest, plains_of_all_words, plain_of, plains_of, IsNormal, AreNormal}
+use Rattle.adb_view.specs.Readers.{kind_of_word, low_28_bits, or_outside_cause, int_of, blob_of, run_entries_of_word, ARRAY, OBJECT}
+use Rattle.adb_view.proofs.FoundShapes.{null_plain_if_null_word-all, mapped, run_found}
 use Rattle.base_core.specs.declared.cause.Cause.{Cause}
 
 -- ---- bytes, and the numbers that they spell
@@ -55,11 +55,11 @@ unfolding int_of
 int_of-fits p w n h e =
     elim (either (eqb w 0) _ _ _ e) [
       | inl zero_is ↦ let same : 0 ≡ n = cc in omega arith
-      | inr e1 ↦ elim (either (eqb (kind_of w) 1) _ _ _ e1) [
+      | inr e1 ↦ elim (either (eqb (kind_of_word w) 1) _ _ _ e1) [
         | inl low_is ↦ let same : low_28_bits w ≡ n = cc in low_fits w n same
-        | inr e2 ↦ elim (either (eqb (kind_of w) 2) _ _ _ e2) [
+        | inr e2 ↦ elim (either (eqb (kind_of_word w) 2) _ _ _ e2) [
           | inl four_is ↦ inside_fits w n _ (λ k. number_fits w32 p (low_28_bits w) k four_fit h) four_is
-          | inr e3 ↦ elim (either (eqb (kind_of w) 3) _ _ _ e3) [
+          | inr e3 ↦ elim (either (eqb (kind_of_word w) 3) _ _ _ e3) [
             | inl eight_is ↦ inside_fits w n _ (λ k. number_fits w64 p (low_28_bits w) k eight_fit h) eight_is
             | inr e4 ↦ absurd cc
           ]
@@ -69,7 +69,7 @@ int_of-fits p w n h e =
 
 -- ---- lists without the Nulls that are last
 
-keep_normal : (v : Plain) (vs : Plains) → IsNormal v → AreNormal vs → AreNormal (put_first_without_last_null v vs)
+keep_normal : (v : Plain) (vs : Plains) → IsNormal v → AreNormal vs → AreNormal (prepend_plain_unless_last_null v vs)
 unfolding IsNormal
 keep_normal null none h hs = tt
 keep_normal null (more v vs) h hs = (tt, hs)
@@ -83,9 +83,9 @@ unfolding IsNormal
 trimmed_normal none hs = tt
 trimmed_normal (more v vs) hs = keep_normal v (without_last_nulls vs) hs.0 (trimmed_normal vs hs.1)
 
-keep_trimmed : (v : Plain) (vs : Plains) → without_last_nulls vs ≡ vs → without_last_nulls (put_first_without_last_null v vs) ≡ put_first_without_last_null v vs
+keep_trimmed : (v : Plain) (vs : Plains) → without_last_nulls vs ≡ vs → without_last_nulls (prepend_plain_unless_last_null v vs) ≡ prepend_plain_unless_last_null v vs
 keep_trimmed null none e = refl
-keep_trimmed null (more v vs) e = ap (put_first_without_last_null null) e
+keep_trimmed null (more v vs) e = ap (prepend_plain_unless_last_null null) e
 keep_trimmed (int n) vs e = ap (more (int n)) e
 keep_trimmed (blob b) vs e = ap (more (blob b)) e
 keep_trimmed (arr us) vs e = ap (more (arr us)) e
@@ -100,7 +100,7 @@ trimmed-trimmed (more v vs) = keep_trimmed v (without_last_nulls vs) (trimmed-tr
 pub trimmed-more : (v : Plain) (vs : Plains) → without_last_nulls (more v vs) ≡ more v vs → (without_last_nulls vs ≡ vs) × ((vs ≡ none) → v ≢ null)
 trimmed-more v vs e = go v (without_last_nulls vs) refl e
   where
-    go : (v : Plain) (us : Plains) → without_last_nulls vs ≡ us → put_first_without_last_null v us ≡ more v vs → (without_last_nulls vs ≡ vs) × ((vs ≡ none) → v ≢ null)
+    go : (v : Plain) (us : Plains) → without_last_nulls vs ≡ us → prepend_plain_unless_last_null v us ≡ more v vs → (without_last_nulls vs ≡ vs) × ((vs ≡ none) → v ≢ null)
     go null none i e = absurd cc
     go null (more u us) i e = let same : more u us ≡ vs = cc in (i ∙ same, λ n. absurd (let no : more u us ≡ none = same ∙ n in cc))
     go (int k) us i e = let same : us ≡ vs = cc in (i ∙ same, λ n x. absurd cc)
@@ -110,7 +110,7 @@ trimmed-more v vs e = go v (without_last_nulls vs) refl e
 
 -- ---- what each reader's answer becomes
 
-int_normal : (r : Result ℕ Cause) → ((n : ℕ) → r ≡ Ok n → n < 2 ^ 64) → IfSome (from_answer (λ n. Some (int n)) r) IsNormal
+int_normal : (r : Result ℕ Cause) → ((n : ℕ) → r ≡ Ok n → n < 2 ^ 64) → IfSome (option_of_ok_value (λ n. Some (int n)) r) IsNormal
 unfolding IsNormal
 int_normal (Ok n) h = h n refl
 int_normal (Err c) h = tt
@@ -120,43 +120,43 @@ unfolding IsNormal
 blob_value_normal [] = tt
 blob_value_normal (c ∷ cs) = λ e. absurd cc
 
-blob_normal : (r : Result (List ℕ) Cause) → IfSome (from_answer (λ b. Some (blob_or_null b)) r) IsNormal
+blob_normal : (r : Result (List ℕ) Cause) → IfSome (option_of_ok_value (λ b. Some (blob_or_null b)) r) IsNormal
 blob_normal (Ok b) = blob_value_normal b
 blob_normal (Err c) = tt
 
-pub arr_normal : (vs : Plains) → AreNormal vs → IsNormal (arr_value vs)
+pub arr_normal : (vs : Plains) → AreNormal vs → IsNormal (array_or_null vs)
 unfolding IsNormal
 arr_normal none hs = tt
 arr_normal (more v vs) hs = (λ e. absurd cc, hs)
 
-obj_of_normal : (vs : Plains) → without_last_nulls vs ≡ vs → AreNormal vs → IsNormal (obj_of vs)
+obj_of_normal : (vs : Plains) → without_last_nulls vs ≡ vs → AreNormal vs → IsNormal (object_or_null vs)
 unfolding IsNormal
 obj_of_normal none e hs = tt
 obj_of_normal (more v vs) e hs = (λ x. absurd cc, e, hs)
 
-pub obj_normal : (vs : Plains) → AreNormal vs → IsNormal (obj_value vs)
+pub obj_normal : (vs : Plains) → AreNormal vs → IsNormal (trimmed_object_or_null vs)
 obj_normal vs hs = obj_of_normal (without_last_nulls vs) (trimmed-trimmed vs) (trimmed_normal vs hs)
 
-more_normal : (v : Option Plain) (vs : Option Plains) → IfSome v IsNormal → IfSome vs AreNormal → IfSome (then_more v vs) AreNormal
+more_normal : (v : Option Plain) (vs : Option Plains) → IfSome v IsNormal → IfSome vs AreNormal → IfSome (plains_if_first_and_rest v vs) AreNormal
 unfolding IsNormal
 more_normal (Some v) (Some vs) h hs = (h, hs)
 more_normal (Some v) None h hs = tt
 more_normal None vs h hs = tt
 
-each_normal : (f : ℕ → Option Plain) → ((w : ℕ) → IfSome (f w) IsNormal) → (ws : List ℕ) → IfSome (each_plain f ws) AreNormal
+each_normal : (f : ℕ → Option Plain) → ((w : ℕ) → IfSome (f w) IsNormal) → (ws : List ℕ) → IfSome (plains_of_all_words f ws) AreNormal
 unfolding IsNormal
 each_normal f h [] = tt
-each_normal f h (w ∷ ws) = more_normal (f w) (each_plain f ws) (h w) (each_normal f h ws)
+each_normal f h (w ∷ ws) = more_normal (f w) (plains_of_all_words f ws) (h w) (each_normal f h ws)
 
 mutual
   unfolding plain_of IsNormal
 
   pub plain_of_normal : (p : List ℕ) → AreBytes p → (s : Shape) (w : ℕ) → IfSome (plain_of p s w) IsNormal
-  plain_of_normal p h number w = unless_null-all IsNormal w _ tt (int_normal (int_of p w) (λ n. int_of-fits p w n h))
-  plain_of_normal p h text w = unless_null-all IsNormal w _ tt (blob_normal (blob_of p w))
-  plain_of_normal p h hash w = unless_null-all IsNormal w _ tt (blob_normal (blob_of p w))
-  plain_of_normal p h (array s) w = unless_null-all IsNormal w _ tt (run_found IsNormal (λ ws. option_map arr_value (each_plain (plain_of p s) ws)) (λ ws. mapped IsNormal AreNormal arr_value arr_normal (each_plain (plain_of p s) ws) (each_normal (plain_of p s) (plain_of_normal p h s) ws)) (run_of ARRAY p w))
-  plain_of_normal p h (object schema fs) w = unless_null-all IsNormal w _ tt (run_found IsNormal (λ ws. option_map obj_value (plains_of p fs ws)) (λ ws. mapped IsNormal AreNormal obj_value obj_normal (plains_of p fs ws) (plains_of_normal p h fs ws)) (run_of OBJECT p w))
+  plain_of_normal p h number w = null_plain_if_null_word-all IsNormal w _ tt (int_normal (int_of p w) (λ n. int_of-fits p w n h))
+  plain_of_normal p h text w = null_plain_if_null_word-all IsNormal w _ tt (blob_normal (blob_of p w))
+  plain_of_normal p h hash w = null_plain_if_null_word-all IsNormal w _ tt (blob_normal (blob_of p w))
+  plain_of_normal p h (array s) w = null_plain_if_null_word-all IsNormal w _ tt (run_found IsNormal (λ ws. option_map array_or_null (plains_of_all_words (plain_of p s) ws)) (λ ws. mapped IsNormal AreNormal array_or_null arr_normal (plains_of_all_words (plain_of p s) ws) (each_normal (plain_of p s) (plain_of_normal p h s) ws)) (run_entries_of_word ARRAY p w))
+  plain_of_normal p h (object schema fs) w = null_plain_if_null_word-all IsNormal w _ tt (run_found IsNormal (λ ws. option_map trimmed_object_or_null (plains_of p fs ws)) (λ ws. mapped IsNormal AreNormal trimmed_object_or_null obj_normal (plains_of p fs ws) (plains_of_normal p h fs ws)) (run_entries_of_word OBJECT p w))
 
   pub plains_of_normal : (p : List ℕ) → AreBytes p → (fs : Fields) (ws : List ℕ) → IfSome (plains_of p fs ws) AreNormal
   plains_of_normal p h no_fields ws = tt

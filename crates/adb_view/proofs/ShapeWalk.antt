@@ -5,12 +5,12 @@ use Rattle.std.specs.Prelude.{is_some, is_none, slice_get}
 use Rattle.std.specs.Option.{option_or}
 use Rattle.std.specs.Result.{result_err}
 use Rattle.adb_view.specs.Plain.{Shape, number, text, hash, array, object, Fields, no_fields, field, plain_of, plains_of}
-use Rattle.adb_view.specs.Readers.{run_of, ARRAY, OBJECT}
-use Rattle.adb_view.specs.Visits.{Visit, or_empty, each_visit, visits, field_visits, fault_at, is_sound_visit, MOST_VALUES}
+use Rattle.adb_view.specs.Readers.{run_entries_of_word, ARRAY, OBJECT}
+use Rattle.adb_view.specs.Visits.{Visit, or_empty, visits_of_all_words, visits, field_visits, word_fault_under_shape, is_sound_visit, MOST_VALUES}
 use Rattle.adb_view.specs.Schema.{shape_of}
 use Rattle.adb_view.specs.Values.{is_sound}
 use Rattle.adb_view.specs.declared.tables.Kind.{Kind}
-use Rattle.adb_view.specs.Walk.{visit_fault, first_fault_from, shape_fault}
+use Rattle.adb_view.specs.Walk.{visit_fault, first_fault_of_numbered_visits, shape_fault}
 use Rattle.adb_view.specs.CountedWalk.{fields_walk}
 use Rattle.adb_view.specs.CountedWalk.{walk}
 use Rattle.adb_view.specs.CountedWalk.{walk_each_word}
@@ -55,10 +55,10 @@ bind_ok : {A : Type 0} (r : Result A Cause) → (and_then r (λ x. Ok x)) ≡ r
 bind_ok (Ok x) = refl
 bind_ok (Err c) = refl
 
-walk_each_word-counted : (p : List ℕ) (f : ℕ → ℕ → Result ℕ Cause) (g : ℕ → List Visit) → ((n w : ℕ) → f n w ≡ counted p n (g w)) → (n : ℕ) (ws : List ℕ) → walk_each_word f n ws ≡ counted p n (each_visit g ws)
+walk_each_word-counted : (p : List ℕ) (f : ℕ → ℕ → Result ℕ Cause) (g : ℕ → List Visit) → ((n w : ℕ) → f n w ≡ counted p n (g w)) → (n : ℕ) (ws : List ℕ) → walk_each_word f n ws ≡ counted p n (visits_of_all_words g ws)
 walk_each_word-counted p f g h n [] = refl
 walk_each_word-counted p f g h n (w ∷ ws) =
-    ap (λ r. and_then r (λ m. walk_each_word f m ws)) (h n w) ∙ bind_same (counted p n (g w)) _ _ (λ m. walk_each_word-counted p f g h m ws) ∙ sym (counted-append p n (g w) (each_visit g ws))
+    ap (λ r. and_then r (λ m. walk_each_word f m ws)) (h n w) ∙ bind_same (counted p n (g w)) _ _ (λ m. walk_each_word-counted p f g h m ws) ∙ sym (counted-append p n (g w) (visits_of_all_words g ws))
 
 mutual
   unfolding walk visits
@@ -68,8 +68,8 @@ mutual
   walk-counted p number n w = sym (bind_ok (walk_visit p n number w))
   walk-counted p text n w = sym (bind_ok (walk_visit p n text w))
   walk-counted p hash n w = sym (bind_ok (walk_visit p n hash w))
-  walk-counted p (array s) n w = bind_same (walk_visit p n (array s) w) _ _ (λ m. walk_each_word-counted p (walk p s) (visits p s) (walk-counted p s) m (or_empty (run_of ARRAY p w)))
-  walk-counted p (object which fs) n w = bind_same (walk_visit p n (object which fs) w) _ _ (λ m. fields_walk-counted p fs m (or_empty (run_of OBJECT p w)))
+  walk-counted p (array s) n w = bind_same (walk_visit p n (array s) w) _ _ (λ m. walk_each_word-counted p (walk p s) (visits p s) (walk-counted p s) m (or_empty (run_entries_of_word ARRAY p w)))
+  walk-counted p (object which fs) n w = bind_same (walk_visit p n (object which fs) w) _ _ (λ m. fields_walk-counted p fs m (or_empty (run_entries_of_word OBJECT p w)))
 
   pub fields_walk-counted : (p : List ℕ) (fs : Fields) (n : ℕ) (ws : List ℕ) → fields_walk p fs n ws ≡ counted p n (field_visits p fs ws)
   fields_walk-counted p no_fields n ws = refl
@@ -82,7 +82,7 @@ result_err-bind : (n : ℕ) (o : Option Cause) (f : ℕ → Result ℕ Cause) �
 result_err-bind n None f = refl
 result_err-bind n (Some c) f = refl
 
-counted-fault : (p : List ℕ) (n : ℕ) (vs : List Visit) → result_err (counted p n vs) ≡ first_fault_from p (n + 1) vs
+counted-fault : (p : List ℕ) (n : ℕ) (vs : List Visit) → result_err (counted p n vs) ≡ first_fault_of_numbered_visits p (n + 1) vs
 counted-fault p n [] = refl
 counted-fault p n (v ∷ vs) =
     result_err-bind (n + 1) (visit_fault p (n + 1) v) (λ m. counted p m vs) ∙ ap (option_or (visit_fault p (n + 1) v)) (counted-fault p (n + 1) vs)
@@ -107,10 +107,10 @@ pub record FirstFaultFrom (p : List ℕ) (n : ℕ) (vs : List Visit) (c : Cause)
   pub fault : visit_fault p (i + n) v ≡ Some c
   pub before : (j : ℕ) (u : Visit) → j < i → slice_get vs j ≡ Some u → visit_fault p (j + n) u ≡ None
 
-first_is : (p : List ℕ) (n : ℕ) (vs : List Visit) (c : Cause) → first_fault_from p n vs ≡ Some c → FirstFaultFrom p n vs c
+first_is : (p : List ℕ) (n : ℕ) (vs : List Visit) (c : Cause) → first_fault_of_numbered_visits p n vs ≡ Some c → FirstFaultFrom p n vs c
 first_is p n [] c e = absurd cc
 first_is p n (v ∷ vs) c e =
-    elim (option_or_cases (visit_fault p n v) (first_fault_from p (n + 1) vs) c e) [
+    elim (option_or_cases (visit_fault p n v) (first_fault_of_numbered_visits p (n + 1) vs) c e) [
       | inl here ↦ record { i = 0; v = v; at = refl; fault = rw zero-add here; before = λ j u lt. absurd (omega arith) }
       | inr later ↦
           let r = first_is p (n + 1) vs c later.1 in
@@ -158,7 +158,7 @@ pub walk-count : (p : List ℕ) (s : Shape) (n m w : ℕ) → walk p s n w ≡ O
 walk-count p s n m w e = counted-length p n m (visits p s w) (sym (walk-counted p s n w) ∙ e)
 
 -- and then each visit's reader succeeds, so the plain value is found
-fault_free : (p : List ℕ) (n : ℕ) (v : Visit) → visit_fault p n v ≡ None → is_none (fault_at p v.shape v.word) ≡ true
+fault_free : (p : List ℕ) (n : ℕ) (v : Visit) → visit_fault p n v ≡ None → is_none (word_fault_under_shape p v.shape v.word) ≡ true
 fault_free p n v e =
     elim (chosen (ltb MOST_VALUES n) _ _ _ e) [ inl x ↦ absurd (let y = x.1 in cc) | inr x ↦ rw x.1 refl ]
 
@@ -193,7 +193,7 @@ none_at_start : (p : List ℕ) (n : ℕ) (v : Visit) → visit_fault p (0 + n) v
 none_at_start p n v e = subst (λ (k : ℕ). visit_fault p k v ≡ None) (omega arith) e
 
 first_back : (p : List ℕ) (n : ℕ) (vs : List Visit) (c : Cause) (i : ℕ) (v : Visit) → slice_get vs i ≡ Some v → visit_fault p (i + n) v ≡ Some c
-    → ((j : ℕ) (u : Visit) → j < i → slice_get vs j ≡ Some u → visit_fault p (j + n) u ≡ None) → first_fault_from p n vs ≡ Some c
+    → ((j : ℕ) (u : Visit) → j < i → slice_get vs j ≡ Some u → visit_fault p (j + n) u ≡ None) → first_fault_of_numbered_visits p n vs ≡ Some c
 first_back p n [] c i v at fault before = absurd cc
 first_back p n (u ∷ us) c zero v at fault before =
     let same : v ≡ u = cc in
@@ -212,7 +212,7 @@ visit_counted : (p : List ℕ) (n : ℕ) (v : Visit) → visit_fault p n v ≡ N
 visit_counted p n v e =
     elim (chosen (ltb MOST_VALUES n) _ _ _ e) [ inl x ↦ absurd (let y = x.1 in cc) | inr x ↦ ltb-false _ _ x.0 ]
 
-none_few : (p : List ℕ) (n : ℕ) (vs : List Visit) → first_fault_from p n vs ≡ None → n ≤ MOST_VALUES + 1 → n + length vs ≤ MOST_VALUES + 1
+none_few : (p : List ℕ) (n : ℕ) (vs : List Visit) → first_fault_of_numbered_visits p n vs ≡ None → n ≤ MOST_VALUES + 1 → n + length vs ≤ MOST_VALUES + 1
 none_few p n [] e le = omega arith
 none_few p n (v ∷ vs) e le =
     let (here, later) = both_none _ _ e in
@@ -220,18 +220,18 @@ none_few p n (v ∷ vs) e le =
     let more = none_few p (n + 1) vs later (omega arith) in
     omega arith
 
-none_sound : (p : List ℕ) (n : ℕ) (vs : List Visit) → first_fault_from p n vs ≡ None → list_all (is_sound_visit p) vs ≡ true
+none_sound : (p : List ℕ) (n : ℕ) (vs : List Visit) → first_fault_of_numbered_visits p n vs ≡ None → list_all (is_sound_visit p) vs ≡ true
 none_sound p n [] e = refl
 none_sound p n (v ∷ vs) e =
     let (here, later) = both_none _ _ e in
     rw (fault_free p n v here, none_sound p (n + 1) vs later) refl
 
-few_none : (p : List ℕ) (n : ℕ) (vs : List Visit) → list_all (is_sound_visit p) vs ≡ true → n + length vs ≤ MOST_VALUES + 1 → first_fault_from p n vs ≡ None
+few_none : (p : List ℕ) (n : ℕ) (vs : List Visit) → list_all (is_sound_visit p) vs ≡ true → n + length vs ≤ MOST_VALUES + 1 → first_fault_of_numbered_visits p n vs ≡ None
 few_none p n [] e le = refl
 few_none p n (v ∷ vs) e le =
     let parts = and_parts (is_sound_visit p v) (list_all (is_sound_visit p) vs) e in
     let t : ltb MOST_VALUES n ≡ false = le-ltb _ _ (omega (arith, le)) in
-    let none_here = none_of (fault_at p v.shape v.word) parts.0 in
+    let none_here = none_of (word_fault_under_shape p v.shape v.word) parts.0 in
     rw (t, none_here) (few_none p (n + 1) vs parts.1 (omega (arith, le)))
 
 pub none_reported : WordsFound → (p : List ℕ) (s : Shape) (w : ℕ) → (shape_fault p s w ≡ None) ↔ ((is_some (plain_of p s w) ≡ true) × (length (visits p s w) ≤ MOST_VALUES))
@@ -242,7 +242,7 @@ none_reported found p s w = (
 
 -- the same of an object's entries
 
-pub fields_fault : (p : List ℕ) (fs : Fields) (n : ℕ) (ws : List ℕ) → result_err (fields_walk p fs n ws) ≡ first_fault_from p (n + 1) (field_visits p fs ws)
+pub fields_fault : (p : List ℕ) (fs : Fields) (n : ℕ) (ws : List ℕ) → result_err (fields_walk p fs n ws) ≡ first_fault_of_numbered_visits p (n + 1) (field_visits p fs ws)
 fields_fault p fs n ws = ap result_err (fields_walk-counted p fs n ws) ∙ counted-fault p n (field_visits p fs ws)
 
 pub fields_counted : (p : List ℕ) (fs : Fields) (n m : ℕ) (ws : List ℕ) → fields_walk p fs n ws ≡ Ok m → m ≡ n + length (field_visits p fs ws)

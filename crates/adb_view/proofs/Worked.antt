@@ -3,8 +3,8 @@ use Rattle.std.proofs.Common.{◌≡◌, ℕ, true, List, [], ◌∷◌, Some, N
 use Rattle.std.specs.Prelude.{codes}
 use Rattle.std.specs.List.{list_all}
 use Rattle.adb_view.specs.Bytes.{words}
-use Rattle.adb_view.specs.Head.{head_fault, root_of}
-use Rattle.adb_view.specs.Readers.{int_of, blob_of, run_of, ARRAY, OBJECT}
+use Rattle.adb_view.specs.Head.{payload_head_fault, root_word_of_payload}
+use Rattle.adb_view.specs.Readers.{int_of, blob_of, run_entries_of_word, ARRAY, OBJECT}
 use Rattle.adb_view.specs.Plain.{Plain, null, int, blob, arr, obj, none, more, Shape, number, text, array, object, no_fields, field, plain_of, value_of}
 use Rattle.adb_view.specs.Visits.{visits, is_sound_visit}
 use Rattle.base_core.specs.declared.cause.Cause.TheVariants.{Outside, WrongKind, Truncated, CompatVersion}
@@ -23,18 +23,18 @@ a_package = obj (more (obj (more (blob (codes "a")) (more (blob (codes "1")) non
 abbrev texts_first : List ℕ
 texts_first = 0 ∷ 0 ∷ 0 ∷ 0 ∷ 24 ∷ 0 ∷ 0 ∷ 224 ∷ 1 ∷ 97 ∷ 1 ∷ 49 ∷ 3 ∷ 0 ∷ 0 ∷ 0 ∷ 8 ∷ 0 ∷ 0 ∷ 128 ∷ 10 ∷ 0 ∷ 0 ∷ 128 ∷ 2 ∷ 0 ∷ 0 ∷ 0 ∷ 12 ∷ 0 ∷ 0 ∷ 224 ∷ []
 
-texts_first-head : head_fault texts_first ≡ None
+texts_first-head : payload_head_fault texts_first ≡ None
 texts_first-head = refl
 
-texts_first-root : root_of texts_first ≡ 0xe0000018
+texts_first-root : root_word_of_payload texts_first ≡ 0xe0000018
 texts_first-root = refl
 
 texts_first-value : value_of texts_first package_shape ≡ Some a_package
-unfolding plain_of run_of blob_of int_of words
+unfolding plain_of run_entries_of_word blob_of int_of words
 texts_first-value = refl
 
-texts_first-sound : list_all (is_sound_visit texts_first) (visits texts_first package_shape (root_of texts_first)) ≡ true
-unfolding visits run_of blob_of int_of words
+texts_first-sound : list_all (is_sound_visit texts_first) (visits texts_first package_shape (root_word_of_payload texts_first)) ≡ true
+unfolding visits run_entries_of_word blob_of int_of words
 texts_first-sound = refl
 
 -- the last text ends at the payload's end
@@ -42,7 +42,7 @@ abbrev texts_last : List ℕ
 texts_last = 0 ∷ 0 ∷ 0 ∷ 0 ∷ 8 ∷ 0 ∷ 0 ∷ 224 ∷ 2 ∷ 0 ∷ 0 ∷ 0 ∷ 16 ∷ 0 ∷ 0 ∷ 224 ∷ 3 ∷ 0 ∷ 0 ∷ 0 ∷ 28 ∷ 0 ∷ 0 ∷ 128 ∷ 30 ∷ 0 ∷ 0 ∷ 128 ∷ 1 ∷ 97 ∷ 1 ∷ 49 ∷ []
 
 texts_last-value : value_of texts_last package_shape ≡ Some a_package
-unfolding plain_of run_of blob_of int_of words
+unfolding plain_of run_entries_of_word blob_of int_of words
 texts_last-value = refl
 
 texts_last-blob : blob_of texts_last 0x8000001e ≡ Ok (codes "1")
@@ -62,7 +62,7 @@ unfolding int_of
 one_byte_short-int = refl
 
 one_byte_short-value : value_of one_byte_short package_shape ≡ None
-unfolding plain_of run_of blob_of int_of words
+unfolding plain_of run_entries_of_word blob_of int_of words
 one_byte_short-value = refl
 
 -- an intent with the one write `a`: its first field is NULL
@@ -70,7 +70,7 @@ abbrev one_write : List ℕ
 one_write = 0 ∷ 0 ∷ 0 ∷ 0 ∷ 20 ∷ 0 ∷ 0 ∷ 224 ∷ 1 ∷ 97 ∷ 0 ∷ 0 ∷ 2 ∷ 0 ∷ 0 ∷ 0 ∷ 8 ∷ 0 ∷ 0 ∷ 128 ∷ 3 ∷ 0 ∷ 0 ∷ 0 ∷ 0 ∷ 0 ∷ 0 ∷ 0 ∷ 12 ∷ 0 ∷ 0 ∷ 208 ∷ []
 
 one_write-value : value_of one_write intent_shape ≡ Some (obj (more null (more (arr (more (blob (codes "a")) none)) none)))
-unfolding plain_of run_of blob_of int_of words
+unfolding plain_of run_entries_of_word blob_of int_of words
 one_write-value = refl
 
 -- an array of NULLs is a list of Nulls, and an object that ends in NULLs loses them
@@ -78,44 +78,44 @@ abbrev nulls_within : List ℕ
 nulls_within = 0 ∷ 0 ∷ 0 ∷ 0 ∷ 20 ∷ 0 ∷ 0 ∷ 224 ∷ 3 ∷ 0 ∷ 0 ∷ 0 ∷ 0 ∷ 0 ∷ 0 ∷ 0 ∷ 0 ∷ 0 ∷ 0 ∷ 0 ∷ 2 ∷ 0 ∷ 0 ∷ 0 ∷ 8 ∷ 0 ∷ 0 ∷ 208 ∷ []
 
 nulls_within-array : plain_of nulls_within (array text) 0xd0000008 ≡ Some (arr (more null (more null none)))
-unfolding plain_of run_of blob_of int_of words
+unfolding plain_of run_entries_of_word blob_of int_of words
 nulls_within-array = refl
 
 nulls_within-value : value_of nulls_within intent_shape ≡ Some (obj (more (arr (more null (more null none))) none))
-unfolding plain_of run_of blob_of int_of words
+unfolding plain_of run_entries_of_word blob_of int_of words
 nulls_within-value = refl
 
 nulls_within-object : plain_of nulls_within intent_shape 0xe0000008 ≡ Some null
-unfolding plain_of run_of blob_of int_of words
+unfolding plain_of run_entries_of_word blob_of int_of words
 nulls_within-object = refl
 
 -- an empty text between NULLs and an integer: entries past the fields are not read
 abbrev empty_text : List ℕ
 empty_text = 0 ∷ 0 ∷ 0 ∷ 0 ∷ 12 ∷ 0 ∷ 0 ∷ 224 ∷ 0 ∷ 0 ∷ 0 ∷ 0 ∷ 4 ∷ 0 ∷ 0 ∷ 0 ∷ 8 ∷ 0 ∷ 0 ∷ 128 ∷ 0 ∷ 0 ∷ 0 ∷ 0 ∷ 12 ∷ 0 ∷ 0 ∷ 16 ∷ []
 
-empty_text-entries : run_of OBJECT empty_text 0xe000000c ≡ Ok (0x80000008 ∷ 0 ∷ 0x1000000c ∷ [])
-unfolding run_of words
+empty_text-entries : run_entries_of_word OBJECT empty_text 0xe000000c ≡ Ok (0x80000008 ∷ 0 ∷ 0x1000000c ∷ [])
+unfolding run_entries_of_word words
 empty_text-entries = refl
 
 empty_text-value : value_of empty_text (object 1 (field (codes "name") text (field (codes "version") text no_fields))) ≡ Some null
-unfolding plain_of run_of blob_of int_of words
+unfolding plain_of run_entries_of_word blob_of int_of words
 empty_text-value = refl
 
 empty_text-number : value_of empty_text (object 1 (field (codes "name") text (field (codes "version") text (field (codes "match") number no_fields)))) ≡ Some (obj (more null (more null (more (int 12) none))))
-unfolding plain_of run_of blob_of int_of words
+unfolding plain_of run_entries_of_word blob_of int_of words
 empty_text-number = refl
 
 -- a run that counts no word, and one that is its own entry
-no_words : run_of OBJECT (0 ∷ 0 ∷ 0 ∷ 0 ∷ 8 ∷ 0 ∷ 0 ∷ 224 ∷ 0 ∷ 0 ∷ 0 ∷ 0 ∷ []) 0xe0000008 ≡ Err (Outside 0xe0000008)
-unfolding run_of
+no_words : run_entries_of_word OBJECT (0 ∷ 0 ∷ 0 ∷ 0 ∷ 8 ∷ 0 ∷ 0 ∷ 224 ∷ 0 ∷ 0 ∷ 0 ∷ 0 ∷ []) 0xe0000008 ≡ Err (Outside 0xe0000008)
+unfolding run_entries_of_word
 no_words = refl
 
-its_own_entry : run_of ARRAY (0 ∷ 0 ∷ 0 ∷ 0 ∷ 8 ∷ 0 ∷ 0 ∷ 208 ∷ 2 ∷ 0 ∷ 0 ∷ 0 ∷ 8 ∷ 0 ∷ 0 ∷ 208 ∷ []) 0xd0000008 ≡ Ok (0xd0000008 ∷ [])
-unfolding run_of words
+its_own_entry : run_entries_of_word ARRAY (0 ∷ 0 ∷ 0 ∷ 0 ∷ 8 ∷ 0 ∷ 0 ∷ 208 ∷ 2 ∷ 0 ∷ 0 ∷ 0 ∷ 8 ∷ 0 ∷ 0 ∷ 208 ∷ []) 0xd0000008 ≡ Ok (0xd0000008 ∷ [])
+unfolding run_entries_of_word words
 its_own_entry = refl
 
-seven_bytes : head_fault (0 ∷ 0 ∷ 0 ∷ 0 ∷ 24 ∷ 0 ∷ 0 ∷ []) ≡ Some (Truncated 0)
+seven_bytes : payload_head_fault (0 ∷ 0 ∷ 0 ∷ 0 ∷ 24 ∷ 0 ∷ 0 ∷ []) ≡ Some (Truncated 0)
 seven_bytes = refl
 
-another_version : head_fault (1 ∷ 0 ∷ 0 ∷ 0 ∷ 24 ∷ 0 ∷ 0 ∷ 224 ∷ []) ≡ Some CompatVersion
+another_version : payload_head_fault (1 ∷ 0 ∷ 0 ∷ 0 ∷ 24 ∷ 0 ∷ 0 ∷ 224 ∷ []) ≡ Some CompatVersion
 another_version = refl

@@ -3,16 +3,16 @@
 use Rattle.std.specs.Prelude.{ℕ, zero, suc, ◌+◌, List, [], ◌∷◌, length, take, drop, Option, Some, None, option_map, nat_le, if◌then◌else◌}
 use Rattle.std.specs.Int.{Width, w32, byte_len, from_le_bytes}
 
--- the `len` bytes that begin at `at`; None if they pass the end
-abbrev pub range_at : List ℕ → ℕ → ℕ → Option (List ℕ)
-range_at bytes at len = if nat_le (at + len) (length bytes) then Some (take len (drop at bytes))
+-- the `len` bytes that begin at the offset `at`; None if they do not end within the bytes
+abbrev pub bytes_at_with_len : List ℕ → ℕ → ℕ → Option (List ℕ)
+bytes_at_with_len bytes at len = if nat_le (at + len) (length bytes) then Some (take len (drop at bytes))
     else None
 
--- the little-endian number of this width that is at `at`; None if it passes the end
+-- the little-endian number of this width at the offset `at`; None if fewer bytes are there than it has
 abbrev pub number_at : Width → List ℕ → ℕ → Option ℕ
-number_at w bytes at = option_map (from_le_bytes w) (range_at bytes at (byte_len w))
+number_at w bytes at = option_map (from_le_bytes w) (bytes_at_with_len bytes at (byte_len w))
 
--- the first n words of the bytes: numbers of four bytes each
+-- the first n words of some bytes: little-endian numbers of four bytes each
 unfoldable pub words : ℕ → List ℕ → List ℕ
 words zero bytes = []
 words (suc n) bytes = from_le_bytes w32 (take 4 bytes) ∷ words n (drop 4 bytes)

@@ -3,12 +3,12 @@
 use Rattle.std.specs.Prelude.{ℕ, ◌+◌, List, [], ◌∷◌, Option, Some, None, Result, Ok, Err}
 use Rattle.base_core.specs.Lists.{and_then}
 use Rattle.adb_view.specs.Plain.{Shape, number, text, hash, array, object, Fields, no_fields, field}
-use Rattle.adb_view.specs.Readers.{run_of, ARRAY, OBJECT}
+use Rattle.adb_view.specs.Readers.{run_entries_of_word, ARRAY, OBJECT}
 use Rattle.adb_view.specs.Visits.{or_empty}
 use Rattle.adb_view.specs.Walk.{visit_fault}
 use Rattle.base_core.specs.declared.cause.Cause.{Cause}
 
--- Its result is the number of visits after a word and the words below it, or the first fault.
+-- The result of a walk is the number of visits so far, or the first fault.
 
 -- the value, unless there is a fault to report
 abbrev pub ok_unless : {A : Type 0} → A → Option Cause → Result A Cause
@@ -31,9 +31,9 @@ unfoldable mutual
   walk p text n w = walk_visit p n text w
   walk p hash n w = walk_visit p n hash w
   walk p (array s) n w = and_then (walk_visit p n (array s) w)
-      (λ m. walk_each_word (walk p s) m (or_empty (run_of ARRAY p w)))
+      (λ m. walk_each_word (walk p s) m (or_empty (run_entries_of_word ARRAY p w)))
   walk p (object schema fs) n w = and_then (walk_visit p n (object schema fs) w)
-      (λ m. fields_walk p fs m (or_empty (run_of OBJECT p w)))
+      (λ m. fields_walk p fs m (or_empty (run_entries_of_word OBJECT p w)))
 
   -- the walk of an object's entries that have one of these fields, after n visits
   pub fields_walk : List ℕ → Fields → ℕ → List ℕ → Result ℕ Cause

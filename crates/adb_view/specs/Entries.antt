@@ -9,7 +9,8 @@ use Rattle.adb_view.specs.declared.run.Obj.{Obj}
 abbrev pub array_entries : Arr → List ℕ
 array_entries array = words (length array.bytes.now / 4) array.bytes.now
 
--- the words of the entries of an object that was read, those past its fields too
+-- the words of the entries of an object that was read; entries past the fields of its table are
+-- included
 abbrev pub object_entries : {N : ℕ} → Obj N → List ℕ
 object_entries object = array_entries object.entries
 

@@ -7,12 +7,12 @@ use Rattle.base_core.specs.declared.cause.Cause.TheVariants.{Truncated, CompatVe
 
 -- the first fault of a payload's head: fewer than 8 bytes, or another version than 0; None if it is
 -- good
-abbrev pub head_fault : List ℕ → Option Cause
-head_fault payload =
+abbrev pub payload_head_fault : List ℕ → Option Cause
+payload_head_fault payload =
     if nat_lt (length payload) 8 then Some (Truncated 0)
     else if slice_index payload 0 == 0 then None
     else Some CompatVersion
 
 -- the word of a payload's root value, in its bytes 4 to 7
-abbrev pub root_of : List ℕ → ℕ
-root_of payload = from_le_bytes w32 (take 4 (drop 4 payload))
+abbrev pub root_word_of_payload : List ℕ → ℕ
+root_word_of_payload payload = from_le_bytes w32 (take 4 (drop 4 payload))

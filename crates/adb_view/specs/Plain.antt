@@ -1,8 +1,8 @@
 -- Plain values, the shapes by which tables of fields read them, and the plain value of a word. The
 -- rules are in `docs/formats.md`, "Values" ("A table of fields gives each word a shape").
 use Rattle.std.specs.Prelude.{◌≡◌, ◌≢◌, ℕ, suc, ◌<◌, ◌^◌, List, [], ◌∷◌, Option, Some, None, option_map, option_and_then, Result, Ok, Err, ◌==◌, if◌then◌else◌}
-use Rattle.adb_view.specs.Readers.{int_of, blob_of, run_of, ARRAY, OBJECT}
-use Rattle.adb_view.specs.Head.{root_of}
+use Rattle.adb_view.specs.Readers.{int_of, blob_of, run_entries_of_word, ARRAY, OBJECT}
+use Rattle.adb_view.specs.Head.{root_word_of_payload}
 use Rattle.base_core.specs.declared.cause.Cause.{Cause}
 
 -- a plain value: Null, an integer, the bytes of a blob, or the values of an array or an object
@@ -42,32 +42,32 @@ blob_or_null [] = null
 blob_or_null (b ∷ bs) = blob (b ∷ bs)
 
 -- the values of an array as a plain value; without values it is Null
-abbrev pub arr_value : Plains → Plain
-arr_value none = null
-arr_value (more v vs) = arr (more v vs)
+abbrev pub array_or_null : Plains → Plain
+array_or_null none = null
+array_or_null (more v vs) = arr (more v vs)
 
 -- the values of an object as a plain value; without values it is Null
-abbrev pub obj_of : Plains → Plain
-obj_of none = null
-obj_of (more v vs) = obj (more v vs)
+abbrev pub object_or_null : Plains → Plain
+object_or_null none = null
+object_or_null (more v vs) = obj (more v vs)
 
 -- the values of an object with one more in front, which is dropped if it is Null and would be last
-abbrev pub put_first_without_last_null : Plain → Plains → Plains
-put_first_without_last_null null none = none
-put_first_without_last_null null (more v vs) = more null (more v vs)
-put_first_without_last_null (int n) vs = more (int n) vs
-put_first_without_last_null (blob b) vs = more (blob b) vs
-put_first_without_last_null (arr us) vs = more (arr us) vs
-put_first_without_last_null (obj us) vs = more (obj us) vs
+abbrev pub prepend_plain_unless_last_null : Plain → Plains → Plains
+prepend_plain_unless_last_null null none = none
+prepend_plain_unless_last_null null (more v vs) = more null (more v vs)
+prepend_plain_unless_last_null (int n) vs = more (int n) vs
+prepend_plain_unless_last_null (blob b) vs = more (blob b) vs
+prepend_plain_unless_last_null (arr us) vs = more (arr us) vs
+prepend_plain_unless_last_null (obj us) vs = more (obj us) vs
 
 -- the values of an object without the Nulls at its end
 abbrev pub without_last_nulls : Plains → Plains
 without_last_nulls none = none
-without_last_nulls (more v vs) = put_first_without_last_null v (without_last_nulls vs)
+without_last_nulls (more v vs) = prepend_plain_unless_last_null v (without_last_nulls vs)
 
 -- the values of an object's fields as a plain value, without the Nulls at its end
-abbrev pub obj_value : Plains → Plain
-obj_value vs = obj_of (without_last_nulls vs)
+abbrev pub trimmed_object_or_null : Plains → Plain
+trimmed_object_or_null vs = object_or_null (without_last_nulls vs)
 
 -- how many values a list of them has
 abbrev pub count_of : Plains → ℕ
@@ -75,51 +75,55 @@ count_of none = 0
 count_of (more v vs) = suc (count_of vs)
 
 -- the plain values of texts: a blob for each, and Null for an empty one
-abbrev pub text_plains : List (List ℕ) → Plains
-text_plains [] = none
-text_plains (t ∷ ts) = more (blob_or_null t) (text_plains ts)
+abbrev pub plains_of_texts : List (List ℕ) → Plains
+plains_of_texts [] = none
+plains_of_texts (t ∷ ts) = more (blob_or_null t) (plains_of_texts ts)
 
 -- ---- the plain value of a word under a shape
 
 -- the plain value of a word: Null if the word is NULL, whatever its shape, else `v`
-abbrev pub unless_null : ℕ → Option Plain → Option Plain
-unless_null word v = if word == 0 then Some null else v
+abbrev pub null_plain_if_null_word : ℕ → Option Plain → Option Plain
+null_plain_if_null_word word v = if word == 0 then Some null else v
 
--- the result of `f` for a reader's value; None if the reader refused the word with a cause
-abbrev pub from_answer : {A B : Type 0} → (A → Option B) → Result A Cause → Option B
-from_answer f (Ok x) = f x
-from_answer f (Err c) = None
+-- the result of `f` for the value of a reader; None if the reader refused the word
+abbrev pub option_of_ok_value : {A B : Type 0} → (A → Option B) → Result A Cause → Option B
+option_of_ok_value f (Ok x) = f x
+option_of_ok_value f (Err c) = None
 
--- a value with others after it; None if one of them was not found
-abbrev pub then_more : Option Plain → Option Plains → Option Plains
-then_more v vs = option_and_then (λ v. option_map (more v) vs) v
+-- a value followed by other values; None if the value is None, or the others are
+abbrev pub plains_if_first_and_rest : Option Plain → Option Plains → Option Plains
+plains_if_first_and_rest v vs = option_and_then (λ v. option_map (more v) vs) v
 
--- the value of each word in order; None if one of the words has none
-abbrev pub each_plain : (ℕ → Option Plain) → List ℕ → Option Plains
-each_plain f [] = Some none
-each_plain f (w ∷ ws) = then_more (f w) (each_plain f ws)
+-- the values that `f` returns for some words, in order; None if it returns None for one of them
+abbrev pub plains_of_all_words : (ℕ → Option Plain) → List ℕ → Option Plains
+plains_of_all_words f [] = Some none
+plains_of_all_words f (w ∷ ws) = plains_if_first_and_rest (f w) (plains_of_all_words f ws)
 
 -- the plain value of the word `w` in the payload `p` by a shape; None if it or a word below it cannot
 -- be read
 unfoldable mutual
   pub plain_of : List ℕ → Shape → ℕ → Option Plain
-  plain_of p number w = unless_null w (from_answer (λ n. Some (int n)) (int_of p w))
-  plain_of p text w = unless_null w (from_answer (λ b. Some (blob_or_null b)) (blob_of p w))
-  plain_of p hash w = unless_null w (from_answer (λ b. Some (blob_or_null b)) (blob_of p w))
-  plain_of p (array s) w = unless_null w
-      (from_answer (λ ws. option_map arr_value (each_plain (plain_of p s) ws)) (run_of ARRAY p w))
-  plain_of p (object schema fs) w = unless_null w
-      (from_answer (λ ws. option_map obj_value (plains_of p fs ws)) (run_of OBJECT p w))
+  plain_of p number w = null_plain_if_null_word w (option_of_ok_value (λ n. Some (int n)) (int_of p w))
+  plain_of p text w =
+      null_plain_if_null_word w (option_of_ok_value (λ b. Some (blob_or_null b)) (blob_of p w))
+  plain_of p hash w =
+      null_plain_if_null_word w (option_of_ok_value (λ b. Some (blob_or_null b)) (blob_of p w))
+  plain_of p (array s) w = null_plain_if_null_word w
+      (option_of_ok_value (λ ws. option_map array_or_null (plains_of_all_words (plain_of p s) ws))
+      (run_entries_of_word ARRAY p w))
+  plain_of p (object schema fs) w = null_plain_if_null_word w
+      (option_of_ok_value (λ ws. option_map trimmed_object_or_null (plains_of p fs ws))
+      (run_entries_of_word OBJECT p w))
 
   -- the plain values of an object's entries by its fields; entries past the fields are ignored
   pub plains_of : List ℕ → Fields → List ℕ → Option Plains
   plains_of p no_fields ws = Some none
   plains_of p (field name s fs) [] = Some none
-  plains_of p (field name s fs) (w ∷ ws) = then_more (plain_of p s w) (plains_of p fs ws)
+  plains_of p (field name s fs) (w ∷ ws) = plains_if_first_and_rest (plain_of p s w) (plains_of p fs ws)
 
 -- the plain value of a payload, whose root has this shape
 abbrev pub value_of : List ℕ → Shape → Option Plain
-value_of p s = plain_of p s (root_of p)
+value_of p s = plain_of p s (root_word_of_payload p)
 
 -- ---- normal values
 

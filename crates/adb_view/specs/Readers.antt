@@ -2,36 +2,38 @@
 -- `docs/formats.md`, "Values", and in the two paragraphs below it.
 use Rattle.std.specs.Prelude.{ℕ, zero, suc, ◌+◌, ◌*◌, ◌/◌, ◌%◌, ◌^◌, List, [], Option, Some, None, option_map, option_and_then, Result, Ok, Err, ◌==◌, if◌then◌else◌}
 use Rattle.std.specs.Int.{Width, w8, w16, w32, w64, byte_len}
-use Rattle.adb_view.specs.Bytes.{range_at, number_at, words}
+use Rattle.adb_view.specs.Bytes.{bytes_at_with_len, number_at, words}
 use Rattle.base_core.specs.declared.cause.Cause.{Cause}
 use Rattle.base_core.specs.declared.cause.Cause.TheVariants.{Outside, WrongKind}
 
 -- the kind of a word: its top four bits
-abbrev pub kind_of : ℕ → ℕ
-kind_of word = word / 2 ^ 28
+abbrev pub kind_of_word : ℕ → ℕ
+kind_of_word word = word / 2 ^ 28
 
 -- the low 28 bits of a word: a number, or an offset from the payload's start
 abbrev pub low_28_bits : ℕ → ℕ
 low_28_bits word = word % 2 ^ 28
 
--- the contents of a word's range, or the cause that it points outside
+-- what was read at the offset of a word; or the cause `Outside`, if nothing could be read there
 abbrev pub or_outside_cause : {A : Type 0} → ℕ → Option A → Result A Cause
 or_outside_cause word (Some x) = Ok x
 or_outside_cause word None = Err (Outside word)
 
--- the integer of a word: in the word, or in 4 or 8 bytes at the offset; NULL is 0. The numbers of kinds
--- here and below are those of the document's table
+-- the integer of a word: in the word, or in 4 or 8 bytes at the offset; NULL is 0. The kinds here and
+-- below are numbered as in the table of `docs/formats.md`, "Values"
 unfoldable pub int_of : List ℕ → ℕ → Result ℕ Cause
 int_of payload word =
     if word == 0 then Ok 0
-    else if kind_of word == 1 then Ok (low_28_bits word)
-    else if kind_of word == 2 then or_outside_cause word (number_at w32 payload (low_28_bits word))
-    else if kind_of word == 3 then or_outside_cause word (number_at w64 payload (low_28_bits word))
+    else if kind_of_word word == 1 then Ok (low_28_bits word)
+    else if kind_of_word word == 2 then or_outside_cause word (number_at w32 payload (low_28_bits word))
+    else if kind_of_word word == 3 then or_outside_cause word (number_at w64 payload (low_28_bits word))
     else Err (WrongKind word)
 
--- the bytes of a blob at an offset: a length of this width, and then as many bytes
-abbrev pub counted_at : Width → List ℕ → ℕ → Option (List ℕ)
-counted_at w payload at = option_and_then (λ len. range_at payload (at + byte_len w) len)
+-- the bytes of a blob at the offset `at`: first their length, as a number of this width, and then the
+-- bytes
+abbrev pub length_prefixed_bytes_at : Width → List ℕ → ℕ → Option (List ℕ)
+length_prefixed_bytes_at w payload at =
+    option_and_then (λ len. bytes_at_with_len payload (at + byte_len w) len)
     (number_at w payload at)
 
 -- the bytes of a word that is a blob, with their length in 1, 2 or 4 bytes before them; NULL is no
@@ -39,26 +41,29 @@ counted_at w payload at = option_and_then (λ len. range_at payload (at + byte_l
 unfoldable pub blob_of : List ℕ → ℕ → Result (List ℕ) Cause
 blob_of payload word =
     if word == 0 then Ok []
-    else if kind_of word == 8 then or_outside_cause word (counted_at w8 payload (low_28_bits word))
-    else if kind_of word == 9 then or_outside_cause word (counted_at w16 payload (low_28_bits word))
-    else if kind_of word == 10 then or_outside_cause word (counted_at w32 payload (low_28_bits word))
+    else if kind_of_word word == 8 then or_outside_cause word
+    (length_prefixed_bytes_at w8 payload (low_28_bits word))
+    else if kind_of_word word == 9 then or_outside_cause word
+    (length_prefixed_bytes_at w16 payload (low_28_bits word))
+    else if kind_of_word word == 10 then or_outside_cause word
+    (length_prefixed_bytes_at w32 payload (low_28_bits word))
     else Err (WrongKind word)
 
--- the entries of a run at an offset whose first word is this number. The number counts that word too,
--- so 0 is no run
-abbrev pub counted_words : List ℕ → ℕ → ℕ → Option (List ℕ)
-counted_words payload at zero = None
-counted_words payload at (suc n) = option_map (words n) (range_at payload (at + 4) (4 * n))
+-- the entries of a run at the offset `at` whose first word is this number: how many words the run has,
+-- the first one included. So 0 is no run
+abbrev pub run_entries_for_count : List ℕ → ℕ → ℕ → Option (List ℕ)
+run_entries_for_count payload at zero = None
+run_entries_for_count payload at (suc n) = option_map (words n) (bytes_at_with_len payload (at + 4) (4 * n))
 
--- the entries of the run at an offset, whose first word counts its words
-abbrev pub run_at : List ℕ → ℕ → Option (List ℕ)
-run_at payload at = option_and_then (counted_words payload at) (number_at w32 payload at)
+-- the entries of the run at the offset `at`; its first word is how many words the run has
+abbrev pub run_entries_at : List ℕ → ℕ → Option (List ℕ)
+run_entries_at payload at = option_and_then (run_entries_for_count payload at) (number_at w32 payload at)
 
 -- the entries of the run to which a word of this kind points (an array or an object); NULL has none
-unfoldable pub run_of : ℕ → List ℕ → ℕ → Result (List ℕ) Cause
-run_of kind payload word =
+unfoldable pub run_entries_of_word : ℕ → List ℕ → ℕ → Result (List ℕ) Cause
+run_entries_of_word kind payload word =
     if word == 0 then Ok []
-    else if kind_of word == kind then or_outside_cause word (run_at payload (low_28_bits word))
+    else if kind_of_word word == kind then or_outside_cause word (run_entries_at payload (low_28_bits word))
     else Err (WrongKind word)
 
 -- the kind of a word that points to an array

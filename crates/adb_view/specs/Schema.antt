@@ -23,8 +23,8 @@ table Index = INDEX.fields
 table Idb = IDB.fields
 table Intent = INTENT.fields
 
--- the number of a table; that of a field, by which causes name it, is 100 times it plus the field's
--- own
+-- the number of a table, from 1 to 10. A cause names a field by 100 times the number of its table,
+-- plus the number of the field in the table
 abbrev pub table_number : Which → ℕ
 table_number Dep = DEP.number
 table_number Acl = ACL.number
@@ -89,9 +89,9 @@ field_name_text FieldName.Removals = codes "removals"
 field_name_text FieldName.Writes = codes "writes"
 
 -- the fields of a table in a shape: each with its name, and the shape that `f` gives its kind
-abbrev pub fields_with : (Kind → Shape) → List Field → Fields
-fields_with f [] = no_fields
-fields_with f (r ∷ rs) = field (field_name_text r.name) (f r.kind) (fields_with f rs)
+abbrev pub fields_with_shapes_by : (Kind → Shape) → List Field → Fields
+fields_with_shapes_by f [] = no_fields
+fields_with_shapes_by f (r ∷ rs) = field (field_name_text r.name) (f r.kind) (fields_with_shapes_by f rs)
 
 -- the shape of a kind, with objects unrolled to this depth. A table names only tables of lower numbers,
 -- so some depth unrolls all of them
@@ -102,10 +102,10 @@ shape_to_depth depth Hash = hash
 shape_to_depth depth TextArr = array text
 shape_to_depth zero (Obj w) = object (table_number w) no_fields
 shape_to_depth (suc depth) (Obj w) = object (table_number w)
-    (fields_with (shape_to_depth depth) (table w))
+    (fields_with_shapes_by (shape_to_depth depth) (table w))
 shape_to_depth zero (ObjArr w) = array (object (table_number w) no_fields)
 shape_to_depth (suc depth) (ObjArr w) = array
-    (object (table_number w) (fields_with (shape_to_depth depth) (table w)))
+    (object (table_number w) (fields_with_shapes_by (shape_to_depth depth) (table w)))
 
 -- the shape of a kind. Five levels are enough for each table: database, package, folder, file, acl
 unfoldable pub shape_of : Kind → Shape
@@ -113,4 +113,4 @@ shape_of k = shape_to_depth 5 k
 
 -- the fields of a table as a shape has them
 abbrev pub shapes_of : List Field → Fields
-shapes_of fields = fields_with shape_of fields
+shapes_of fields = fields_with_shapes_by shape_of fields

@@ -1,7 +1,7 @@
 -- The contents of a walked payload. Serves the contracts of `Shaped`; the rule is in `docs/formats.md`,
 -- "The shape".
 use Rattle.adb_view.specs.Plain.{Plain}
-use Rattle.adb_view.specs.Head.{root_of}
+use Rattle.adb_view.specs.Head.{root_word_of_payload}
 use Rattle.adb_view.specs.Adb.{payload_of}
 use Rattle.adb_view.specs.declared.adb.Adb.{Adb}
 use Rattle.adb_view.specs.Values.{value_at}
@@ -20,4 +20,4 @@ table_of shaped = shaped.which
 -- the plain value of the root of the payload that was walked
 abbrev pub shaped_value : Shaped → Plain
 shaped_value shaped = value_at (payload_of shaped.adb) (Obj shaped.which)
-    (root_of (payload_of shaped.adb))
+    (root_word_of_payload (payload_of shaped.adb))

@@ -3,23 +3,25 @@
 use Rattle.std.specs.Prelude.{ℕ, Bool, is_none, List, [], ◌∷◌, ◌++◌, Option, Result, Ok, Err}
 use Rattle.std.specs.Result.{result_err}
 use Rattle.adb_view.specs.Plain.{Shape, number, text, hash, array, object, Fields, no_fields, field}
-use Rattle.adb_view.specs.Readers.{int_of, blob_of, run_of, ARRAY, OBJECT}
+use Rattle.adb_view.specs.Readers.{int_of, blob_of, run_entries_of_word, ARRAY, OBJECT}
 use Rattle.base_core.specs.declared.cause.Cause.{Cause}
 
 -- a visit of a walk: a word, and the shape that is demanded of it
 pub record Visit : Type 0 where
+  -- the shape that is demanded of the word
   pub shape : Shape
+  -- the word that is visited
   pub word : ℕ
 
--- the entries below a word that are visited; a word that cannot be read has none
+-- the entries that were read of an array or an object; none if its word cannot be read
 abbrev pub or_empty : Result (List ℕ) Cause → List ℕ
 or_empty (Ok ws) = ws
 or_empty (Err c) = []
 
 -- the visits of each word of a list, in order
-abbrev pub each_visit : (ℕ → List Visit) → List ℕ → List Visit
-each_visit f [] = []
-each_visit f (w ∷ ws) = f w ++ each_visit f ws
+abbrev pub visits_of_all_words : (ℕ → List Visit) → List ℕ → List Visit
+visits_of_all_words f [] = []
+visits_of_all_words f (w ∷ ws) = f w ++ visits_of_all_words f ws
 
 -- the visits of a walk over a word `w` of the payload `p`, depth first: the word, then its entries in
 -- order; of an object only the entries that have a field
@@ -29,9 +31,9 @@ unfoldable mutual
   visits p text w = record { shape = text; word = w } ∷ []
   visits p hash w = record { shape = hash; word = w } ∷ []
   visits p (array s) w = record { shape = array s; word = w } ∷
-      each_visit (visits p s) (or_empty (run_of ARRAY p w))
+      visits_of_all_words (visits p s) (or_empty (run_entries_of_word ARRAY p w))
   visits p (object schema fs) w = record { shape = object schema fs; word = w } ∷
-      field_visits p fs (or_empty (run_of OBJECT p w))
+      field_visits p fs (or_empty (run_entries_of_word OBJECT p w))
 
   -- the visits of an object's entries that have one of these fields
   pub field_visits : List ℕ → Fields → List ℕ → List Visit
@@ -44,13 +46,13 @@ abbrev pub MOST_VALUES : ℕ
 MOST_VALUES = 4194304
 
 -- why the reader of this shape refuses the word; None if it accepts it
-abbrev pub fault_at : List ℕ → Shape → ℕ → Option Cause
-fault_at p number w = result_err (int_of p w)
-fault_at p text w = result_err (blob_of p w)
-fault_at p hash w = result_err (blob_of p w)
-fault_at p (array s) w = result_err (run_of ARRAY p w)
-fault_at p (object schema fs) w = result_err (run_of OBJECT p w)
+abbrev pub word_fault_under_shape : List ℕ → Shape → ℕ → Option Cause
+word_fault_under_shape p number w = result_err (int_of p w)
+word_fault_under_shape p text w = result_err (blob_of p w)
+word_fault_under_shape p hash w = result_err (blob_of p w)
+word_fault_under_shape p (array s) w = result_err (run_entries_of_word ARRAY p w)
+word_fault_under_shape p (object schema fs) w = result_err (run_entries_of_word OBJECT p w)
 
 -- whether the reader of a visit's shape accepts its word
 abbrev pub is_sound_visit : List ℕ → Visit → Bool
-is_sound_visit p v = is_none (fault_at p v.shape v.word)
+is_sound_visit p v = is_none (word_fault_under_shape p v.shape v.word)

@@ -3,20 +3,22 @@
 use Rattle.std.specs.Prelude.{ℕ, ◌+◌, List, [], ◌∷◌, Option, Some, None, nat_lt, if◌then◌else◌}
 use Rattle.std.specs.Option.{option_or}
 use Rattle.adb_view.specs.Plain.{Shape}
-use Rattle.adb_view.specs.Visits.{MOST_VALUES, Visit, visits, fault_at}
+use Rattle.adb_view.specs.Visits.{MOST_VALUES, Visit, visits, word_fault_under_shape}
 use Rattle.base_core.specs.declared.cause.Cause.{Cause}
 use Rattle.base_core.specs.declared.cause.Cause.TheVariants.{TooLarge}
 
 -- the fault of the visit with this number, which counts from 1: first the count is tested, then the
 -- word
 abbrev pub visit_fault : List ℕ → ℕ → Visit → Option Cause
-visit_fault p i v = if nat_lt MOST_VALUES i then Some (TooLarge i) else fault_at p v.shape v.word
+visit_fault p i v =
+    if nat_lt MOST_VALUES i then Some (TooLarge i) else word_fault_under_shape p v.shape v.word
 
 -- the first fault of some visits, the first of which has the number i
-abbrev pub first_fault_from : List ℕ → ℕ → List Visit → Option Cause
-first_fault_from p i [] = None
-first_fault_from p i (v ∷ vs) = option_or (visit_fault p i v) (first_fault_from p (i + 1) vs)
+abbrev pub first_fault_of_numbered_visits : List ℕ → ℕ → List Visit → Option Cause
+first_fault_of_numbered_visits p i [] = None
+first_fault_of_numbered_visits p i (v ∷ vs) =
+    option_or (visit_fault p i v) (first_fault_of_numbered_visits p (i + 1) vs)
 
 -- the first fault of the walk over a word and the words below it, by a shape; None if there is none
 abbrev pub shape_fault : List ℕ → Shape → ℕ → Option Cause
-shape_fault p s w = first_fault_from p 1 (visits p s w)
+shape_fault p s w = first_fault_of_numbered_visits p 1 (visits p s w)

@@ -6,8 +6,8 @@
 
 ghost use Rattle.std.specs.Prelude.{◌≡◌, ◌≤◌, length, slice_range, IfOk, ◌<◌, ℕ, List, All, IfSome, is_some};
 ghost use Rattle.std.specs.Result.{result_err, result_ok};
-ghost use Rattle.adb_view.specs.Head.{head_fault, root_of};
-ghost use Rattle.adb_view.specs.Readers.{int_of, blob_of, run_of, ARRAY, OBJECT};
+ghost use Rattle.adb_view.specs.Head.{payload_head_fault, root_word_of_payload};
+ghost use Rattle.adb_view.specs.Readers.{int_of, blob_of, run_entries_of_word, ARRAY, OBJECT};
 ghost use Rattle.adb_view.specs.Gives.{Finds, Gives};
 ghost use Rattle.std.specs.List.{list_all};
 ghost use Rattle.adb_view.specs.Plain.{Shape, Fields, plain_of, plains_of, IsNormal};
@@ -40,7 +40,7 @@ impl<'a> Adb<'a> {
     /// `Truncated` at 0 if there are fewer than 8 bytes, else `CompatVersion` if the first is not
     /// 0.
     pub fn new(payload: &'a [u8]) -> Result<Adb<'a>, Cause>
-        ensures exact { result_err result ≡ head_fault payload.now }
+        ensures exact { result_err result ≡ payload_head_fault payload.now }
         ensures lent { IfOk result (λ adb. payload_of adb ≡ payload.now) }
     {
         if payload.len() < HEAD {
@@ -61,7 +61,7 @@ impl<'a> Adb<'a> {
 
     /// The word of the payload's root value.
     pub fn root(&self) -> Val
-        ensures { result ≡ root_of (payload_of self.now) }
+        ensures { result ≡ root_word_of_payload (payload_of self.now) }
     {
         let payload = self.payload;
         Val::of(u32::from_le_bytes([payload[4], payload[5], payload[6], payload[7]]))
@@ -133,7 +133,7 @@ impl<'a> Adb<'a> {
     /// `WrongKind` if it is no array, else `Outside` if its run leaves the payload or has the count
     /// 0.
     pub fn arr(&self, v: Val) -> Result<Arr<'a>, Cause>
-        ensures { Gives array_entries result (run_of ARRAY (payload_of self.now) v) }
+        ensures { Gives array_entries result (run_entries_of_word ARRAY (payload_of self.now) v) }
     {
         Arr::read(self.payload, kind::ARRAY, v)
     }
@@ -145,7 +145,7 @@ impl<'a> Adb<'a> {
     /// `WrongKind` if it is no object, else `Outside` if its run leaves the payload or has the
     /// count 0.
     pub fn obj<const N: usize>(&self, v: Val) -> Result<Obj<'a, N>, Cause>
-        ensures { Gives object_entries result (run_of OBJECT (payload_of self.now) v) }
+        ensures { Gives object_entries result (run_entries_of_word OBJECT (payload_of self.now) v) }
     {
         let entries = Arr::read(self.payload, kind::OBJECT, v)?;
         Ok(Obj::of(entries))
@@ -188,14 +188,16 @@ impl<'a> Adb<'a> {
 
     /// The array that `arr` reads; None if that fails.
     pub fn arr_if_read(&self, v: Val) -> Option<Arr<'a>>
-        ensures { Finds array_entries result (result_ok (run_of ARRAY (payload_of self.now) v)) }
+        ensures { Finds array_entries result (result_ok (run_entries_of_word ARRAY
+            (payload_of self.now) v)) }
     {
         Arr::find(self.payload, kind::ARRAY, v)
     }
 
     /// The entries of the object that `obj` reads; None if that fails.
     pub fn find_entries(&self, v: Val) -> Option<Arr<'a>>
-        ensures { Finds array_entries result (result_ok (run_of OBJECT (payload_of self.now) v)) }
+        ensures { Finds array_entries result (result_ok (run_entries_of_word OBJECT
+            (payload_of self.now) v)) }
     {
         Arr::find(self.payload, kind::OBJECT, v)
     }

@@ -3,7 +3,7 @@
 
 ghost use Rattle.std.specs.Prelude.{◌≡◌, ◌≤◌, ◌<◌, ◌-◌, ◌*◌, ◌^◌, ◌==◌, length};
 ghost use Rattle.std.specs.Result.{result_ok};
-ghost use Rattle.adb_view.specs.Readers.{run_of};
+ghost use Rattle.adb_view.specs.Readers.{run_entries_of_word};
 ghost use Rattle.adb_view.specs.Gives.{Finds, Gives};
 
 use crate::words::{Val, run, word_at};
@@ -22,9 +22,9 @@ impl<'a> Arr<'a> {
     ghost use Rattle.adb_view.specs.Entries.{array_entries, entry_at};
 
     /// The entries of the run to which a word of this kind points; NULL has none.
-    #[tactic(auto, unfolding(crate::specs::Readers::run_of, crate::specs::Bytes::words))]
+    #[tactic(auto, unfolding(crate::specs::Readers::run_entries_of_word, crate::specs::Bytes::words))]
     pub(crate) fn read(payload: &'a [u8], kind: u32, v: Val) -> Result<Arr<'a>, Cause>
-        ensures { Gives array_entries result (run_of kind payload.now v) }
+        ensures { Gives array_entries result (run_entries_of_word kind payload.now v) }
     {
         if v.is_null() {
             return Ok(Arr { bytes: &[] });
@@ -40,9 +40,9 @@ impl<'a> Arr<'a> {
     }
 
     /// The entries that `read` returns, or None if it fails.
-    #[tactic(auto, unfolding(crate::specs::Readers::run_of, crate::specs::Bytes::words))]
+    #[tactic(auto, unfolding(crate::specs::Readers::run_entries_of_word, crate::specs::Bytes::words))]
     pub(crate) fn find(payload: &'a [u8], kind: u32, v: Val) -> Option<Arr<'a>>
-        ensures { Finds array_entries result (result_ok (run_of kind payload.now v)) }
+        ensures { Finds array_entries result (result_ok (run_entries_of_word kind payload.now v)) }
     {
         if v.is_null() {
             return Some(Arr { bytes: &[] });
@@ -84,7 +84,7 @@ impl<'a> Arr<'a> {
 /// The entries of an object, to be read by the N fields of its table.
 #[derive(Clone, Copy)]
 pub struct Obj<'a, const N: usize> {
-    /// All entries, those past the N fields too.
+    /// All entries, also those past the N fields.
     entries: Arr<'a>,
 }
 
@@ -112,7 +112,7 @@ impl<'a, const N: usize> Obj<'a, N> {
         }
     }
 
-    /// All entries of the object, those past its fields too.
+    /// All entries of the object, also those past its N fields.
     pub fn entries(&self) -> Arr<'a>
         ensures { array_entries result ≡ object_entries self.now }
     {

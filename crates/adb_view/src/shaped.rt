@@ -2,7 +2,7 @@
 
 ghost use Rattle.std.specs.Prelude.{◌≡◌, true, is_none};
 ghost use Rattle.adb_view.specs.Adb.{payload_of};
-ghost use Rattle.adb_view.specs.Head.{root_of};
+ghost use Rattle.adb_view.specs.Head.{root_word_of_payload};
 ghost use Rattle.adb_view.specs.Schema.{shape_of};
 ghost use Rattle.adb_view.specs.Walk.{shape_fault};
 ghost use Rattle.adb_view.specs.Values.{is_sound};
@@ -17,9 +17,10 @@ use crate::tables::Which;
 pub struct Shaped<'a> {
     adb: Adb<'a>,
     which: Which,
-    ghost sound: { is_sound (payload_of adb) (Kinds.Obj which) (root_of (payload_of adb)) ≡ true },
+    ghost sound: { is_sound (payload_of adb) (Kinds.Obj which) (root_word_of_payload
+        (payload_of adb)) ≡ true },
     ghost few: { is_none (shape_fault (payload_of adb) (shape_of (Kinds.Obj which))
-        (root_of (payload_of adb))) ≡ true },
+        (root_word_of_payload (payload_of adb))) ≡ true },
 }
 
 impl<'a> Shaped<'a> {
@@ -27,10 +28,11 @@ impl<'a> Shaped<'a> {
 
     /// The payload that was walked as an object of this table, without a fault.
     pub(crate) fn of(adb: Adb<'a>, which: Which) -> Shaped<'a>
-        requires sound { is_sound (payload_of adb) (Kinds.Obj which) (root_of (payload_of adb))
+        requires sound { is_sound (payload_of adb) (Kinds.Obj which) (root_word_of_payload
+            (payload_of adb))
             ≡ true }
         requires few { is_none (shape_fault (payload_of adb) (shape_of (Kinds.Obj which))
-            (root_of (payload_of adb))) ≡ true }
+            (root_word_of_payload (payload_of adb))) ≡ true }
         ensures walked { adb_of result ≡ adb.entry }
         ensures table { table_of result ≡ which }
     {

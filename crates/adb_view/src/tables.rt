@@ -51,7 +51,7 @@ pub enum Kind {
     ObjArr(Which),
 }
 
-/// A field of a table: its number is its place in the table.
+/// A field of a table. Its number is its place in the table, counted from 1.
 #[derive(Clone, Copy, Debug, PartialEq, Eq)]
 pub struct Field {
     /// The name of the field, as dumps print it.

@@ -9,10 +9,10 @@ ghost use Rattle.adb_view.specs.Visits.{field_visits, visits, MOST_VALUES};
 ghost use Rattle.adb_view.specs.Adb.{payload_of};
 ghost use Rattle.adb_view.specs.Entries.{array_entries};
 ghost use Rattle.adb_view.specs.Gives.{Gives};
-ghost use Rattle.adb_view.specs.Readers.{run_of, OBJECT};
-ghost use Rattle.adb_view.specs.Head.{root_of};
+ghost use Rattle.adb_view.specs.Readers.{run_entries_of_word, OBJECT};
+ghost use Rattle.adb_view.specs.Head.{root_word_of_payload};
 ghost use Rattle.adb_view.specs.Schema.{table, shape_of, shapes_of, table_number};
-ghost use Rattle.adb_view.specs.Walk.{first_fault_from, shape_fault};
+ghost use Rattle.adb_view.specs.Walk.{first_fault_of_numbered_visits, shape_fault};
 ghost use Rattle.adb_view.specs.CountedWalk.{fields_walk};
 ghost use Rattle.adb_view.specs.CountedWalk.{walk};
 ghost use Rattle.adb_view.specs.CountedWalk.{walk_each_word};
@@ -36,7 +36,8 @@ use base_core::Cause;
 
 /// The entries of a word that is an object, those past its table's fields too.
 pub fn object_entries<'a>(adb: Adb<'a>, object: Val) -> Result<Arr<'a>, Cause>
-    ensures { Gives array_entries result (run_of OBJECT (payload_of adb.entry) object) }
+    ensures { Gives array_entries result (run_entries_of_word OBJECT
+        (payload_of adb.entry) object) }
 {
     Ok(adb.obj::<0>(object)?.entries())
 }
@@ -66,7 +67,7 @@ const MOST_VALUES: u32 = 4_194_304;
 pub fn shape(adb: Adb<'_>, which: Which) -> Result<Shaped<'_>, Cause>
     ensures exact { result_err result
         ≡ shape_fault (payload_of adb.entry) (shape_of (Kinds.Obj which))
-        (root_of (payload_of adb.entry)) }
+        (root_word_of_payload (payload_of adb.entry)) }
     ensures walked { IfOk result (λ shaped. adb_of shaped ≡ adb.entry) }
     ensures table { IfOk result (λ shaped. table_of shaped ≡ which) }
 {
@@ -83,8 +84,11 @@ pub fn shape(adb: Adb<'_>, which: Which) -> Result<Shaped<'_>, Cause>
 #[cycle(walk)]
 #[tactic(auto, using(crate::proofs::WalkSteps::walk_full, crate::proofs::WalkSteps::int_ok, crate::proofs::WalkSteps::int_err, crate::proofs::WalkSteps::text_ok, crate::proofs::WalkSteps::text_err, crate::proofs::WalkSteps::hash_ok, crate::proofs::WalkSteps::hash_err, crate::proofs::WalkSteps::texts_ok, crate::proofs::WalkSteps::texts_err, crate::proofs::WalkSteps::objects_ok, crate::proofs::WalkSteps::objects_err))]
 fn walk_value(adb: Adb<'_>, kind: Kind, before: u32, word: Val) -> Result<u32, VisitFault>
+    // The visits so far are within their limit.
     requires { before ≤ MOST_VALUES }
+    // The result is that of the walk: the number of visits, or the first fault.
     ensures exact { with_cause result ≡ walk (payload_of adb.entry) (shape_of kind) before word }
+    // The number of visits is within its limit.
     ensures bound { IfOk result (λ n. n ≤ MOST_VALUES) }
 {
     let count = before + 1;
@@ -116,10 +120,13 @@ fn walk_value(adb: Adb<'_>, kind: Kind, before: u32, word: Val) -> Result<u32, V
 #[cycle(walk)]
 #[tactic(auto, using(crate::proofs::WalkSteps::texts_leaf, crate::proofs::WalkSteps::each_more, crate::proofs::WalkSteps::each_stops, crate::proofs::WalkSteps::each_done))]
 fn walk_texts(adb: Adb<'_>, before: u32, texts: Arr<'_>) -> Result<u32, VisitFault>
+    // The visits so far are within their limit.
     requires { before ≤ MOST_VALUES }
+    // The result is that of the walk: the number of visits, or the first fault.
     ensures exact { with_cause result
         ≡ walk_each_word (walk (payload_of adb.entry) (shape_of Kinds.Text)) before
         (array_entries texts.entry) }
+    // The number of visits is within its limit.
     ensures bound { IfOk result (λ n. n ≤ MOST_VALUES) }
 {
     let mut count = before;
@@ -143,10 +150,13 @@ fn walk_objects(
     before: u32,
     objects: Arr<'_>,
 ) -> Result<u32, VisitFault>
+    // The visits so far are within their limit.
     requires { before ≤ MOST_VALUES }
+    // The result is that of the walk: the number of visits, or the first fault.
     ensures exact { with_cause result
         ≡ walk_each_word (walk (payload_of adb.entry) (shape_of (Kinds.Obj which))) before
         (array_entries objects.entry) }
+    // The number of visits is within its limit.
     ensures bound { IfOk result (λ n. n ≤ MOST_VALUES) }
 {
     let mut count = before;
@@ -161,9 +171,12 @@ fn walk_objects(
 #[inline(always)]
 #[tactic(auto, using(crate::proofs::WalkSteps::walk_full, crate::proofs::WalkSteps::object_ok, crate::proofs::WalkSteps::object_err))]
 fn walk_object(adb: Adb<'_>, which: Which, before: u32, word: Val) -> Result<u32, VisitFault>
+    // The visits so far are within their limit.
     requires { before ≤ MOST_VALUES }
+    // The result is that of the walk: the number of visits, or the first fault.
     ensures exact { with_cause result
         ≡ walk (payload_of adb.entry) (shape_of (Kinds.Obj which)) before word }
+    // The number of visits is within its limit.
     ensures bound { IfOk result (λ n. n ≤ MOST_VALUES) }
 {
     let count = before + 1;
@@ -188,10 +201,13 @@ fn walk_each_field(
     before: u32,
     entries: Arr<'_>,
 ) -> Result<u32, VisitFault>
+    // The visits so far are within their limit.
     requires { before ≤ MOST_VALUES }
+    // The result is that of the walk: the number of visits, or the first fault.
     ensures exact { with_cause result
         ≡ fields_walk (payload_of adb.entry) (shapes_of fields.now) before
         (array_entries entries.entry) }
+    // The number of visits is within its limit.
     ensures bound { IfOk result (λ n. n ≤ MOST_VALUES) }
 {
     let leaves = leading_leaves(adb, fields, entries);
@@ -216,11 +232,14 @@ fn walk_fields_from(
     before: u32,
     entries: Arr<'_>,
 ) -> Result<u32, VisitFault>
+    // The visits so far are within their limit.
     requires few { before ≤ MOST_VALUES }
     requires within { from ≤ min (length fields.now) (length (array_entries entries)) }
+    // The result is that of the walk: the number of visits, or the first fault.
     ensures exact { with_cause result
         ≡ fields_walk (payload_of adb.entry) (shapes_of (drop from fields.now)) before
         (drop from (array_entries entries.entry)) }
+    // The number of visits is within its limit.
     ensures bound { IfOk result (λ n. n ≤ MOST_VALUES) }
 {
     let mut count = before;
@@ -265,10 +284,12 @@ pub fn walk_fields(
     before: u32,
     entries: Arr<'_>,
 ) -> Result<u32, Cause>
+    // The visits so far are within their limit.
     requires { before ≤ MOST_VALUES }
     ensures exact { result
         ≡ fields_walk (payload_of adb.entry) (shapes_of fields.now) before
         (array_entries entries.entry) }
+    // The number of visits is within its limit.
     ensures bound { IfOk result (λ n. n ≤ MOST_VALUES) }
 {
     match walk_each_field(adb, fields, before, entries) {
@@ -282,7 +303,7 @@ pub fn walk_fields(
 pub fn a_walk_of_fields_reports_the_first_faulty_visit()
     ensures fault { (payload : List ℕ) (fields : Fields) (before : ℕ) (words : List ℕ)
         → result_err (fields_walk payload fields before words)
-        ≡ first_fault_from payload (before + 1) (field_visits payload fields words) }
+        ≡ first_fault_of_numbered_visits payload (before + 1) (field_visits payload fields words) }
     ensures count { (payload : List ℕ) (fields : Fields) (before count : ℕ) (words : List ℕ)
         → fields_walk payload fields before words ≡ Ok count → count
         ≡ before + length (field_visits payload fields words) }

@@ -2,9 +2,9 @@
 //! the table of `docs/formats.md`, "Values".
 
 ghost use Rattle.std.specs.Prelude.{◌≡◌, ◌↔◌, IsTrue, ◌<◌, ◌≤◌, ◌-◌, ◌*◌, ◌/◌, ◌^◌, length, IfSome, slice_index, slice_range};
-ghost use Rattle.adb_view.specs.Readers.{kind_of, low_28_bits, counted_at, run_at};
+ghost use Rattle.adb_view.specs.Readers.{kind_of_word, low_28_bits, length_prefixed_bytes_at, run_entries_at};
 ghost use Rattle.std.specs.Int.{byte_len};
-ghost use Rattle.adb_view.specs.Bytes.{range_at, number_at, words};
+ghost use Rattle.adb_view.specs.Bytes.{bytes_at_with_len, number_at, words};
 ghost use Rattle.adb_view.specs.Gives.{Finds};
 ghost use Rattle.adb_view.specs.Width.{width_of};
 
@@ -79,7 +79,7 @@ impl Val {
 
     /// The kind of the value: the top 4 bits of its word.
     pub(crate) fn kind(self) -> u32
-        ensures { result ≡ kind_of self }
+        ensures { result ≡ kind_of_word self }
     {
         self.word / 0x1000_0000
     }
@@ -117,7 +117,7 @@ impl Width {
 
 /// The `len` bytes from `at` on, or `None` if they pass the end.
 pub(crate) fn range(bytes: &[u8], at: usize, len: usize) -> Option<&[u8]>
-    ensures { Finds (λ found. found.now) result (range_at bytes.now at len) }
+    ensures { Finds (λ found. found.now) result (bytes_at_with_len bytes.now at len) }
 {
     bytes.get(at..at.checked_add(len)?)
 }
@@ -141,7 +141,7 @@ pub(crate) fn number(bytes: &[u8], at: usize, width: Width) -> Option<u64>
 pub(crate) fn counted_range(bytes: &[u8], at: usize, width: Width) -> Option<(usize, usize)>
     requires { at < 2 ^ 28 }
     ensures found { Finds (λ found. slice_range bytes.now found.0 found.1) result
-        (counted_at (width_of width) bytes.now at) }
+        (length_prefixed_bytes_at (width_of width) bytes.now at) }
     ensures order { IfSome result (λ found. found.0 ≤ found.1) }
     ensures within { IfSome result (λ found. found.1 ≤ length bytes.now) }
 {
@@ -159,7 +159,7 @@ pub(crate) fn counted_range(bytes: &[u8], at: usize, width: Width) -> Option<(us
 pub(crate) fn run(bytes: &[u8], at: usize) -> Option<&[u8]>
     requires { at < 2 ^ 28 }
     ensures found { Finds (λ found. words (length found.now / 4) found.now) result
-        (run_at bytes.now at) }
+        (run_entries_at bytes.now at) }
     ensures counted { IfSome result (λ found. length found.now < 4 * (2 ^ 32 - 1)) }
 {
     let count = number(bytes, at, Width::Four)?.checked_sub(1)?;

@@ -8,7 +8,7 @@ use Rattle.std.proofs.lemmas.List.{take_at, drop_at, length-append, length-drop,
 use Rattle.std.proofs.lemmas.Slice.Eq.{bytes_eq-Decides}
 use Rattle.adb_view.specs.Plain.{Plain, null, int, blob, arr, obj, Plains, none, more, IsNormal, AreNormal, count_of}
 use Rattle.adb_view.specs.Readers.{ARRAY, OBJECT}
-use Rattle.adb_write.specs.Canonical.{gap, Item, WrittenItem, Cell, in_place, apart, int_item, int_cell, blob_item, blob_cell, run_bytes, run_item, run_cell, trimmed_words, Layout, empty_layout, end_offset, is_equal_item, word_of_item, put_new, put_unless_written, put_item, put_cell, put_run, write, write_all, payload_with_root, MOST_BYTES}
+use Rattle.adb_write.specs.Canonical.{padding_to_alignment, Item, WrittenItem, Cell, in_place, apart, int_item, int_cell, blob_item, blob_cell, run_bytes, run_item, run_cell, words_without_last_nulls, Layout, empty_layout, end_offset, is_equal_item, word_of_written_item, put_new_item, put_item_unless_written, put_item, put_cell, put_run, write, write_all, payload_with_root, MOST_BYTES}
 use Rattle.adb_write.specs.Again.{len_of_length_field, HasLengthInFront, IsItemInBytes, HasItemsInBytes, item_len_from_front}
 use Rattle.adb_write.specs.Size.{entries_of, entries_of_all, with_value_count_raised}
 use Rattle.adb_write.proofs.Found.{equal_kind, equal_bytes, equal_within}
@@ -169,20 +169,20 @@ keeps_then a b c p q = record { found = λ i x f e. q.found i x f (p.found i x f
 -- ---- one item more
 
 abbrev added : Item → Layout → List ℕ
-added i out = replicate (gap i.align (end_offset out)) 0 ++ i.bytes
+added i out = replicate (padding_to_alignment i.align (end_offset out)) 0 ++ i.bytes
 
 abbrev new_item : Item → Layout → WrittenItem
-new_item i out = record { kind = i.kind; offset = length out.body + gap i.align (end_offset out) }
+new_item i out = record { kind = i.kind; offset = length out.body + padding_to_alignment i.align (end_offset out) }
 
 new_equal : (i : Item) (out : Layout) → is_equal_item (out.body ++ added i out) i (new_item i out) ≡ true
 new_equal i out =
-    let zeros : List ℕ = replicate (gap i.align (end_offset out)) 0 in
-    let at : length (out.body ++ zeros) ≡ length out.body + gap i.align (end_offset out) = omega (arith, length-append out.body zeros, length-replicate {A = ℕ} (gap i.align (end_offset out)) 0) in
+    let zeros : List ℕ = replicate (padding_to_alignment i.align (end_offset out)) 0 in
+    let at : length (out.body ++ zeros) ≡ length out.body + padding_to_alignment i.align (end_offset out) = omega (arith, length-append out.body zeros, length-replicate {A = ℕ} (padding_to_alignment i.align (end_offset out)) 0) in
     is_equal (out.body ++ added i out) i (new_item i out) refl
-    (ap (λ (x : List ℕ). take (length i.bytes) (drop (length out.body + gap i.align (end_offset out)) x)) (sym (append_assoc out.body zeros i.bytes))
-    ∙ ap (take (length i.bytes)) (drop_at (out.body ++ zeros) i.bytes (length out.body + gap i.align (end_offset out)) at) ∙ take_all (length i.bytes) i.bytes (omega arith))
+    (ap (λ (x : List ℕ). take (length i.bytes) (drop (length out.body + padding_to_alignment i.align (end_offset out)) x)) (sym (append_assoc out.body zeros i.bytes))
+    ∙ ap (take (length i.bytes)) (drop_at (out.body ++ zeros) i.bytes (length out.body + padding_to_alignment i.align (end_offset out)) at) ∙ take_all (length i.bytes) i.bytes (omega arith))
 
-new_whole : (i : Item) (out : Layout) → HasLengthInFront i → HasItemsInBytes out → HasItemsInBytes (put_new i out).1
+new_whole : (i : Item) (out : Layout) → HasLengthInFront i → HasItemsInBytes out → HasItemsInBytes (put_new_item i out).1
 new_whole i out f w = record {
   all = (
     record { what = i; framed = f; equal = new_equal i out },
@@ -190,7 +190,7 @@ new_whole i out f w = record {
   );
 }
 
-new_keeps : (i : Item) (out : Layout) → HasLengthInFront i → HasItemsInBytes out → find (is_equal_item out.body i) out.items ≡ None → Keeps out (put_new i out).1
+new_keeps : (i : Item) (out : Layout) → HasLengthInFront i → HasItemsInBytes out → find (is_equal_item out.body i) out.items ≡ None → Keeps out (put_new_item i out).1
 new_keeps i out f w absent = record { found = λ j x g e. go j x g e (is_equal_item (out.body ++ added i out) j (new_item i out)) refl }
   where
     go : (j : Item) (x : WrittenItem) → HasLengthInFront j → find (is_equal_item out.body j) out.items ≡ Some x → (b : Bool) → is_equal_item (out.body ++ added i out) j (new_item i out) ≡ b
@@ -211,7 +211,7 @@ pub record Stays (out later : Layout) : Type 0 where
 put_item_stays : (i : Item) (out : Layout) → HasLengthInFront i → HasItemsInBytes out → Stays out (put_item i out).1
 put_item_stays i out f w = go (find (is_equal_item out.body i) out.items) refl
   where
-    go : (found : Option WrittenItem) → find (is_equal_item out.body i) out.items ≡ found → Stays out (put_unless_written found i out).1
+    go : (found : Option WrittenItem) → find (is_equal_item out.body i) out.items ≡ found → Stays out (put_item_unless_written found i out).1
     go None e = record { whole = new_whole i out f w; keeps = new_keeps i out f w e }
     go (Some there) e = record { whole = record { all = w.all }; keeps = record { found = λ j x g h. h } }
 
@@ -223,12 +223,12 @@ put_cell_stays (apart i) out f w = put_item_stays i out f w
 pub record IsFoundAgain (i : Item) (r : ℕ × Layout) : Type 0 where
   pub item : WrittenItem
   pub is : find (is_equal_item r.1.body i) r.1.items ≡ Some item
-  pub word : word_of_item item ≡ r.0
+  pub word : word_of_written_item item ≡ r.0
 
 pub put_item_found : (i : Item) (out : Layout) → IsFoundAgain i (put_item i out)
 put_item_found i out = go (find (is_equal_item out.body i) out.items) refl
   where
-    go : (found : Option WrittenItem) → find (is_equal_item out.body i) out.items ≡ found → IsFoundAgain i (put_unless_written found i out)
+    go : (found : Option WrittenItem) → find (is_equal_item out.body i) out.items ≡ found → IsFoundAgain i (put_item_unless_written found i out)
     go None e =
         let t = new_equal i out in
         record { item = new_item i out; is = ap (λ (b : Bool). cond b (Some (new_item i out)) (find (is_equal_item (out.body ++ added i out) i) out.items)) t; word = omega arith }
@@ -246,7 +246,7 @@ cell_again : (c : Cell) (out later : Layout) → IsFramedCell c → Keeps (put_c
 cell_again (in_place word) out later f k = ap (λ (l : Layout). (word, l)) (with_none later)
 cell_again (apart i) out later f k =
     let found = put_item_found i out in
-    ap (λ (o : Option WrittenItem). put_unless_written o i later) (k.found i found.item f found.is) ∙ ap (λ (word : ℕ). (word, with_value_count_raised i.entries later)) found.word
+    ap (λ (o : Option WrittenItem). put_item_unless_written o i later) (k.found i found.item f found.is) ∙ ap (λ (word : ℕ). (word, with_value_count_raised i.entries later)) found.word
 
 -- the entries of a cell, as a value counts them
 cell_counts : (c : Cell) (out later : Layout) (n : ℕ) → entries_in c ≡ n → IsFramedCell c → Keeps (put_cell c out).1 later → put_cell c later ≡ ((put_cell c out).0, with_value_count_raised n later)
@@ -266,9 +266,9 @@ mutual
       record { whole = t.whole; keeps = keeps_then out r.1 (put_run ARRAY r.0 r.1).1 s.keeps t.keeps }
   write_stays (obj vs) out w fits =
       let r = write_all vs out in
-      let s = write_all_stays vs out w (le_trans (Grows-here _ _ (put_run-grows OBJECT (trimmed_words r.0) r.1)) fits) in
-      let t = put_cell_stays (run_cell OBJECT (trimmed_words r.0)) r.1 (object_cell_framed (trimmed_words r.0) r.1 fits) s.whole in
-      record { whole = t.whole; keeps = keeps_then out r.1 (put_run OBJECT (trimmed_words r.0) r.1).1 s.keeps t.keeps }
+      let s = write_all_stays vs out w (le_trans (Grows-here _ _ (put_run-grows OBJECT (words_without_last_nulls r.0) r.1)) fits) in
+      let t = put_cell_stays (run_cell OBJECT (words_without_last_nulls r.0)) r.1 (object_cell_framed (words_without_last_nulls r.0) r.1 fits) s.whole in
+      record { whole = t.whole; keeps = keeps_then out r.1 (put_run OBJECT (words_without_last_nulls r.0) r.1).1 s.keeps t.keeps }
 
   write_all_stays : (vs : Plains) (out : Layout) → HasItemsInBytes out → end_offset (write_all vs out).1 ≤ MOST_BYTES → Stays out (write_all vs out).1
   write_all_stays none out w fits = record { whole = w; keeps = keeps_itself out }
@@ -297,17 +297,17 @@ mutual
       ∙ ap (λ (l : Layout). ((put_run ARRAY r.0 r.1).0, l)) (with_both (entries_of_all vs) (count_of vs) later)
   write_again (obj vs) out later n w fits k =
       let r = write_all vs out in
-      let within = le_trans (Grows-here _ _ (put_run-grows OBJECT (trimmed_words r.0) r.1)) fits in
+      let within = le_trans (Grows-here _ _ (put_run-grows OBJECT (words_without_last_nulls r.0) r.1)) fits in
       let s = write_all_stays vs out w within in
       let made = write_all-made vs out n.2 within in
-      let stay : trimmed_words r.0 ≡ r.0 = words_stay (payload_with_root 0 r.1) vs r.0 n.1 (made.0 0) in
-      let f = object_cell_framed (trimmed_words r.0) r.1 fits in
-      let t = put_cell_stays (run_cell OBJECT (trimmed_words r.0)) r.1 f s.whole in
-      let all = write_all_again vs out later n.2 w within (keeps_then r.1 (put_run OBJECT (trimmed_words r.0) r.1).1 later t.keeps k) in
+      let stay : words_without_last_nulls r.0 ≡ r.0 = words_stay (payload_with_root 0 r.1) vs r.0 n.1 (made.0 0) in
+      let f = object_cell_framed (words_without_last_nulls r.0) r.1 fits in
+      let t = put_cell_stays (run_cell OBJECT (words_without_last_nulls r.0)) r.1 f s.whole in
+      let all = write_all_again vs out later n.2 w within (keeps_then r.1 (put_run OBJECT (words_without_last_nulls r.0) r.1).1 later t.keeps k) in
       let further : Layout = with_value_count_raised (entries_of_all vs) later in
-      ap (λ (q : List ℕ × Layout). put_run OBJECT (trimmed_words q.0) q.1) all
-      ∙ cell_counts (run_cell OBJECT (trimmed_words r.0)) r.1 further (count_of vs) (run_entries OBJECT (trimmed_words r.0) ∙ ap length stay ∙ words_count vs out) f (record { found = k.found })
-      ∙ ap (λ (l : Layout). ((put_run OBJECT (trimmed_words r.0) r.1).0, l)) (with_both (entries_of_all vs) (count_of vs) later)
+      ap (λ (q : List ℕ × Layout). put_run OBJECT (words_without_last_nulls q.0) q.1) all
+      ∙ cell_counts (run_cell OBJECT (words_without_last_nulls r.0)) r.1 further (count_of vs) (run_entries OBJECT (words_without_last_nulls r.0) ∙ ap length stay ∙ words_count vs out) f (record { found = k.found })
+      ∙ ap (λ (l : Layout). ((put_run OBJECT (words_without_last_nulls r.0) r.1).0, l)) (with_both (entries_of_all vs) (count_of vs) later)
 
   write_all_again : (vs : Plains) (out later : Layout) → AreNormal vs → HasItemsInBytes out → end_offset (write_all vs out).1 ≤ MOST_BYTES → Keeps (write_all vs out).1 later → write_all vs later ≡ ((write_all vs out).0, with_value_count_raised (entries_of_all vs) later)
   write_all_again none out later n w fits k = ap (λ (l : Layout). ([], l)) (with_none later)

@@ -4,9 +4,9 @@ use Rattle.std.proofs.Common.{◌≡◌, ℕ, ◌^◌, ◌<◌, ◌≤◌, Bool,
 use Rattle.std.specs.Prelude.{◌||◌, Some, Ok, Result, Err}
 use Rattle.std.specs.List.{AllByRecursion}
 use Rattle.std.proofs.lemmas.Bool.{ltb-false, ne_eqb}
-use Rattle.adb_view.specs.Plain.{Plain, null, int, blob, arr, obj, Plains, none, more, without_last_nulls, put_first_without_last_null, blob_or_null, arr_value, obj_of, obj_value, Shape, IsNormal, plain_of, value_of}
+use Rattle.adb_view.specs.Plain.{Plain, null, int, blob, arr, obj, Plains, none, more, without_last_nulls, prepend_plain_unless_last_null, blob_or_null, array_or_null, object_or_null, trimmed_object_or_null, Shape, IsNormal, plain_of, value_of}
 use Rattle.adb_view.specs.Readers.{ARRAY, OBJECT}
-use Rattle.adb_write.specs.Canonical.{Cell, in_place, apart, int_cell, blob_cell, run_cell, prepend_unless_last_null, trimmed_words, Layout, end_offset, put_item, put_cell, put_run, PayloadCounts, layout_counts, exceeds_a_limit, payload_with_root, MOST_BYTES, MOST_VALUES}
+use Rattle.adb_write.specs.Canonical.{Cell, in_place, apart, int_cell, blob_cell, run_cell, prepend_unless_last_null, words_without_last_nulls, Layout, end_offset, put_item, put_cell, put_run, PayloadCounts, layout_counts, exceeds_a_limit, payload_with_root, MOST_BYTES, MOST_VALUES}
 use Rattle.adb_view.specs.Shaped.{HasShape}
 use Rattle.adb_write.specs.Denotes.{Holds, HoldAll, IsWordOf, Denotes, AllDenote}
 use Rattle.adb_write.specs.Writing.{Writing, writing_counts, is_past_limit, layout_of, writing_of, unless_past_limit, call, finish_result, int_call, blob_call, arr_call, obj_call}
@@ -88,7 +88,7 @@ all_held w e none (x ∷ xs) h root = absurd h
 all_held w e (more v vs) [] h root = absurd h
 all_held w e (more v vs) (x ∷ xs) h root = ((h.0 e).holds root, all_held w e vs xs h.1 root)
 
-pub arr_stands : (vs : Plains) (xs : List ℕ) (w : Writing) → AllDenote w vs xs → Denotes (arr_call xs w).1 (arr_value vs) (arr_call xs w).0
+pub arr_stands : (vs : Plains) (xs : List ℕ) (w : Writing) → AllDenote w vs xs → Denotes (arr_call xs w).1 (array_or_null vs) (arr_call xs w).0
 unfolding Holds
 arr_stands none [] w h e = null_call w e
 arr_stands none (x ∷ xs) w h e = absurd h
@@ -101,7 +101,7 @@ arr_stands (more v vs) (x ∷ xs) w h e =
       holds = λ root. (m.nonzero, x ∷ xs, m.reads root, Grows-HoldAll (layout_of w) (put_run ARRAY (x ∷ xs) (layout_of w)).1 root (more v vs) (x ∷ xs) (put_run-grows ARRAY (x ∷ xs) (layout_of w)) (all_held w s.before (more v vs) (x ∷ xs) h root));
     })
 
-obj_of_stands : (vs : Plains) (xs : List ℕ) (w : Writing) → AllDenote w vs xs → Denotes (call (run_cell OBJECT xs) w).1 (obj_of vs) (call (run_cell OBJECT xs) w).0
+obj_of_stands : (vs : Plains) (xs : List ℕ) (w : Writing) → AllDenote w vs xs → Denotes (call (run_cell OBJECT xs) w).1 (object_or_null vs) (call (run_cell OBJECT xs) w).0
 unfolding Holds
 obj_of_stands none [] w h e = null_call w e
 obj_of_stands none (x ∷ xs) w h e = absurd h
@@ -120,7 +120,7 @@ null_word : (p : List ℕ) (x : ℕ) → Holds p null x → x ≡ 0
 unfolding Holds
 null_word p x h = h
 
-kept_pair : (w : Writing) → is_past_limit w ≡ false → (v : Plain) (vs : Plains) (x : ℕ) (xs : List ℕ) → Denotes w v x → AllDenote w vs xs → AllDenote w (put_first_without_last_null v vs) (prepend_unless_last_null x xs)
+kept_pair : (w : Writing) → is_past_limit w ≡ false → (v : Plain) (vs : Plains) (x : ℕ) (xs : List ℕ) → Denotes w v x → AllDenote w vs xs → AllDenote w (prepend_plain_unless_last_null v vs) (prepend_unless_last_null x xs)
 kept_pair w e null none x [] h a = let zero_is : x ≡ 0 = null_word (payload_with_root 0 (layout_of w)) x ((h e).holds 0) in rw zero_is tt
 kept_pair w e null (more u us) x (y ∷ ys) h a = (h, a)
 kept_pair w e v none x (y ∷ ys) h a = absurd a
@@ -134,16 +134,16 @@ kept_pair w e (arr vs) (more u us) x (y ∷ ys) h a = (h, a)
 kept_pair w e (obj us) none x [] h a = let t : eqb x 0 ≡ false = ne_eqb x 0 (not_null_word (payload_with_root 0 (layout_of w)) (obj us) x (λ n. absurd cc) ((h e).holds 0)) in rw t (h, tt)
 kept_pair w e (obj vs) (more u us) x (y ∷ ys) h a = (h, a)
 
-trimmed_stand : (w : Writing) → is_past_limit w ≡ false → (vs : Plains) (xs : List ℕ) → AllDenote w vs xs → AllDenote w (without_last_nulls vs) (trimmed_words xs)
+trimmed_stand : (w : Writing) → is_past_limit w ≡ false → (vs : Plains) (xs : List ℕ) → AllDenote w vs xs → AllDenote w (without_last_nulls vs) (words_without_last_nulls xs)
 trimmed_stand w e none [] h = tt
 trimmed_stand w e none (x ∷ xs) h = absurd h
 trimmed_stand w e (more v vs) [] h = absurd h
-trimmed_stand w e (more v vs) (x ∷ xs) h = kept_pair w e v (without_last_nulls vs) x (trimmed_words xs) h.0 (trimmed_stand w e vs xs h.1)
+trimmed_stand w e (more v vs) (x ∷ xs) h = kept_pair w e v (without_last_nulls vs) x (words_without_last_nulls xs) h.0 (trimmed_stand w e vs xs h.1)
 
-pub obj_stands : (vs : Plains) (xs : List ℕ) (w : Writing) → AllDenote w vs xs → Denotes (obj_call xs w).1 (obj_value vs) (obj_call xs w).0
+pub obj_stands : (vs : Plains) (xs : List ℕ) (w : Writing) → AllDenote w vs xs → Denotes (obj_call xs w).1 (trimmed_object_or_null vs) (obj_call xs w).0
 obj_stands vs xs w h e =
-    let s = call_stored (run_cell OBJECT (trimmed_words xs)) w e in
-    obj_of_stands (without_last_nulls vs) (trimmed_words xs) w (trimmed_stand w s.before vs xs h) e
+    let s = call_stored (run_cell OBJECT (words_without_last_nulls xs)) w e in
+    obj_of_stands (without_last_nulls vs) (words_without_last_nulls xs) w (trimmed_stand w s.before vs xs h) e
 
 -- ---- the payload at the end
 

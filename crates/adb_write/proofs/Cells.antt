@@ -4,7 +4,7 @@ use Rattle.std.specs.List.{flat_map}
 use Rattle.std.specs.Int.{w8, w16, w32, w64, to_le_bytes}
 use Rattle.std.proofs.lemmas.Bool.{le-ltb, ne_eqb}
 use Rattle.std.proofs.lemmas.List.{take_more}
-use Rattle.adb_write.specs.Canonical.{Item, apart, int_item, int_cell, blob_item, blob_cell, run_item, run_bytes, run_cell, prepend_unless_last_null, trimmed_words}
+use Rattle.adb_write.specs.Canonical.{Item, apart, int_item, int_cell, blob_item, blob_cell, run_item, run_bytes, run_cell, prepend_unless_last_null, words_without_last_nulls}
 
 -- ---- the number in an item's front, and what follows it
 
@@ -54,11 +54,11 @@ keep_last : (w v : ℕ) (ws : List ℕ) → prepend_unless_last_null w (ws ++ v 
 keep_last w v [] = refl
 keep_last w v (x ∷ xs) = refl
 
-pub trimmed_null : (ws : List ℕ) → trimmed_words (ws ++ 0 ∷ []) ≡ trimmed_words ws
+pub trimmed_null : (ws : List ℕ) → words_without_last_nulls (ws ++ 0 ∷ []) ≡ words_without_last_nulls ws
 trimmed_null [] = refl
 trimmed_null (w ∷ ws) = ap (prepend_unless_last_null w) (trimmed_null ws)
 
-pub trimmed_some : (w : ℕ) (ws : List ℕ) → w ≢ 0 → trimmed_words (ws ++ w ∷ []) ≡ ws ++ w ∷ []
+pub trimmed_some : (w : ℕ) (ws : List ℕ) → w ≢ 0 → words_without_last_nulls (ws ++ w ∷ []) ≡ ws ++ w ∷ []
 trimmed_some w [] ne = let t : eqb w 0 ≡ false = ne_eqb w 0 ne in rw t refl
 trimmed_some w (x ∷ xs) ne = ap (prepend_unless_last_null x) (trimmed_some w xs ne) ∙ keep_last x w xs
 
@@ -68,12 +68,12 @@ one_more ws n x some within is =
     let m : n - 1 + 1 ≡ n = omega arith in
     ap (λ (k : ℕ). take k ws) (sym m) ∙ take_more ws (n - 1) x (omega arith) ∙ ap (λ (y : ℕ). take (n - 1) ws ++ y ∷ []) (sym is)
 
-pub cut_null : (ws : List ℕ) (n x : ℕ) → 0 < n → n ≤ length ws → x ≡ get_or ws (n - 1) x → x ≡ 0 → trimmed_words (take (n - 1) ws) ≡ trimmed_words (take n ws)
+pub cut_null : (ws : List ℕ) (n x : ℕ) → 0 < n → n ≤ length ws → x ≡ get_or ws (n - 1) x → x ≡ 0 → words_without_last_nulls (take (n - 1) ws) ≡ words_without_last_nulls (take n ws)
 cut_null ws n x some within is null =
     let last : take n ws ≡ take (n - 1) ws ++ 0 ∷ [] = one_more ws n x some within is ∙ ap (λ (y : ℕ). take (n - 1) ws ++ y ∷ []) null in
-    sym (ap trimmed_words last ∙ trimmed_null (take (n - 1) ws))
+    sym (ap words_without_last_nulls last ∙ trimmed_null (take (n - 1) ws))
 
-pub cut_some : (ws : List ℕ) (n x : ℕ) → 0 < n → n ≤ length ws → x ≡ get_or ws (n - 1) x → x ≢ 0 → trimmed_words (take n ws) ≡ take n ws
+pub cut_some : (ws : List ℕ) (n x : ℕ) → 0 < n → n ≤ length ws → x ≡ get_or ws (n - 1) x → x ≢ 0 → words_without_last_nulls (take n ws) ≡ take n ws
 cut_some ws n x some within is ne =
     let last = one_more ws n x some within is in
     rw last (trimmed_some x (take (n - 1) ws) ne)

@@ -1,8 +1,8 @@
 -- What calls are made depth first, value by value.
 use Rattle.std.proofs.Common.{◌≡◌, ℕ, ◌+◌, ◌^◌, ◌<◌, true, ltb, List, [], ◌∷◌, ◌++◌, length, arith, refl, sym, ap, subst, ◌∙◌}
-use Rattle.adb_view.specs.Plain.{Plain, null, int, blob, arr, obj, Plains, none, more, without_last_nulls, put_first_without_last_null, blob_or_null, arr_value, obj_of, obj_value}
+use Rattle.adb_view.specs.Plain.{Plain, null, int, blob, arr, obj, Plains, none, more, without_last_nulls, prepend_plain_unless_last_null, blob_or_null, array_or_null, object_or_null, trimmed_object_or_null}
 use Rattle.adb_view.specs.Readers.{OBJECT}
-use Rattle.adb_write.specs.Canonical.{Cell, in_place, int_cell, run_cell, prepend_unless_last_null, trimmed_words, payload_or_overflow}
+use Rattle.adb_write.specs.Canonical.{Cell, in_place, int_cell, run_cell, prepend_unless_last_null, words_without_last_nulls, payload_or_overflow}
 use Rattle.adb_write.specs.Writing.{Writing, empty_writing, call, int_call, blob_call, arr_call, obj_call, finish_result, calls, calls_all}
 use Rattle.adb_write.specs.DepthFirst.{WritesValue, WritesValues, push}
 use Rattle.adb_write.proofs.WriterSteps.{call_null}
@@ -31,17 +31,17 @@ pub calls_more : (v : Plain) (vs : Plains) (w : Writing) → calls_all (more v v
 unfolding calls
 calls_more v vs w = refl
 
-pub calls_arr : (vs : Plains) (w : Writing) → calls (arr_value vs) w ≡ arr_call (calls_all vs w).0 (calls_all vs w).1
+pub calls_arr : (vs : Plains) (w : Writing) → calls (array_or_null vs) w ≡ arr_call (calls_all vs w).0 (calls_all vs w).1
 unfolding calls
 calls_arr none w = sym (call_null w)
 calls_arr (more v vs) w = refl
 
 -- the same words, except for NULLs that are last, and the same writer
 pub record Same (us vs : Plains) (w : Writing) : Type 0 where
-  pub words : trimmed_words (calls_all us w).0 ≡ trimmed_words (calls_all vs w).0
+  pub words : words_without_last_nulls (calls_all us w).0 ≡ words_without_last_nulls (calls_all vs w).0
   pub state : (calls_all us w).1 ≡ (calls_all vs w).1
 
-keep_same : (v : Plain) (us vs : Plains) (w : Writing) → Same us vs (calls v w).1 → Same (put_first_without_last_null v us) (more v vs) w
+keep_same : (v : Plain) (us vs : Plains) (w : Writing) → Same us vs (calls v w).1 → Same (prepend_plain_unless_last_null v us) (more v vs) w
 unfolding calls
 keep_same null none vs w s = record { words = ap (prepend_unless_last_null 0) s.words; state = s.state }
 keep_same null (more u us) vs w s = record { words = ap (prepend_unless_last_null 0) s.words; state = s.state }
@@ -54,11 +54,11 @@ trimmed_same : (vs : Plains) (w : Writing) → Same (without_last_nulls vs) vs w
 trimmed_same none w = record { words = refl; state = refl }
 trimmed_same (more v vs) w = keep_same v (without_last_nulls vs) vs w (trimmed_same vs (calls v w).1)
 
-pub calls_obj : (vs : Plains) (w : Writing) → calls (obj_value vs) w ≡ obj_call (calls_all vs w).0 (calls_all vs w).1
+pub calls_obj : (vs : Plains) (w : Writing) → calls (trimmed_object_or_null vs) w ≡ obj_call (calls_all vs w).0 (calls_all vs w).1
 unfolding calls
 calls_obj vs w = go (without_last_nulls vs) (trimmed_same vs w)
   where
-    go : (us : Plains) → Same us vs w → calls (obj_of us) w ≡ call (run_cell OBJECT (trimmed_words (calls_all vs w).0)) (calls_all vs w).1
+    go : (us : Plains) → Same us vs w → calls (object_or_null us) w ≡ call (run_cell OBJECT (words_without_last_nulls (calls_all vs w).0)) (calls_all vs w).1
     go none s = rw (sym s.words, sym s.state) (sym (call_null w))
     go (more u us) s = rw (sym s.words, sym s.state) refl
 
@@ -108,10 +108,10 @@ writes_push v (more u us) x xs a b c p q =
 run_of_all : (vs : Plains) (xs : List ℕ) (a b : Writing) (f : List ℕ → Writing → ℕ × Writing) → WritesValues a vs xs b → f xs b ≡ f (calls_all vs a).0 (calls_all vs a).1
 run_of_all vs xs a b f p = ap (λ (r : List ℕ × Writing). f r.0 r.1) p.is
 
-pub writes_arr : (vs : Plains) (xs : List ℕ) (a b : Writing) (x : ℕ) (c : Writing) → WritesValues a vs xs b → ◌≡◌ {A = ℕ × Writing} (x, c) (arr_call xs b) → WritesValue a (arr_value vs) x c
+pub writes_arr : (vs : Plains) (xs : List ℕ) (a b : Writing) (x : ℕ) (c : Writing) → WritesValues a vs xs b → ◌≡◌ {A = ℕ × Writing} (x, c) (arr_call xs b) → WritesValue a (array_or_null vs) x c
 writes_arr vs xs a b x c p e = record { is = e ∙ run_of_all vs xs a b arr_call p ∙ sym (calls_arr vs a) }
 
-pub writes_obj : (vs : Plains) (xs : List ℕ) (a b : Writing) (x : ℕ) (c : Writing) → WritesValues a vs xs b → ◌≡◌ {A = ℕ × Writing} (x, c) (obj_call xs b) → WritesValue a (obj_value vs) x c
+pub writes_obj : (vs : Plains) (xs : List ℕ) (a b : Writing) (x : ℕ) (c : Writing) → WritesValues a vs xs b → ◌≡◌ {A = ℕ × Writing} (x, c) (obj_call xs b) → WritesValue a (trimmed_object_or_null vs) x c
 writes_obj vs xs a b x c p e = record { is = e ∙ run_of_all vs xs a b obj_call p ∙ sym (calls_obj vs a) }
 
 pub writes_finished : (v : Plain) (root : ℕ) (w : Writing) → WritesValue empty_writing v root w → finish_result root w ≡ payload_or_overflow v

@@ -7,9 +7,9 @@ use Rattle.std.proofs.lemmas.Bool.{lt-ltb, le-ltb}
 use Rattle.std.proofs.lemmas.Cmp.{nat_list_cmp_total}
 use Rattle.std.proofs.lemmas.List.{length-take}
 use Rattle.base_core.specs.declared.cause.Cause.{Cause}
-use Rattle.adb_view.specs.Head.{head_fault}
+use Rattle.adb_view.specs.Head.{payload_head_fault}
 use Rattle.adb_view.specs.Readers.{low_28_bits}
-use Rattle.adb_write.specs.Canonical.{WrittenItem, is_equal_item, word_of_item, MOST_BYTES}
+use Rattle.adb_write.specs.Canonical.{WrittenItem, is_equal_item, word_of_written_item, MOST_BYTES}
 use Rattle.adb_write.specs.Items.{item_of, HasNumbersInRange}
 use Rattle.adb_write.specs.declared.item.Parts.{Parts}
 use Rattle.adb_write.specs.Keys.{key_of, key_of_locator, HaveRisingKeys, word_of_locator}
@@ -125,7 +125,7 @@ found_item p parts ws w stored rising room few f =
     differ_up : (v : ℕ) → IsBelow p w v → cmp (key_of parts) (key_of_locator p v) ≡ Equal → ⊥
     differ_up v b e = let no : Equal ≡ Less = sym e ∙ with_key v ∙ b in absurd cc
 
-pub found_word : (p : List ℕ) (ws : List ℕ) (key : List ℕ) (w : ℕ) → AreStored p ws → IsLocatorWithKey p ws key w → word_of_item (written_item w) ≡ word_of_locator w
+pub found_word : (p : List ℕ) (ws : List ℕ) (key : List ℕ) (w : ℕ) → AreStored p ws → IsLocatorWithKey p ws key w → word_of_written_item (written_item w) ≡ word_of_locator w
 found_word p ws key w stored f =
     let own : IsStored p w = (all_last (IsStored p) f.before (w ∷ f.behind) (subst (AreStored p) f.is stored)).0 in
     omega (arith, own.stored.behind_head)
@@ -161,13 +161,13 @@ all_lower p w ws behind s =
 
 -- ---- without a head nothing was written
 
-pub nothing_between : (p key : List ℕ) (pages : List (List ℕ)) (c : Cause) → IsEmptyOrHasHead p → HaveNoEmptyPage pages → AreStored p (concat pages) → Some c ≡ head_fault p → IsBetween p pages key (record { page = 0; index = 0 })
+pub nothing_between : (p key : List ℕ) (pages : List (List ℕ)) (c : Cause) → IsEmptyOrHasHead p → HaveNoEmptyPage pages → AreStored p (concat pages) → Some c ≡ payload_head_fault p → IsBetween p pages key (record { page = 0; index = 0 })
 nothing_between p key [] c h f s e = record { inside = (refl, refl); lower = tt; higher = tt }
 nothing_between p key ([] ∷ pages) c h f s e = absurd (let some = f.0 in omega arith)
 nothing_between p key ((w ∷ page) ∷ pages) c (inl none) f s e = absurd (let t = s.0 in omega (arith, ap length none, stored_ends p w t, t.stored.behind_head))
 nothing_between p key ((w ∷ page) ∷ pages) c (inr head) f s e = absurd (let no : Some c ≡ None = e ∙ no_fault p head in cc)
   where
-    no_fault : (p : List ℕ) → take 8 p ≡ replicate 8 0 → head_fault p ≡ None
+    no_fault : (p : List ℕ) → take 8 p ≡ replicate 8 0 → payload_head_fault p ≡ None
     no_fault [] h = absurd cc
     no_fault (x ∷ xs) h =
         let zero_is : x ≡ 0 = cc in

@@ -4,7 +4,7 @@ use Rattle.std.proofs.Common.{◌≡◌, ℕ, Bool, true, false, cond, List, [],
 use Rattle.std.specs.Prelude.{find}
 use Rattle.adb_view.specs.Plain.{Plain, null, int, blob, arr, obj, Plains, none, more}
 use Rattle.adb_view.specs.Readers.{ARRAY, OBJECT}
-use Rattle.adb_write.specs.Canonical.{Cell, in_place, apart, int_cell, blob_cell, run_cell, trimmed_words, Layout, empty_layout, put_cell, put_run, write, write_all, payload_with_root, canonical, PayloadCounts, layout_counts, exceeds_a_limit, counts_after_values, trace_all, overflow_of, or_overflow, payload_or_overflow}
+use Rattle.adb_write.specs.Canonical.{Cell, in_place, apart, int_cell, blob_cell, run_cell, words_without_last_nulls, Layout, empty_layout, put_cell, put_run, write, write_all, payload_with_root, canonical, PayloadCounts, layout_counts, exceeds_a_limit, counts_after_values, trace_all, overflow_of, or_overflow, payload_or_overflow}
 use Rattle.adb_write.specs.Writing.{Writing, empty_writing, writing_counts, is_past_limit, writing_of, call, finish_result, calls, calls_all}
 
 find-none : (xs ys : List PayloadCounts) → find exceeds_a_limit xs ≡ None → find exceeds_a_limit (xs ++ ys) ≡ find exceeds_a_limit ys
@@ -42,7 +42,7 @@ mutual
       ap (λ (r : ℕ × Writing). r.1) (call-over (run_cell ARRAY (calls_all vs w).0) (calls_all vs w).1 (rw s o)) ∙ s
   calls-over (obj vs) w o =
       let s = calls_all-over vs w o in
-      ap (λ (r : ℕ × Writing). r.1) (call-over (run_cell OBJECT (trimmed_words (calls_all vs w).0)) (calls_all vs w).1 (rw s o)) ∙ s
+      ap (λ (r : ℕ × Writing). r.1) (call-over (run_cell OBJECT (words_without_last_nulls (calls_all vs w).0)) (calls_all vs w).1 (rw s o)) ∙ s
 
   calls_all-over : (vs : Plains) (w : Writing) → is_past_limit w ≡ true → (calls_all vs w).1 ≡ w
   calls_all-over none w o = refl
@@ -108,8 +108,8 @@ mutual
       (λ o. ap (λ (r : ℕ × Writing). r.1) (call-over (run_cell ARRAY (calls_all vs (writing_of out)).0) (calls_all vs (writing_of out)).1 o))
   calls-end (obj vs) out w =
       then_ends (trace_all vs out) (layout_counts (write (obj vs) out).1 ∷ []) (calls_all vs (writing_of out)) (write_all vs out) (calls (obj vs) (writing_of out)) (write (obj vs) out) (calls_all-end vs out w)
-      (λ words state fine. run_ends OBJECT trimmed_words (calls_all vs (writing_of out)) (write_all vs out) words state fine)
-      (λ o. ap (λ (r : ℕ × Writing). r.1) (call-over (run_cell OBJECT (trimmed_words (calls_all vs (writing_of out)).0)) (calls_all vs (writing_of out)).1 o))
+      (λ words state fine. run_ends OBJECT words_without_last_nulls (calls_all vs (writing_of out)) (write_all vs out) words state fine)
+      (λ o. ap (λ (r : ℕ × Writing). r.1) (call-over (run_cell OBJECT (words_without_last_nulls (calls_all vs (writing_of out)).0)) (calls_all vs (writing_of out)).1 o))
 
   pub calls_all-end : (vs : Plains) (out : Layout) → Within out → Ends (trace_all vs out) (calls_all vs (writing_of out)) (write_all vs out)
   calls_all-end none out w = inl (refl, refl, refl, w)

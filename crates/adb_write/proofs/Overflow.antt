@@ -6,7 +6,7 @@ use Rattle.std.proofs.lemmas.Bool.{cases_lt, lt-ltb, le-ltb, ltb-true, or_cases}
 use Rattle.std.proofs.Math.Bool.{or-true}
 use Rattle.adb_view.specs.Plain.{Plain, null, int, blob, arr, obj, Plains, none, more, IsNormal, AreNormal, count_of}
 use Rattle.adb_view.specs.Readers.{ARRAY, OBJECT}
-use Rattle.adb_write.specs.Canonical.{Item, WrittenItem, Cell, in_place, apart, int_cell, blob_cell, run_cell, trimmed_words, Layout, empty_layout, end_offset, is_equal_item, put_unless_written, put_cell, write, write_all, payload_with_root, PayloadCounts, layout_counts, exceeds_a_limit, counts_after_values, trace_all, overflow_of, canonical, or_overflow, payload_or_overflow, MOST_BYTES, MOST_VALUES}
+use Rattle.adb_write.specs.Canonical.{Item, WrittenItem, Cell, in_place, apart, int_cell, blob_cell, run_cell, words_without_last_nulls, Layout, empty_layout, end_offset, is_equal_item, put_item_unless_written, put_cell, write, write_all, payload_with_root, PayloadCounts, layout_counts, exceeds_a_limit, counts_after_values, trace_all, overflow_of, canonical, or_overflow, payload_or_overflow, MOST_BYTES, MOST_VALUES}
 use Rattle.adb_write.specs.Size.{size_of, entries_of, entries_of_all, value_count}
 use Rattle.adb_write.specs.Writing.{empty_writing, calls}
 use Rattle.adb_write.proofs.RoundTrip.{Grows-here, stored-grows, put_run-grows, write_all-grows, write_all-made, words_stay}
@@ -18,7 +18,7 @@ abbrev pub entries_in : Cell → ℕ
 entries_in (in_place w) = 0
 entries_in (apart i) = i.entries
 
-unless_values : (found : Option WrittenItem) (i : Item) (out : Layout) → (put_unless_written found i out).1.values ≡ out.values + i.entries
+unless_values : (found : Option WrittenItem) (i : Item) (out : Layout) → (put_item_unless_written found i out).1.values ≡ out.values + i.entries
 unless_values None i out = refl
 unless_values (Some there) i out = refl
 
@@ -65,11 +65,11 @@ mutual
       omega (arith, stored_values (run_cell ARRAY r.0) r.1, run_entries ARRAY r.0, words_count vs out, write_all_values vs out n.1 (le_trans (Grows-here _ _ g) fits))
   write_values (obj vs) out n fits =
       let r = write_all vs out in
-      let g = put_run-grows OBJECT (trimmed_words r.0) r.1 in
+      let g = put_run-grows OBJECT (words_without_last_nulls r.0) r.1 in
       let within = le_trans (Grows-here _ _ g) fits in
       let all = write_all-made vs out n.2 within in
-      let stay : trimmed_words r.0 ≡ r.0 = words_stay (payload_with_root 0 r.1) vs r.0 n.1 (all.0 0) in
-      omega (arith, stored_values (run_cell OBJECT (trimmed_words r.0)) r.1, run_entries OBJECT (trimmed_words r.0), ap length stay, words_count vs out, write_all_values vs out n.2 within)
+      let stay : words_without_last_nulls r.0 ≡ r.0 = words_stay (payload_with_root 0 r.1) vs r.0 n.1 (all.0 0) in
+      omega (arith, stored_values (run_cell OBJECT (words_without_last_nulls r.0)) r.1, run_entries OBJECT (words_without_last_nulls r.0), ap length stay, words_count vs out, write_all_values vs out n.2 within)
 
   write_all_values : (vs : Plains) (out : Layout) → AreNormal vs → end_offset (write_all vs out).1 ≤ MOST_BYTES → (write_all vs out).1.values ≡ out.values + entries_of_all vs
   write_all_values none out n fits = omega arith
@@ -97,7 +97,7 @@ mutual
   write_more (int n) out e = stored_more (int_cell n) out e
   write_more (blob b) out e = stored_more (blob_cell b) out e
   write_more (arr vs) out e = stored_more (run_cell ARRAY (write_all vs out).0) (write_all vs out).1 (write_all_more vs out e)
-  write_more (obj vs) out e = stored_more (run_cell OBJECT (trimmed_words (write_all vs out).0)) (write_all vs out).1 (write_all_more vs out e)
+  write_more (obj vs) out e = stored_more (run_cell OBJECT (words_without_last_nulls (write_all vs out).0)) (write_all vs out).1 (write_all_more vs out e)
 
   write_all_more : (vs : Plains) (out : Layout) → exceeds_a_limit (layout_counts out) ≡ true → exceeds_a_limit (layout_counts (write_all vs out).1) ≡ true
   write_all_more none out e = e
@@ -132,7 +132,7 @@ mutual
       ]
   trace_over (obj vs) out c e =
       elim (find_either (trace_all vs out) (layout_counts (write (obj vs) out).1 ∷ []) c e) [
-        | inl a ↦ stored_more (run_cell OBJECT (trimmed_words (write_all vs out).0)) (write_all vs out).1 (trace_all_over vs out c a)
+        | inl a ↦ stored_more (run_cell OBJECT (words_without_last_nulls (write_all vs out).0)) (write_all vs out).1 (trace_all_over vs out c a)
         | inr a ↦ find_one (layout_counts (write (obj vs) out).1) c a
       ]
 

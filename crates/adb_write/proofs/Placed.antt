@@ -6,9 +6,9 @@ use Rattle.std.proofs.lemmas.Bool.{le-leb}
 use Rattle.std.proofs.lemmas.List.{take_at, drop_at, length-append, length-drop, length-replicate, drop-drop, drop-append-le}
 use Rattle.std.proofs.lemmas.List.Concat.{flat_map-cons}
 use Rattle.std.proofs.lemmas.Nat.{from_le_bytes-to_le_bytes_2, from_le_bytes-to_le_bytes_4, from_le_bytes-to_le_bytes_8}
-use Rattle.adb_view.specs.Bytes.{range_at, number_at, words}
-use Rattle.adb_view.specs.Readers.{kind_of, low_28_bits, counted_at, counted_words, run_at}
-use Rattle.adb_write.specs.Canonical.{gap, Item, Layout, end_offset, put_new, payload_with_root, run_bytes}
+use Rattle.adb_view.specs.Bytes.{bytes_at_with_len, number_at, words}
+use Rattle.adb_view.specs.Readers.{kind_of_word, low_28_bits, length_prefixed_bytes_at, run_entries_for_count, run_entries_at}
+use Rattle.adb_write.specs.Canonical.{padding_to_alignment, Item, Layout, end_offset, put_new_item, payload_with_root, run_bytes}
 
 -- the payload ends with these bytes, which begin at the offset
 pub record Stands (p : List ℕ) (at : ℕ) (bytes : List ℕ) : Type 0 where
@@ -29,7 +29,7 @@ Stands-skip p at front back s =
       is = sym (drop-drop (length front) at p) ∙ ap (drop (length front)) s.is ∙ drop_at front back (length front) refl;
     }
 
-range_stands : (p : List ℕ) (at n : ℕ) (front back : List ℕ) → Stands p at (front ++ back) → length front ≡ n → range_at p at n ≡ Some front
+range_stands : (p : List ℕ) (at n : ℕ) (front back : List ℕ) → Stands p at (front ++ back) → length front ≡ n → bytes_at_with_len p at n ≡ Some front
 range_stands p at n front back s len =
     let l = Stands-len p at (front ++ back) s in
     let a = length-append front back in
@@ -56,13 +56,13 @@ pub number_stands : (w : Width) (limit : ℕ) → IsWide w limit → (p : List �
 number_stands w limit wide p at n back lt s =
     ap (option_map (from_le_bytes w)) (range_stands p at (byte_len w) (to_le_bytes w n) back s (wide.len n)) ∙ ap Some (wide.again n lt)
 
-pub counted_stands : (w : Width) (limit : ℕ) → IsWide w limit → (p : List ℕ) (at : ℕ) (b back : List ℕ) → length b < limit → Stands p at ((to_le_bytes w (length b) ++ b) ++ back) → counted_at w p at ≡ Some b
+pub counted_stands : (w : Width) (limit : ℕ) → IsWide w limit → (p : List ℕ) (at : ℕ) (b back : List ℕ) → length b < limit → Stands p at ((to_le_bytes w (length b) ++ b) ++ back) → length_prefixed_bytes_at w p at ≡ Some b
 counted_stands w limit wide p at b back lt s =
     let apart : Stands p at (to_le_bytes w (length b) ++ (b ++ back)) = subst (Stands p at) (append_assoc (to_le_bytes w (length b)) b back) s in
     let n : number_at w p at ≡ Some (length b) = number_stands w limit wide p at (length b) (b ++ back) lt apart in
     let skipped = Stands-skip p at (to_le_bytes w (length b)) (b ++ back) apart in
     let there : Stands p (at + byte_len w) (b ++ back) = subst (λ (k : ℕ). Stands p (at + k) (b ++ back)) (wide.len (length b)) skipped in
-    ap (option_and_then (λ len. range_at p (at + byte_len w) len)) n ∙ range_stands p (at + byte_len w) (length b) b back there refl
+    ap (option_and_then (λ len. bytes_at_with_len p (at + byte_len w) len)) n ∙ range_stands p (at + byte_len w) (length b) b back there refl
 
 -- ---- runs
 
@@ -79,14 +79,14 @@ pub words_len : (ws : List ℕ) → length (flat_map (to_le_bytes w32) ws) ≡ 4
 words_len [] = refl
 words_len (w ∷ ws) = ap length (flat_map-cons (to_le_bytes w32) w ws) ∙ omega (arith, length-append (to_le_bytes w32 w) (flat_map (to_le_bytes w32) ws), words_len ws, wide32.len w)
 
-pub run_stands : (p : List ℕ) (at : ℕ) (ws back : List ℕ) → AllByRecursion (λ w. w < 2 ^ 32) ws → suc (length ws) < 2 ^ 32 → Stands p at (run_bytes ws ++ back) → run_at p at ≡ Some ws
+pub run_stands : (p : List ℕ) (at : ℕ) (ws back : List ℕ) → AllByRecursion (λ w. w < 2 ^ 32) ws → suc (length ws) < 2 ^ 32 → Stands p at (run_bytes ws ++ back) → run_entries_at p at ≡ Some ws
 run_stands p at ws back small few s =
     let entries : List ℕ = flat_map (to_le_bytes w32) ws in
     let apart : Stands p at (to_le_bytes w32 (suc (length ws)) ++ (entries ++ back)) = subst (Stands p at) (append_assoc (to_le_bytes w32 (suc (length ws))) entries back) s in
     let n : number_at w32 p at ≡ Some (suc (length ws)) = number_stands w32 (2 ^ 32) wide32 p at (suc (length ws)) (entries ++ back) few apart in
     let there = Stands-skip p at (to_le_bytes w32 (suc (length ws))) (entries ++ back) apart in
-    let range : range_at p (at + 4) (4 * length ws) ≡ Some entries = range_stands p (at + 4) (4 * length ws) entries back there (words_len ws) in
-    ap (option_and_then (counted_words p at)) n ∙ ap (option_map (words (length ws))) range ∙ ap Some (words_again ws small)
+    let range : bytes_at_with_len p (at + 4) (4 * length ws) ≡ Some entries = range_stands p (at + 4) (4 * length ws) entries back there (words_len ws) in
+    ap (option_and_then (run_entries_for_count p at)) n ∙ ap (option_map (words (length ws))) range ∙ ap Some (words_again ws small)
 
 -- bytes at the end change nothing
 pub Stands-append : (p q : List ℕ) (at : ℕ) (bytes : List ℕ) → Stands p at bytes → Stands (p ++ q) at (bytes ++ q)
@@ -96,19 +96,19 @@ Stands-append p q at bytes s = record { inside = (let i = s.inside in omega (ari
 
 -- where the item goes
 abbrev pub place : Item → Layout → ℕ
-place i out = end_offset out + gap i.align (end_offset out)
+place i out = end_offset out + padding_to_alignment i.align (end_offset out)
 
-pub placed_stands : (i : Item) (out : Layout) (root : ℕ) → Stands (payload_with_root root (put_new i out).1) (place i out) i.bytes
+pub placed_stands : (i : Item) (out : Layout) (root : ℕ) → Stands (payload_with_root root (put_new_item i out).1) (place i out) i.bytes
 placed_stands i out root =
-    let zeros : List ℕ = replicate (gap i.align (end_offset out)) 0 in
-    let regroup : payload_with_root root (put_new i out).1 ≡ (payload_with_root root out ++ zeros) ++ i.bytes = sym (append_assoc (payload_with_root root out) zeros i.bytes) in
-    let len : length (payload_with_root root out ++ zeros) ≡ place i out = omega (arith, length-append (payload_with_root root out) zeros, length-replicate {A = ℕ} (gap i.align (end_offset out)) 0) in
+    let zeros : List ℕ = replicate (padding_to_alignment i.align (end_offset out)) 0 in
+    let regroup : payload_with_root root (put_new_item i out).1 ≡ (payload_with_root root out ++ zeros) ++ i.bytes = sym (append_assoc (payload_with_root root out) zeros i.bytes) in
+    let len : length (payload_with_root root out ++ zeros) ≡ place i out = omega (arith, length-append (payload_with_root root out) zeros, length-replicate {A = ℕ} (padding_to_alignment i.align (end_offset out)) 0) in
     record {
       inside = omega (arith, ap length regroup, length-append (payload_with_root root out ++ zeros) i.bytes);
       is = ap (drop (place i out)) regroup ∙ drop_at (payload_with_root root out ++ zeros) i.bytes (place i out) len;
     }
 
-pub word_kind : (kind at : ℕ) → at < 2 ^ 28 → kind_of (kind * 2 ^ 28 + at) ≡ kind
+pub word_kind : (kind at : ℕ) → at < 2 ^ 28 → kind_of_word (kind * 2 ^ 28 + at) ≡ kind
 word_kind kind at lt = omega arith
 
 pub word_low : (kind at : ℕ) → at < 2 ^ 28 → low_28_bits (kind * 2 ^ 28 + at) ≡ at

@@ -5,11 +5,11 @@ use Rattle.std.specs.List.{flat_map, AllByRecursion}
 use Rattle.std.specs.Int.{Width, w8, w16, w32, w64, byte_len, from_le_bytes, to_le_bytes}
 use Rattle.std.proofs.lemmas.Bool.{cases_lt, leb-true, le-leb, lt-ltb, le-ltb, ne_eqb}
 use Rattle.std.proofs.lemmas.List.{append-nil, take_at, drop_at, length-append, length-drop, length-replicate, take-append-le, drop-append-le}
-use Rattle.adb_view.specs.Bytes.{range_at, number_at, words}
-use Rattle.adb_view.specs.Plain.{IsNormal, AreNormal, Plain, null, int, blob, arr, obj, Plains, none, more, without_last_nulls, blob_or_null, arr_value, obj_of, obj_value, Shape, number, text, hash, array, object, Fields, no_fields, field, unless_null, from_answer, each_plain, plain_of, plains_of, value_of}
-use Rattle.adb_view.specs.Head.{root_of}
-use Rattle.adb_view.specs.Readers.{kind_of, low_28_bits, or_outside_cause, counted_at, counted_words, run_at, int_of, blob_of, run_of, ARRAY, OBJECT}
-use Rattle.adb_write.specs.Canonical.{gap, Item, WrittenItem, Cell, in_place, apart, int_cell, blob_cell, run_cell, run_bytes, prepend_unless_last_null, trimmed_words, Layout, empty_layout, end_offset, is_equal_item, word_of_item, put_new, put_unless_written, put_item, put_cell, put_run, write, write_all, payload_with_root, canonical, MOST_BYTES}
+use Rattle.adb_view.specs.Bytes.{bytes_at_with_len, number_at, words}
+use Rattle.adb_view.specs.Plain.{IsNormal, AreNormal, Plain, null, int, blob, arr, obj, Plains, none, more, without_last_nulls, blob_or_null, array_or_null, object_or_null, trimmed_object_or_null, Shape, number, text, hash, array, object, Fields, no_fields, field, null_plain_if_null_word, option_of_ok_value, plains_of_all_words, plain_of, plains_of, value_of}
+use Rattle.adb_view.specs.Head.{root_word_of_payload}
+use Rattle.adb_view.specs.Readers.{kind_of_word, low_28_bits, or_outside_cause, length_prefixed_bytes_at, run_entries_for_count, run_entries_at, int_of, blob_of, run_entries_of_word, ARRAY, OBJECT}
+use Rattle.adb_write.specs.Canonical.{padding_to_alignment, Item, WrittenItem, Cell, in_place, apart, int_cell, blob_cell, run_cell, run_bytes, prepend_unless_last_null, words_without_last_nulls, Layout, empty_layout, end_offset, is_equal_item, word_of_written_item, put_new_item, put_item_unless_written, put_item, put_cell, put_run, write, write_all, payload_with_root, canonical, MOST_BYTES}
 use Rattle.adb_view.specs.Shaped.{Each, HasShape, HaveShapes}
 use Rattle.adb_view.proofs.Normal.{trimmed-more}
 use Rattle.adb_write.specs.Denotes.{Holds, HoldAll, IsWordOf}
@@ -22,8 +22,8 @@ chosen false x y z e = inr (refl, e)
 
 -- ---- more bytes at the end change nothing that was read
 
-range_at-append : (p q : List ℕ) (at n : ℕ) (x : List ℕ) → range_at p at n ≡ Some x → range_at (p ++ q) at n ≡ Some x
-range_at-append p q at n x e =
+bytes_at_with_len-append : (p q : List ℕ) (at n : ℕ) (x : List ℕ) → bytes_at_with_len p at n ≡ Some x → bytes_at_with_len (p ++ q) at n ≡ Some x
+bytes_at_with_len-append p q at n x e =
     elim (chosen (leb (at + n) (length p)) _ _ _ e) [
       | inl (t, s) ↦
           let le : at + n ≤ length p = leb-true _ _ t in
@@ -42,24 +42,24 @@ some_then f None y e = absurd cc
 
 number_at-append : (w : Width) (p q : List ℕ) (at n : ℕ) → number_at w p at ≡ Some n → number_at w (p ++ q) at ≡ Some n
 number_at-append w p q at n e =
-    let (x, is, y) = some_map (from_le_bytes w) (range_at p at (byte_len w)) n e in
-    ap (option_map (from_le_bytes w)) (range_at-append p q at (byte_len w) x is) ∙ ap Some y
+    let (x, is, y) = some_map (from_le_bytes w) (bytes_at_with_len p at (byte_len w)) n e in
+    ap (option_map (from_le_bytes w)) (bytes_at_with_len-append p q at (byte_len w) x is) ∙ ap Some y
 
-counted_at-append : (w : Width) (p q : List ℕ) (at : ℕ) (b : List ℕ) → counted_at w p at ≡ Some b → counted_at w (p ++ q) at ≡ Some b
-counted_at-append w p q at b e =
-    let (n, is, y) = some_then (λ len. range_at p (at + byte_len w) len) (number_at w p at) b e in
-    ap (option_and_then (λ len. range_at (p ++ q) (at + byte_len w) len)) (number_at-append w p q at n is) ∙ range_at-append p q (at + byte_len w) n b y
+length_prefixed_bytes_at-append : (w : Width) (p q : List ℕ) (at : ℕ) (b : List ℕ) → length_prefixed_bytes_at w p at ≡ Some b → length_prefixed_bytes_at w (p ++ q) at ≡ Some b
+length_prefixed_bytes_at-append w p q at b e =
+    let (n, is, y) = some_then (λ len. bytes_at_with_len p (at + byte_len w) len) (number_at w p at) b e in
+    ap (option_and_then (λ len. bytes_at_with_len (p ++ q) (at + byte_len w) len)) (number_at-append w p q at n is) ∙ bytes_at_with_len-append p q (at + byte_len w) n b y
 
-counted_words-append : (p q : List ℕ) (at n : ℕ) (ws : List ℕ) → counted_words p at n ≡ Some ws → counted_words (p ++ q) at n ≡ Some ws
-counted_words-append p q at zero ws e = absurd cc
-counted_words-append p q at (suc n) ws e =
-    let (x, is, y) = some_map (words n) (range_at p (at + 4) (4 * n)) ws e in
-    ap (option_map (words n)) (range_at-append p q (at + 4) (4 * n) x is) ∙ ap Some y
+run_entries_for_count-append : (p q : List ℕ) (at n : ℕ) (ws : List ℕ) → run_entries_for_count p at n ≡ Some ws → run_entries_for_count (p ++ q) at n ≡ Some ws
+run_entries_for_count-append p q at zero ws e = absurd cc
+run_entries_for_count-append p q at (suc n) ws e =
+    let (x, is, y) = some_map (words n) (bytes_at_with_len p (at + 4) (4 * n)) ws e in
+    ap (option_map (words n)) (bytes_at_with_len-append p q (at + 4) (4 * n) x is) ∙ ap Some y
 
-run_at-append : (p q : List ℕ) (at : ℕ) (ws : List ℕ) → run_at p at ≡ Some ws → run_at (p ++ q) at ≡ Some ws
-run_at-append p q at ws e =
-    let (n, is, y) = some_then (counted_words p at) (number_at w32 p at) ws e in
-    ap (option_and_then (counted_words (p ++ q) at)) (number_at-append w32 p q at n is) ∙ counted_words-append p q at n ws y
+run_entries_at-append : (p q : List ℕ) (at : ℕ) (ws : List ℕ) → run_entries_at p at ≡ Some ws → run_entries_at (p ++ q) at ≡ Some ws
+run_entries_at-append p q at ws e =
+    let (n, is, y) = some_then (run_entries_for_count p at) (number_at w32 p at) ws e in
+    ap (option_and_then (run_entries_for_count (p ++ q) at)) (number_at-append w32 p q at n is) ∙ run_entries_for_count-append p q at n ws y
 
 inside_ok : {A : Type 0} (w : ℕ) (o : Option A) (x : A) → or_outside_cause w o ≡ Ok x → o ≡ Some x
 inside_ok w (Some y) x e = cc
@@ -77,23 +77,23 @@ int_of-append : (p q : List ℕ) (w n : ℕ) → int_of p w ≡ Ok n → int_of 
 unfolding int_of
 int_of-append p q w n e =
     test_same (eqb w 0) _ _ _ _ (Ok n) (λ e. e) (
-    test_same (eqb (kind_of w) 1) _ _ _ _ (Ok n) (λ e. e) (
-    test_same (eqb (kind_of w) 2) _ _ _ _ (Ok n) (inside-append w _ _ n (λ y. number_at-append w32 p q (low_28_bits w) y)) (
-    test_same (eqb (kind_of w) 3) _ _ _ _ (Ok n) (inside-append w _ _ n (λ y. number_at-append w64 p q (low_28_bits w) y)) (λ e. e)))) e
+    test_same (eqb (kind_of_word w) 1) _ _ _ _ (Ok n) (λ e. e) (
+    test_same (eqb (kind_of_word w) 2) _ _ _ _ (Ok n) (inside-append w _ _ n (λ y. number_at-append w32 p q (low_28_bits w) y)) (
+    test_same (eqb (kind_of_word w) 3) _ _ _ _ (Ok n) (inside-append w _ _ n (λ y. number_at-append w64 p q (low_28_bits w) y)) (λ e. e)))) e
 
 blob_of-append : (p q : List ℕ) (w : ℕ) (b : List ℕ) → blob_of p w ≡ Ok b → blob_of (p ++ q) w ≡ Ok b
 unfolding blob_of
 blob_of-append p q w b e =
     test_same (eqb w 0) _ _ _ _ (Ok b) (λ e. e) (
-    test_same (eqb (kind_of w) 8) _ _ _ _ (Ok b) (inside-append w _ _ b (λ y. counted_at-append w8 p q (low_28_bits w) y)) (
-    test_same (eqb (kind_of w) 9) _ _ _ _ (Ok b) (inside-append w _ _ b (λ y. counted_at-append w16 p q (low_28_bits w) y)) (
-    test_same (eqb (kind_of w) 10) _ _ _ _ (Ok b) (inside-append w _ _ b (λ y. counted_at-append w32 p q (low_28_bits w) y)) (λ e. e)))) e
+    test_same (eqb (kind_of_word w) 8) _ _ _ _ (Ok b) (inside-append w _ _ b (λ y. length_prefixed_bytes_at-append w8 p q (low_28_bits w) y)) (
+    test_same (eqb (kind_of_word w) 9) _ _ _ _ (Ok b) (inside-append w _ _ b (λ y. length_prefixed_bytes_at-append w16 p q (low_28_bits w) y)) (
+    test_same (eqb (kind_of_word w) 10) _ _ _ _ (Ok b) (inside-append w _ _ b (λ y. length_prefixed_bytes_at-append w32 p q (low_28_bits w) y)) (λ e. e)))) e
 
-run_of-append : (kind : ℕ) (p q : List ℕ) (w : ℕ) (ws : List ℕ) → run_of kind p w ≡ Ok ws → run_of kind (p ++ q) w ≡ Ok ws
-unfolding run_of
-run_of-append kind p q w ws e =
+run_entries_of_word-append : (kind : ℕ) (p q : List ℕ) (w : ℕ) (ws : List ℕ) → run_entries_of_word kind p w ≡ Ok ws → run_entries_of_word kind (p ++ q) w ≡ Ok ws
+unfolding run_entries_of_word
+run_entries_of_word-append kind p q w ws e =
     test_same (eqb w 0) _ _ _ _ (Ok ws) (λ e. e) (
-    test_same (eqb (kind_of w) kind) _ _ _ _ (Ok ws) (inside-append w _ _ ws (λ y. run_at-append p q (low_28_bits w) y)) (λ e. e)) e
+    test_same (eqb (kind_of_word w) kind) _ _ _ _ (Ok ws) (inside-append w _ _ ws (λ y. run_entries_at-append p q (low_28_bits w) y)) (λ e. e)) e
 
 mutual
   unfolding Holds
@@ -102,8 +102,8 @@ mutual
   Holds-append p q null w h = h
   Holds-append p q (int n) w h = (h.0, int_of-append p q w n h.1)
   Holds-append p q (blob b) w h = (h.0, blob_of-append p q w b h.1)
-  Holds-append p q (arr vs) w (ne, ws, is, all) = (ne, ws, run_of-append ARRAY p q w ws is, HoldAll-append p q vs ws all)
-  Holds-append p q (obj vs) w (ne, ws, is, all) = (ne, ws, run_of-append OBJECT p q w ws is, HoldAll-append p q vs ws all)
+  Holds-append p q (arr vs) w (ne, ws, is, all) = (ne, ws, run_entries_of_word-append ARRAY p q w ws is, HoldAll-append p q vs ws all)
+  Holds-append p q (obj vs) w (ne, ws, is, all) = (ne, ws, run_entries_of_word-append OBJECT p q w ws is, HoldAll-append p q vs ws all)
 
   pub HoldAll-append : (p q : List ℕ) (vs : Plains) (ws : List ℕ) → HoldAll p vs ws → HoldAll (p ++ q) vs ws
   HoldAll-append p q none [] h = tt
@@ -113,22 +113,22 @@ mutual
 
 -- ---- a word that holds a normal value of the shape has it as its plain value
 
-unless_not_null : (w : ℕ) (v : Option Plain) → w ≢ 0 → unless_null w v ≡ v
+unless_not_null : (w : ℕ) (v : Option Plain) → w ≢ 0 → null_plain_if_null_word w v ≡ v
 unless_not_null w v ne = let t : eqb w 0 ≡ false = ne_eqb w 0 ne in rw t refl
 
 pub blob_or_null-is : (b : List ℕ) → b ≢ [] → blob_or_null b ≡ blob b
 blob_or_null-is [] ne = absurd (ne refl)
 blob_or_null-is (x ∷ xs) ne = refl
 
-arr_value-is : (vs : Plains) → vs ≢ none → arr_value vs ≡ arr vs
-arr_value-is none ne = absurd (ne refl)
-arr_value-is (more v vs) ne = refl
+array_or_null-is : (vs : Plains) → vs ≢ none → array_or_null vs ≡ arr vs
+array_or_null-is none ne = absurd (ne refl)
+array_or_null-is (more v vs) ne = refl
 
-obj_of-is : (vs : Plains) → vs ≢ none → obj_of vs ≡ obj vs
-obj_of-is none ne = absurd (ne refl)
-obj_of-is (more v vs) ne = refl
+object_or_null-is : (vs : Plains) → vs ≢ none → object_or_null vs ≡ obj vs
+object_or_null-is none ne = absurd (ne refl)
+object_or_null-is (more v vs) ne = refl
 
-each_is : (p : List ℕ) (f : ℕ → Option Plain) (P : Plain → Type 0) → ((v : Plain) (w : ℕ) → IsNormal v → P v → Holds p v w → f w ≡ Some v) → (vs : Plains) (ws : List ℕ) → AreNormal vs → Each P vs → HoldAll p vs ws → each_plain f ws ≡ Some vs
+each_is : (p : List ℕ) (f : ℕ → Option Plain) (P : Plain → Type 0) → ((v : Plain) (w : ℕ) → IsNormal v → P v → Holds p v w → f w ≡ Some v) → (vs : Plains) (ws : List ℕ) → AreNormal vs → Each P vs → HoldAll p vs ws → plains_of_all_words f ws ≡ Some vs
 unfolding IsNormal Holds
 each_is p f P h none [] n s a = refl
 each_is p f P h none (w ∷ ws) n s a = absurd a
@@ -158,16 +158,16 @@ mutual
   plain_of-Holds p (array t) (int k) w n s h = absurd s
   plain_of-Holds p (array t) (blob b) w n s h = absurd s
   plain_of-Holds p (array t) (arr vs) w n s (ne, ws, is, all) =
-      unless_not_null w _ ne ∙ ap (from_answer (λ us. option_map arr_value (each_plain (plain_of p t) us))) is
-      ∙ ap (option_map arr_value) (each_is p (plain_of p t) (HasShape t) (plain_of-Holds p t) vs ws n.1 s all) ∙ ap Some (arr_value-is vs n.0)
+      unless_not_null w _ ne ∙ ap (option_of_ok_value (λ us. option_map array_or_null (plains_of_all_words (plain_of p t) us))) is
+      ∙ ap (option_map array_or_null) (each_is p (plain_of p t) (HasShape t) (plain_of-Holds p t) vs ws n.1 s all) ∙ ap Some (array_or_null-is vs n.0)
   plain_of-Holds p (array t) (obj vs) w n s h = absurd s
   plain_of-Holds p (object which fs) null w n s h = rw h refl
   plain_of-Holds p (object which fs) (int k) w n s h = absurd s
   plain_of-Holds p (object which fs) (blob b) w n s h = absurd s
   plain_of-Holds p (object which fs) (arr vs) w n s h = absurd s
   plain_of-Holds p (object which fs) (obj vs) w n s (ne, ws, is, all) =
-      unless_not_null w _ ne ∙ ap (from_answer (λ us. option_map obj_value (plains_of p fs us))) is
-      ∙ ap (option_map obj_value) (plains_of-Holds p fs vs ws n.2 s all) ∙ ap (λ us. Some (obj_of us)) n.1 ∙ ap Some (obj_of-is vs n.0)
+      unless_not_null w _ ne ∙ ap (option_of_ok_value (λ us. option_map trimmed_object_or_null (plains_of p fs us))) is
+      ∙ ap (option_map trimmed_object_or_null) (plains_of-Holds p fs vs ws n.2 s all) ∙ ap (λ us. Some (object_or_null us)) n.1 ∙ ap Some (object_or_null-is vs n.0)
 
   pub plains_of-Holds : (p : List ℕ) (fs : Fields) (vs : Plains) (ws : List ℕ) → AreNormal vs → HaveShapes fs vs → HoldAll p vs ws → plains_of p fs ws ≡ Some vs
   plains_of-Holds p no_fields none [] n s a = refl
@@ -194,8 +194,8 @@ Grows-then a b c p q = record { more = p.more ++ q.more; is = q.is ∙ ap (λ (x
 pub Grows-here : (a b : Layout) → Grows a b → end_offset a ≤ end_offset b
 Grows-here a b g = omega (arith, ap length g.is, length-append a.body g.more)
 
-unless-grows : (found : Option WrittenItem) (i : Item) (out : Layout) → Grows out (put_unless_written found i out).1
-unless-grows None i out = record { more = replicate (gap i.align (end_offset out)) 0 ++ i.bytes; is = refl }
+unless-grows : (found : Option WrittenItem) (i : Item) (out : Layout) → Grows out (put_item_unless_written found i out).1
+unless-grows None i out = record { more = replicate (padding_to_alignment i.align (end_offset out)) 0 ++ i.bytes; is = refl }
 unless-grows (Some there) i out = record { more = []; is = sym (append-nil out.body) }
 
 pub stored-grows : (c : Cell) (out : Layout) → Grows out (put_cell c out).1
@@ -213,7 +213,7 @@ mutual
   write-grows (int n) out = stored-grows (int_cell n) out
   write-grows (blob b) out = stored-grows (blob_cell b) out
   write-grows (arr vs) out = Grows-then _ _ _ (write_all-grows vs out) (put_run-grows ARRAY (write_all vs out).0 (write_all vs out).1)
-  write-grows (obj vs) out = Grows-then _ _ _ (write_all-grows vs out) (put_run-grows OBJECT (trimmed_words (write_all vs out).0) (write_all vs out).1)
+  write-grows (obj vs) out = Grows-then _ _ _ (write_all-grows vs out) (put_run-grows OBJECT (words_without_last_nulls (write_all vs out).0) (write_all vs out).1)
 
   pub write_all-grows : (vs : Plains) (out : Layout) → Grows out (write_all vs out).1
   write_all-grows none out = Grows-refl out
@@ -233,15 +233,15 @@ Grows-HoldAll a b root vs ws g h =
 pub record Leads (p : List ℕ) (i : Item) (w : ℕ) : Type 0 where
   pub nonzero : w ≢ 0
   pub small : w < 2 ^ 32
-  pub kind_is : kind_of w ≡ i.kind
+  pub kind_is : kind_of_word w ≡ i.kind
   pub located : (back : List ℕ) × Stands p (low_28_bits w) (i.bytes ++ back)
 
-new_leads : (i : Item) (out : Layout) (root : ℕ) → 0 < i.kind → i.kind < 15 → end_offset (put_new i out).1 ≤ MOST_BYTES → Leads (payload_with_root root (put_new i out).1) i (put_new i out).0
+new_leads : (i : Item) (out : Layout) (root : ℕ) → 0 < i.kind → i.kind < 15 → end_offset (put_new_item i out).1 ≤ MOST_BYTES → Leads (payload_with_root root (put_new_item i out).1) i (put_new_item i out).0
 new_leads i out root pos few fits =
-    let zeros : List ℕ = replicate (gap i.align (end_offset out)) 0 in
+    let zeros : List ℕ = replicate (padding_to_alignment i.align (end_offset out)) 0 in
     let total = length-append out.body (zeros ++ i.bytes) in
     let mid = length-append zeros i.bytes in
-    let len : length zeros ≡ gap i.align (end_offset out) = length-replicate {A = ℕ} (gap i.align (end_offset out)) 0 in
+    let len : length zeros ≡ padding_to_alignment i.align (end_offset out) = length-replicate {A = ℕ} (padding_to_alignment i.align (end_offset out)) 0 in
     let at : place i out < 2 ^ 28 = omega arith in
     record {
       nonzero = λ e. absurd (omega arith);
@@ -252,7 +252,7 @@ new_leads i out root pos few fits =
 
 -- a written item's word leads to each item that is equal to it
 found_leads : (i : Item) (out : Layout) (root : ℕ) (there : WrittenItem) → 0 < i.kind → i.kind < 15 → 0 < length i.bytes → end_offset out ≤ MOST_BYTES → is_equal_item out.body i there ≡ true
-    → Leads (payload_with_root root out) i (word_of_item there)
+    → Leads (payload_with_root root out) i (word_of_written_item there)
 found_leads i out root there pos few some fits e =
     let kind = equal_kind out.body i there e in
     let within = equal_within out.body there.offset i.bytes some (equal_bytes out.body i there e) in
@@ -267,8 +267,8 @@ found_leads i out root there pos few some fits e =
 pub placed_leads : (i : Item) (out : Layout) (root : ℕ) → 0 < i.kind → i.kind < 15 → 0 < length i.bytes → end_offset (put_item i out).1 ≤ MOST_BYTES → Leads (payload_with_root root (put_item i out).1) i (put_item i out).0
 placed_leads i out root pos few some fits = go (find (is_equal_item out.body i) out.items) refl fits
   where
-    go : (found : Option WrittenItem) → find (is_equal_item out.body i) out.items ≡ found → end_offset (put_unless_written found i out).1 ≤ MOST_BYTES
-        → Leads (payload_with_root root (put_unless_written found i out).1) i (put_unless_written found i out).0
+    go : (found : Option WrittenItem) → find (is_equal_item out.body i) out.items ≡ found → end_offset (put_item_unless_written found i out).1 ≤ MOST_BYTES
+        → Leads (payload_with_root root (put_item_unless_written found i out).1) i (put_item_unless_written found i out).0
     go None is within = new_leads i out root pos few within
     go (Some there) is within = found_leads i out root there pos few some within (find-passes (is_equal_item out.body i) out.items there is)
 
@@ -294,7 +294,7 @@ int_of-short : (p : List ℕ) (n : ℕ) → n < 2 ^ 28 → int_of p (2 ^ 28 + n)
 unfolding int_of
 int_of-short p n lt =
     let t0 : eqb (2 ^ 28 + n) 0 ≡ false = ne_eqb (2 ^ 28 + n) 0 (λ e. absurd (omega arith)) in
-    let t1 : kind_of (2 ^ 28 + n) ≡ 1 = omega arith in
+    let t1 : kind_of_word (2 ^ 28 + n) ≡ 1 = omega arith in
     let t2 : low_28_bits (2 ^ 28 + n) ≡ n = omega arith in
     rw (t0, t1, t2) refl
 
@@ -310,11 +310,11 @@ pub blob_of-32 : (p : List ℕ) (w : ℕ) (b : List ℕ) → length b < 2 ^ 32 �
 unfolding blob_of
 blob_of-32 p w b lt l = let t0 : eqb w 0 ≡ false = ne_eqb w 0 l.nonzero in rw (t0, l.kind_is, counted_stands w32 (2 ^ 32) wide32 p (low_28_bits w) b l.located.0 lt l.located.1) refl
 
-pub run_of-placed : (kind : ℕ) (p : List ℕ) (w : ℕ) (ws : List ℕ) → AllByRecursion (λ w. w < 2 ^ 32) ws → suc (length ws) < 2 ^ 32 → Leads p (record { kind = kind; align = 4; bytes = run_bytes ws; entries = length ws }) w → run_of kind p w ≡ Ok ws
-unfolding run_of
-run_of-placed kind p w ws small few l =
+pub run_entries_of_word-placed : (kind : ℕ) (p : List ℕ) (w : ℕ) (ws : List ℕ) → AllByRecursion (λ w. w < 2 ^ 32) ws → suc (length ws) < 2 ^ 32 → Leads p (record { kind = kind; align = 4; bytes = run_bytes ws; entries = length ws }) w → run_entries_of_word kind p w ≡ Ok ws
+unfolding run_entries_of_word
+run_entries_of_word-placed kind p w ws small few l =
     let t0 : eqb w 0 ≡ false = ne_eqb w 0 l.nonzero in
-    let t1 : eqb (kind_of w) kind ≡ true = eq-eqb _ _ l.kind_is in
+    let t1 : eqb (kind_of_word w) kind ≡ true = eq-eqb _ _ l.kind_is in
     rw (t0, t1, run_stands p (low_28_bits w) ws l.located.0 small few l.located.1) refl
 
 -- ---- each kind of cell
@@ -360,15 +360,15 @@ int_made n out lt =
     ]
 
 -- an item's bytes are in the payload, so there are not too many
-pub new_len : (i : Item) (out : Layout) → end_offset out + gap i.align (end_offset out) + length i.bytes ≡ end_offset (put_new i out).1
+pub new_len : (i : Item) (out : Layout) → end_offset out + padding_to_alignment i.align (end_offset out) + length i.bytes ≡ end_offset (put_new_item i out).1
 new_len i out =
-    let zeros : List ℕ = replicate (gap i.align (end_offset out)) 0 in
-    omega (arith, length-append out.body (zeros ++ i.bytes), length-append zeros i.bytes, length-replicate {A = ℕ} (gap i.align (end_offset out)) 0)
+    let zeros : List ℕ = replicate (padding_to_alignment i.align (end_offset out)) 0 in
+    omega (arith, length-append out.body (zeros ++ i.bytes), length-append zeros i.bytes, length-replicate {A = ℕ} (padding_to_alignment i.align (end_offset out)) 0)
 
 pub item_within : (i : Item) (out : Layout) → 0 < length i.bytes → length i.bytes ≤ end_offset (put_item i out).1
 item_within i out some = go (find (is_equal_item out.body i) out.items) refl
   where
-    go : (found : Option WrittenItem) → find (is_equal_item out.body i) out.items ≡ found → length i.bytes ≤ end_offset (put_unless_written found i out).1
+    go : (found : Option WrittenItem) → find (is_equal_item out.body i) out.items ≡ found → length i.bytes ≤ end_offset (put_item_unless_written found i out).1
     go None is = omega (arith, new_len i out)
     go (Some there) is = omega (arith, equal_within out.body there.offset i.bytes some (equal_bytes out.body i there (find-passes (is_equal_item out.body i) out.items there is)))
 
@@ -411,14 +411,14 @@ blob_made (x ∷ xs) out ne =
 pub record MadeRun (kind : ℕ) (ws : List ℕ) (r : ℕ × Layout) : Type 0 where
   pub nonzero : r.0 ≢ 0
   pub small : r.0 < 2 ^ 32
-  pub reads : (root : ℕ) → run_of kind (payload_with_root root r.1) r.0 ≡ Ok ws
+  pub reads : (root : ℕ) → run_entries_of_word kind (payload_with_root root r.1) r.0 ≡ Ok ws
 
 pub run_made : (kind : ℕ) (w : ℕ) (ws : List ℕ) (out : Layout) → 0 < kind → kind < 15 → AllByRecursion (λ w. w < 2 ^ 32) (w ∷ ws) → end_offset (put_run kind (w ∷ ws) out).1 ≤ MOST_BYTES → MadeRun kind (w ∷ ws) (put_run kind (w ∷ ws) out)
 run_made kind w ws out pos lt15 small fits =
     let i : Item = record { kind = kind; align = 4; bytes = run_bytes (w ∷ ws); entries = length (w ∷ ws) } in
     let l : (root : ℕ) → Leads (payload_with_root root (put_item i out).1) i (put_item i out).0 = λ root. placed_leads i out root pos lt15 (omega arith) fits in
     let few : suc (length (w ∷ ws)) < 2 ^ 32 = omega (arith, item_within i out (omega arith), length-append (to_le_bytes w32 (suc (length (w ∷ ws)))) (flat_map (to_le_bytes w32) (w ∷ ws)), words_len (w ∷ ws)) in
-    record { nonzero = (l 0).nonzero; small = (l 0).small; reads = λ root. run_of-placed kind _ _ (w ∷ ws) small few (l root) }
+    record { nonzero = (l 0).nonzero; small = (l 0).small; reads = λ root. run_entries_of_word-placed kind _ _ (w ∷ ws) small few (l root) }
 
 -- ---- an object's words end as its values do
 
@@ -434,7 +434,7 @@ prepend_unless_last_null-is : (w : ℕ) (ws : List ℕ) → (ws ≡ [] → w ≢
 prepend_unless_last_null-is w (v ∷ vs) h = refl
 prepend_unless_last_null-is w [] h = let t : eqb w 0 ≡ false = ne_eqb w 0 (h refl) in rw t refl
 
-pub words_stay : (p : List ℕ) (vs : Plains) (ws : List ℕ) → without_last_nulls vs ≡ vs → HoldAll p vs ws → trimmed_words ws ≡ ws
+pub words_stay : (p : List ℕ) (vs : Plains) (ws : List ℕ) → without_last_nulls vs ≡ vs → HoldAll p vs ws → words_without_last_nulls ws ≡ ws
 unfolding Holds
 words_stay p none [] e h = refl
 words_stay p none (w ∷ ws) e h = absurd h
@@ -468,9 +468,9 @@ mutual
   write-made (obj none) out n fits = absurd (n.0 refl)
   write-made (obj (more v vs)) out n fits =
       let r = write_all (more v vs) out in
-      let g = put_run-grows OBJECT (trimmed_words r.0) r.1 in
+      let g = put_run-grows OBJECT (words_without_last_nulls r.0) r.1 in
       let all = write_all-made (more v vs) out n.2 (le_trans (Grows-here _ _ g) fits) in
-      let stay : trimmed_words r.0 ≡ r.0 = words_stay (payload_with_root 0 r.1) (more v vs) r.0 n.1 (all.0 0) in
+      let stay : words_without_last_nulls r.0 ≡ r.0 = words_stay (payload_with_root 0 r.1) (more v vs) r.0 n.1 (all.0 0) in
       let run : MadeRun OBJECT r.0 (put_run OBJECT r.0 r.1) = run_made OBJECT _ _ r.1 (lit< tt) (lit< tt) all.1 (subst (λ (ws : List ℕ). end_offset (put_run OBJECT ws r.1).1 ≤ MOST_BYTES) stay fits) in
       subst (λ (ws : List ℕ). Made (obj (more v vs)) (put_run OBJECT ws r.1)) (sym stay)
       (record { holds = λ root. (run.nonzero, r.0, run.reads root, Grows-HoldAll _ _ root (more v vs) r.0 (put_run-grows OBJECT r.0 r.1) (all.0 root)); small = run.small })
@@ -485,7 +485,7 @@ mutual
 
 -- ---- the law
 
-pub root_again : (root : ℕ) (out : Layout) → root < 2 ^ 32 → root_of (payload_with_root root out) ≡ root
+pub root_again : (root : ℕ) (out : Layout) → root < 2 ^ 32 → root_word_of_payload (payload_with_root root out) ≡ root
 root_again root out lt =
     let four : drop 4 (payload_with_root root out) ≡ to_le_bytes w32 root ++ out.body = drop_at (0 ∷ 0 ∷ 0 ∷ 0 ∷ []) (to_le_bytes w32 root ++ out.body) 4 refl in
     ap (λ (x : List ℕ). from_le_bytes w32 (take 4 x)) four ∙ ap (from_le_bytes w32) (take_at (to_le_bytes w32 root) out.body 4 (wide32.len root)) ∙ wide32.again root lt

@@ -35,17 +35,23 @@ pub record HasLengthInFront (i : Item) : Type 0 where
 
 -- an item that gives its length is at the place of the written item
 pub record IsItemInBytes (body : List ℕ) (x : WrittenItem) : Type 0 where
+  -- the item
   pub what : Item
+  -- its kind and its first bytes give its length
   pub framed : HasLengthInFront what
+  -- it is at the offset of the written item, with its kind
   pub equal : is_equal_item body what x ≡ true
 
 -- each written item of a layout is in its bytes
 pub record HasItemsInBytes (out : Layout) : Type 0 where
+  -- each written item is in the bytes of the layout
   pub all : AllByRecursion (IsItemInBytes out.body) out.items
 
 -- each written item of a writer is in its bytes, which are counted with the head of 8
 pub record HasAllItemsInBytes (w : Writing) : Type 0 where
+  -- each written item is in the bytes of the writer
   pub whole : HasItemsInBytes (layout_of w)
+  -- the count of bytes is that of the payload, with its head of 8 bytes
   pub bytes : w.bytes ≡ 8 + length w.body
 
 -- unless it passed a limit, a writer has all its items

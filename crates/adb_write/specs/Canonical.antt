@@ -8,11 +8,11 @@ use Rattle.adb_view.specs.Readers.{ARRAY, OBJECT}
 pub use Rattle.adb_view.specs.Visits.{MOST_VALUES}
 
 -- how many zeros are between the offset n and the next multiple of align
-abbrev pub gap : ℕ → ℕ → ℕ
-gap align n = (align - n % align) % align
+abbrev pub padding_to_alignment : ℕ → ℕ → ℕ
+padding_to_alignment align n = (align - n % align) % align
 
--- the bytes of one value outside its word: the kind of its word, its alignment, its bytes, and the
--- number of its entries
+-- an item: the bytes of one value that are outside of its word, with the kind of the word, the
+-- alignment, and the number of entries
 pub record Item : Type 0 where
   -- the kind of the words that point to it
   pub kind : ℕ
@@ -23,7 +23,8 @@ pub record Item : Type 0 where
   -- how many entries it has, which count as values
   pub entries : ℕ
 
--- a value as it is written: its word alone, or a word that points to an item
+-- a value as it is written: a word that contains the value (`in_place`), or an item to which a word
+-- points (`apart`)
 pub data Cell : Type 0 where
   in_place : ℕ → Cell
   apart : Item → Cell
@@ -73,9 +74,9 @@ prepend_unless_last_null w (v ∷ vs) = w ∷ v ∷ vs
 prepend_unless_last_null w [] = if w == 0 then [] else w ∷ []
 
 -- the words of an object without the NULLs at the end
-abbrev pub trimmed_words : List ℕ → List ℕ
-trimmed_words [] = []
-trimmed_words (w ∷ ws) = prepend_unless_last_null w (trimmed_words ws)
+abbrev pub words_without_last_nulls : List ℕ → List ℕ
+words_without_last_nulls [] = []
+words_without_last_nulls (w ∷ ws) = prepend_unless_last_null w (words_without_last_nulls ws)
 
 -- ---- the layout so far
 
@@ -111,36 +112,37 @@ is_equal_item body i there =
     there.kind == i.kind && bytes_eq (take (length i.bytes) (drop there.offset body)) i.bytes
 
 -- the word that points to a written item: its kind, and its offset with the head of 8 bytes
-abbrev pub word_of_item : WrittenItem → ℕ
-word_of_item there = there.kind * 2 ^ 28 + (8 + there.offset)
+abbrev pub word_of_written_item : WrittenItem → ℕ
+word_of_written_item there = there.kind * 2 ^ 28 + (8 + there.offset)
 
 -- the word of a new item, and the layout with it: the item is at the next offset that its alignment
 -- allows, with zeros before it
-abbrev pub put_new : Item → Layout → ℕ × Layout
-put_new i out = (
-  i.kind * 2 ^ 28 + (end_offset out + gap i.align (end_offset out)),
+abbrev pub put_new_item : Item → Layout → ℕ × Layout
+put_new_item i out = (
+  i.kind * 2 ^ 28 + (end_offset out + padding_to_alignment i.align (end_offset out)),
   record {
-    body = out.body ++ (replicate (gap i.align (end_offset out)) 0 ++ i.bytes);
+    body = out.body ++ (replicate (padding_to_alignment i.align (end_offset out)) 0 ++ i.bytes);
     items = (record {
       kind = i.kind;
-      offset = length out.body + gap i.align (end_offset out);
+      offset = length out.body + padding_to_alignment i.align (end_offset out);
     }) ∷ out.items;
     values = out.values + i.entries;
   },
 )
 
--- the word of an item, and the layout with it; one that is equal to a written one has that one's word,
--- and only its entries are counted
-abbrev pub put_unless_written : Option WrittenItem → Item → Layout → ℕ × Layout
-put_unless_written None i out = put_new i out
-put_unless_written (Some there) i out =
-    (word_of_item there, record out { values = out.values + i.entries })
+-- the word of an item, and the layout with it. If an equal item was written (`there`), its word is
+-- returned, and only the entries are counted
+abbrev pub put_item_unless_written : Option WrittenItem → Item → Layout → ℕ × Layout
+put_item_unless_written None i out = put_new_item i out
+put_item_unless_written (Some there) i out =
+    (word_of_written_item there, record out { values = out.values + i.entries })
 
--- the word of an item, and the layout with it: it is written unless an equal one was
+-- the word of an item, and the layout with it: the item is written unless an equal one was written
+-- before
 abbrev pub put_item : Item → Layout → ℕ × Layout
-put_item i out = put_unless_written (find (is_equal_item out.body i) out.items) i out
+put_item i out = put_item_unless_written (find (is_equal_item out.body i) out.items) i out
 
--- the word of a value, and the layout with its bytes outside the word
+-- the word of a value, and the layout with the bytes that are outside of the word
 abbrev pub put_cell : Cell → Layout → ℕ × Layout
 put_cell (in_place w) out = (w, out)
 put_cell (apart i) out = put_item i out
@@ -156,7 +158,7 @@ unfoldable mutual
   write (int n) out = put_cell (int_cell n) out
   write (blob b) out = put_cell (blob_cell b) out
   write (arr vs) out = put_run ARRAY (write_all vs out).0 (write_all vs out).1
-  write (obj vs) out = put_run OBJECT (trimmed_words (write_all vs out).0) (write_all vs out).1
+  write (obj vs) out = put_run OBJECT (words_without_last_nulls (write_all vs out).0) (write_all vs out).1
 
   -- the words of values that are written in order, and the layout with them
   pub write_all : Plains → Layout → List ℕ × Layout
@@ -205,7 +207,7 @@ unfoldable mutual
   trace_all none out = []
   trace_all (more v vs) out = counts_after_values v out ++ trace_all vs (write v out).1
 
--- the counts just after the first value that passes a limit; None if none does
+-- the counts just after the first value that brings one of them above its limit; None if none does
 abbrev pub overflow_of : Plain → Option PayloadCounts
 overflow_of v = find exceeds_a_limit (counts_after_values v empty_layout)
 

@@ -2,7 +2,7 @@
 -- in `docs/formats.md`, "Values"; the laws over these definitions are in the README of this crate.
 use Rattle.std.specs.Prelude.{◌≡◌, ◌≢◌, ℕ, ◌<◌, ◌^◌, false, List, [], ◌∷◌, Ok}
 use Rattle.adb_view.specs.Plain.{Plain, null, int, blob, arr, obj, Plains, none, more}
-use Rattle.adb_view.specs.Readers.{int_of, blob_of, run_of, ARRAY, OBJECT}
+use Rattle.adb_view.specs.Readers.{int_of, blob_of, run_entries_of_word, ARRAY, OBJECT}
 use Rattle.adb_write.specs.Canonical.{Layout, payload_with_root}
 use Rattle.adb_write.specs.Writing.{Writing, is_past_limit, layout_of}
 
@@ -12,8 +12,8 @@ unfoldable mutual
   Holds p null w = w ≡ 0
   Holds p (int n) w = (w ≢ 0) × (int_of p w ≡ Ok n)
   Holds p (blob b) w = (w ≢ 0) × (blob_of p w ≡ Ok b)
-  Holds p (arr vs) w = (w ≢ 0) × (ws : List ℕ) × (run_of ARRAY p w ≡ Ok ws) × HoldAll p vs ws
-  Holds p (obj vs) w = (w ≢ 0) × (ws : List ℕ) × (run_of OBJECT p w ≡ Ok ws) × HoldAll p vs ws
+  Holds p (arr vs) w = (w ≢ 0) × (ws : List ℕ) × (run_entries_of_word ARRAY p w ≡ Ok ws) × HoldAll p vs ws
+  Holds p (obj vs) w = (w ≢ 0) × (ws : List ℕ) × (run_entries_of_word OBJECT p w ≡ Ok ws) × HoldAll p vs ws
 
   -- the words point to these values, one for one
   pub HoldAll : List ℕ → Plains → List ℕ → Type 0
@@ -24,7 +24,9 @@ unfoldable mutual
 
 -- in a layout the word is one of this value, whatever the root will be
 pub record IsWordOf (out : Layout) (v : Plain) (word : ℕ) : Type 0 where
+  -- the word has 32 bits
   pub small : word < 2 ^ 32
+  -- with any root, the word points to this value in the payload
   pub holds : (root : ℕ) → Holds (payload_with_root root out) v word
 
 -- unless the writer passed a limit, the word represents this value in its payload

@@ -1,14 +1,16 @@
--- When a writer wrote values depth first between two moments: for each list its values in order, then
--- the list. The rule is in `docs/formats.md`, "Canonical layout" ("Values are written depth first").
+-- When a writer wrote values depth first between two of its states: for each list its values in order,
+-- then the list. The rule is in `docs/formats.md`, "Canonical layout" ("Values are written depth first").
 use Rattle.std.specs.Prelude.{◌≡◌, ℕ, List}
 use Rattle.adb_view.specs.Plain.{Plain, Plains, none, more}
 use Rattle.adb_write.specs.Writing.{Writing, calls, calls_all}
 
--- between two moments a writer wrote this value, and its last call returned this word
+-- from the state `before` to the state `later` a writer wrote this value depth first, and the value
+-- has this word
 pub record WritesValue (before : Writing) (v : Plain) (word : ℕ) (later : Writing) : Type 0 where
   pub is : ◌≡◌ {A = ℕ × Writing} (word, later) (calls v before)
 
--- between two moments a writer wrote these values in order, and these are their words
+-- from the state `before` to the state `later` a writer wrote these values in order, and these are
+-- their words
 pub record WritesValues (before : Writing) (vs : Plains) (words : List ℕ)
     (later : Writing) : Type 0 where
   pub is : ◌≡◌ {A = List ℕ × Writing} (words, later) (calls_all vs before)

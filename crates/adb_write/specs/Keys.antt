@@ -7,7 +7,7 @@ use Rattle.std.specs.Cmp.Lexicographic.{slice_cmp}
 use Rattle.std.specs.Hash.FoldHasher.{initial, write, finish}
 use Rattle.std.specs.List.Sorted.{IsStrictlySortedBy}
 use Rattle.base_core.specs.declared.cause.Cause.{Cause}
-use Rattle.adb_view.specs.Readers.{kind_of, int_of, blob_of, run_of}
+use Rattle.adb_view.specs.Readers.{kind_of_word, int_of, blob_of, run_entries_of_word}
 use Rattle.adb_view.specs.Visits.{or_empty}
 use Rattle.adb_write.specs.Items.{item_of}
 use Rattle.adb_write.specs.declared.item.Parts.{Parts}
@@ -39,11 +39,12 @@ abbrev pub comparison_numbers_at : ℕ → List ℕ → ℕ → List ℕ
 comparison_numbers_at kind payload word =
     if nat_lt kind 8 then single_or_empty (int_of payload word)
     else if nat_lt kind 13 then or_empty (blob_of payload word)
-    else reverse (or_empty (run_of kind payload word))
+    else reverse (or_empty (run_entries_of_word kind payload word))
 
 -- the part of the key after the fingerprint, for the item at a word: its kind, and its content
 abbrev pub kind_and_comparison_numbers_at : List ℕ → ℕ → List ℕ
-kind_and_comparison_numbers_at payload word = kind_of word ∷ comparison_numbers_at (kind_of word) payload word
+kind_and_comparison_numbers_at payload word =
+    kind_of_word word ∷ comparison_numbers_at (kind_of_word word) payload word
 
 -- ---- the fingerprint of an item: it distinguishes most items, so that the payload is not read
 
@@ -64,8 +65,8 @@ low_nibbles b i =
     get_or b i 0 % 16 * 2 ^ 12 + get_or b (i + 1) 0 % 16 * 2 ^ 8
     + get_or b (i + 2) 0 % 16 * 2 ^ 4 + get_or b (i + 3) 0 % 16
 
--- where a blob is among others: the first four bytes, and the four before the last two, so that the
--- neighbours in a sorted list of texts are close together
+-- a number from the first four bytes of a blob, and from the four before the last two. It is close for
+-- neighbours in a sorted list of texts
 abbrev pub neighbourhood : List ℕ → ℕ
 neighbourhood b = low_nibbles b 0 + low_nibbles b (length b - 6)
 
@@ -75,18 +76,19 @@ unfoldable pub blob_fingerprint : List ℕ → ℕ
 blob_fingerprint b =
     (neighbourhood b * 2 ^ 16 + (blob_hash b + length b) % 2 ^ 22) % 2 ^ 32
 
--- the fingerprint of a list: its last word. Entries are written before their list, so a new list is
--- near the last one
+-- the fingerprint of a list: its last word. The entries of a list are written just before the list, so
+-- the locator of a new list is mostly near the last one
 abbrev pub list_fingerprint : List ℕ → ℕ
 list_fingerprint words = get_or words (length words - 1) 0
 
--- the fingerprint of an item: of an integer its low 32 bits, of a blob and a list as above
+-- the fingerprint of an item: of an integer its low 32 bits, of a blob *blob_fingerprint*, of a list
+-- *list_fingerprint*
 abbrev pub fingerprint_of : Parts → ℕ
 fingerprint_of (Int n) = n % 2 ^ 32
 fingerprint_of (Blob b) = blob_fingerprint b.now
 fingerprint_of (Listed kind ws) = list_fingerprint (low_words ws.now)
 
--- ---- locators: an item's fingerprint, and the word that points to it in the 32 bits below
+-- ---- locators: the fingerprint of an item, and in the low 32 bits the word that points to it
 
 -- the locator of an item by its fingerprint, and the word that points to it
 abbrev pub locator_of : ℕ → ℕ → ℕ

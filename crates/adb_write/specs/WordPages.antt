@@ -30,7 +30,8 @@ locators_from_slot (page ∷ pages) (suc k) index = locators_from_slot pages k i
 abbrev pub page_at : List (List ℕ) → ℕ → List ℕ
 page_at pages k = get_or pages k []
 
--- a place in one of the pages, or after its last locator; without pages only 0 and 0
+-- a slot of these pages: an index of a locator in page k, or just after its last locator; without
+-- pages both numbers are 0
 abbrev pub IsSlotIn : List (List ℕ) → ℕ → ℕ → Type 0
 IsSlotIn [] k index = (k ≡ 0) × (index ≡ 0)
 IsSlotIn (page ∷ pages) zero index = index ≤ length page
@@ -44,8 +45,12 @@ HaveNoEmptyPage = AllByRecursion (λ page. 0 < length page)
 -- a slot of the old pages is one of the new ones: it is between the same locators
 pub record IsSameSlot (old : List (List ℕ)) (slot : Slot) (new : List (List ℕ))
     (there : Slot) : Type 0 where
+  -- it is a slot of the new pages
   pub inside : IsSlotIn new there.page there.index
-  pub before : locators_before_slot new there.page there.index ≡ locators_before_slot old slot.page slot.index
+  -- the locators before it are the same as before
+  pub before : locators_before_slot new there.page there.index
+      ≡ locators_before_slot old slot.page slot.index
+  -- the locators after it are the same as before
   pub behind : locators_from_slot new there.page there.index ≡ locators_from_slot old slot.page slot.index
 
 -- how many locators remain in a page that is split: half of a full one of 512
@@ -61,18 +66,23 @@ with_page_split (page ∷ pages) (suc k) = page ∷ with_page_split pages k
 -- whether a page begins with a locator of a higher key than this one
 abbrev pub page_begins_above_key : List ℕ → List ℕ → List ℕ → Bool
 page_begins_above_key payload key [] = false
-page_begins_above_key payload key (word ∷ words) = is_lt (slice_cmp nat_cmp key (key_of_locator payload word))
+page_begins_above_key payload key (word ∷ words) =
+    is_lt (slice_cmp nat_cmp key (key_of_locator payload word))
 
--- an item with this key has this order to the item of each of the locators
+-- the key `key` has this order to the key of each of these locators
 abbrev pub AllCompareToKey : Ordering → List ℕ → List ℕ → List ℕ → Type 0
 AllCompareToKey order payload key =
     AllByRecursion (λ word. slice_cmp nat_cmp key (key_of_locator payload word) ≡ order)
 
 -- this is one of the locators, and its item has this key
 pub record IsLocatorWithKey (payload : List ℕ) (words : List ℕ) (key : List ℕ) (word : ℕ) : Type 0 where
+  -- the locators before it
   pub before : List ℕ
+  -- the locators after it
   pub behind : List ℕ
+  -- it is one of the locators
   pub is : words ≡ before ++ word ∷ behind
+  -- its item has this key
   pub equal : slice_cmp nat_cmp key (key_of_locator payload word) ≡ Equal
 
 -- the slot is between the locators of lower keys and those of higher ones, so that none has this key
@@ -88,6 +98,7 @@ pub record IsBetween (payload : List ℕ) (pages : List (List ℕ)) (key : List 
 -- the page at k is the one into which a locator with this key belongs
 pub record IsPageFor (payload : List ℕ) (pages : List (List ℕ)) (key : List ℕ)
     (k : ℕ) : Type 0 where
+  -- there is such a page; or there are no pages, and k is 0
   pub inside : IsSlotIn pages k 0
   -- all pages before it have lower keys
   pub lower : AllCompareToKey Greater payload key (locators_before_slot pages k 0)
@@ -97,8 +108,11 @@ pub record IsPageFor (payload : List ℕ) (pages : List (List ℕ)) (key : List 
 -- the page at k begins at or before this key, and the next one after it, if there is a next one
 pub record IsPageAt (payload : List ℕ) (pages : List (List ℕ)) (key : List ℕ)
     (k : ℕ) : Type 0 where
+  -- there is such a page
   pub inside : k < length pages
+  -- it does not begin above the key
   pub here : page_begins_above_key payload key (page_at pages k) ≡ false
+  -- the next page, if there is one, begins above the key
   pub next : suc k < length pages → page_begins_above_key payload key (page_at pages (suc k)) ≡ true
 
 -- the result of a search of one page: the index of the locator with this key, or the one between the

@@ -3,8 +3,8 @@
 -- locators are stored is described in the README of this crate.
 use Rattle.std.specs.Prelude.{◌≡◌, ℕ, ◌+◌, ◌-◌, ◌^◌, ◌<◌, ◌≤◌, ◌⊎◌, ◌%◌, suc, false, List, [], ◌∷◌, length, take, drop, replicate, nat_lt, find, option_map, Some, Result, Ok, Err, if◌then◌else◌}
 use Rattle.std.specs.List.{AllByRecursion, concat}
-use Rattle.adb_view.specs.Readers.{kind_of, low_28_bits}
-use Rattle.adb_write.specs.Canonical.{Item, WrittenItem, is_equal_item, word_of_item, int_item, blob_item, run_item, PayloadCounts, exceeds_a_limit}
+use Rattle.adb_view.specs.Readers.{kind_of_word, low_28_bits}
+use Rattle.adb_write.specs.Canonical.{Item, WrittenItem, is_equal_item, word_of_written_item, int_item, blob_item, run_item, PayloadCounts, exceeds_a_limit}
 use Rattle.adb_write.specs.Writing.{Writing, is_past_limit}
 use Rattle.adb_write.specs.Items.{list_kind}
 use Rattle.adb_write.specs.Keys.{HaveRisingKeys, blob_fingerprint, fingerprint_of_locator, list_fingerprint, word_of_locator}
@@ -46,8 +46,10 @@ HasNumbersThatFit (stored_list kind ws) = AllByRecursion (λ w. w < 2 ^ 32) ws �
 
 -- the word points to this item in the payload, after the head of 8 bytes
 pub record IsStoredAt (payload : List ℕ) (what : Stored) (word : ℕ) : Type 0 where
+  -- its numbers fit
   pub small : HasNumbersThatFit what
-  pub kind : kind_of word ≡ (item_of_stored what).kind
+  -- the word has the kind of the item
+  pub kind : kind_of_word word ≡ (item_of_stored what).kind
   -- it follows the head
   pub behind_head : 8 ≤ low_28_bits word
   -- its bytes are at the word's offset
@@ -56,8 +58,11 @@ pub record IsStoredAt (payload : List ℕ) (what : Stored) (word : ℕ) : Type 0
 
 -- the locator names an item in the payload
 pub record IsStored (payload : List ℕ) (locator : ℕ) : Type 0 where
+  -- the item
   pub what : Stored
+  -- the locator has its fingerprint
   pub fingerprint : fingerprint_of_locator locator ≡ fingerprint_of_stored what
+  -- the word of the locator points to it
   pub stored : IsStoredAt payload what (word_of_locator locator)
 
 -- each locator names an item in the payload
@@ -69,7 +74,7 @@ AreStored payload locators = AllByRecursion (IsStored payload) locators
 -- the written item that a locator names
 abbrev pub written_item : ℕ → WrittenItem
 written_item locator = record {
-  kind = kind_of (word_of_locator locator);
+  kind = kind_of_word (word_of_locator locator);
   offset = low_28_bits (word_of_locator locator) - 8;
 }
 
@@ -92,6 +97,7 @@ items_of_locators (locator ∷ locators) =
 -- payload's own unless a limit was passed
 pub record IsWriterState (payload : List ℕ) (pages : List (List ℕ))
     (bytes values : ℕ) : Type 0 where
+  -- the payload is empty, or begins with its head
   pub head : IsEmptyOrHasHead payload
   -- the count of bytes is the payload's own, unless a limit was passed
   pub agree : exceeds_a_limit (bytes, values) ≡ false → bytes ≡ 8 + length (drop 8 payload)
@@ -105,7 +111,7 @@ pub record IsWriterState (payload : List ℕ) (pages : List (List ℕ))
 -- the word points to the written item that is equal to this one
 abbrev pub IsWordOfEqualItem : Item → Writing → ℕ → Type 0
 IsWordOfEqualItem i w word =
-    option_map word_of_item (find (is_equal_item w.body i) w.items) ≡ Some word
+    option_map word_of_written_item (find (is_equal_item w.body i) w.items) ≡ Some word
 
 -- how a writer ends, by its definition: with a payload, with the counts of a limit, or out of memory,
 -- and that only if nothing was written

@@ -3,7 +3,7 @@
 use Rattle.std.specs.Prelude.{ℕ, ◌<◌, Bool, List, [], ◌∷◌, length, Result, Ok, Err, if◌then◌else◌}
 use Rattle.adb_view.specs.Plain.{Plain, null, int, blob, arr, obj, Plains, none, more}
 use Rattle.adb_view.specs.Readers.{ARRAY, OBJECT}
-use Rattle.adb_write.specs.Canonical.{WrittenItem, Cell, in_place, apart, int_cell, blob_cell, run_cell, trimmed_words, Layout, put_cell, PayloadCounts, layout_counts, exceeds_a_limit, payload_with_root}
+use Rattle.adb_write.specs.Canonical.{WrittenItem, Cell, in_place, apart, int_cell, blob_cell, run_cell, words_without_last_nulls, Layout, put_cell, PayloadCounts, layout_counts, exceeds_a_limit, payload_with_root}
 
 -- a writer: the payload after its head of 8 bytes, its items, the latest first, and two counts. The
 -- counts are those of the written values, or, past a limit, those just after the value that passed it
@@ -39,11 +39,12 @@ is_past_limit w = exceeds_a_limit (writing_counts w)
 abbrev pub layout_of : Writing → Layout
 layout_of w = record { body = w.body; items = w.items; values = w.values }
 
--- the writer of a layout whose counts pass no limit yet
+-- the writer of a layout whose counts exceed no limit
 abbrev pub writing_of : Layout → Writing
 writing_of out = writing_from_parts out.body out.items (layout_counts out).0 (layout_counts out).1
 
--- the effect of a call that makes `r` of a writer's layout: past a limit its value is only counted, and
+-- the result and the effect of a call for which the layout returns the word and the layout `r`. If the
+-- counts of that layout exceed a limit, the writer gets these counts, but no new bytes and items, and
 -- the word is NULL
 abbrev pub unless_past_limit : Writing → ℕ × Layout → ℕ × Writing
 unless_past_limit w r =
@@ -58,11 +59,11 @@ call (in_place word) w = ((if is_past_limit w then 0 else word), w)
 call (apart i) w = if is_past_limit w then (0, w) else unless_past_limit w (put_cell (apart i)
     (layout_of w))
 
--- a writer has more bytes at a later moment, so it needed memory
+-- a writer has more bytes in a later state, so it needed memory
 abbrev pub Grows : Writing → Writing → Type 0
 Grows before later = length before.body < length later.body
 
--- the call for an integer, as each call below, by the value as it is written
+-- the call for an integer. This call and those below are defined by the cell of their value
 abbrev pub int_call : ℕ → Writing → ℕ × Writing
 int_call n w = call (int_cell n) w
 
@@ -76,9 +77,10 @@ arr_call ws w = call (run_cell ARRAY ws) w
 
 -- the call for an object of these words, without the NULLs at the end
 abbrev pub obj_call : List ℕ → Writing → ℕ × Writing
-obj_call ws w = call (run_cell OBJECT (trimmed_words ws)) w
+obj_call ws w = call (run_cell OBJECT (words_without_last_nulls ws)) w
 
--- how a writer ends: with the payload with this root, or with the counts of one that passed a limit
+-- the result of finishing a writer: the payload with this root, or the counts if the writer passed a
+-- limit
 abbrev pub finish_result : ℕ → Writing → Result (List ℕ) PayloadCounts
 finish_result root w =
     if is_past_limit w then Err (writing_counts w) else Ok (payload_with_root root (layout_of w))

@@ -10,7 +10,7 @@ ghost use Rattle.std.specs.Cmp.Lexicographic.{slice_cmp};
 ghost use Rattle.adb_view.specs.Adb.{payload_of};
 ghost use Rattle.adb_view.specs.Entries.{array_entries};
 ghost use Rattle.adb_view.specs.Gives.{Gives};
-ghost use Rattle.adb_view.specs.Readers.{run_of};
+ghost use Rattle.adb_view.specs.Readers.{run_entries_of_word};
 ghost use Rattle.adb_view.specs.Visits.{or_empty};
 ghost use Rattle.adb_write.specs.Items.{width_len, list_kind, content_bytes, item_of};
 ghost use Rattle.adb_write.specs.Keys.{low_words, kind_and_comparison_numbers, kind_and_comparison_numbers_at, blob_fingerprint, blob_hash, fingerprint_of, key_of_locator, key_with_fingerprint, list_fingerprint, low_nibbles};
@@ -279,10 +279,11 @@ fn low_nibbles(bytes: &[u8], i: usize) -> u64
         + byte_at(bytes, i + 3) % 16
 }
 
-/// The fingerprint of a blob: its neighbourhood, and above all a hash. Sorted texts come in runs of
-/// close neighbourhoods, so their locators are inserted near the last ones, which are cached. Six
-/// bytes before the end some hundred numbered texts have the same. The length distinguishes long
-/// blobs with equal ends. With any fingerprint equal items are found.
+/// The fingerprint of a blob: its neighbourhood times 2^16, plus 22 bits of its hash and length,
+/// modulo 2^32. Sorted texts have close neighbourhoods, so their locators are inserted near the
+/// last ones, which are cached. Numbered texts that differ only in the last two bytes have the same
+/// neighbourhood. The length distinguishes long blobs with equal ends. With any fingerprint equal
+/// items are found.
 #[tactic(auto, unfolding(crate::specs::Keys::blob_fingerprint))]
 fn blob_fingerprint(bytes: &[u8]) -> u64
     ensures value { result ≡ blob_fingerprint bytes.now }
@@ -325,7 +326,7 @@ fn list_fingerprint(words: &[Val]) -> u64
 #[tactic(auto, using(crate::proofs::Compared::by_none))]
 fn compare_list(adb: &Adb<'_>, list: ListKind, words: &[Val], word: Val) -> Ordering
     ensures { result ≡ slice_cmp nat_cmp (reverse (low_words words.now))
-        (reverse (or_empty (run_of (list_kind list) (payload_of adb.now) word))) }
+        (reverse (or_empty (run_entries_of_word (list_kind list) (payload_of adb.now) word))) }
 {
     match entries(adb, list, word) {
         Ok(found) => compare_words(words, &found),
@@ -335,7 +336,8 @@ fn compare_list(adb: &Adb<'_>, list: ListKind, words: &[Val], word: Val) -> Orde
 
 /// The entries of a written list of this kind.
 fn entries<'a>(adb: &Adb<'a>, list: ListKind, word: Val) -> Result<Arr<'a>, Cause>
-    ensures { Gives array_entries result (run_of (list_kind list) (payload_of adb.now) word) }
+    ensures { Gives array_entries result (run_entries_of_word (list_kind list)
+        (payload_of adb.now) word) }
 {
     match list {
         ListKind::Array => adb.arr(word),

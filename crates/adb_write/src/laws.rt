@@ -2,8 +2,8 @@
 //! of an empty function. The rules are in `docs/formats.md`, "Canonical layout"; the README of this
 //! crate lists the laws.
 ghost use Rattle.std.specs.Prelude.{◌≡◌, ◌≤◌, ◌<◌, ◌^◌, ◌⊎◌, ℕ, List, [], ◌∷◌, ◌++◌, false, true, length, Some, Ok, is_some};
-ghost use Rattle.adb_view.specs.Plain.{Plain, null, int, Plains, none, more, blob_or_null, arr_value, obj_value, Shape, IsNormal, plain_of, value_of};
-ghost use Rattle.adb_view.specs.Head.{root_of};
+ghost use Rattle.adb_view.specs.Plain.{Plain, null, int, Plains, none, more, blob_or_null, array_or_null, trimmed_object_or_null, Shape, IsNormal, plain_of, value_of};
+ghost use Rattle.adb_view.specs.Head.{root_word_of_payload};
 ghost use Rattle.adb_view.specs.Visits.{visits};
 ghost use Rattle.adb_block.specs.Container.{Spells};
 ghost use Rattle.adb_write.specs.File.{adb_piece, file_of};
@@ -23,10 +23,10 @@ pub fn a_canonical_payload_is_read_back()
         → value_of (canonical v) shape ≡ Some v }
 {}
 
-/// Between two moments a writer writes a value depth first: nothing for Null, the call of its kind
-/// for an integer or a blob. For a list it writes its values in order, using each word once, and
-/// then makes the call of the list's kind. An empty blob or list, and an object without a value,
-/// are Null.
+/// Between two of its states a writer writes a value depth first: nothing for Null, the call of its
+/// kind for an integer or a blob. For a list it writes the values of the list in order, using each
+/// word once, and then makes the call of the list's kind. An empty blob or list, and an object
+/// without a value, are Null.
 pub fn values_are_written_depth_first()
     ensures null { (w : Writing) → WritesValue w null 0 w }
     ensures int { (n : ℕ) (a : Writing) (x : ℕ) (b : Writing) → (x, b) ≡ int_call n a
@@ -34,9 +34,10 @@ pub fn values_are_written_depth_first()
     ensures blob { (bytes : List ℕ) (a : Writing) (x : ℕ) (b : Writing)
         → (x, b) ≡ blob_call bytes a → WritesValue a (blob_or_null bytes) x b }
     ensures arr { (vs : Plains) (xs : List ℕ) (a b : Writing) (x : ℕ) (c : Writing)
-        → WritesValues a vs xs b → (x, c) ≡ arr_call xs b → WritesValue a (arr_value vs) x c }
+        → WritesValues a vs xs b → (x, c) ≡ arr_call xs b → WritesValue a (array_or_null vs) x c }
     ensures obj { (vs : Plains) (xs : List ℕ) (a b : Writing) (x : ℕ) (c : Writing)
-        → WritesValues a vs xs b → (x, c) ≡ obj_call xs b → WritesValue a (obj_value vs) x c }
+        → WritesValues a vs xs b → (x, c) ≡ obj_call xs b
+        → WritesValue a (trimmed_object_or_null vs) x c }
 
     // Values in order: from the first one on, or one more after the others.
     ensures none { (w : Writing) → WritesValues w none [] w }
@@ -76,10 +77,10 @@ pub fn an_answer_denotes_its_value()
         → Denotes (blob_call bytes w).1 (blob_or_null bytes) (blob_call bytes w).0 }
     ensures arr { (vs : Plains) (words : List ℕ) (w : Writing)
         → AllDenote w vs words
-        → Denotes (arr_call words w).1 (arr_value vs) (arr_call words w).0 }
+        → Denotes (arr_call words w).1 (array_or_null vs) (arr_call words w).0 }
     ensures obj { (vs : Plains) (words : List ℕ) (w : Writing)
         → AllDenote w vs words
-        → Denotes (obj_call words w).1 (obj_value vs) (obj_call words w).0 }
+        → Denotes (obj_call words w).1 (trimmed_object_or_null vs) (obj_call words w).0 }
 {}
 
 /// A word is read as the value that it represents, in the payload of a writer within its limits,
@@ -128,7 +129,7 @@ pub fn a_value_is_stored_once()
 /// within the limits of the writer is never too large to be read.
 pub fn a_canonical_payload_is_visited_once()
     ensures { (shape : Shape) (v : Plain) → IsNormal v → HasShape shape v → size_of v ≤ MOST_BYTES
-        → length (visits (canonical v) shape (root_of (canonical v))) ≡ value_count v }
+        → length (visits (canonical v) shape (root_word_of_payload (canonical v))) ≡ value_count v }
 {}
 
 /// The file of a payload is spelled by its schema and one block with the payload.

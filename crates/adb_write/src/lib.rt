@@ -10,7 +10,7 @@
 //! - `Size`: the bytes of its payload and the number of its values;
 //! - `File`: the file around a payload;
 //! - `Writing`: a writer, and the effect of each call;
-//! - `DepthFirst`: what a writer did between two moments;
+//! - `DepthFirst`: what a writer wrote between two of its states;
 //! - `Denotes`: what a word represents.
 //!
 //! The rules are in `docs/formats.md`, "Canonical layout".

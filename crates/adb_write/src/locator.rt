@@ -1,5 +1,5 @@
-//! Locators: the fingerprint of a written item, and the word that points to it in the 32 bits
-//! below. How locators are stored is described in the README of this crate.
+//! Locators: the fingerprint of a written item, and in the low 32 bits the word that points to the
+//! item. How locators are stored is described in the README of this crate.
 
 ghost use Rattle.std.specs.Prelude.{◌≡◌, ◌<◌, ◌^◌};
 ghost use Rattle.adb_write.specs.Keys.{fingerprint_of_locator, locator_of, word_of_locator};

@@ -31,6 +31,7 @@ impl Store {
     /// A store without anything in it.
     pub(crate) fn new(alloc: Global) -> Store
         ensures payload { result.payload.items ≡ [] }
+        // There are no pages of locators.
         ensures words { pages_of result.words ≡ [] }
     {
         Store {
@@ -69,13 +70,16 @@ impl Store {
         requires filled { HaveNoEmptyPage (pages_of self.old.words) }
         requires inside { IsSlotIn (pages_of self.old.words) slot.page slot.index }
         ensures filled { HaveNoEmptyPage (pages_of self.new.words) }
+        // Zeros up to the offset are appended, and then the item.
         ensures bytes { OnOk result (self.new.payload.items
             ≡ self.old.payload.items
             ++ (replicate (at - length self.old.payload.items) 0 ++ (item_of parts.now).bytes)) }
+        // The locator of the item is inserted at the slot.
         ensures words { OnOk result (concat (pages_of self.new.words)
             ≡ locators_before_slot (pages_of self.old.words) slot.page slot.index
             ++ locator_of (fingerprint_of parts.now) word
             ∷ locators_from_slot (pages_of self.old.words) slot.page slot.index) }
+        // After an error the bytes and the locators are unchanged.
         ensures same_bytes { OnErr result (self.new.payload.items ≡ self.old.payload.items) }
         ensures same_words { OnErr result
             (concat (pages_of self.new.words) ≡ concat (pages_of self.old.words)) }

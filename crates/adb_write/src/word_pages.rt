@@ -32,8 +32,8 @@ use adb_view::Adb;
 use std::alloc::{AllocError, Global};
 use std::cmp::Ordering;
 
-/// The most locators of a page. In larger pages a new locator would move more of them; smaller ones
-/// would be more numerous.
+/// The most locators of a page. In a larger page a new locator moves more locators; with smaller
+/// pages there are more of them.
 const FULL: usize = 512;
 
 /// How many locators remain in a page that is split; the others are moved to a new one.
@@ -62,7 +62,7 @@ pub(crate) struct WordPages {
     alloc: Global,
     /// The locators of each page.
     pub pages: Vec<Vec<u64>>,
-    /// A copy of the first locator of each page, contiguous in memory.
+    /// The first locator of each page again, contiguous in memory.
     firsts: FirstLocators,
 }
 
@@ -88,7 +88,8 @@ impl WordPages {
     ) -> Result<u64, Slot>
         requires filled { HaveNoEmptyPage (pages_of self.now) }
         requires rising { HaveRisingKeys (payload_of adb.now) (concat (pages_of self.now)) }
-        ensures { IsSearchResult (payload_of adb.now) (pages_of self.now) (key_with_fingerprint fingerprint parts.now)
+        ensures { IsSearchResult (payload_of adb.now) (pages_of self.now)
+            (key_with_fingerprint fingerprint parts.now)
             result }
     {
         let page = self.page_of(adb, parts, fingerprint);
@@ -141,9 +142,11 @@ impl WordPages {
         requires filled { HaveNoEmptyPage (pages_of self.old) }
         requires inside { IsSlotIn (pages_of self.old) slot.page slot.index }
         ensures filled { HaveNoEmptyPage (pages_of self.new) }
+        // The locator is inserted at the slot.
         ensures ok { OnOk result (concat (pages_of self.new)
             ≡ locators_before_slot (pages_of self.old) slot.page slot.index
             ++ locator ∷ locators_from_slot (pages_of self.old) slot.page slot.index) }
+        // After an error the locators are unchanged.
         ensures err { OnErr result (concat (pages_of self.new) ≡ concat (pages_of self.old)) }
     {
         if self.pages.is_empty() {
@@ -158,7 +161,9 @@ impl WordPages {
     /// Makes the first page, of one locator.
     fn begin(&mut self, locator: u64) -> Result<(), AllocError>
         requires { pages_of self.old ≡ [] }
+        // There is one page, of this locator.
         ensures ok { OnOk result (pages_of self.new ≡ (locator ∷ []) ∷ []) }
+        // After an error there is still no page.
         ensures err { OnErr result (pages_of self.new ≡ []) }
     {
         let mut page = Vec::with_capacity(self.alloc, ROOM)?;
@@ -175,8 +180,10 @@ impl WordPages {
         requires some { 0 < length (pages_of self.old) }
         ensures filled { HaveNoEmptyPage (pages_of self.new) }
         ensures some { 0 < length (pages_of self.new) }
+        // The new slot is between the same locators.
         ensures ok { IfOk result
             (λ there. IsSameSlot (pages_of self.old) slot (pages_of self.new) there) }
+        // After an error the pages are unchanged.
         ensures err { OnErr result (pages_of self.new ≡ pages_of self.old) }
     {
         if self.pages[slot.page].len() < FULL {
@@ -196,7 +203,9 @@ impl WordPages {
     fn split(&mut self, page: usize) -> Result<(), AllocError>
         requires inside { page < length (pages_of self.old) }
         requires full { HALF < length (page_at (pages_of self.old) page) }
+        // The page is split in two.
         ensures ok { OnOk result (pages_of self.new ≡ with_page_split (pages_of self.old) page) }
+        // After an error the pages are unchanged.
         ensures err { OnErr result (pages_of self.new ≡ pages_of self.old) }
     {
         let mut upper = Vec::with_capacity(self.alloc, HALF + ROOM)?;
@@ -213,7 +222,9 @@ impl WordPages {
 /// Inserts a locator at an index of a page, which grows by little if it has no room.
 fn insert_in_page(page: &mut Vec<u64>, index: usize, locator: u64) -> Result<(), AllocError>
     requires { index ≤ length page.old.items }
+    // The locator is inserted at the index.
     ensures ok { OnOk result (page.new.items ≡ insert page.old.items index locator) }
+    // After an error the page is unchanged.
     ensures err { OnErr result (page.new.items ≡ page.old.items) }
 {
     if page.len() == page.capacity() {
@@ -236,7 +247,8 @@ fn is_before(adb: &Adb<'_>, parts: &Parts<'_>, fingerprint: u64, locator: u64) -
 
 /// Whether a page begins after an item, in the order of keys.
 fn begins_after(page: &[u64], adb: &Adb<'_>, parts: &Parts<'_>, fingerprint: u64) -> bool
-    ensures { result ≡ page_begins_above_key (payload_of adb.now) (key_with_fingerprint fingerprint parts.now) page.now }
+    ensures { result ≡ page_begins_above_key (payload_of adb.now)
+        (key_with_fingerprint fingerprint parts.now) page.now }
 {
     match page.first() {
         Some(locator) => is_before(adb, parts, fingerprint, *locator),
@@ -248,7 +260,8 @@ fn begins_after(page: &[u64], adb: &Adb<'_>, parts: &Parts<'_>, fingerprint: u64
 /// The search begins near its likely index, so that few bytes of a page are read.
 fn search(page: &[u64], adb: &Adb<'_>, parts: &Parts<'_>, fingerprint: u64) -> Result<usize, usize>
     requires rising { HaveRisingKeys (payload_of adb.now) page.now }
-    ensures { IsPageSearchResult (payload_of adb.now) page.now (key_with_fingerprint fingerprint parts.now) result }
+    ensures { IsPageSearchResult (payload_of adb.now) page.now
+        (key_with_fingerprint fingerprint parts.now) result }
 {
     let likely = likely_index(page, fingerprint);
     let from = lower_end(page, fingerprint, likely);
@@ -285,6 +298,7 @@ fn likely_index(page: &[u64], fingerprint: u64) -> usize
 /// An index before which all locators have lower fingerprints, at or before the likely one.
 fn lower_end(page: &[u64], fingerprint: u64, likely: usize) -> usize
     ensures inside { result ≤ likely }
+    // All locators before the result have lower keys, if those of the page are in order.
     ensures lower { (payload content : List ℕ) → HaveRisingKeys payload page.now
         → AllCompareToKey Greater payload (fingerprint ∷ content) (take result page.now) }
 {
@@ -300,6 +314,7 @@ fn upper_end(page: &[u64], fingerprint: u64, likely: usize) -> usize
     requires { likely ≤ length page.now }
     ensures inside { result ≤ length page.now }
     ensures behind { likely ≤ result }
+    // All locators from the result on have higher keys, if those of the page are in order.
     ensures higher { (payload content : List ℕ) → HaveRisingKeys payload page.now
         → AllCompareToKey Less payload (fingerprint ∷ content) (drop result page.now) }
 {

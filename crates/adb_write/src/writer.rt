@@ -3,8 +3,8 @@
 //! the limits below "A payload has at most", the file below "In a container each block is padded".
 
 ghost use Rattle.std.specs.Prelude.{◌≡◌, ◌<◌, ◌≤◌, ◌+◌, ◌^◌, false, IfOk, OnErr, length};
-ghost use Rattle.adb_write.specs.Canonical.{MOST_BYTES, exceeds_a_limit, gap, in_place, apart, run_cell, trimmed_words};
-ghost use Rattle.adb_view.specs.Plain.{Plains, int, blob_or_null, arr_value, obj_value};
+ghost use Rattle.adb_write.specs.Canonical.{MOST_BYTES, exceeds_a_limit, padding_to_alignment, in_place, apart, run_cell, words_without_last_nulls};
+ghost use Rattle.adb_view.specs.Plain.{Plains, int, blob_or_null, array_or_null, trimmed_object_or_null};
 ghost use Rattle.adb_write.specs.DepthFirst.{WritesValue, WritesValues};
 ghost use Rattle.adb_write.specs.Writing.{Writing, Grows, empty_writing, is_past_limit, call, int_call, blob_call, arr_call, obj_call, finish_result};
 ghost use Rattle.adb_write.specs.Items.{list_kind, item_of, HasNumbersInRange};
@@ -141,6 +141,7 @@ impl Writer {
         ensures ok { IfOk result (λ word. (word, self.new) ≡ int_call n self.old) }
         ensures written { IfOk result (λ word. WritesValue self.old (int n) word self.new) }
         ensures err { OnErr result (self.new ≡ self.old) }
+        // Only a call that adds bytes can fail.
         ensures wants { OnErr result (Grows self.old (int_call n self.old).1) }
     {
         if n < 1 << 28 {
@@ -158,6 +159,7 @@ impl Writer {
         ensures written { IfOk result
             (λ word. WritesValue self.old (blob_or_null bytes.now) word self.new) }
         ensures err { OnErr result (self.new ≡ self.old) }
+        // Only a call that adds bytes can fail.
         ensures wants { OnErr result (Grows self.old (blob_call bytes.now self.old).1) }
     {
         if bytes.is_empty() {
@@ -171,8 +173,9 @@ impl Writer {
         ensures ok { IfOk result (λ word. (word, self.new) ≡ arr_call entries.now self.old) }
         ensures written { IfOk result (λ word. (vs : Plains) (before : Writing)
             → WritesValues before vs entries.now self.old
-            → WritesValue before (arr_value vs) word self.new) }
+            → WritesValue before (array_or_null vs) word self.new) }
         ensures err { OnErr result (self.new ≡ self.old) }
+        // Only a call that adds bytes can fail.
         ensures wants { OnErr result (Grows self.old (arr_call entries.now self.old).1) }
     {
         self.list(ListKind::Array, entries)
@@ -184,8 +187,9 @@ impl Writer {
         ensures ok { IfOk result (λ word. (word, self.new) ≡ obj_call fields.now self.old) }
         ensures written { IfOk result (λ word. (vs : Plains) (before : Writing)
             → WritesValues before vs fields.now self.old
-            → WritesValue before (obj_value vs) word self.new) }
+            → WritesValue before (trimmed_object_or_null vs) word self.new) }
         ensures err { OnErr result (self.new ≡ self.old) }
+        // Only a call that adds bytes can fail.
         ensures wants { OnErr result (Grows self.old (obj_call fields.now self.old).1) }
     {
         self.list(ListKind::Object, trimmed(fields))
@@ -217,6 +221,7 @@ impl Writer {
         ensures ok { IfOk result
             (λ word. (word, self.new) ≡ call (run_cell (list_kind kind) words.now) self.old) }
         ensures err { OnErr result (self.new ≡ self.old) }
+        // Only a call that adds bytes can fail.
         ensures wants { OnErr result
             (Grows self.old (call (run_cell (list_kind kind) words.now) self.old).1) }
     {
@@ -244,6 +249,7 @@ impl Writer {
         ensures ok { IfOk result
             (λ word. (word, self.new) ≡ call (apart (item_of parts.now)) self.old) }
         ensures err { OnErr result (self.new ≡ self.old) }
+        // Only a call that adds bytes can fail.
         ensures wants { OnErr result
             (Grows self.old (call (apart (item_of parts.now)) self.old).1) }
     {
@@ -256,7 +262,7 @@ impl Writer {
         };
         // The item is put at the next offset that its alignment allows.
         let before = self.counts;
-        let at = before.bytes + gap(parts.width().len() as u64, before.bytes);
+        let at = before.bytes + padding_to_alignment(parts.width().len() as u64, before.bytes);
         let counts = PayloadCounts {
             bytes: at + parts.len(),
             values: before.values + parts.entries(),
@@ -288,9 +294,9 @@ impl Writer {
 }
 
 /// How many zeros are between the offset `n` and the next multiple of `align`.
-fn gap(align: u64, n: u64) -> u64
+fn padding_to_alignment(align: u64, n: u64) -> u64
     requires { 0 < align }
-    ensures value { result ≡ gap align n }
+    ensures value { result ≡ padding_to_alignment align n }
     ensures below { result < align }
 {
     (align - n % align) % align
@@ -299,7 +305,7 @@ fn gap(align: u64, n: u64) -> u64
 /// The words of an object's fields without the NULLs at the end.
 #[tactic(auto, using(crate::proofs::Cells::trimmed_null, crate::proofs::Cells::trimmed_some))]
 fn trimmed(fields: &[Val]) -> &[Val]
-    ensures { result.now ≡ trimmed_words fields.now }
+    ensures { result.now ≡ words_without_last_nulls fields.now }
 {
     let mut len = fields.len();
     while len > 0 && fields[len - 1].is_null() {

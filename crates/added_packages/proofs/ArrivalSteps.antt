@@ -18,7 +18,7 @@ use Rattle.change_outcome.proofs.package_changes.Lists.{left_at}
 use Rattle.change_outcome.specs.candidate_core.Rank.{SealedPool}
 use Rattle.report_core.specs.declared.refusal.Refusal as Refusals
 use Rattle.added_packages.specs.Arrivals.{AreMembersRead, IsMemberRead}
-use Rattle.added_packages.specs.NameReads.{FindsTreeFileOrFound, IsAnswerByRead, IsByRead, IsNameRead, name_read}
+use Rattle.added_packages.specs.NameReads.{FindsTreeFileOrFound, IsAnswerByRead, IsByRead, IsNameRead, member_of_name_by_read}
 use Rattle.added_packages.specs.declared.arrivals.MemberRead.{MemberRead}
 
 -- ---- reads
@@ -80,7 +80,7 @@ module _ (before : List Plain) (pool : SealedPool) (repositories : List Reposito
   abbrev pub names_read : Reads → ℕ → List PlacedName → Result (List MemberFound) Refusals.Refusal
   names_read read n [] = Ok []
   names_read read n (name ∷ names) =
-      and_then (name_read before pool repositories no_scripts name read n) (λ first.
+      and_then (member_of_name_by_read before pool repositories no_scripts name read n) (λ first.
       and_then (names_read read (suc n) names) (λ others. Ok (cons_option first others)))
 
   module _ (h : List TreeState) (first : ℕ) (names : List PlacedName) where
@@ -106,7 +106,7 @@ module _ (before : List Plain) (pool : SealedPool) (repositories : List Reposito
       abbrev at_name : Option (List ℕ) → ℕ → Option (List ℕ)
       at_name file = with_at so_far.at (first + i) file
 
-      leads_here : (wanted : Result (Option MemberFound) Refusals.Refusal) (by : IsByRead h (name_read before pool repositories no_scripts name) wanted) (other : ℕ → Option (List ℕ)) → ((k : ℕ) → k < suc (first + i) → other k ≡ at_name by.found k)
+      leads_here : (wanted : Result (Option MemberFound) Refusals.Refusal) (by : IsByRead h (member_of_name_by_read before pool repositories no_scripts name) wanted) (other : ℕ → Option (List ℕ)) → ((k : ℕ) → k < suc (first + i) → other k ≡ at_name by.found k)
           → names_read (reads_by h other) first names ≡ in_front so_far.found (and_then wanted (λ m. and_then (names_read (reads_by h other) (suc (first + i)) (drop (i + 1) names)) (λ others. Ok (cons_option m others))))
       leads_here wanted by other same =
           so_far.leads other (λ k lt. same k (omega (arith, lt)) ∙ at_others so_far.at (first + i) by.found k lt)
@@ -114,7 +114,7 @@ module _ (before : List Plain) (pool : SealedPool) (repositories : List Reposito
           ∙ ap (λ (r : Result (Option MemberFound) Refusals.Refusal). in_front so_far.found (and_then r (λ m. and_then (names_read (reads_by h other) (suc (first + i)) (drop (i + 1) names)) (λ others. Ok (cons_option m others)))))
           (by.is (reads_by h other) (first + i) (finds_here h other (first + i) by.found (same (first + i) (omega arith) ∙ at_itself so_far.at (first + i) by.found))))
 
-      pub read_more : (r : Option MemberRead) (next : List MemberRead) → next ≡ reads ++ option_to_list r → IsAnswerByRead (IsNameRead h before) h (name_read before pool repositories no_scripts name) (Ok r) → IsReadTo (i + 1) next
+      pub read_more : (r : Option MemberRead) (next : List MemberRead) → next ≡ reads ++ option_to_list r → IsAnswerByRead (IsNameRead h before) h (member_of_name_by_read before pool repositories no_scripts name) (Ok r) → IsReadTo (i + 1) next
       read_more r next pushed (m, by, is) = record {
         at = at_name by.found;
         found = so_far.found ++ option_to_list m;
@@ -126,7 +126,7 @@ module _ (before : List Plain) (pool : SealedPool) (repositories : List Reposito
             ∙ ap (λ n. in_front (so_far.found ++ option_to_list m) (names_read (reads_by h other) n (drop (i + 1) names))) more));
       }
 
-      pub read_refused : (refusal : Refusals.Refusal) → IsByRead h (name_read before pool repositories no_scripts name) (Err refusal) → (at : ℕ → Option (List ℕ)) × (names_read (reads_by h at) first names ≡ Err refusal)
+      pub read_refused : (refusal : Refusals.Refusal) → IsByRead h (member_of_name_by_read before pool repositories no_scripts name) (Err refusal) → (at : ℕ → Option (List ℕ)) × (names_read (reads_by h at) first names ≡ Err refusal)
       read_refused refusal by = (at_name by.found, leads_here (Err refusal) by (at_name by.found) (λ k lt. refl))
 
     pub read_all : (i : ℕ) (reads : List MemberRead) → length names ≤ i → IsReadTo i reads → (at : ℕ → Option (List ℕ)) × (found : List MemberFound) × (names_read (reads_by h at) first names ≡ Ok found) × AreMembersRead h before reads found

@@ -12,7 +12,7 @@ use Rattle.change_outcome.specs.db_core.declared.members.TheConstants.{MOST_MEMB
 use Rattle.change_outcome.proofs.package_changes.Lists.{item_at, option_in_front}
 use Rattle.package_verifier.specs.Tested.{tested_id, tested_value}
 use Rattle.package_verifier.specs.declared.package.TestedPackage.{TestedPackage}
-use Rattle.added_packages.specs.Arrivals.{HavePlacesIfKept, CanBeMembers, HasPlaceIfKept, member_read, members_read}
+use Rattle.added_packages.specs.Arrivals.{HavePlacesIfKept, CanBeMembers, HasPlaceIfKept, member_of_read_package, members_of_read_packages}
 use Rattle.added_packages.specs.declared.arrivals.MemberRead.{MemberRead}
 use Rattle.added_packages.specs.declared.arrivals.MemberRead.TheVariants.{Comes, Stays}
 
@@ -40,11 +40,11 @@ behind_front xs m ys rising =
     (before_it (map member_name xs) (member_name m) (map member_name ys) (subst Rises (names_join xs m ys) (rises_from_pairs _ rising)))
 
 module _ (before : List Plain) where
-  reads_join : (xs ys : List MemberRead) → members_read before (xs ++ ys) ≡ members_read before xs ++ members_read before ys
+  reads_join : (xs ys : List MemberRead) → members_of_read_packages before (xs ++ ys) ≡ members_of_read_packages before xs ++ members_of_read_packages before ys
   reads_join [] ys = refl
-  reads_join (r ∷ xs) ys = ap (cons_option (member_read before r)) (reads_join xs ys) ∙ go (member_read before r)
+  reads_join (r ∷ xs) ys = ap (cons_option (member_of_read_package before r)) (reads_join xs ys) ∙ go (member_of_read_package before r)
     where
-      go : (o : Option Member) → cons_option o (members_read before xs ++ members_read before ys) ≡ cons_option o (members_read before xs) ++ members_read before ys
+      go : (o : Option Member) → cons_option o (members_of_read_packages before xs ++ members_of_read_packages before ys) ≡ cons_option o (members_of_read_packages before xs) ++ members_of_read_packages before ys
       go None = refl
       go (Some m) = refl
 
@@ -53,13 +53,13 @@ module _ (before : List Plain) where
   whole [] (suc i) = refl
   whole (r ∷ reads) (suc i) = ap (λ z. r ∷ z) (whole reads i)
 
-  pub next_behind : (reads : List MemberRead) (i : ℕ) (d : MemberRead) → i < length reads → CanBeMembers before reads → (m : Member) → member_read before (get_or reads i d) ≡ Some m → is_after_members (member_name m) (members_read before (take i reads)) ≡ true
+  pub next_behind : (reads : List MemberRead) (i : ℕ) (d : MemberRead) → i < length reads → CanBeMembers before reads → (m : Member) → member_of_read_package before (get_or reads i d) ≡ Some m → is_after_members (member_name m) (members_of_read_packages before (take i reads)) ≡ true
   next_behind reads i d lt can m is =
-      behind_front (members_read before (take i reads)) m (members_read before (drop (i + 1) reads))
+      behind_front (members_of_read_packages before (take i reads)) m (members_of_read_packages before (drop (i + 1) reads))
       (subst AreInOrder
-      (ap (members_read before) (sym (whole reads i))
+      (ap (members_of_read_packages before) (sym (whole reads i))
       ∙ (reads_join (take i reads) (drop i reads)
-      ∙ ap (λ z. members_read before (take i reads) ++ z) (ap (members_read before) (item_at reads i d lt) ∙ ap (λ o. cons_option o (members_read before (drop (i + 1) reads))) is)))
+      ∙ ap (λ z. members_of_read_packages before (take i reads) ++ z) (ap (members_of_read_packages before) (item_at reads i d lt) ∙ ap (λ o. cons_option o (members_of_read_packages before (drop (i + 1) reads))) is)))
       can.in_order)
 
   pub next_placed : (reads : List MemberRead) (i : ℕ) (d : MemberRead) → i < length reads → HavePlacesIfKept before reads → HasPlaceIfKept before (get_or reads i d)
@@ -67,11 +67,11 @@ module _ (before : List Plain) where
   next_placed (r ∷ reads) zero d lt placed = placed.0
   next_placed (r ∷ reads) (suc i) d lt placed = next_placed reads i d (omega arith) placed.1
 
-  fewer : (reads : List MemberRead) → length (members_read before reads) ≤ length reads
+  fewer : (reads : List MemberRead) → length (members_of_read_packages before reads) ≤ length reads
   fewer [] = omega arith
-  fewer (r ∷ reads) = go (member_read before r) (fewer reads)
+  fewer (r ∷ reads) = go (member_of_read_package before r) (fewer reads)
     where
-      go : (o : Option Member) → length (members_read before reads) ≤ length reads → length (cons_option o (members_read before reads)) ≤ suc (length reads)
+      go : (o : Option Member) → length (members_of_read_packages before reads) ≤ length reads → length (cons_option o (members_of_read_packages before reads)) ≤ suc (length reads)
       go None less = omega (arith, less)
       go (Some m) less = omega (arith, less)
 
@@ -80,16 +80,16 @@ module _ (before : List Plain) where
   taken [] (suc i) = omega arith
   taken (r ∷ reads) (suc i) = let less = taken reads i in omega (arith, less)
 
-  pub next_few : (reads : List MemberRead) (i : ℕ) → i < length reads → length reads ≤ MOST_MEMBERS → length (members_read before (take i reads)) < MOST_MEMBERS
+  pub next_few : (reads : List MemberRead) (i : ℕ) → i < length reads → length reads ≤ MOST_MEMBERS → length (members_of_read_packages before (take i reads)) < MOST_MEMBERS
   next_few reads i lt few =
       let a = fewer (take i reads) in
       let b = taken reads i in
       omega (arith, a, b, lt, few)
 
-  pub one_more : (reads : List MemberRead) (i : ℕ) (d : MemberRead) → i < length reads → members_read before (take (i + 1) reads) ≡ members_read before (take i reads) ++ option_to_list (member_read before (get_or reads i d))
+  pub one_more : (reads : List MemberRead) (i : ℕ) (d : MemberRead) → i < length reads → members_of_read_packages before (take (i + 1) reads) ≡ members_of_read_packages before (take i reads) ++ option_to_list (member_of_read_package before (get_or reads i d))
   one_more reads i d lt =
-      ap (members_read before) (take_more reads i d lt)
-      ∙ (reads_join (take i reads) (get_or reads i d ∷ []) ∙ ap (λ z. members_read before (take i reads) ++ z) (go (member_read before (get_or reads i d))))
+      ap (members_of_read_packages before) (take_more reads i d lt)
+      ∙ (reads_join (take i reads) (get_or reads i d ∷ []) ∙ ap (λ z. members_of_read_packages before (take i reads) ++ z) (go (member_of_read_package before (get_or reads i d))))
     where
       go : (o : Option Member) → cons_option o [] ≡ option_to_list o
       go None = refl
@@ -97,23 +97,23 @@ module _ (before : List Plain) where
 
 -- ---- one that stays
 
-pub stays_after : (before : List Plain) (members : List Member) (read : MemberRead) (place : ℕ) → read ≡ Stays place → ((m : Member) → member_read before read ≡ Some m → is_after_members (member_name m) members ≡ true)
+pub stays_after : (before : List Plain) (members : List Member) (read : MemberRead) (place : ℕ) → read ≡ Stays place → ((m : Member) → member_of_read_package before read ≡ Some m → is_after_members (member_name m) members ≡ true)
     → (pkg : Plain) → slice_get before place ≡ Some pkg → is_after_members (package_name pkg) members ≡ true
-stays_after before members read place is behind pkg here = behind (member_of_kept pkg) (ap (member_read before) is ∙ ap (option_map member_of_kept) here)
+stays_after before members read place is behind pkg here = behind (member_of_kept pkg) (ap (member_of_read_package before) is ∙ ap (option_map member_of_kept) here)
 
 is_there : (before : List Plain) (place : ℕ) → place < length before → (pkg : Plain) × (slice_get before place ≡ Some pkg)
 is_there [] place lt = absurd (omega arith)
 is_there (p ∷ before) zero lt = (p, refl)
 is_there (p ∷ before) (suc place) lt = is_there before place (omega arith)
 
-pub stays_added : {E : Type 0} (before : List Plain) (old new : List Member) (read : MemberRead) (place : ℕ) (result : Result (Unit {0}) E) → read ≡ Stays place → HasPlaceIfKept before read → OnOk result ((pkg : Plain) → slice_get before place ≡ Some pkg → new ≡ old ++ member_of_kept pkg ∷ []) → OnOk result (new ≡ old ++ option_to_list (member_read before read))
+pub stays_added : {E : Type 0} (before : List Plain) (old new : List Member) (read : MemberRead) (place : ℕ) (result : Result (Unit {0}) E) → read ≡ Stays place → HasPlaceIfKept before read → OnOk result ((pkg : Plain) → slice_get before place ≡ Some pkg → new ≡ old ++ member_of_kept pkg ∷ []) → OnOk result (new ≡ old ++ option_to_list (member_of_read_package before read))
 stays_added before old new read place (Ok done) is placed added =
     let there = is_there before place (subst (HasPlaceIfKept before) is placed) in
-    added there.0 there.1 ∙ ap (λ o. old ++ option_to_list o) (sym (ap (member_read before) is ∙ ap (option_map member_of_kept) there.1))
+    added there.0 there.1 ∙ ap (λ o. old ++ option_to_list o) (sym (ap (member_of_read_package before) is ∙ ap (option_map member_of_kept) there.1))
 stays_added before old new read place (Err e) is placed added = tt
 
-pub all_taken : (before : List Plain) (reads : List MemberRead) (i : ℕ) → length reads ≤ i → members_read before (take i reads) ≡ members_read before reads
-all_taken before reads i past = ap (members_read before) (go reads i past)
+pub all_taken : (before : List Plain) (reads : List MemberRead) (i : ℕ) → length reads ≤ i → members_of_read_packages before (take i reads) ≡ members_of_read_packages before reads
+all_taken before reads i past = ap (members_of_read_packages before) (go reads i past)
   where
     go : (reads : List MemberRead) (i : ℕ) → length reads ≤ i → take i reads ≡ reads
     go [] zero past = refl
@@ -123,6 +123,6 @@ all_taken before reads i past = ap (members_read before) (go reads i past)
 
 -- ---- one that comes
 
-pub comes_next : (before : List Plain) (members : List Member) (read : MemberRead) (pkg : TestedPackage) (value : Plain) → read ≡ Comes pkg → value ≡ tested_value pkg → ((m : Member) → member_read before read ≡ Some m → is_after_members (member_name m) members ≡ true) → is_after_members (package_name value) members ≡ true
+pub comes_next : (before : List Plain) (members : List Member) (read : MemberRead) (pkg : TestedPackage) (value : Plain) → read ≡ Comes pkg → value ≡ tested_value pkg → ((m : Member) → member_of_read_package before read ≡ Some m → is_after_members (member_name m) members ≡ true) → is_after_members (package_name value) members ≡ true
 comes_next before members read pkg value is same behind =
-    ap (λ v. is_after_members (package_name v) members) same ∙ behind (member_of_added (tested_value pkg) (tested_id pkg)) (ap (member_read before) is)
+    ap (λ v. is_after_members (package_name v) members) same ∙ behind (member_of_added (tested_value pkg) (tested_id pkg)) (ap (member_of_read_package before) is)

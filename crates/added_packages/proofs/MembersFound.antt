@@ -6,22 +6,22 @@ use Rattle.adb_view.specs.Plain.{Plain}
 use Rattle.base_core.specs.Tree.{TreeState}
 use Rattle.change_outcome.specs.change_inputs.Chains.{and_then}
 use Rattle.change_outcome.specs.change_inputs.Answers.{IsDiskOrMemoryFailure}
-use Rattle.change_outcome.specs.change_inputs.Inputs.{first_index_read}
+use Rattle.change_outcome.specs.change_inputs.Inputs.{first_index_read_number}
 use Rattle.change_outcome.specs.change_inputs.declared.root.Refused.{Refused}
 use Rattle.change_outcome.specs.change_inputs.declared.root.Refused.TheVariants.{Disk, Memory, Refusal}
-use Rattle.change_outcome.specs.MembersAfter.{MemberFound, members_after, name_after, name_by_change, names_after}
+use Rattle.change_outcome.specs.MembersAfter.{MemberFound, members_after, member_of_name_after, member_of_name_by_change, names_after}
 use Rattle.change_outcome.specs.db_core.Packages.{is_package_named}
 use Rattle.change_outcome.specs.db_core.declared.members.TheConstants.{MOST_MEMBERS}
 use Rattle.dep_core.specs.Repositories.{Repository}
 use Rattle.change_outcome.specs.make_info.Reads.{Reads}
 use Rattle.change_outcome.specs.package_files.Runs.{IsExplainedBySomeReads}
-use Rattle.change_outcome.specs.package_changes.Changes.{change_of_name, is_selected_named, names_before_and_selected}
+use Rattle.change_outcome.specs.package_changes.Changes.{change_of_name, is_candidate_named, names_before_and_selected}
 use Rattle.change_outcome.specs.package_changes.Placed.{PlacedName, PlacedReplacement, candidates_at, new_candidate, old_package, placed_name_of, placed_names_of, replacement_of}
 use Rattle.change_outcome.specs.candidate_core.Rank.{SealedPool}
 use Rattle.report_core.specs.declared.refusal.Refusal as Refusals
 use Rattle.added_packages.specs.Answered.{DenotesUnlessDisk}
 use Rattle.added_packages.specs.Arrivals.{AreMembersRead, CanBeMembers}
-use Rattle.added_packages.specs.NameReads.{IsAnswerByRead, IsNameRead, name_read}
+use Rattle.added_packages.specs.NameReads.{IsAnswerByRead, IsNameRead, member_of_name_by_read}
 use Rattle.added_packages.specs.declared.arrivals.MemberRead.{MemberRead}
 use Rattle.added_packages.proofs.ArrivalSteps.{IsReadTo, names_read, read_all, read_refused, reads_are, reads_by}
 use Rattle.added_packages.proofs.ReadMembers.{can_be}
@@ -31,29 +31,29 @@ pub record PlacesLead : Type 0 where
   pub name : (p : PlacedReplacement) (name : List ℕ) → (placed_name_of p name).name ≡ name
   pub change : (p : PlacedReplacement) (name : List ℕ) → (placed_name_of p name).change ≡ change_of_name (replacement_of p) name
   pub old : (p : PlacedReplacement) (name : List ℕ) → old_package p.before (placed_name_of p name) ≡ find (is_package_named name) p.before
-  pub new : (p : PlacedReplacement) (name : List ℕ) → new_candidate p.pool (placed_name_of p name) ≡ find (is_selected_named name) (candidates_at p.pool p.trace)
+  pub new : (p : PlacedReplacement) (name : List ℕ) → new_candidate p.pool (placed_name_of p name) ≡ find (is_candidate_named name) (candidates_at p.pool p.trace)
 
 module _ (law : PlacesLead) (p : PlacedReplacement) (repositories : List Repository) (no_scripts : Bool) where
-  one_name : (read : Reads) (n : ℕ) (name : List ℕ) → name_after (replacement_of p) read repositories no_scripts n name ≡ name_read p.before p.pool repositories no_scripts (placed_name_of p name) read n
+  one_name : (read : Reads) (n : ℕ) (name : List ℕ) → member_of_name_after (replacement_of p) read repositories no_scripts n name ≡ member_of_name_by_read p.before p.pool repositories no_scripts (placed_name_of p name) read n
   one_name read n name =
       let e0 : name ≡ (placed_name_of p name).name = sym (law.name p name) in
       let e1 : change_of_name (replacement_of p) name ≡ (placed_name_of p name).change = sym (law.change p name) in
       let e2 : find (is_package_named name) p.before ≡ old_package p.before (placed_name_of p name) = sym (law.old p name) in
-      let e3 : find (is_selected_named name) (candidates_at p.pool p.trace) ≡ new_candidate p.pool (placed_name_of p name) = sym (law.new p name) in
-      λ i. name_by_change read repositories no_scripts n (e0 i) (e1 i) (e2 i) (e3 i)
+      let e3 : find (is_candidate_named name) (candidates_at p.pool p.trace) ≡ new_candidate p.pool (placed_name_of p name) = sym (law.new p name) in
+      λ i. member_of_name_by_change read repositories no_scripts n (e0 i) (e1 i) (e2 i) (e3 i)
 
   each_name : (read : Reads) (n : ℕ) (names : List (List ℕ)) → names_after (replacement_of p) read repositories no_scripts n names ≡ names_read p.before p.pool repositories no_scripts read n (map (placed_name_of p) names)
   each_name read n [] = refl
   each_name read n (name ∷ names) =
-      let here : name_after (replacement_of p) read repositories no_scripts n name ≡ name_read p.before p.pool repositories no_scripts (placed_name_of p name) read n = one_name read n name in
+      let here : member_of_name_after (replacement_of p) read repositories no_scripts n name ≡ member_of_name_by_read p.before p.pool repositories no_scripts (placed_name_of p name) read n = one_name read n name in
       let rest : names_after (replacement_of p) read repositories no_scripts (suc n) names ≡ names_read p.before p.pool repositories no_scripts read (suc n) (map (placed_name_of p) names) = each_name read (suc n) names in
       λ i. and_then (here i) (λ first. and_then (rest i) (λ others. Ok (cons_option first others)))
 
-  pub members_are : (read : Reads) (names : List PlacedName) → names ≡ placed_names_of p → members_after (replacement_of p) read repositories no_scripts ≡ names_read p.before p.pool repositories no_scripts read (first_index_read + length repositories) names
+  pub members_are : (read : Reads) (names : List PlacedName) → names ≡ placed_names_of p → members_after (replacement_of p) read repositories no_scripts ≡ names_read p.before p.pool repositories no_scripts read (first_index_read_number + length repositories) names
   unfolding members_after placed_names_of
   members_are read names are =
-      each_name read (first_index_read + length repositories) (names_before_and_selected (replacement_of p))
-      ∙ ap (names_read p.before p.pool repositories no_scripts read (first_index_read + length repositories)) (sym are)
+      each_name read (first_index_read_number + length repositories) (names_before_and_selected (replacement_of p))
+      ∙ ap (names_read p.before p.pool repositories no_scripts read (first_index_read_number + length repositories)) (sym are)
 
   module _ {A : Type 0} (reads_of : A → List MemberRead) (h : List TreeState) (names : List PlacedName) (are : names ≡ placed_names_of p) where
     abbrev pub IsExplained : Result A Refused → Type 0
@@ -73,13 +73,13 @@ module _ (law : PlacesLead) (p : PlacedReplacement) (repositories : List Reposit
     explained_handed (Err e) fault is answers = let P : Refused → Type 0 = λ x. IsExplained (Err x) in subst P (sym is) answers
 
     pub explained_refusal : (i : ℕ) (name : PlacedName) (reads : List MemberRead) (r : Result A Refused) (fault : Refused) → IsErrAnd r (λ e. e ≡ fault) → slice_get names i ≡ Some name
-        → IsReadTo p.before p.pool repositories no_scripts h (first_index_read + length repositories) names i reads
-        → IsAnswerByRead (IsNameRead h p.before) h (name_read p.before p.pool repositories no_scripts name) (Err fault) → IsExplained r
+        → IsReadTo p.before p.pool repositories no_scripts h (first_index_read_number + length repositories) names i reads
+        → IsAnswerByRead (IsNameRead h p.before) h (member_of_name_by_read p.before p.pool repositories no_scripts name) (Err fault) → IsExplained r
     explained_refusal i name reads r fault is here so_far answers = explained_handed r fault is (go fault answers)
       where
-        go : (x : Refused) → IsAnswerByRead (IsNameRead h p.before) h (name_read p.before p.pool repositories no_scripts name) (Err x) → IsExplained (Err x)
+        go : (x : Refused) → IsAnswerByRead (IsNameRead h p.before) h (member_of_name_by_read p.before p.pool repositories no_scripts name) (Err x) → IsExplained (Err x)
         go (Refusal refusal) by =
-            let refused = read_refused p.before p.pool repositories no_scripts h (first_index_read + length repositories) names i name reads here so_far refusal by in
+            let refused = read_refused p.before p.pool repositories no_scripts h (first_index_read_number + length repositories) names i name reads here so_far refusal by in
             record {
               read = reads_by h refused.0;
               observed = reads_are h refused.0;
@@ -89,9 +89,9 @@ module _ (law : PlacesLead) (p : PlacedReplacement) (repositories : List Reposit
         go Memory by = record { read = reads_by h (λ k. None); observed = reads_are h (λ k. None); is = tt }
 
     pub explained_all : (i : ℕ) (a : A) (reads : List MemberRead) → reads_of a ≡ reads → length names ≤ i
-        → IsReadTo p.before p.pool repositories no_scripts h (first_index_read + length repositories) names i reads → IsExplained (Ok a)
+        → IsReadTo p.before p.pool repositories no_scripts h (first_index_read_number + length repositories) names i reads → IsExplained (Ok a)
     explained_all i a reads has past so_far =
-        let all = read_all p.before p.pool repositories no_scripts h (first_index_read + length repositories) names i reads past so_far in
+        let all = read_all p.before p.pool repositories no_scripts h (first_index_read_number + length repositories) names i reads past so_far in
         record {
           read = reads_by h all.0;
           observed = reads_are h all.0;
@@ -104,9 +104,9 @@ module _ (law : PlacesLead) (p : PlacedReplacement) (repositories : List Reposit
 
 -- the packages that were read can be members
 pub can_be_members : PlacesLead → (p : PlacedReplacement) (repositories : List Repository) (no_scripts : Bool) (h : List TreeState) (names : List PlacedName) → names ≡ placed_names_of p → (i : ℕ) (reads : List MemberRead) → length names ≤ i
-    → IsReadTo p.before p.pool repositories no_scripts h (first_index_read + length repositories) names i reads → length p.pool.candidates ≤ MOST_MEMBERS → CanBeMembers p.before reads
+    → IsReadTo p.before p.pool repositories no_scripts h (first_index_read_number + length repositories) names i reads → length p.pool.candidates ≤ MOST_MEMBERS → CanBeMembers p.before reads
 can_be_members law p repositories no_scripts h names are i reads past so_far few =
-    let all = read_all p.before p.pool repositories no_scripts h (first_index_read + length repositories) names i reads past so_far in
+    let all = read_all p.before p.pool repositories no_scripts h (first_index_read_number + length repositories) names i reads past so_far in
     can_be h p (reads_by h all.0) repositories no_scripts reads all.1 (members_are law p repositories no_scripts (reads_by h all.0) names are ∙ all.2) all.3 few
 
 -- what is answered of a tree that is as it was

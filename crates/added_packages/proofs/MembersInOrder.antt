@@ -12,15 +12,15 @@ use Rattle.base_core.proofs.Rising.{IsIn, Rises, order, pairs_from_rises}
 use Rattle.change_outcome.proofs.change_files.InOrder.{order_rises}
 use Rattle.change_outcome.specs.change_files.PlanLists.{sorted_distinct_names}
 use Rattle.change_outcome.specs.change_inputs.Chains.{and_then}
-use Rattle.change_outcome.specs.change_inputs.Inputs.{first_index_read}
-use Rattle.change_outcome.specs.MembersAfter.{MemberFound, added_package_by_path, added_member_found, members_after, found_members, name_after, name_by_change, member_of_removed_name, names_after, kept_member_found}
-use Rattle.change_outcome.specs.PackageFiles.{AddedPackage, first_script_of, package_file_of, added_package_or_refusal, package_in_file, scripts_of_change, unless_package_bad, unless_different, unless_script_number, unless_script}
+use Rattle.change_outcome.specs.change_inputs.Inputs.{first_index_read_number}
+use Rattle.change_outcome.specs.MembersAfter.{MemberFound, added_package_by_path, added_member_found, members_after, found_members, member_of_name_after, member_of_name_by_change, member_of_removed_name, names_after, kept_member_found}
+use Rattle.change_outcome.specs.PackageFiles.{AddedPackage, first_script_of, package_file_of, added_package_or_refusal, package_in_file, scripts_of_change, unless_package_bad, unless_different, unless_script_number, unless_script_needed}
 use Rattle.change_outcome.specs.db_core.Members.{AreInOrder, Member, member_name}
 use Rattle.change_outcome.specs.db_core.Packages.{is_package_named}
 use Rattle.dep_core.specs.Repositories.{Repository}
-use Rattle.change_outcome.specs.file_owners.Replaces.{version_text}
+use Rattle.change_outcome.specs.file_owners.Replaces.{package_version_text}
 use Rattle.change_outcome.specs.make_info.Reads.{Reads}
-use Rattle.change_outcome.specs.package_changes.Changes.{Replacement, change_between, change_of_name, is_selected_named, names_before_and_selected}
+use Rattle.change_outcome.specs.package_changes.Changes.{Replacement, change_between, change_of_name, is_candidate_named, names_before_and_selected}
 use Rattle.change_outcome.specs.package_changes.Placed.{PlacedReplacement, candidates_at, replacement_of}
 use Rattle.package_verifier.specs.pkg_core.Whole.{package_fault}
 use Rattle.change_outcome.specs.candidate_core.Candidates.{Candidate}
@@ -63,7 +63,7 @@ by_number : {A : Type 0} (name : List ℕ) (n : Option ℕ) (a b : A) → unless
 by_number name None a b is = cc
 by_number name (Some k) a b is = absurd (cc)
 
-by_scripts : {A : Type 0} (no_scripts : Bool) (name : List ℕ) (pkg : Plain) (numbers : List ℕ) (a b : A) → unless_script no_scripts name pkg numbers a ≡ Ok b → a ≡ b
+by_scripts : {A : Type 0} (no_scripts : Bool) (name : List ℕ) (pkg : Plain) (numbers : List ℕ) (a b : A) → unless_script_needed no_scripts name pkg numbers a ≡ Ok b → a ≡ b
 by_scripts true name pkg numbers a b is = cc
 by_scripts false name pkg numbers a b is = by_number name (first_script_of pkg numbers) a b is
 
@@ -76,21 +76,21 @@ none_goes no_scripts name change (Some pkg) m is =
 
 module _ (read : Reads) (repositories : List Repository) (no_scripts : Bool) (n : ℕ) (name : List ℕ) where
   named : (change : Option Change) (before : Option Plain) (selected : Option Candidate) (m : MemberFound) → ((pkg : Plain) → before ≡ Some pkg → package_name pkg ≡ name) → ((c : Candidate) → selected ≡ Some c → c.name ≡ name)
-      → name_by_change read repositories no_scripts n name change before selected ≡ Ok (Some m) → member_name m.member ≡ name
+      → member_of_name_by_change read repositories no_scripts n name change before selected ≡ Ok (Some m) → member_name m.member ≡ name
   named None None selected m old new is = absurd (cc)
   named None (Some pkg) selected m old new is =
       let same : kept_member_found pkg ≡ m = cc in
       sym (ap (λ (x : MemberFound). member_name x.member) same) ∙ old pkg refl
   named (Some change) before None m old new is = absurd (none_goes no_scripts name change before m is)
   named (Some change) before (Some c) m old new is =
-      let part = given (added_package_by_path read n c (package_file_of repositories c)) (λ pkg. unless_script no_scripts name pkg.value (scripts_of_change change) (Some (added_member_found pkg))) (Some m) is in
+      let part = given (added_package_by_path read n c (package_file_of repositories c)) (λ pkg. unless_script_needed no_scripts name pkg.value (scripts_of_change change) (Some (added_member_found pkg))) (Some m) is in
       let same : Some (added_member_found part.0) ≡ Some m = by_scripts no_scripts name part.0.value (scripts_of_change change) (Some (added_member_found part.0)) (Some m) part.2 in
       let found : added_member_found part.0 ≡ m = cc in
       sym (ap (λ (x : MemberFound). member_name x.member) found) ∙ (named_by_path read n c (package_file_of repositories c) part.0 part.1 ∙ new c refl)
 
-  chosen : (is_again : Bool) (before : Option Plain) (selected : Option Candidate) (m : MemberFound) → name_by_change read repositories no_scripts n name (change_between is_again name before selected) before selected ≡ Ok (Some m) → (c : Candidate) × (selected ≡ Some c)
+  chosen : (is_again : Bool) (before : Option Plain) (selected : Option Candidate) (m : MemberFound) → member_of_name_by_change read repositories no_scripts n name (change_between is_again name before selected) before selected ≡ Ok (Some m) → (c : Candidate) × (selected ≡ Some c)
   chosen is_again None None m is = absurd (cc)
-  chosen is_again (Some pkg) None m is = absurd (none_goes no_scripts name (Purge name (version_text pkg)) (Some pkg) m is)
+  chosen is_again (Some pkg) None m is = absurd (none_goes no_scripts name (Purge name (package_version_text pkg)) (Some pkg) m is)
   chosen is_again None (Some c) m is = (c, refl)
   chosen is_again (Some pkg) (Some c) m is = (c, refl)
 
@@ -136,14 +136,14 @@ abbrev pub found_names : List MemberFound → List (List ℕ)
 found_names found = map (λ (m : MemberFound). member_name m.member) found
 
 module _ (r : Replacement) (read : Reads) (repositories : List Repository) (no_scripts : Bool) where
-  one_named : (n : ℕ) (name : List ℕ) (m : MemberFound) → name_after r read repositories no_scripts n name ≡ Ok (Some m) → (member_name m.member ≡ name) × IsIn name (names_of_selected r.selected)
+  one_named : (n : ℕ) (name : List ℕ) (m : MemberFound) → member_of_name_after r read repositories no_scripts n name ≡ Ok (Some m) → (member_name m.member ≡ name) × IsIn name (names_of_selected r.selected)
   unfolding change_of_name
   one_named n name m is =
-      let new : (c : Candidate) → find (is_selected_named name) r.selected ≡ Some c → c.name ≡ name = λ c e. (bytes_decides c.name name).0 (found_passes (is_selected_named name) r.selected c e) in
-      let picked = chosen read repositories no_scripts n name _ (find (is_package_named name) r.before) (find (is_selected_named name) r.selected) m is in (
-        named read repositories no_scripts n name (change_of_name r name) (find (is_package_named name) r.before) (find (is_selected_named name) r.selected) m
+      let new : (c : Candidate) → find (is_candidate_named name) r.selected ≡ Some c → c.name ≡ name = λ c e. (bytes_decides c.name name).0 (found_passes (is_candidate_named name) r.selected c e) in
+      let picked = chosen read repositories no_scripts n name _ (find (is_package_named name) r.before) (find (is_candidate_named name) r.selected) m is in (
+        named read repositories no_scripts n name (change_of_name r name) (find (is_package_named name) r.before) (find (is_candidate_named name) r.selected) m
             (λ pkg e. (bytes_decides (package_name pkg) name).0 (found_passes (is_package_named name) r.before pkg e)) new is,
-        subst (λ x. IsIn x (names_of_selected r.selected)) (new picked.0 picked.1) (in_selected (is_selected_named name) r.selected picked.0 picked.1),
+        subst (λ x. IsIn x (names_of_selected r.selected)) (new picked.0 picked.1) (in_selected (is_candidate_named name) r.selected picked.0 picked.1),
       )
 
   pub record AreNamed (names : List (List ℕ)) (found : List MemberFound) : Type 0 where
@@ -156,12 +156,12 @@ module _ (r : Replacement) (read : Reads) (repositories : List Repository) (no_s
       let same : [] ≡ found = cc in
       subst (AreNamed []) same (record { rises = tt; among = λ q here. here; selected = λ q here. absurd here })
   all_named n (name ∷ names) found rises is =
-      let first = given (name_after r read repositories no_scripts n name) (λ first. and_then (names_after r read repositories no_scripts (suc n) names) (λ others. Ok (cons_option first others))) found is in
+      let first = given (member_of_name_after r read repositories no_scripts n name) (λ first. and_then (names_after r read repositories no_scripts (suc n) names) (λ others. Ok (cons_option first others))) found is in
       let others = given (names_after r read repositories no_scripts (suc n) names) (λ others. Ok (cons_option first.0 others)) found first.2 in
       let same : cons_option first.0 others.0 ≡ found = cc (others.2) in
       subst (AreNamed (name ∷ names)) same (go first.0 first.1 others.0 (all_named (suc n) names others.0 rises.1 others.1))
     where
-      go : (first : Option MemberFound) → name_after r read repositories no_scripts n name ≡ Ok first → (others : List MemberFound) → AreNamed names others → AreNamed (name ∷ names) (cons_option first others)
+      go : (first : Option MemberFound) → member_of_name_after r read repositories no_scripts n name ≡ Ok first → (others : List MemberFound) → AreNamed names others → AreNamed (name ∷ names) (cons_option first others)
       go None is others rest = record { rises = rest.rises; among = λ q here. inr (rest.among q here); selected = rest.selected }
       go (Some m) is others rest =
           let one = one_named n name m is in
@@ -176,7 +176,7 @@ module _ (r : Replacement) (read : Reads) (repositories : List Repository) (no_s
 
   pub after_named : (found : List MemberFound) → members_after r read repositories no_scripts ≡ Ok found → AreNamed (names_before_and_selected r) found
   unfolding members_after
-  after_named found is = all_named (first_index_read + length repositories) (names_before_and_selected r) found (order_rises _) is
+  after_named found is = all_named (first_index_read_number + length repositories) (names_before_and_selected r) found (order_rises _) is
 
 -- ---- in order
 

@@ -11,7 +11,7 @@ use Rattle.change_outcome.specs.db_core.declared.members.TheConstants.{MOST_MEMB
 use Rattle.dep_core.specs.Repositories.{Repository}
 use Rattle.change_outcome.specs.make_info.Reads.{Reads}
 use Rattle.change_outcome.specs.package_changes.Placed.{PlacedReplacement, replacement_of}
-use Rattle.added_packages.specs.Arrivals.{AreMembersRead, HavePlacesIfKept, CanBeMembers, IsFileOfMember, IsMemberRead, IsPackageRead, HasPlaceIfKept, member_read, members_read, package_in}
+use Rattle.added_packages.specs.Arrivals.{AreMembersRead, HavePlacesIfKept, CanBeMembers, IsFileOfMember, IsMemberRead, IsPackageRead, HasPlaceIfKept, member_of_read_package, members_of_read_packages, package_in}
 use Rattle.package_verifier.specs.Tested.{tested_id, tested_value}
 use Rattle.package_verifier.specs.declared.package.TestedPackage.{TestedPackage}
 use Rattle.added_packages.specs.declared.arrivals.MemberRead.{MemberRead}
@@ -29,16 +29,16 @@ module _ (h : List TreeState) (before : List Plain) where
       let e1 : tested_id pkg ≡ coming.id = r.tested.id ∙ sym (ap (λ (p : AddedPackage). p.id) r.is) in
       λ i. member_of_added (e0 i) (e1 i)
 
-  one_read : (r : MemberRead) (m : MemberFound) → IsMemberRead h before r m → member_read before r ≡ Some m.member
+  one_read : (r : MemberRead) (m : MemberFound) → IsMemberRead h before r m → member_of_read_package before r ≡ Some m.member
   one_read (Stays place) m is = stays_as (slice_get before place) m is
   one_read (Comes pkg) m (coming, r, is) = ap Some (comes_as pkg coming r ∙ sym (ap (λ (x : MemberFound). x.member) is))
 
-  pub all_read : (reads : List MemberRead) (found : List MemberFound) → AreMembersRead h before reads found → members_read before reads ≡ found_members found
+  pub all_read : (reads : List MemberRead) (found : List MemberFound) → AreMembersRead h before reads found → members_of_read_packages before reads ≡ found_members found
   all_read [] [] are = refl
   all_read [] (m ∷ found) are = absurd are
   all_read (r ∷ reads) [] are = absurd are
   all_read (r ∷ reads) (m ∷ found) are =
-      ap (λ o. cons_option o (members_read before reads)) (one_read r m are.0) ∙ ap (λ z. m.member ∷ z) (all_read reads found are.1)
+      ap (λ o. cons_option o (members_of_read_packages before reads)) (one_read r m are.0) ∙ ap (λ z. m.member ∷ z) (all_read reads found are.1)
 
   as_many : (reads : List MemberRead) (found : List MemberFound) → AreMembersRead h before reads found → length reads ≡ length found
   as_many [] [] are = refl

@@ -12,15 +12,15 @@ use Rattle.change_outcome.specs.PackageFiles.{AddedPackage, package_in_file}
 use Rattle.change_outcome.specs.db_core.Members.{AreInOrder, Member, member_of_added, member_of_kept}
 use Rattle.change_outcome.specs.db_core.declared.members.TheConstants.{MOST_MEMBERS}
 use Rattle.package_verifier.specs.pkg_core.Contents.{contents_in}
-use Rattle.package_verifier.specs.pkg_core.Whole.{files_in_file}
+use Rattle.package_verifier.specs.pkg_core.Whole.{files_read_from_package}
 use Rattle.package_verifier.specs.Tested.{IsTestedOf, tested_id, tested_name, tested_value}
 use Rattle.package_verifier.specs.declared.package.TestedPackage.{TestedPackage}
 use Rattle.added_packages.specs.declared.arrivals.Arrivals.{Arrivals}
 use Rattle.added_packages.specs.declared.arrivals.MemberRead.{MemberRead}
 use Rattle.added_packages.specs.declared.arrivals.MemberRead.TheVariants.{Comes, Stays}
 
--- a package that was read is that of an added file: the file was tested, and if the tree's files are
--- observable it is the one under the package's name
+-- a package that was read is `coming`, the package in a file that was tested; if the tree's files are
+-- observable, the file is the one under the name of the package's file
 pub record IsPackageRead (history : List TreeState) (pkg : TestedPackage)
     (coming : AddedPackage) : Type 0 where
   pub file : List ℕ
@@ -53,13 +53,13 @@ arrivals_seen arrivals = arrivals.members.items
 -- ---- without their files
 
 -- a package that was read, as a member; none if its place leads to no package of the database
-abbrev pub member_read : List Plain → MemberRead → Option Member
-member_read before (Stays place) = option_map member_of_kept (slice_get before place)
-member_read before (Comes pkg) = Some (member_of_added (tested_value pkg) (tested_id pkg))
+abbrev pub member_of_read_package : List Plain → MemberRead → Option Member
+member_of_read_package before (Stays place) = option_map member_of_kept (slice_get before place)
+member_of_read_package before (Comes pkg) = Some (member_of_added (tested_value pkg) (tested_id pkg))
 
 -- the packages that were read, as members, in their order
-abbrev pub members_read : List Plain → List MemberRead → List Member
-members_read before reads = filter_map (member_read before) reads
+abbrev pub members_of_read_packages : List Plain → List MemberRead → List Member
+members_of_read_packages before reads = filter_map (member_of_read_package before) reads
 
 -- ---- as members
 
@@ -77,7 +77,7 @@ HavePlacesIfKept before (r ∷ reads) = HasPlaceIfKept before r × HavePlacesIfK
 -- order of names, and are few enough
 pub record CanBeMembers (before : List Plain) (reads : List MemberRead) : Type 0 where
   pub placed : HavePlacesIfKept before reads
-  pub in_order : AreInOrder (members_read before reads)
+  pub in_order : AreInOrder (members_of_read_packages before reads)
   pub few : length reads ≤ MOST_MEMBERS
 
 -- what was read of an added package; none for a kept one
@@ -92,4 +92,4 @@ pub record IsFileOfMember (history : List TreeState) (found : List MemberFound) 
   pub file : List ℕ
   pub located : IsFileFoundInTree history (tested_name pkg) (Some file)
   pub tested : IsTestedOf (tested_name pkg) file pkg
-  pub contents : found_package_contents found place ≡ contents_in (files_in_file file)
+  pub contents : found_package_contents found place ≡ contents_in (files_read_from_package file)

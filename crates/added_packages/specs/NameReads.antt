@@ -1,6 +1,6 @@
 -- The result of a call for one name, given the file that a read finds.
 -- The rules are in `docs/commands.md`, "`add` and `del`", **What is read** and **What is
--- refused**, and are said by *name_by_change* of `change_outcome`. Serves the contracts of
+-- refused**, and are said by *member_of_name_by_change* of `change_outcome`. Serves the contracts of
 -- `src/package.rt` and `src/arrivals.rt`.
 use Rattle.std.specs.Prelude.{◌≡◌, ℕ, Bool, List, [], ◌∷◌, Option, Some, None, Result, Ok, Err, option_map}
 use Rattle.adb_view.specs.Plain.{Plain}
@@ -8,8 +8,8 @@ use Rattle.base_core.specs.Tree.{TreeState, files_of}
 use Rattle.change_outcome.specs.change_inputs.Chains.{and_then}
 use Rattle.change_outcome.specs.change_inputs.declared.root.Refused.{Refused}
 use Rattle.change_outcome.specs.change_inputs.declared.root.Refused.TheVariants.{Disk, Memory, Refusal}
-use Rattle.change_outcome.specs.MembersAfter.{MemberFound, added_package_by_path, name_by_change, kept_member_found}
-use Rattle.change_outcome.specs.PackageFiles.{AddedPackage, package_file_of, added_package_or_refusal, scripts_of_change, unless_script}
+use Rattle.change_outcome.specs.MembersAfter.{MemberFound, added_package_by_path, member_of_name_by_change, kept_member_found}
+use Rattle.change_outcome.specs.PackageFiles.{AddedPackage, package_file_of, added_package_or_refusal, scripts_of_change, unless_script_needed}
 use Rattle.dep_core.specs.Repositories.{Repository}
 use Rattle.change_outcome.specs.make_info.Reads.{Reads}
 use Rattle.change_outcome.specs.package_changes.Placed.{PlacedName, new_candidate, old_package}
@@ -45,14 +45,15 @@ IsAnswerByRead Denotes history by (Err Disk) = Unit {0}
 IsAnswerByRead Denotes history by (Err Memory) = Unit {0}
 
 -- the package of a candidate, by the read of its file under this name, or the refusal
-abbrev pub file_read :
+abbrev pub package_of_candidate_by_path :
     Candidate → List ℕ → Reads → ℕ → Result AddedPackage Refusals.Refusal
-file_read c path read n = added_package_or_refusal c (read n path)
+package_of_candidate_by_path c path read n = added_package_or_refusal c (read n path)
 
 -- the package of a candidate, by the read of its file beside the index, or the refusal
-abbrev pub candidate_read :
+abbrev pub package_of_candidate_by_read :
     List Repository → Candidate → Reads → ℕ → Result AddedPackage Refusals.Refusal
-candidate_read repositories c read n = added_package_by_path read n c (package_file_of repositories c)
+package_of_candidate_by_read repositories c read n =
+    added_package_by_path read n c (package_file_of repositories c)
 
 -- the package of a candidate, by the read of its file, or the refusal, also for a script that its
 -- change would have to run
@@ -60,16 +61,16 @@ abbrev pub added_package_read :
     List Repository → Bool → List ℕ → Change → Candidate → Reads → ℕ
     → Result AddedPackage Refusals.Refusal
 added_package_read repositories no_scripts name change c read n =
-    and_then (candidate_read repositories c read n) (λ pkg.
-    unless_script no_scripts name pkg.value (scripts_of_change change) pkg)
+    and_then (package_of_candidate_by_read repositories c read n) (λ pkg.
+    unless_script_needed no_scripts name pkg.value (scripts_of_change change) pkg)
 
 -- the result for a name, by the read of its package's file: a package after the change, none, or the
 -- refusal
-abbrev pub name_read :
+abbrev pub member_of_name_by_read :
     List Plain → SealedPool → List Repository → Bool → PlacedName → Reads → ℕ
     → Result (Option MemberFound) Refusals.Refusal
-name_read before pool repositories no_scripts name read n =
-    name_by_change read repositories no_scripts n name.name name.change
+member_of_name_by_read before pool repositories no_scripts name read n =
+    member_of_name_by_change read repositories no_scripts n name.name name.change
     (old_package before name) (new_candidate pool name)
 
 -- a package after the change as it was read, or none, is the result for the name

@@ -4,8 +4,8 @@
 //! of the packages in byte order of names, the first with a bad file or a script that has to run.
 
 ghost use Rattle.added_packages.specs.Answered.{DenotesUnlessDisk};
-ghost use Rattle.added_packages.specs.Arrivals.{AreMembersRead, CanBeMembers, arrivals_seen, HasPlaceIfKept, member_read, members_read, IsFileOfMember, package_in};
-ghost use Rattle.added_packages.specs.NameReads.{IsAnswerByRead, IsNameRead, IsReadOfKeptPackage, name_read};
+ghost use Rattle.added_packages.specs.Arrivals.{AreMembersRead, CanBeMembers, arrivals_seen, HasPlaceIfKept, member_of_read_package, members_of_read_packages, IsFileOfMember, package_in};
+ghost use Rattle.added_packages.specs.NameReads.{IsAnswerByRead, IsNameRead, IsReadOfKeptPackage, member_of_name_by_read};
 ghost use Rattle.base_core.specs.Read.{OnlyReads};
 ghost use Rattle.change_outcome.specs.change_inputs.Answers.{Agrees};
 ghost use Rattle.change_outcome.specs.MembersAfter.{members_after, member_of_removed_name, MemberFound, found_members};
@@ -20,7 +20,7 @@ ghost use Rattle.adb_view.specs.Plain.{Plain};
 ghost use Rattle.added_packages.specs.declared.arrivals.MemberRead.{MemberRead};
 ghost use Rattle.package_verifier.specs.declared.package.TestedPackage.{TestedPackage};
 ghost use Rattle.base_core.specs.Tree.{TreeState};
-ghost use Rattle.change_outcome.specs.change_inputs.Inputs.{first_index_read};
+ghost use Rattle.change_outcome.specs.change_inputs.Inputs.{first_index_read_number};
 ghost use Rattle.dep_core.specs.Repositories.{Repository};
 ghost use Rattle.change_outcome.specs.make_info.Reads.{Reads};
 ghost use Rattle.change_outcome.specs.package_changes.Changes.{Replacement};
@@ -110,7 +110,8 @@ pub fn read_arrivals<T: Tree>(
         → IsExplainedBySomeReads (T.history tree.old) (λ read. DenotesUnlessDisk (λ arrivals found.
         AreMembersRead (T.history tree.old) (packages_of db.now) (arrivals_seen arrivals) found)
         result
-        (members_after (replacement_of (placed_replacement_from_parts db.now pool.now trace again)) read
+        (members_after (replacement_of
+        (placed_replacement_from_parts db.now pool.now trace again)) read
         repositories.now no_scripts)) }
     // The packages can be made members: they are in byte order of names, and no more than the
     // candidates.
@@ -160,7 +161,8 @@ fn read_name<T: Tree>(
     no_scripts: bool,
 ) -> Result<Option<MemberRead>, Refused>
     ensures found { IsAnswerByRead (IsNameRead (T.history tree.old) (packages_of db.now))
-        (T.history tree.old) (name_read (packages_of db.now) pool.now repositories.now no_scripts
+        (T.history tree.old) (member_of_name_by_read
+        (packages_of db.now) pool.now repositories.now no_scripts
         (placed_name_seen name.now)) result }
     ensures tree { OnlyReads Refused.Disk (T.history tree.old) (T.history tree.new)
         (T.counts tree.old) (T.counts tree.new) result }
@@ -232,7 +234,7 @@ pub fn members_of_change<'a>(
 ) -> Result<Members<'a>, AllocError>
     requires { CanBeMembers (packages_of db.now) (arrivals_seen arrivals.now) }
     ensures { IfOk result (λ members. members_of members
-        ≡ members_read (packages_of db.entry.now) (arrivals_seen arrivals.entry.now)) }
+        ≡ members_of_read_packages (packages_of db.entry.now) (arrivals_seen arrivals.entry.now)) }
 {
     let mut members = Members::new(alloc, db);
     for read in &arrivals.members {
@@ -243,12 +245,14 @@ pub fn members_of_change<'a>(
 
 /// Adds a package that was read to the members, at the end.
 fn push_read<'a>(members: &mut Members<'a>, read: &'a MemberRead) -> Result<(), AllocError>
-    requires behind { (m : Member) → member_read (packages_of_old_database members.old) read.now ≡ Some m
+    requires behind { (m : Member)
+        → member_of_read_package (packages_of_old_database members.old) read.now ≡ Some m
         → is_after_members (member_name m) (members_of members.old) ≡ true }
     requires placed { HasPlaceIfKept (packages_of_old_database members.old) read.now }
     requires few { length (members_of members.old) < MOST_MEMBERS }
     ensures added { OnOk result (members_of members.new ≡ members_of members.old
-        ++ option_to_list (member_read (packages_of_old_database members.old) read.entry.now)) }
+        ++ option_to_list (member_of_read_package
+        (packages_of_old_database members.old) read.entry.now)) }
     ensures before { packages_of_old_database members.new ≡ packages_of_old_database members.old }
 {
     match read {
@@ -261,7 +265,7 @@ fn push_read<'a>(members: &mut Members<'a>, read: &'a MemberRead) -> Result<(), 
 pub fn packages_that_were_read_are_those_found()
     ensures { (history : List TreeState) (before : List Plain) (reads : List MemberRead)
         (found : List MemberFound) → AreMembersRead history before reads found
-        → members_read before reads ≡ found_members found }
+        → members_of_read_packages before reads ≡ found_members found }
 {}
 
 /// The package that was read for the member at a place is that of the file whose contents the
@@ -284,7 +288,7 @@ pub fn a_package_that_was_read_is_that_of_its_file()
 pub fn packages_after_a_change_depend_on_their_reads()
     ensures { (r : Replacement) (read other : Reads) (repositories : List Repository)
         (no_scripts : Bool) → ((n : ℕ) (name : List ℕ)
-        → first_index_read + length repositories ≤ n → read n name ≡ other n name)
+        → first_index_read_number + length repositories ≤ n → read n name ≡ other n name)
         → members_after r read repositories no_scripts
         ≡ members_after r other repositories no_scripts }
 {}

@@ -5,13 +5,13 @@
 //! version than its index says; the tests in `docs/formats.md`, "Tests of a container".
 
 ghost use Rattle.added_packages.specs.Arrivals.{IsPackageRead};
-ghost use Rattle.added_packages.specs.NameReads.{IsAnswerByRead, candidate_read, added_package_read, file_read};
+ghost use Rattle.added_packages.specs.NameReads.{IsAnswerByRead, package_of_candidate_by_read, added_package_read, package_of_candidate_by_path};
 ghost use Rattle.package_verifier.specs.Tested.{tested_id, tested_value};
 ghost use Rattle.added_packages.specs.Told.{IsRefusalReported};
 ghost use Rattle.base_core.specs.Read.{OnlyReads};
 ghost use Rattle.change_outcome.specs.change_inputs.Answers.{Agrees};
-ghost use Rattle.change_outcome.specs.PackageFiles.{AddedPackage, package_file_of, scripts_of_change, unless_different, unless_script};
-ghost use Rattle.change_outcome.specs.package_changes.Changes.{selected_version};
+ghost use Rattle.change_outcome.specs.PackageFiles.{AddedPackage, package_file_of, scripts_of_change, unless_different, unless_script_needed};
+ghost use Rattle.change_outcome.specs.package_changes.Changes.{candidate_version_text};
 ghost use Rattle.change_outcome.specs.package_changes.Seen.{change_seen};
 ghost use Rattle.change_outcome.specs.candidate_core.Values.{candidate_value};
 ghost use Rattle.report_core.specs.declared.refusal.Refusal.TheVariants.{PackageBad, PackageMissing, PackageDiffers};
@@ -64,7 +64,8 @@ fn test_own_scripts(
     change: &Change<'_>,
     pkg: &TestedPackage,
 ) -> Result<(), Refused>
-    ensures { Agrees (λ _. true) result (unless_script no_scripts name.now (tested_value pkg.now)
+    ensures { Agrees (λ _. true) result (unless_script_needed no_scripts name.now
+        (tested_value pkg.now)
         (scripts_of_change (change_seen change.now)) true) }
 {
     let contents = pkg.contents();
@@ -81,7 +82,8 @@ fn read_candidate<T: Tree>(
     c: &Candidate<'_>,
 ) -> Result<TestedPackage, Refused>
     ensures found { IsAnswerByRead (IsPackageRead (T.history tree.old))
-        (T.history tree.old) (candidate_read repositories.now (candidate_value c.now)) result }
+        (T.history tree.old) (package_of_candidate_by_read repositories.now
+        (candidate_value c.now)) result }
     ensures tree { OnlyReads Refused.Disk (T.history tree.old) (T.history tree.new)
         (T.counts tree.old) (T.counts tree.new) result }
 {
@@ -122,7 +124,8 @@ fn read_beside<T: Tree>(
     path: &Name,
 ) -> Result<TestedPackage, Refused>
     ensures found { IsAnswerByRead (IsPackageRead (T.history tree.old))
-        (T.history tree.old) (file_read (candidate_value c.now) path.now) result }
+        (T.history tree.old) (package_of_candidate_by_path
+        (candidate_value c.now) path.now) result }
     ensures tree { OnlyReads Refused.Disk (T.history tree.old) (T.history tree.new)
         (T.counts tree.old) (T.counts tree.new) result }
 {
@@ -157,7 +160,7 @@ fn test_as_indexed<'a>(
 /// The refusal of a candidate whose package file is absent, or has a path that is no name.
 fn missing(alloc: Global, c: &Candidate<'_>) -> Refused
     ensures { IsRefusalReported (PackageMissing (candidate_value c.now).name
-        (selected_version (candidate_value c.now))) result }
+        (candidate_version_text (candidate_value c.now))) result }
 {
     told(package_missing(alloc, c))
 }
@@ -165,7 +168,7 @@ fn missing(alloc: Global, c: &Candidate<'_>) -> Refused
 /// That refusal with its texts: the name and the version of the candidate.
 fn package_missing(alloc: Global, c: &Candidate<'_>) -> Result<Refusal, AllocError>
     ensures { IfOk result (λ refusal. refusal ≡ PackageMissing (candidate_value c.now).name
-        (selected_version (candidate_value c.now))) }
+        (candidate_version_text (candidate_value c.now))) }
 {
     Ok(Refusal::PackageMissing {
         name: Text::of(alloc, c.info.name())?,
@@ -176,7 +179,7 @@ fn package_missing(alloc: Global, c: &Candidate<'_>) -> Result<Refusal, AllocErr
 /// The refusal of a candidate whose package file fails a test.
 fn bad(alloc: Global, c: &Candidate<'_>, cause: Cause) -> Refused
     ensures { IsRefusalReported (PackageBad (candidate_value c.now).name
-        (selected_version (candidate_value c.now)) cause) result }
+        (candidate_version_text (candidate_value c.now)) cause) result }
 {
     told(package_bad(alloc, c, cause))
 }
@@ -185,7 +188,7 @@ fn bad(alloc: Global, c: &Candidate<'_>, cause: Cause) -> Refused
 /// failed.
 fn package_bad(alloc: Global, c: &Candidate<'_>, cause: Cause) -> Result<Refusal, AllocError>
     ensures { IfOk result (λ refusal. refusal ≡ PackageBad (candidate_value c.now).name
-        (selected_version (candidate_value c.now)) cause) }
+        (candidate_version_text (candidate_value c.now)) cause) }
 {
     Ok(Refusal::PackageBad {
         name: Text::of(alloc, c.info.name())?,
@@ -224,7 +227,7 @@ pub(crate) fn test_same(
 /// The refusal of a candidate whose package differs in a field from its index's entry.
 fn differs(alloc: Global, c: &Candidate<'_>, field: u16, wanted: &[u8], found: &[u8]) -> Refused
     ensures { IsRefusalReported (PackageDiffers (candidate_value c.now).name
-        (selected_version (candidate_value c.now)) field wanted.now found.now) result }
+        (candidate_version_text (candidate_value c.now)) field wanted.now found.now) result }
 {
     told(package_differs(alloc, c, field, wanted, found))
 }
@@ -238,7 +241,7 @@ fn package_differs(
     found: &[u8],
 ) -> Result<Refusal, AllocError>
     ensures { IfOk result (λ refusal. refusal ≡ PackageDiffers (candidate_value c.now).name
-        (selected_version (candidate_value c.now)) field wanted.now found.now) }
+        (candidate_version_text (candidate_value c.now)) field wanted.now found.now) }
 {
     Ok(Refusal::PackageDiffers {
         name: Text::of(alloc, c.info.name())?,

@@ -7,7 +7,7 @@ ghost use Rattle.adb_view.specs.Values.{entry_in};
 ghost use Rattle.adb_view.specs.Plain.{Plain};
 ghost use Rattle.added_packages.specs.Told.{IsRefusalReported};
 ghost use Rattle.change_outcome.specs.change_inputs.Answers.{Agrees};
-ghost use Rattle.change_outcome.specs.PackageFiles.{first_script_of, scripts_of_change, unless_script};
+ghost use Rattle.change_outcome.specs.PackageFiles.{first_script_of, scripts_of_change, unless_script_needed};
 ghost use Rattle.change_outcome.specs.package_changes.Seen.{change_seen};
 ghost use Rattle.report_core.specs.declared.refusal.Refusal.TheVariants.{ScriptNeeded};
 ghost use Rattle.std.specs.Prelude.{◌≡◌, ◌<◌, ◌+◌, ◌^◌, ◌==◌, ℕ, true, not, if◌then◌else◌, Some, None, length, IfOk};
@@ -36,7 +36,8 @@ pub(crate) fn test_scripts<'a>(
     pkg: &PackageView<'a>,
     _mark: PhantomData<PackageView<'a>>,
 ) -> Result<(), Refused>
-    ensures { Agrees (λ _. true) result (unless_script no_scripts name.now (package_value pkg.now)
+    ensures { Agrees (λ _. true) result (unless_script_needed no_scripts name.now
+        (package_value pkg.now)
         (scripts_of_change (change_seen change.now)) true) }
 {
     if no_scripts {

@@ -14,8 +14,8 @@ use Rattle.version_core.specs.Order.{is_version, version_cmp}
 use Rattle.adb_view.specs.Plain.{Plain}
 use Rattle.installed_info.specs.candidate_core.Candidates.{Candidate, is_same_id, version_of_text}
 use Rattle.change_outcome.specs.db_core.Packages.{installed_id}
-use Rattle.installed_info.specs.file_owners.Replaces.{version_text}
-use Rattle.change_outcome.specs.package_changes.Changes.{Replacement, change_between, change_of_name, is_selected_named, selected_version, change_unless_same, version_change, version_text_cmp}
+use Rattle.installed_info.specs.file_owners.Replaces.{package_version_text}
+use Rattle.change_outcome.specs.package_changes.Changes.{Replacement, change_between, change_of_name, is_candidate_named, candidate_version_text, change_unless_same, version_change, version_text_cmp}
 use Rattle.report_core.specs.Reports.{Change, Downgrade, Reinstall, Replace, Upgrade}
 use Rattle.base_core.specs.Lists.{IsIn}
 use Rattle.answer_laws.specs.WhichChange.{HasBothVersions, IsSameVersionAndId}
@@ -40,26 +40,26 @@ order_is old new e f =
 -- the tests of a name with both versions
 record Tests (r : Replacement) (name : List ℕ) (pkg : Plain) (c : Candidate) : Type 0 where
   change : change_of_name r name
-      ≡ decided name (version_text pkg) (selected_version c) (bytes_eq (version_text pkg) (selected_version c))
-      (is_same_id (installed_id pkg) c.id) (list_any (bytes_eq name) r.again) (version_cmp (version_text pkg) (selected_version c))
-  tied : bytes_eq (version_text pkg) (selected_version c) ≡ true → version_cmp (version_text pkg) (selected_version c) ≡ Equal
+      ≡ decided name (package_version_text pkg) (candidate_version_text c) (bytes_eq (package_version_text pkg) (candidate_version_text c))
+      (is_same_id (installed_id pkg) c.id) (list_any (bytes_eq name) r.again) (version_cmp (package_version_text pkg) (candidate_version_text c))
+  tied : bytes_eq (package_version_text pkg) (candidate_version_text c) ≡ true → version_cmp (package_version_text pkg) (candidate_version_text c) ≡ Equal
 
 tests : (r : Replacement) (name : List ℕ) (pkg : Plain) (c : Candidate) → HasBothVersions r name pkg c → Tests r name pkg c
 unfolding change_of_name
 tests r name pkg c both =
     let again : Bool = list_any (bytes_eq name) r.again in
-    let text : Bool = bytes_eq (version_text pkg) (selected_version c) in
+    let text : Bool = bytes_eq (package_version_text pkg) (candidate_version_text c) in
     let id : Bool = is_same_id (installed_id pkg) c.id in
     record {
       change =
-          ap (λ (o : Option Plain). change_between again name o (find (is_selected_named name) r.selected)) both.before
+          ap (λ (o : Option Plain). change_between again name o (find (is_candidate_named name) r.selected)) both.before
           ∙ ap (λ (o : Option Candidate). change_between again name (Some pkg) o) both.selected
           ∙ ap (λ (b : Bool). change_unless_same name pkg c (not b || (text && id)) again) both.repository
-          ∙ ap (λ (o : Ordering). decided name (version_text pkg) (selected_version c) text id again o)
-          (order_is (version_text pkg) (selected_version c) both.old both.new);
+          ∙ ap (λ (o : Ordering). decided name (package_version_text pkg) (candidate_version_text c) text id again o)
+          (order_is (package_version_text pkg) (candidate_version_text c) both.old both.new);
       tied = λ same.
-          ap (version_cmp (version_text pkg)) (sym ((bytes_eq-Decides (version_text pkg) (selected_version c)).0 same))
-          ∙ tied_itself version_cmp-total (version_text pkg);
+          ap (version_cmp (package_version_text pkg)) (sym ((bytes_eq-Decides (package_version_text pkg) (candidate_version_text c)).0 same))
+          ∙ tied_itself version_cmp-total (package_version_text pkg);
     }
 
 -- ---- each kind, by the tests
@@ -125,40 +125,40 @@ is_kept name old new false id again order = (λ e. absurd cc, λ e. absurd (true
 abbrev pub Kind : (Replacement → List ℕ → Plain → Candidate → Type 0) → Type 0
 Kind P = (r : Replacement) (name : List ℕ) (pkg : Plain) (c : Candidate) → HasBothVersions r name pkg c → P r name pkg c
 
-pub upgrades : Kind (λ r name pkg c. (change_of_name r name ≡ Some (Upgrade name (version_text pkg) (selected_version c))) ↔ (version_cmp (version_text pkg) (selected_version c) ≡ Less))
+pub upgrades : Kind (λ r name pkg c. (change_of_name r name ≡ Some (Upgrade name (package_version_text pkg) (candidate_version_text c))) ↔ (version_cmp (package_version_text pkg) (candidate_version_text c) ≡ Less))
 upgrades r name pkg c both =
     let t = tests r name pkg c both in
     let is = is_upgrade name _ _ _ _ _ _ t.tied in
     (λ e. is.0 (sym t.change ∙ e), λ e. t.change ∙ is.1 e)
 
-pub downgrades : Kind (λ r name pkg c. (change_of_name r name ≡ Some (Downgrade name (version_text pkg) (selected_version c))) ↔ (version_cmp (version_text pkg) (selected_version c) ≡ Greater))
+pub downgrades : Kind (λ r name pkg c. (change_of_name r name ≡ Some (Downgrade name (package_version_text pkg) (candidate_version_text c))) ↔ (version_cmp (package_version_text pkg) (candidate_version_text c) ≡ Greater))
 downgrades r name pkg c both =
     let t = tests r name pkg c both in
     let is = is_downgrade name _ _ _ _ _ _ t.tied in
     (λ e. is.0 (sym t.change ∙ e), λ e. t.change ∙ is.1 e)
 
 -- the two tests say that the candidate is the package
-very : (pkg : Plain) (c : Candidate) → Both (bytes_eq (version_text pkg) (selected_version c)) (is_same_id (installed_id pkg) c.id) → IsSameVersionAndId pkg c
-very pkg c b = ((bytes_eq-Decides (version_text pkg) (selected_version c)).0 b.0, b.1)
+very : (pkg : Plain) (c : Candidate) → Both (bytes_eq (package_version_text pkg) (candidate_version_text c)) (is_same_id (installed_id pkg) c.id) → IsSameVersionAndId pkg c
+very pkg c b = ((bytes_eq-Decides (package_version_text pkg) (candidate_version_text c)).0 b.0, b.1)
 
-tested : (pkg : Plain) (c : Candidate) → IsSameVersionAndId pkg c → Both (bytes_eq (version_text pkg) (selected_version c)) (is_same_id (installed_id pkg) c.id)
-tested pkg c v = ((bytes_eq-Decides (version_text pkg) (selected_version c)).1 v.0, v.1)
+tested : (pkg : Plain) (c : Candidate) → IsSameVersionAndId pkg c → Both (bytes_eq (package_version_text pkg) (candidate_version_text c)) (is_same_id (installed_id pkg) c.id)
+tested pkg c v = ((bytes_eq-Decides (package_version_text pkg) (candidate_version_text c)).1 v.0, v.1)
 
-pub replaces : Kind (λ r name pkg c. (change_of_name r name ≡ Some (Replace name (version_text pkg) (selected_version c)))
-    ↔ ((version_cmp (version_text pkg) (selected_version c) ≡ Equal) × (IsSameVersionAndId pkg c → ⊥)))
+pub replaces : Kind (λ r name pkg c. (change_of_name r name ≡ Some (Replace name (package_version_text pkg) (candidate_version_text c)))
+    ↔ ((version_cmp (package_version_text pkg) (candidate_version_text c) ≡ Equal) × (IsSameVersionAndId pkg c → ⊥)))
 replaces r name pkg c both =
     let t = tests r name pkg c both in
-    let is = is_replace name (version_text pkg) (selected_version c) (bytes_eq (version_text pkg) (selected_version c)) (is_same_id (installed_id pkg) c.id) (list_any (bytes_eq name) r.again) (version_cmp (version_text pkg) (selected_version c)) in
+    let is = is_replace name (package_version_text pkg) (candidate_version_text c) (bytes_eq (package_version_text pkg) (candidate_version_text c)) (is_same_id (installed_id pkg) c.id) (list_any (bytes_eq name) r.again) (version_cmp (package_version_text pkg) (candidate_version_text c)) in
     (λ e. let u = is.0 (sym t.change ∙ e) in (u.0, λ v. u.1 (tested pkg c v)), λ e. t.change ∙ is.1 (e.0, λ b. e.1 (very pkg c b)))
 
-pub reinstalls : Kind (λ r name pkg c. (change_of_name r name ≡ Some (Reinstall name (selected_version c))) ↔ (IsSameVersionAndId pkg c × IsIn name r.again))
+pub reinstalls : Kind (λ r name pkg c. (change_of_name r name ≡ Some (Reinstall name (candidate_version_text c))) ↔ (IsSameVersionAndId pkg c × IsIn name r.again))
 reinstalls r name pkg c both =
     let t = tests r name pkg c both in
-    let is = is_reinstall name (version_text pkg) (selected_version c) (bytes_eq (version_text pkg) (selected_version c)) (is_same_id (installed_id pkg) c.id) (list_any (bytes_eq name) r.again) (version_cmp (version_text pkg) (selected_version c)) in
+    let is = is_reinstall name (package_version_text pkg) (candidate_version_text c) (bytes_eq (package_version_text pkg) (candidate_version_text c)) (is_same_id (installed_id pkg) c.id) (list_any (bytes_eq name) r.again) (version_cmp (package_version_text pkg) (candidate_version_text c)) in
     (λ e. let u = is.0 (sym t.change ∙ e) in (very pkg c u.0, listed name r.again u.1), λ e. t.change ∙ is.1 (tested pkg c e.0, is_listed name r.again e.1))
 
 pub keeps : Kind (λ r name pkg c. (change_of_name r name ≡ None) ↔ (IsSameVersionAndId pkg c × (IsIn name r.again → ⊥)))
 keeps r name pkg c both =
     let t = tests r name pkg c both in
-    let is = is_kept name (version_text pkg) (selected_version c) (bytes_eq (version_text pkg) (selected_version c)) (is_same_id (installed_id pkg) c.id) (list_any (bytes_eq name) r.again) (version_cmp (version_text pkg) (selected_version c)) in
+    let is = is_kept name (package_version_text pkg) (candidate_version_text c) (bytes_eq (package_version_text pkg) (candidate_version_text c)) (is_same_id (installed_id pkg) c.id) (list_any (bytes_eq name) r.again) (version_cmp (package_version_text pkg) (candidate_version_text c)) in
     (λ e. let u = is.0 (sym t.change ∙ e) in (very pkg c u.0, λ b. u.1 (is_listed name r.again b)), λ e. t.change ∙ is.1 (tested pkg c e.0, λ b. e.1 (listed name r.again b)))

@@ -8,7 +8,7 @@ use Rattle.adb_view.specs.Values.{entries_in}
 use Rattle.adb_view.proofs.ValueEntries.{entries_arr, nth_obj}
 use Rattle.change_outcome.specs.make_info.Values.{plains_of_list}
 use Rattle.change_outcome.specs.v2_lines.InfoFields.{field_of_letter, grammar_of, info_field_among, info_fields, letter_of}
-use Rattle.change_outcome.specs.v2_lines.InfoValues.{sha1_of, values_under_grammar}
+use Rattle.change_outcome.specs.v2_lines.InfoValues.{sha1_in_text, values_under_grammar}
 use Rattle.change_outcome.specs.v2_lines.Lines.{RecordLine, info_line, folder_line, folder_access_line, file_line, file_access_line, file_hash_line, other_line, folder_line_if_path, file_line_if_one_part, info_record_line, record_line_of_letter, record_line_of}
 use Rattle.change_outcome.specs.v2_lines.Accesses.{access_in}
 use Rattle.change_outcome.specs.v2_lines.declared.field.InfoField.{InfoField}
@@ -68,7 +68,7 @@ file_access_kept value = kept_paths_of file_access_line (λ a e. absurd cc) (acc
 
 file_hash_kept : (value : List ℕ) → NotDropped (record_line_of_letter 90 value)
 unfolding record_line_of_letter
-file_hash_kept value = kept_paths_of file_hash_line (λ a e. absurd cc) (sha1_of value)
+file_hash_kept value = kept_paths_of file_hash_line (λ a e. absurd cc) (sha1_in_text value)
 
 listed_kept : (value : List ℕ) (letter n : ℕ) → NotDropped (record_line_of_letter n value) → letter ≡ n → NotDropped (record_line_of_letter letter value)
 listed_kept value letter n kept same e = kept (ap (λ (m : ℕ). record_line_of_letter m value) (sym same) ∙ e)
@@ -141,7 +141,7 @@ dropped letter value unlisted =
     ∙ skip (letter == 77) (option_map folder_access_line (access_in value)) _ (apart letter 77 unlisted (inr (inr (inr (inr (inr (inr (inr (inr (inr (inr (inr (inr (inr (inr (inr (inr (inr (inr (inr (inl refl)))))))))))))))))))))
     ∙ skip (letter == 82) (file_line_if_one_part value) _ (apart letter 82 unlisted (inr (inr (inr (inr (inr (inr (inr (inr (inr (inr (inr (inr (inr (inr (inr (inr (inr (inr (inr (inr (inl refl))))))))))))))))))))))
     ∙ skip (letter == 97) (option_map file_access_line (access_in value)) _ (apart letter 97 unlisted (inr (inr (inr (inr (inr (inr (inr (inr (inr (inr (inr (inr (inr (inr (inr (inr (inr (inr (inr (inr (inr (inl refl)))))))))))))))))))))))
-    ∙ skip (letter == 90) (option_map file_hash_line (sha1_of value)) _ (apart letter 90 unlisted (inr (inr (inr (inr (inr (inr (inr (inr (inr (inr (inr (inr (inr (inr (inr (inr (inr (inr (inr (inr (inr (inr (inl refl))))))))))))))))))))))))
+    ∙ skip (letter == 90) (option_map file_hash_line (sha1_in_text value)) _ (apart letter 90 unlisted (inr (inr (inr (inr (inr (inr (inr (inr (inr (inr (inr (inr (inr (inr (inr (inr (inr (inr (inr (inr (inr (inr (inl refl))))))))))))))))))))))))
     ∙ ap (λ (o : Option InfoField). info_record_line o value) (no_field info_fields letter unlisted)
 
 -- ---- both ways

@@ -10,9 +10,9 @@ use Rattle.change_outcome.proofs.change_files.InOrder.{filter_rises, order_rises
 use Rattle.change_outcome.specs.Triggers.{due_trigger_line, due_trigger_lines, folders_of_paths, has_due_trigger, is_trigger_due, trigger_lines, unless_trigger_due}
 use Rattle.change_outcome.specs.db_core.Members.{Member, member_name}
 use Rattle.change_outcome.specs.package_files.Folders.{folder_of}
-use Rattle.report_core.specs.Reports.{report_line, report_lines, trigger_text}
+use Rattle.report_core.specs.Reports.{report_line, report_lines, trigger_due_text}
 use Rattle.report_core.specs.declared.refusal.Refusal.TheVariants.{TriggerNeeded}
-use Rattle.answer_laws.specs.DueTriggers.{HasTriggerLines, IsDueFor, IsFirstDue, IsTriggered}
+use Rattle.answer_laws.specs.DueTriggers.{HasTriggerLines, IsTriggerDueFor, IsFirstPackageWithDueTrigger, IsTriggered}
 use Rattle.answer_laws.proofs.Tests.{any_passes, in_passing, passes_any, passing_in}
 use Rattle.answer_laws.proofs.Watched.{due_is, folders_are}
 
@@ -25,7 +25,7 @@ due_rising : (paths : List (List ℕ)) (m : Member) → AreSortedDistinctNames (
 due_rising paths m =
     rising.pairs_from_rises (due_folders paths m) (filter_rises (is_trigger_due m.pkg) (folders_of_paths paths) (order_rises (map folder_of paths)))
 
-due_each : (paths : List (List ℕ)) (m : Member) (folder : List ℕ) → IsIn folder (due_folders paths m) ↔ IsDueFor paths m folder
+due_each : (paths : List (List ℕ)) (m : Member) (folder : List ℕ) → IsIn folder (due_folders paths m) ↔ IsTriggerDueFor paths m folder
 due_each paths m folder = (
   λ at.
       let h = in_passing (is_trigger_due m.pkg) (folders_of_paths paths) folder at in
@@ -35,12 +35,12 @@ due_each paths m folder = (
 
 -- ---- the text
 
-lines_of_one : (m : Member) (folders : List (List ℕ)) → flat_map (due_trigger_line m.pkg) folders ≡ report_lines (map (trigger_text (member_name m)) folders)
+lines_of_one : (m : Member) (folders : List (List ℕ)) → flat_map (due_trigger_line m.pkg) folders ≡ report_lines (map (trigger_due_text (member_name m)) folders)
 lines_of_one m [] = refl
 lines_of_one m (folder ∷ folders) = ap (λ (t : List ℕ). due_trigger_line m.pkg folder ++ t) (lines_of_one m folders)
 
 abbrev due_texts : List (List ℕ) → Member → List (List ℕ)
-due_texts paths m = map (trigger_text (member_name m)) (due_folders paths m)
+due_texts paths m = map (trigger_due_text (member_name m)) (due_folders paths m)
 
 lines_of_all : (paths : List (List ℕ)) (members : List Member)
     → flat_map (λ (m : Member). due_trigger_lines (folders_of_paths paths) m.pkg) members ≡ report_lines (flat_map (due_texts paths) members)
@@ -63,9 +63,9 @@ trigger_lines_are paths members = record {
 
 -- no trigger of a package is due
 abbrev NoneDue : List (List ℕ) → Member → Type 0
-NoneDue paths m = (folder : List ℕ) → IsDueFor paths m folder → ⊥
+NoneDue paths m = (folder : List ℕ) → IsTriggerDueFor paths m folder → ⊥
 
-one_due : (paths : List (List ℕ)) (m : Member) → has_due_trigger (folders_of_paths paths) m.pkg ≡ true → (folder : List ℕ) × IsDueFor paths m folder
+one_due : (paths : List (List ℕ)) (m : Member) → has_due_trigger (folders_of_paths paths) m.pkg ≡ true → (folder : List ℕ) × IsTriggerDueFor paths m folder
 one_due paths m e =
     let h = any_passes (is_trigger_due m.pkg) (folders_of_paths paths) e in
     (h.element, record { file = (folders_are paths h.element).0 h.listed; triggered = (due_is m.pkg h.element).0 h.passes })
@@ -94,13 +94,13 @@ accepted paths (m ∷ members) = go (has_due_trigger (folders_of_paths paths) m.
       λ f. more.1 (λ n at. f n (inr at)),
     )
 
-pub named : (paths : List (List ℕ)) (members : List Member) (name : List ℕ) → unless_trigger_due false paths members ≡ Err (TriggerNeeded name) → IsFirstDue paths members name
+pub named : (paths : List (List ℕ)) (members : List Member) (name : List ℕ) → unless_trigger_due false paths members ≡ Err (TriggerNeeded name) → IsFirstPackageWithDueTrigger paths members name
 named paths [] name e = absurd cc
 named paths (m ∷ members) name e = go (has_due_trigger (folders_of_paths paths) m.pkg) refl e (named paths members name)
   where
     go : (b : Bool) → has_due_trigger (folders_of_paths paths) m.pkg ≡ b
         → (if b then Err (TriggerNeeded (member_name m)) else unless_trigger_due false paths members) ≡ Err (TriggerNeeded name)
-        → (unless_trigger_due false paths members ≡ Err (TriggerNeeded name) → IsFirstDue paths members name) → IsFirstDue paths (m ∷ members) name
+        → (unless_trigger_due false paths members ≡ Err (TriggerNeeded name) → IsFirstPackageWithDueTrigger paths members name) → IsFirstPackageWithDueTrigger paths (m ∷ members) name
     go true is e more =
         let d = one_due paths m is in
         let same : member_name m ≡ name = cc in

@@ -8,11 +8,11 @@ use Rattle.dep_core.specs.Reading.{dependency_of}
 use Rattle.dep_core.specs.Spelling.{SpellsDependency}
 use Rattle.change_outcome.specs.make_info.Fields.{FieldValue}
 use Rattle.change_outcome.specs.v2_lines.InfoFields.{field_of_letter, grammar_of, info_field_among, info_fields, letter_of}
-use Rattle.change_outcome.specs.v2_lines.InfoValues.{sha1_of, values_under_grammar}
+use Rattle.change_outcome.specs.v2_lines.InfoValues.{sha1_in_text, values_under_grammar}
 use Rattle.change_outcome.specs.v2_lines.Lines.{RecordLine, info_line, folder_line, folder_access_line, file_line, file_access_line, file_hash_line, other_line, folder_line_if_path, file_line_if_one_part, info_record_line, record_line_of_letter, record_line_of}
 use Rattle.change_outcome.specs.v2_lines.Accesses.{access_in}
 use Rattle.change_outcome.specs.v2_lines.declared.field.InfoField.{InfoField}
-use Rattle.change_outcome.specs.v2_core.Database.{values_for}
+use Rattle.change_outcome.specs.v2_core.Database.{values_if_line_of_field}
 use Rattle.change_outcome.specs.v2_core.Records.{InfoLine, info_line_from_parts}
 use Rattle.answer_laws.specs.TextLetters.{LetterValueGivesValues, LineGivesFieldValues}
 use Rattle.std.proofs.lemmas.Bool.{eq-eqb}
@@ -68,7 +68,7 @@ info_found : (letter : ℕ) (value : List ℕ) (g : InfoField) (v : List FieldVa
 unfolding record_line_of_letter
 info_found letter value g v e =
     info_by_line letter (field_of_letter letter) value g v refl
-    (after_else (letter == 90) (option_map file_hash_line (sha1_of value)) (info_record_line (field_of_letter letter) value) g v (else_of file_hash_line (λ a g v e. absurd cc) (sha1_of value))
+    (after_else (letter == 90) (option_map file_hash_line (sha1_in_text value)) (info_record_line (field_of_letter letter) value) g v (else_of file_hash_line (λ a g v e. absurd cc) (sha1_in_text value))
     (after_else (letter == 97) (option_map file_access_line (access_in value)) _ g v (else_of file_access_line (λ a g v e. absurd cc) (access_in value))
     (after_else (letter == 82) (file_line_if_one_part value) _ g v (else_by (is_one_part value) (file_line value) (λ g v e. absurd cc))
     (after_else (letter == 77) (option_map folder_access_line (access_in value)) _ g v (else_of folder_access_line (λ a g v e. absurd cc) (access_in value))
@@ -88,7 +88,7 @@ infos (Some (file_hash_line hash)) = []
 infos (Some other_line) = []
 
 abbrev pub values_of : InfoField → List InfoLine → List FieldValue
-values_of f info = flat_map (values_for f) info
+values_of f info = flat_map (values_if_line_of_field f) info
 
 -- the values that a line gives to a field
 abbrev pub given : InfoField → List ℕ → List FieldValue

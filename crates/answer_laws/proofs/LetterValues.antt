@@ -10,13 +10,13 @@ use Rattle.hex.specs.declared.error.FromHexError.{FromHexError}
 use Rattle.dep_core.specs.Dependency.{Dependency}
 use Rattle.dep_core.specs.Reading.{dependency_of}
 use Rattle.dep_core.specs.Spelling.{SpellsDependency}
-use Rattle.change_outcome.specs.make_info.Fields.{FieldValue, text, kind_of_field, value_of_digits, values_by_kind}
+use Rattle.change_outcome.specs.make_info.Fields.{FieldValue, text, kind_of_field, values_of_hex_digits, values_by_kind}
 use Rattle.change_outcome.specs.make_info.declared.field.Field.{Field}
 use Rattle.change_outcome.specs.make_info.declared.field.Field.TheVariants as Options
 use Rattle.make_laws.specs.OptionGrammar.{FieldTextGivesValues}
 use Rattle.make_laws.proofs.FieldValues.{says_from, says_to}
 use Rattle.change_outcome.specs.v2_lines.InfoFields.{field_of_letter, grammar_of, letter_of}
-use Rattle.change_outcome.specs.v2_lines.InfoValues.{commit_values, sha1_of, twenty_bytes, values_under_grammar}
+use Rattle.change_outcome.specs.v2_lines.InfoValues.{commit_values, sha1_in_text, bytes_if_twenty, values_under_grammar}
 use Rattle.change_outcome.specs.v2_lines.Lines.{info_line, record_line_of_letter}
 use Rattle.change_outcome.specs.v2_lines.declared.field.InfoField.{InfoField}
 use Rattle.change_outcome.specs.v2_lines.declared.field.InfoField.TheVariants as Letters
@@ -71,7 +71,7 @@ if_twenty : (b : Bool) (bytes found : List ℕ) → length bytes ≡ length byte
 if_twenty true bytes found n e = (refl, cc)
 if_twenty false bytes found n e = absurd cc
 
-twenty : (r : Result (List ℕ) DecodeError) (found : List ℕ) → twenty_bytes r ≡ Some found → (r ≡ Ok found) × (length found ≡ 20)
+twenty : (r : Result (List ℕ) DecodeError) (found : List ℕ) → bytes_if_twenty r ≡ Some found → (r ≡ Ok found) × (length found ≡ 20)
 twenty (Err error) found e = absurd cc
 twenty (Ok bytes) found e =
     let t = if_twenty (eqb (length bytes) 20) bytes found refl e in
@@ -82,11 +82,11 @@ chosen_hash true true q one o found f g e = (eqb-true q 81 f, eqb-true one 49 g,
 chosen_hash true false q one o found f g e = absurd cc
 chosen_hash false b q one o found f g e = absurd cc
 
-hash_says : (value bytes : List ℕ) → sha1_of value ≡ Some bytes → SaysHash value (text bytes ∷ [])
+hash_says : (value bytes : List ℕ) → sha1_in_text value ≡ Some bytes → SaysHash value (text bytes ∷ [])
 hash_says [] bytes e = absurd cc
 hash_says (q ∷ []) bytes e = absurd cc
 hash_says (q ∷ one ∷ encoded) bytes e =
-    let (is_q, is_one, is) = chosen_hash (q == 81) (one == 49) q one (twenty_bytes (base64_bytes standard encoded)) bytes refl refl e in
+    let (is_q, is_one, is) = chosen_hash (q == 81) (one == 49) q one (bytes_if_twenty (base64_bytes standard encoded)) bytes refl refl e in
     let t = twenty (base64_bytes standard encoded) bytes is in
     (encoded, bytes, ap (λ (x : ℕ). x ∷ one ∷ encoded) is_q ∙ ap (λ (x : ℕ). 81 ∷ x ∷ encoded) is_one, t.0, t.1, refl)
 
@@ -100,9 +100,9 @@ module _ (spelled : (t : List ℕ) (d : Dependency) → dependency_of t ≡ Some
 
   commit : (value : List ℕ) (r : Result (List ℕ) FromHexError) (said : List FieldValue) → hex_bytes value ≡ r → commit_values r ≡ said → SaysCommit value said
   commit value (Ok bytes) said is e =
-      inl (as_option Options.RepoCommit value said (ap value_of_digits is ∙ ap Some e))
+      inl (as_option Options.RepoCommit value said (ap values_of_hex_digits is ∙ ap Some e))
   commit value (Err error) said is e = inr (
-    λ given says. let t : None ≡ Some given = sym (ap value_of_digits is) ∙ says_from spelled read Options.RepoCommit value given says in absurd cc,
+    λ given says. let t : None ≡ Some given = sym (ap values_of_hex_digits is) ∙ says_from spelled read Options.RepoCommit value given says in absurd cc,
     sym e,
   )
 
@@ -111,7 +111,7 @@ module _ (spelled : (t : List ℕ) (d : Dependency) → dependency_of t ≡ Some
 
   pub says : (f : InfoField) (value : List ℕ) (said : List FieldValue) → values_under_grammar (grammar_of f) value ≡ Some said → LetterValueGivesValues f value said
   says Letters.Hashes value said e =
-      let (bytes, is, same) = mapped (λ (b : List ℕ). text b ∷ []) (sha1_of value) said e in
+      let (bytes, is, same) = mapped (λ (b : List ℕ). text b ∷ []) (sha1_in_text value) said e in
       subst (SaysHash value) same (hash_says value bytes is)
   says Letters.InstalledSize value said e = as_option Options.BuildTime value said e
   says Letters.RepoCommit value said e = commit value (hex_bytes value) said refl (some_commit _ said e)

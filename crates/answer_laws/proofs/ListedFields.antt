@@ -12,7 +12,7 @@ use Rattle.make_laws.specs.NamedFields.{entries_named, field_named}
 use Rattle.change_outcome.specs.v2_core.Database.{array_of, listed_access_value, listed_file_value, listed_folder_value, listed_hash_value, record_value}
 use Rattle.change_outcome.specs.v2_core.Records.{ListedFile, ListedFolder, Record}
 use Rattle.change_outcome.specs.v2_lines.Accesses.{Access, access_in}
-use Rattle.change_outcome.specs.v2_lines.InfoValues.{sha1_of}
+use Rattle.change_outcome.specs.v2_lines.InfoValues.{sha1_in_text}
 use Rattle.change_outcome.specs.v2_lines.Lines.{file_access_line, file_hash_line, file_line_if_one_part, folder_access_line, folder_line_if_path, record_line_of_letter, record_line_of}
 use Rattle.answer_laws.specs.TextLetters.{letter_line}
 use Rattle.answer_laws.proofs.DroppedLines.{file_parts}
@@ -36,7 +36,7 @@ pub file_access_letter : (value : List ℕ) → record_line_of (letter_line (cod
 unfolding record_line_of_letter
 file_access_letter value = refl
 
-pub hash_letter : (value : List ℕ) → record_line_of (letter_line (codes "Z") value) ≡ option_map file_hash_line (sha1_of value)
+pub hash_letter : (value : List ℕ) → record_line_of (letter_line (codes "Z") value) ≡ option_map file_hash_line (sha1_in_text value)
 unfolding record_line_of_letter
 hash_letter value = refl
 

@@ -5,7 +5,7 @@ use Rattle.std.specs.Option.{option_and_then, option_or}
 use Rattle.change_outcome.specs.make_info.Fields.{FieldValue}
 use Rattle.change_outcome.proofs.v2_core.Lists.{with_last-push}
 use Rattle.change_outcome.specs.v2_core.Reading.{record_with_text_line}
-use Rattle.change_outcome.specs.v2_core.Records.{ListedFile, ListedFolder, Record, empty_record, listed_file_from_parts, file_with_access, file_with_hash, listed_folder_from_parts, folder_with_access, folder_with_file, folder_with_files, folder_with_last, with_last_changed, with_path_line}
+use Rattle.change_outcome.specs.v2_core.Records.{ListedFile, ListedFolder, Record, empty_record, listed_file_from_parts, file_with_access, file_with_hash, listed_folder_from_parts, folder_with_access, folder_with_file, folder_with_files, folder_with_last_file_changed, list_with_last_changed, with_path_line}
 use Rattle.change_outcome.specs.v2_lines.Accesses.{Access}
 use Rattle.change_outcome.specs.v2_lines.declared.field.InfoField.{InfoField}
 use Rattle.change_outcome.specs.v2_lines.Lines.{RecordLine, file_access_line, file_hash_line, file_line, folder_access_line, folder_line, info_line, other_line, record_line_of}
@@ -103,12 +103,12 @@ mapped f None b e = absurd cc
 mapped f (Some a) b e = (a, refl, cc)
 
 -- a list whose last element was changed is not empty
-not_empty : (change : ListedFile → Option ListedFile) (x : ListedFile) (xs more : List ListedFile) → with_last_changed change (x ∷ xs) ≡ Some more → (y : ListedFile) × (ys : List ListedFile) × (more ≡ y ∷ ys)
+not_empty : (change : ListedFile → Option ListedFile) (x : ListedFile) (xs more : List ListedFile) → list_with_last_changed change (x ∷ xs) ≡ Some more → (y : ListedFile) × (ys : List ListedFile) × (more ≡ y ∷ ys)
 not_empty change x [] more e =
     let (y, is, same) = mapped (λ (z : ListedFile). z ∷ []) (change x) more e in
     (y, [], sym same)
 not_empty change x (z ∷ rest) more e =
-    let (l, is, same) = mapped (λ (l : List ListedFile). x ∷ l) (with_last_changed change (z ∷ rest)) more e in
+    let (l, is, same) = mapped (λ (l : List ListedFile). x ∷ l) (list_with_last_changed change (z ∷ rest)) more e in
     (x, l, sym same)
 
 one_more : (x : ListedFile) (files : List ListedFile) (lines : List RecordLine) (y : ListedFile) (ys : List ListedFile) → files ≡ y ∷ ys → grown_files (x ∷ files) lines ≡ x ∷ grown_files files lines
@@ -117,7 +117,7 @@ one_more x files lines y ys is =
     ap (λ (l : List ListedFile). grown_files (x ∷ l) lines) is ∙ ap (λ (l : List ListedFile). x ∷ grown_files l lines) (sym is)
 
 last_keeps : (change : ListedFile → Option ListedFile) (l : RecordLine) → Keeps change l → ((lines : List RecordLine) → lines_up_to_file (l ∷ lines) ≡ l ∷ lines_up_to_file lines) → ((lines : List RecordLine) → files_listed (l ∷ lines) ≡ files_listed lines)
-    → (files more : List ListedFile) (lines : List RecordLine) → with_last_changed change files ≡ Some more → grown_files more lines ≡ grown_files files (l ∷ lines)
+    → (files more : List ListedFile) (lines : List RecordLine) → list_with_last_changed change files ≡ Some more → grown_files more lines ≡ grown_files files (l ∷ lines)
 unfolding grown_files
 last_keeps change l keeps up listed [] more lines e = absurd cc
 last_keeps change l keeps up listed (x ∷ []) more lines e =
@@ -127,7 +127,7 @@ last_keeps change l keeps up listed (x ∷ []) more lines e =
     ∙ ap (λ (p : List RecordLine). grown_file x p ∷ files_listed lines) (sym (up lines))
     ∙ ap (λ (m : List ListedFile). grown_file x (lines_up_to_file (l ∷ lines)) ∷ m) (sym (listed lines))
 last_keeps change l keeps up listed (x ∷ z ∷ rest) more lines e =
-    let (m, is, same) = mapped (λ (m : List ListedFile). x ∷ m) (with_last_changed change (z ∷ rest)) more e in
+    let (m, is, same) = mapped (λ (m : List ListedFile). x ∷ m) (list_with_last_changed change (z ∷ rest)) more e in
     let (y, ys, some) = not_empty change z rest m is in
     ap (λ (k : List ListedFile). grown_files k lines) (sym same)
     ∙ one_more x m lines y ys some
@@ -159,10 +159,10 @@ file_keeps name f g lines e =
     ∙ ap (listed_folder_from_parts f.name (option_or f.access (folder_access_in lines))) (files_with_new name f.files lines)
 
 last_file_keeps : (change : ListedFile → Option ListedFile) (l : RecordLine) → Keeps change l → ((lines : List RecordLine) → lines_up_to_file (l ∷ lines) ≡ l ∷ lines_up_to_file lines) → ((lines : List RecordLine) → files_listed (l ∷ lines) ≡ files_listed lines)
-    → ((lines : List RecordLine) → folder_access_in (l ∷ lines) ≡ folder_access_in lines) → FolderKeeps (folder_with_last change) l
+    → ((lines : List RecordLine) → folder_access_in (l ∷ lines) ≡ folder_access_in lines) → FolderKeeps (folder_with_last_file_changed change) l
 unfolding grown
 last_file_keeps change l keeps up listed access f g lines e =
-    let (files, is, same) = mapped (folder_with_files f) (with_last_changed change f.files) g e in
+    let (files, is, same) = mapped (folder_with_files f) (list_with_last_changed change f.files) g e in
     ap (λ (h : ListedFolder). grown h lines) (sym same)
     ∙ ap (listed_folder_from_parts f.name (option_or f.access (folder_access_in lines))) (last_keeps change l keeps up listed f.files files lines is)
     ∙ ap (λ (o : Option Access). listed_folder_from_parts f.name (option_or f.access o) (grown_files f.files (l ∷ lines))) (sym (access lines))
@@ -180,7 +180,7 @@ record LastChanged (change : ListedFolder → Option ListedFolder) (done : List 
   after : folders_after (done ++ changed ∷ []) lines ≡ Some all
 
 last_of : (change : ListedFolder → Option ListedFolder) (done : List ListedFolder) (f : ListedFolder) (lines : List RecordLine) (all : List ListedFolder)
-    → option_and_then (λ next. folders_after next lines) (with_last_changed change (done ++ f ∷ [])) ≡ Some all → LastChanged change done f lines all
+    → option_and_then (λ next. folders_after next lines) (list_with_last_changed change (done ++ f ∷ [])) ≡ Some all → LastChanged change done f lines all
 last_of change done f lines all e = go (change f) refl (sym (ap (option_and_then (λ next. folders_after next lines)) (with_last-push change done f)) ∙ e)
   where
     go : (o : Option ListedFolder) → change f ≡ o → option_and_then (λ next. folders_after next lines) (option_map (λ g. done ++ g ∷ []) o) ≡ Some all → LastChanged change done f lines all
@@ -223,12 +223,12 @@ after_folder (file_line name ∷ lines) done f all e =
     after_folder lines done t.changed all t.after
     ∙ ap (λ (h : ListedFolder). placed done h lines) (file_keeps name f t.changed (lines_up_to_folder lines) t.is)
 after_folder (file_access_line a ∷ lines) done f all e =
-    let t = last_of (folder_with_last (file_with_access a)) done f lines all e in
+    let t = last_of (folder_with_last_file_changed (file_with_access a)) done f lines all e in
     after_folder lines done t.changed all t.after
     ∙ ap (λ (h : ListedFolder). placed done h lines)
     (last_file_keeps (file_with_access a) (file_access_line a) (access_keeps a) (λ ls. refl) (λ ls. refl) (λ ls. refl) f t.changed (lines_up_to_folder lines) t.is)
 after_folder (file_hash_line hash ∷ lines) done f all e =
-    let t = last_of (folder_with_last (file_with_hash hash)) done f lines all e in
+    let t = last_of (folder_with_last_file_changed (file_with_hash hash)) done f lines all e in
     after_folder lines done t.changed all t.after
     ∙ ap (λ (h : ListedFolder). placed done h lines)
     (last_file_keeps (file_with_hash hash) (file_hash_line hash) (hash_keeps hash) (λ ls. refl) (λ ls. refl) (λ ls. refl) f t.changed (lines_up_to_folder lines) t.is)

@@ -13,13 +13,13 @@ use Rattle.base_core.specs.Listed.{AreSortedDistinctNames}
 use Rattle.base_core.specs.Lists.{IsIn}
 use Rattle.base_core.proofs.Rising as rising
 use Rattle.base_core.proofs.Booleans.{either_true}
-use Rattle.installed_info.specs.candidate_core.Candidates.{Candidate, is_met_by_entry, meets_by_own_name, meets_dependency}
+use Rattle.installed_info.specs.candidate_core.Candidates.{Candidate, is_met_by_provides_entry, meets_by_own_name, meets_dependency}
 use Rattle.change_outcome.proofs.change_files.InOrder.{filter_rises, from_filter, from_order, in_filter, in_order, order_rises}
 use Rattle.change_outcome.specs.change_files.PlanLists.{sorted_distinct_names}
 use Rattle.change_outcome.specs.db_core.Packages.{is_package_named}
 use Rattle.dep_core.specs.Dependency.{Dependency}
 use Rattle.dep_core.specs.Meets.{meets}
-use Rattle.change_outcome.specs.package_changes.Changes.{is_selected_named}
+use Rattle.change_outcome.specs.package_changes.Changes.{is_candidate_named}
 use Rattle.change_outcome.specs.package_changes.Report.{is_other_candidate_needing, names_needing_candidate, needs_candidate, still_needed_lines_of_name, still_needed_lines, was_installed}
 use Rattle.report_core.specs.Reports.{report_line, report_lines, still_needed_text}
 use Rattle.answer_laws.specs.KeptNames.{AreNamedOnce, HasKeptLines, IsNeededBySelectedName, IsProvidedBy, NeedsOther, still_needed_text_of_name}
@@ -28,21 +28,21 @@ use Rattle.answer_laws.proofs.Tests.{any_passes, in_passing, passes_any, passing
 
 -- ---- one candidate needs another
 
-provided : (d : Dependency) (c : Candidate) → list_any (is_met_by_entry d) c.provides ≡ true → IsProvidedBy d c
+provided : (d : Dependency) (c : Candidate) → list_any (is_met_by_provides_entry d) c.provides ≡ true → IsProvidedBy d c
 provided d c e =
-    let h = any_passes (is_met_by_entry d) c.provides e in
+    let h = any_passes (is_met_by_provides_entry d) c.provides e in
     let t = and_parts (not h.element.conflict) (meets d h.element.name h.element.version) h.passes in
     record { entry = h.element; listed = h.listed; positive = not-true h.element.conflict t.0; met = t.1 }
 
-provides : (d : Dependency) (c : Candidate) → IsProvidedBy d c → list_any (is_met_by_entry d) c.provides ≡ true
-provides d c p = passes_any (is_met_by_entry d) c.provides p.entry p.listed (and_from (not p.entry.conflict) _ (not_from_false p.entry.conflict p.positive) p.met)
+provides : (d : Dependency) (c : Candidate) → IsProvidedBy d c → list_any (is_met_by_provides_entry d) c.provides ≡ true
+provides d c p = passes_any (is_met_by_provides_entry d) c.provides p.entry p.listed (and_from (not p.entry.conflict) _ (not_from_false p.entry.conflict p.positive) p.met)
 
 is_met : (d : Dependency) (c : Candidate) → meets_dependency d c ≡ true → (meets d c.name c.version ≡ true) ⊎ IsProvidedBy d c
-is_met d c e = elim (or_cases (meets_by_own_name d c) (list_any (is_met_by_entry d) c.provides) e) [ inl own ↦ inl own | inr more ↦ inr (provided d c more) ]
+is_met d c e = elim (or_cases (meets_by_own_name d c) (list_any (is_met_by_provides_entry d) c.provides) e) [ inl own ↦ inl own | inr more ↦ inr (provided d c more) ]
 
 met_by : (d : Dependency) (c : Candidate) → (meets d c.name c.version ≡ true) ⊎ IsProvidedBy d c → meets_dependency d c ≡ true
-met_by d c (inl own) = either_true (meets_by_own_name d c) (list_any (is_met_by_entry d) c.provides) (inl own)
-met_by d c (inr p) = either_true (meets_by_own_name d c) (list_any (is_met_by_entry d) c.provides) (inr (provides d c p))
+met_by d c (inl own) = either_true (meets_by_own_name d c) (list_any (is_met_by_provides_entry d) c.provides) (inl own)
+met_by d c (inr p) = either_true (meets_by_own_name d c) (list_any (is_met_by_provides_entry d) c.provides) (inr (provides d c p))
 
 abbrev positive_need : Candidate → Dependency → Bool
 positive_need needed d = not d.conflict && meets_dependency d needed
@@ -101,7 +101,7 @@ needed_rising selected needed = rising.pairs_from_rises (names_needing_candidate
 -- ---- the lines
 
 abbrev has_selected : List Candidate → List ℕ → Bool
-has_selected selected name = is_some (find (is_selected_named name) selected)
+has_selected selected name = is_some (find (is_candidate_named name) selected)
 
 abbrev first_of : List Candidate → Option Candidate
 first_of [] = None
@@ -130,9 +130,9 @@ lines_of : (selected : List Candidate) → AreNamedOnce selected → (names : Li
     → flat_map (still_needed_lines_of_name selected) names ≡ report_lines (map (still_needed_text_of_name selected) (filter (has_selected selected) names))
 lines_of selected once [] = refl
 lines_of selected once (x ∷ names) =
-    one_line selected x (flat_map (still_needed_lines_of_name selected) names) (filter (is_selected_named x) selected) (once x)
+    one_line selected x (flat_map (still_needed_lines_of_name selected) names) (filter (is_candidate_named x) selected) (once x)
     ∙ ap (λ (o : Option Candidate). cond (is_some o) (report_line (text_on selected x o) ++ flat_map (still_needed_lines_of_name selected) names) (flat_map (still_needed_lines_of_name selected) names))
-    (sym (find_first (is_selected_named x) selected))
+    (sym (find_first (is_candidate_named x) selected))
     ∙ ap (λ (r : List ℕ). cond (has_selected selected x) (report_line (still_needed_text_of_name selected x) ++ r) r) (lines_of selected once names)
     ∙ go (has_selected selected x)
   where
@@ -146,16 +146,16 @@ lines_of selected once (x ∷ names) =
 -- ---- which names
 
 selected_in : (selected : List Candidate) (name : List ℕ) → has_selected selected name ≡ true → IsIn name (map name_of selected)
-selected_in selected name e = go (find (is_selected_named name) selected) refl e
+selected_in selected name e = go (find (is_candidate_named name) selected) refl e
   where
-    go : (o : Option Candidate) → find (is_selected_named name) selected ≡ o → is_some o ≡ true → IsIn name (map name_of selected)
+    go : (o : Option Candidate) → find (is_candidate_named name) selected ≡ o → is_some o ≡ true → IsIn name (map name_of selected)
     go None is e = absurd (true≢false (sym e))
     go (Some c) is e = listed name (map name_of selected) (found_name name_of name selected c is)
 
 in_selected : (selected : List Candidate) (name : List ℕ) → IsIn name (map name_of selected) → has_selected selected name ≡ true
-in_selected selected name at = go (find (is_selected_named name) selected) refl
+in_selected selected name at = go (find (is_candidate_named name) selected) refl
   where
-    go : (o : Option Candidate) → find (is_selected_named name) selected ≡ o → is_some o ≡ true
+    go : (o : Option Candidate) → find (is_candidate_named name) selected ≡ o → is_some o ≡ true
     go None is = absurd (missing_name name_of name selected is at)
     go (Some c) is = refl
 

@@ -11,10 +11,10 @@ use Rattle.installed_info.specs.candidate_core.Candidates.{Candidate}
 use Rattle.change_outcome.specs.change_inputs.Chains.{unless_cause}
 use Rattle.change_outcome.specs.change_inputs.Database.{Database, database_from_parts, payload_database, root_database}
 use Rattle.change_outcome.specs.PackageFiles.{package_file_of, path_beside_index}
-use Rattle.change_outcome.specs.root_names.PackagePath.{folder_prefix_of, has_slash, path_if_name, package_path}
+use Rattle.change_outcome.specs.root_names.PackagePath.{folder_prefix_of, has_slash, path_if_valid_name, package_path}
 use Rattle.dep_core.specs.Repositories.{Repository}
-use Rattle.change_outcome.specs.package_changes.Changes.{selected_version}
-use Rattle.installed_info.specs.adb_schema.Soundness.{first_fault}
+use Rattle.change_outcome.specs.package_changes.Changes.{candidate_version_text}
+use Rattle.installed_info.specs.adb_schema.Soundness.{container_fault_except_contents}
 use Rattle.report_core.specs.declared.refusal.Refusal.TheVariants.{DatabaseBad}
 use Rattle.change_outcome.specs.v2_core.Payload.{payload_of_text}
 use Rattle.change_outcome.specs.v2_core.declared.read.V2Fault.{V2Fault}
@@ -43,34 +43,34 @@ prefix_is (b ∷ folder) index none =
 
 -- ---- the file of a candidate
 
-named_path : (path : List ℕ) → is_name path ≡ true → path_if_name path ≡ Some path
+named_path : (path : List ℕ) → is_name path ≡ true → path_if_valid_name path ≡ Some path
 named_path path e = ap (λ (t : Bool). let o : Option (List ℕ) = if t then Some path else None in o) e
 
 -- the name of the file beside an index, given the candidate's repository
 beside : (repositories : List Repository) (c : Candidate) (path : List ℕ) → IsCandidateOfIndex repositories c path
-    → package_file_of repositories c ≡ path_if_name (package_path path c.name (selected_version c))
+    → package_file_of repositories c ≡ path_if_valid_name (package_path path c.name (candidate_version_text c))
 beside repositories c path of =
     let at : (of.place + 1) - 1 ≡ of.place = omega arith in
     by_number of.numbered
-    ∙ ap (λ (n : ℕ). path_beside_index c.name (selected_version c) (slice_get repositories n)) at
-    ∙ ap (path_beside_index c.name (selected_version c)) of.listed
-    ∙ ap (λ (p : List ℕ). path_if_name (package_path p c.name (selected_version c))) of.path_is
+    ∙ ap (λ (n : ℕ). path_beside_index c.name (candidate_version_text c) (slice_get repositories n)) at
+    ∙ ap (path_beside_index c.name (candidate_version_text c)) of.listed
+    ∙ ap (λ (p : List ℕ). path_if_valid_name (package_path p c.name (candidate_version_text c))) of.path_is
   where
-    by_number : c.repository ≡ Some (of.place + 1) → package_file_of repositories c ≡ path_beside_index c.name (selected_version c) (slice_get repositories ((of.place + 1) - 1))
+    by_number : c.repository ≡ Some (of.place + 1) → package_file_of repositories c ≡ path_beside_index c.name (candidate_version_text c) (slice_get repositories ((of.place + 1) - 1))
     by_number e = ap (λ (o : Option ℕ). package_file_of repositories (record c { repository = o })) e
 
 pub below : (repositories : List Repository) (c : Candidate) (folder index : List ℕ) → HasNoSlash index → IsCandidateOfIndex repositories c (folder ++ codes "/" ++ index)
     → is_name (folder ++ codes "/" ++ candidate_file_name c) ≡ true → package_file_of repositories c ≡ Some (folder ++ codes "/" ++ candidate_file_name c)
 below repositories c folder index none of named =
     beside repositories c (folder ++ codes "/" ++ index) of
-    ∙ ap (λ (t : List ℕ). path_if_name (t ++ candidate_file_name c)) (prefix_is folder index none)
+    ∙ ap (λ (t : List ℕ). path_if_valid_name (t ++ candidate_file_name c)) (prefix_is folder index none)
     ∙ named_path (folder ++ codes "/" ++ candidate_file_name c) named
 
 pub top : (repositories : List Repository) (c : Candidate) (index : List ℕ) → HasNoSlash index → IsCandidateOfIndex repositories c index
     → is_name (candidate_file_name c) ≡ true → package_file_of repositories c ≡ Some (candidate_file_name c)
 top repositories c index none of named =
     beside repositories c index of
-    ∙ ap (λ (t : List ℕ). path_if_name (t ++ candidate_file_name c)) (no_prefix index none)
+    ∙ ap (λ (t : List ℕ). path_if_valid_name (t ++ candidate_file_name c)) (no_prefix index none)
     ∙ named_path (candidate_file_name c) named
 
 -- ---- the two databases
@@ -79,7 +79,7 @@ pub container : (begins other : Bool) (file : List ℕ) (text another : Option (
 container begins other file text another = refl
 
 pub by_container : (begins : Bool) (file : List ℕ) (text : Option (List ℕ)) (d : Database) → root_database begins (Some file) text ≡ Ok d → (d.from_text ≡ false) × (d.file ≡ Some file)
-by_container begins file text d e = go (first_fault Idb file) e
+by_container begins file text d e = go (container_fault_except_contents Idb file) e
   where
     go : (o : Option Cause) → unless_cause DatabaseBad o (database_from_parts (entries_at IDB_PACKAGES (root_value Idb (payload_in file))) (Some file) false) ≡ Ok d → (d.from_text ≡ false) × (d.file ≡ Some file)
     go None e =

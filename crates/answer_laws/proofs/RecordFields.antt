@@ -20,7 +20,7 @@ use Rattle.change_outcome.specs.v2_lines.InfoFields.{is_list_info_field, field_o
 use Rattle.change_outcome.specs.v2_lines.Lines.{RecordLine, info_line, folder_line, folder_access_line, file_line, file_access_line, file_hash_line, other_line, record_line_of}
 use Rattle.change_outcome.specs.v2_lines.declared.field.InfoField.{InfoField}
 use Rattle.change_outcome.specs.v2_lines.declared.field.InfoField.TheVariants as Letters
-use Rattle.change_outcome.specs.v2_core.Database.{array_of_field_values, record_info_value, record_value, value_of_single_line_field, value_of_first_or_null, value_of_line, values_for}
+use Rattle.change_outcome.specs.v2_core.Database.{array_of_field_values, record_info_value, record_value, value_of_single_line_field, value_of_first_or_null, value_of_line, values_if_line_of_field}
 use Rattle.change_outcome.specs.v2_core.Reading.{record_with_text_line}
 use Rattle.change_outcome.specs.v2_core.Records.{InfoLine, ListedFolder, Record, has_line_of, info_line_from_parts, is_line_of, record_if_both_parts, with_info_values, with_info_line, with_path_line, with_record_line}
 use Rattle.answer_laws.specs.TextLetters.{LinesGiveFieldValues, HasValuesOfLines, is_list_letter, letter_value_in_package, record_with_lines}
@@ -78,7 +78,7 @@ info_more other_line info more e = let same : info ≡ more = cc in sym same ∙
 values_more : (f : InfoField) (r next : Record) (line : List ℕ) → Accepted r next line → values_of f next.info ≡ values_of f r.info ++ given f line
 values_more f r next line a =
     ap (values_of f) (info_more a.meaning r.info next.info a.info)
-    ∙ flat_map-append (values_for f) r.info (infos (Some a.meaning))
+    ∙ flat_map-append (values_if_line_of_field f) r.info (infos (Some a.meaning))
     ∙ ap (λ (o : Option RecordLine). values_of f r.info ++ values_of f (infos o)) (sym a.means)
 
 values_after : (f : InfoField) (lines : List (List ℕ)) (r s : Record) → record_with_lines r lines ≡ Some s → values_of f s.info ≡ values_of f r.info ++ flat_map (given f) lines
@@ -163,7 +163,7 @@ with_own f v info more false once is e =
     let same : info ++ info_line_from_parts f v ∷ [] ≡ more = cc in
     let before = no_values f info is in
     let values : values_of f (info ++ info_line_from_parts f v ∷ []) ≡ v =
-    flat_map-append (values_for f) info (info_line_from_parts f v ∷ []) ∙ ap (λ (x : List FieldValue). x ++ values_of f (info_line_from_parts f v ∷ [])) before.0 ∙ own_values f v in
+    flat_map-append (values_if_line_of_field f) info (info_line_from_parts f v ∷ []) ∙ ap (λ (x : List FieldValue). x ++ values_of f (info_line_from_parts f v ∷ [])) before.0 ∙ own_values f v in
     let found : find (is_line_of f) (info ++ info_line_from_parts f v ∷ []) ≡ Some (info_line_from_parts f v) =
     find-append (is_line_of f) info (info_line_from_parts f v ∷ [])
     ∙ ap (λ (o : Option InfoLine). option_or o (find (is_line_of f) (info_line_from_parts f v ∷ []))) before.1
@@ -183,7 +183,7 @@ with_other : (f g : InfoField) (v : List FieldValue) (info more : List InfoLine)
 unfolding Tells
 with_other f g v info more other is tells =
     let values : values_of f (info ++ info_line_from_parts g v ∷ []) ≡ values_of f info =
-    flat_map-append (values_for f) info (info_line_from_parts g v ∷ []) ∙ ap (λ (x : List FieldValue). values_of f info ++ x) (other_values f g v other) ∙ append-nil (values_of f info) in
+    flat_map-append (values_if_line_of_field f) info (info_line_from_parts g v ∷ []) ∙ ap (λ (x : List FieldValue). values_of f info ++ x) (other_values f g v other) ∙ append-nil (values_of f info) in
     let found : find (is_line_of f) (info ++ info_line_from_parts g v ∷ []) ≡ find (is_line_of f) info =
     find-append (is_line_of f) info (info_line_from_parts g v ∷ [])
     ∙ ap (λ (b : Bool). option_or (find (is_line_of f) info) (cond b (Some (info_line_from_parts g v)) None)) other

@@ -16,7 +16,7 @@ use Rattle.base_core.specs.ByteOrder.{bytes_cmp, precedes}
 use Rattle.base_core.proofs.Booleans.{either_true}
 use Rattle.dep_core.specs.Dependency.{Dependency}
 use Rattle.dep_core.specs.Meets.{constraint_accepts, meets}
-use Rattle.installed_info.specs.file_owners.Replaces.{replaces_entry_names, is_preferred_replacer, is_replaced_by, replaces_names_package, replacing_priority, takes_over, version_text}
+use Rattle.installed_info.specs.file_owners.Replaces.{replaces_entry_names, is_preferred_replacer, is_replaced_by, replaces_names_package, replacing_priority, takes_over, package_version_text}
 use Rattle.version_core.specs.Order.{is_version}
 use Rattle.answer_laws.specs.ReplacesEntries.{IsNamedInReplaces}
 use Rattle.answer_laws.proofs.Tests.{any_passes, passes_any}
@@ -53,8 +53,8 @@ unfolding replaces_names_package
 named_in x y = (
   λ e.
       let h = any_passes (λ (entry : Plain). replaces_entry_names entry y) (entries_at INFO_REPLACES (entry_in x PACKAGE_INFO)) e in
-      let t = and_parts (is_version (version_text y)) (is_replaced_by (dependency_in h.element) (package_name y) (version_text y)) h.passes in
-      let a = accepting h.element (package_name y) (version_text y) t.1 in
+      let t = and_parts (is_version (package_version_text y)) (is_replaced_by (dependency_in h.element) (package_name y) (package_version_text y)) h.passes in
+      let a = accepting h.element (package_name y) (package_version_text y) t.1 in
       record {
         entry = h.element;
         listed = h.listed;
@@ -67,8 +67,8 @@ named_in x y = (
       },
   λ n.
       passes_any (λ (entry : Plain). replaces_entry_names entry y) (entries_at INFO_REPLACES (entry_in x PACKAGE_INFO)) n.entry n.listed
-      (and_from (is_version (version_text y)) (is_replaced_by (dependency_in n.entry) (package_name y) (version_text y)) n.version
-      (accepted n.entry (package_name y) (version_text y) n.dependency n.read n.positive n.name n.wanted)),
+      (and_from (is_version (package_version_text y)) (is_replaced_by (dependency_in n.entry) (package_name y) (package_version_text y)) n.version
+      (accepted n.entry (package_name y) (package_version_text y) n.dependency n.read n.positive n.name n.wanted)),
 )
 
 -- the test by a name and a version alone
@@ -76,9 +76,9 @@ abbrev names_text : Plain → List ℕ → List ℕ → Bool
 names_text x name version =
     list_any (λ (entry : Plain). is_version version && is_replaced_by (dependency_in entry) name version) (entries_at INFO_REPLACES (entry_in x PACKAGE_INFO))
 
-pub own : (x y z : Plain) → package_name y ≡ package_name z → version_text y ≡ version_text z → replaces_names_package x y ≡ replaces_names_package x z
+pub own : (x y z : Plain) → package_name y ≡ package_name z → package_version_text y ≡ package_version_text z → replaces_names_package x y ≡ replaces_names_package x z
 unfolding replaces_names_package
-own x y z name version = ap (λ (n : List ℕ). names_text x n (version_text y)) name ∙ ap (names_text x (package_name z)) version
+own x y z name version = ap (λ (n : List ℕ). names_text x n (package_version_text y)) name ∙ ap (names_text x (package_name z)) version
 
 -- ---- who is preferred
 

@@ -12,18 +12,18 @@ use Rattle.std.proofs.lemmas.List.Sums.{sum_by-cons}
 use Rattle.base_core.proofs.Sorting.{sorted_same, sorted_up}
 use Rattle.base_core.specs.ByteOrder.{bytes_cmp}
 use Rattle.base_core.specs.Files.{Files}
-use Rattle.base_core.specs.Sorted.{sorted_by, with_element}
+use Rattle.base_core.specs.Sorted.{sorted_by, with_element_inserted}
 use Rattle.installed_info.specs.candidate_core.Candidates.{Candidate}
 use Rattle.change_outcome.specs.change_files.Fate.{apk_new_ending}
 use Rattle.change_outcome.specs.change_files.FileChange.{FileChange}
 use Rattle.change_outcome.specs.change_files.PlanLists.{paths_with_apk_new_file, kept_paths_of}
-use Rattle.change_outcome.specs.ChangeOutcome.{ChangeWishes, change_report, member_size, member_sum_line, touched_paths}
+use Rattle.change_outcome.specs.ChangeOutcome.{ChangeWishes, change_report, member_installed_size, member_sum_line, touched_paths}
 use Rattle.change_outcome.specs.ConfigurationLines.{PathLine, apk_new_line, configuration_lines, kept_config_line, path_line, path_line_cmp}
 use Rattle.change_outcome.specs.Triggers.{trigger_lines}
 use Rattle.change_outcome.specs.db_core.Members.{Member}
 use Rattle.change_outcome.specs.package_changes.Changes.{Replacement, changes_of}
-use Rattle.change_outcome.specs.package_changes.Report.{candidate_size, selected_sum_line, simulated_report, still_needed_lines}
-use Rattle.report_core.specs.Reports.{change_lines, report_line, report_lines, sum_text}
+use Rattle.change_outcome.specs.package_changes.Report.{candidate_installed_size, selected_sum_line, simulated_report, still_needed_lines}
+use Rattle.report_core.specs.Reports.{change_lines, report_line, report_lines, bytes_and_package_count_text}
 use Rattle.answer_laws.specs.KeptNames.{AreNamedOnce}
 use Rattle.answer_laws.specs.ReportSections.{ChangedFile, HasConfigurationLines, HasSections, HasSimulatedSections, IsSumLine, IsSumOf, changed_path, changed_file_text, size_when_installed, kept, placed_beside, member_info}
 use Rattle.answer_laws.proofs.DueLines.{trigger_lines_are}
@@ -36,10 +36,10 @@ summed : {X : Type 0} (size : X → ℕ) (xs : List X) → IsSumOf (map size xs)
 summed size [] = refl
 summed size (x ∷ xs) = (sum_by size xs, summed size xs, sum_by-cons size x xs)
 
-ended : (sum count : ℕ) → report_line (sum_text sum count) ≡ codes "OK: " ++ decimal sum ++ codes " bytes in " ++ decimal count ++ codes " packages\n"
+ended : (sum count : ℕ) → report_line (bytes_and_package_count_text sum count) ≡ codes "OK: " ++ decimal sum ++ codes " bytes in " ++ decimal count ++ codes " packages\n"
 ended sum count = append_assoc (codes "OK: " ++ decimal sum ++ codes " bytes in " ++ decimal count) (codes " packages") (codes "\n")
 
-has_sum : {X : Type 0} (size : X → ℕ) (xs : List X) → IsSumLine (map size xs) (report_line (sum_text (sum_by size xs) (length xs)))
+has_sum : {X : Type 0} (size : X → ℕ) (xs : List X) → IsSumLine (map size xs) (report_line (bytes_and_package_count_text (sum_by size xs) (length xs)))
 has_sum size xs = record {
   sum = sum_by size xs;
   sum_is = summed size xs;
@@ -48,29 +48,29 @@ has_sum size xs = record {
 }
 
 pub simulated_sum : (selected : List Candidate) → IsSumLine (map (λ (c : Candidate). size_when_installed c.info) selected) (selected_sum_line selected)
-simulated_sum selected = has_sum candidate_size selected
+simulated_sum selected = has_sum candidate_installed_size selected
 
 pub made_sum : (members : List Member) → IsSumLine (map (λ (m : Member). size_when_installed (member_info m)) members) (member_sum_line members)
-made_sum members = has_sum member_size members
+made_sum members = has_sum member_installed_size members
 
 -- ---- configuration
 
 -- an order of values that is that of what is made of them is kept
-element_map : {X Y : Type 0} (f : X → Y) (cmp : X → X → Ordering) (by : Y → Y → Ordering) → ((x y : X) → cmp x y ≡ by (f x) (f y)) → (x : X) (ys : List X) → map f (with_element cmp x ys) ≡ with_element by (f x) (map f ys)
+element_map : {X Y : Type 0} (f : X → Y) (cmp : X → X → Ordering) (by : Y → Y → Ordering) → ((x y : X) → cmp x y ≡ by (f x) (f y)) → (x : X) (ys : List X) → map f (with_element_inserted cmp x ys) ≡ with_element_inserted by (f x) (map f ys)
 element_map f cmp by same x [] = refl
 element_map f cmp by same x (y ∷ ys) =
     split (is_gt (cmp x y)) (element_map f cmp by same x ys)
-    ∙ ap (λ (o : Ordering). if is_gt o then f y ∷ with_element by (f x) (map f ys) else f x ∷ f y ∷ map f ys) (same x y)
+    ∙ ap (λ (o : Ordering). if is_gt o then f y ∷ with_element_inserted by (f x) (map f ys) else f x ∷ f y ∷ map f ys) (same x y)
   where
-    split : (b : Bool) → map f (with_element cmp x ys) ≡ with_element by (f x) (map f ys)
-        → map f (if b then y ∷ with_element cmp x ys else x ∷ y ∷ ys) ≡ (if b then f y ∷ with_element by (f x) (map f ys) else f x ∷ f y ∷ map f ys)
+    split : (b : Bool) → map f (with_element_inserted cmp x ys) ≡ with_element_inserted by (f x) (map f ys)
+        → map f (if b then y ∷ with_element_inserted cmp x ys else x ∷ y ∷ ys) ≡ (if b then f y ∷ with_element_inserted by (f x) (map f ys) else f x ∷ f y ∷ map f ys)
     split true more = ap (λ (l : List _). f y ∷ l) more
     split false more = refl
 
 sorted_map : {X Y : Type 0} (f : X → Y) (cmp : X → X → Ordering) (by : Y → Y → Ordering) → ((x y : X) → cmp x y ≡ by (f x) (f y)) → (xs : List X) → map f (sorted_by cmp xs) ≡ sorted_by by (map f xs)
 sorted_map f cmp by same [] = refl
 sorted_map f cmp by same (x ∷ xs) =
-    element_map f cmp by same x (sorted_by cmp xs) ∙ ap (with_element by (f x)) (sorted_map f cmp by same xs)
+    element_map f cmp by same x (sorted_by cmp xs) ∙ ap (with_element_inserted by (f x)) (sorted_map f cmp by same xs)
 
 abbrev changed_cmp : ChangedFile → ChangedFile → Ordering
 changed_cmp x y = bytes_cmp (changed_path x) (changed_path y)

@@ -13,8 +13,8 @@ use Rattle.base_core.specs.Lists.{IsIn}
 use Rattle.installed_info.specs.candidate_core.Candidates.{Candidate}
 use Rattle.change_outcome.proofs.change_files.InOrder.{in_order, order_rises, in_left, in_right}
 use Rattle.change_outcome.specs.db_core.Packages.{is_package_named}
-use Rattle.installed_info.specs.file_owners.Replaces.{version_text}
-use Rattle.change_outcome.specs.package_changes.Changes.{Replacement, change_between, change_of_name, changes_of, is_candidate_this_package, is_selected_named, names_before_and_selected, selected_version, change_unless_same, version_change, version_text_cmp}
+use Rattle.installed_info.specs.file_owners.Replaces.{package_version_text}
+use Rattle.change_outcome.specs.package_changes.Changes.{Replacement, change_between, change_of_name, changes_of, is_candidate_this_package, is_candidate_named, names_before_and_selected, candidate_version_text, change_unless_same, version_change, version_text_cmp}
 use Rattle.report_core.specs.Reports.{Change, Install, Purge, Reinstall}
 use Rattle.answer_laws.specs.WhichChange.{HasInstallChange, HasPurgeChange, IsSelected, WasInstalled, changed_name}
 use Rattle.answer_laws.proofs.Members.{found_name, given_in, given_of, listed, missing_name}
@@ -28,28 +28,28 @@ named_version name old new Greater = refl
 
 named_same : (name : List ℕ) (pkg : Plain) (c : Candidate) (same again : Bool) (change : Change) → change_unless_same name pkg c same again ≡ Some change → changed_name change ≡ name
 named_same name pkg c false again change e =
-    let is : version_change name (version_text pkg) (selected_version c) (version_text_cmp (version_text pkg) (selected_version c)) ≡ change = cc in
-    sym (ap changed_name is) ∙ named_version name (version_text pkg) (selected_version c) (version_text_cmp (version_text pkg) (selected_version c))
-named_same name pkg c true true change e = let is : Reinstall name (selected_version c) ≡ change = cc in sym (ap changed_name is)
+    let is : version_change name (package_version_text pkg) (candidate_version_text c) (version_text_cmp (package_version_text pkg) (candidate_version_text c)) ≡ change = cc in
+    sym (ap changed_name is) ∙ named_version name (package_version_text pkg) (candidate_version_text c) (version_text_cmp (package_version_text pkg) (candidate_version_text c))
+named_same name pkg c true true change e = let is : Reinstall name (candidate_version_text c) ≡ change = cc in sym (ap changed_name is)
 named_same name pkg c true false change e = absurd cc
 
 named_between : (again : Bool) (name : List ℕ) (old : Option Plain) (new : Option Candidate) (change : Change) → change_between again name old new ≡ Some change → changed_name change ≡ name
 named_between again name None None change e = absurd cc
-named_between again name None (Some c) change e = let is : Install name (selected_version c) ≡ change = cc in sym (ap changed_name is)
-named_between again name (Some pkg) None change e = let is : Purge name (version_text pkg) ≡ change = cc in sym (ap changed_name is)
+named_between again name None (Some c) change e = let is : Install name (candidate_version_text c) ≡ change = cc in sym (ap changed_name is)
+named_between again name (Some pkg) None change e = let is : Purge name (package_version_text pkg) ≡ change = cc in sym (ap changed_name is)
 named_between again name (Some pkg) (Some c) change e = named_same name pkg c (is_candidate_this_package pkg c) again change e
 
 named : (r : Replacement) (name : List ℕ) (change : Change) → change_of_name r name ≡ Some change → changed_name change ≡ name
 unfolding change_of_name
-named r name change e = named_between (list_any (bytes_eq name) r.again) name (find (is_package_named name) r.before) (find (is_selected_named name) r.selected) change e
+named r name change e = named_between (list_any (bytes_eq name) r.again) name (find (is_package_named name) r.before) (find (is_candidate_named name) r.selected) change e
 
 -- ---- a name that changes is on a side
 
 on_a_side : (r : Replacement) (name : List ℕ) (change : Change) → change_of_name r name ≡ Some change → rising.IsIn name (names_before_and_selected r)
 unfolding change_of_name
-on_a_side r name change e = in_order name _ (go (find (is_package_named name) r.before) (find (is_selected_named name) r.selected) refl refl e)
+on_a_side r name change e = in_order name _ (go (find (is_package_named name) r.before) (find (is_candidate_named name) r.selected) refl refl e)
   where
-    go : (old : Option Plain) (new : Option Candidate) → find (is_package_named name) r.before ≡ old → find (is_selected_named name) r.selected ≡ new
+    go : (old : Option Plain) (new : Option Candidate) → find (is_package_named name) r.before ≡ old → find (is_candidate_named name) r.selected ≡ new
         → change_between (list_any (bytes_eq name) r.again) name old new ≡ Some change
         → rising.IsIn name (map package_name r.before ++ map (λ (c : Candidate). c.name) r.selected)
     go (Some pkg) new is _ e = in_left name (map package_name r.before) _ (found_name package_name name r.before pkg is)
@@ -109,10 +109,10 @@ never_same : (name : List ℕ) (pkg : Plain) (c : Candidate) (same again : Bool)
     → (change_unless_same name pkg c same again ≡ Some (Purge name version) → ⊥) × (change_unless_same name pkg c same again ≡ Some (Install name version) → ⊥)
 never_same name pkg c true true version = (λ e. absurd cc, λ e. absurd cc)
 never_same name pkg c true false version = (λ e. absurd cc, λ e. absurd cc)
-never_same name pkg c false again version = go (version_text_cmp (version_text pkg) (selected_version c))
+never_same name pkg c false again version = go (version_text_cmp (package_version_text pkg) (candidate_version_text c))
   where
-    go : (o : Ordering) → (Some (version_change name (version_text pkg) (selected_version c) o) ≡ Some (Purge name version) → ⊥)
-        × (Some (version_change name (version_text pkg) (selected_version c) o) ≡ Some (Install name version) → ⊥)
+    go : (o : Ordering) → (Some (version_change name (package_version_text pkg) (candidate_version_text c) o) ≡ Some (Purge name version) → ⊥)
+        × (Some (version_change name (package_version_text pkg) (candidate_version_text c) o) ≡ Some (Install name version) → ⊥)
     go Less = (λ e. absurd cc, λ e. absurd cc)
     go Equal = (λ e. absurd cc, λ e. absurd cc)
     go Greater = (λ e. absurd cc, λ e. absurd cc)
@@ -124,21 +124,21 @@ record Sides (r : Replacement) (name : List ℕ) (o : Option Change) : Type 0 wh
 
 sides : (r : Replacement) (name : List ℕ) → Sides r name (change_of_name r name)
 unfolding change_of_name
-sides r name = go (list_any (bytes_eq name) r.again) (find (is_package_named name) r.before) (find (is_selected_named name) r.selected) refl refl
+sides r name = go (list_any (bytes_eq name) r.again) (find (is_package_named name) r.before) (find (is_candidate_named name) r.selected) refl refl
   where
     was : (pkg : Plain) → find (is_package_named name) r.before ≡ Some pkg → Before r name
     was pkg is = listed name (map package_name r.before) (found_name package_name name r.before pkg is)
 
-    chosen : (c : Candidate) → find (is_selected_named name) r.selected ≡ Some c → Selected r name
+    chosen : (c : Candidate) → find (is_candidate_named name) r.selected ≡ Some c → Selected r name
     chosen c is = listed name (map (λ (c : Candidate). c.name) r.selected) (found_name (λ (c : Candidate). c.name) name r.selected c is)
 
     was_not : find (is_package_named name) r.before ≡ None → Before r name → ⊥
     was_not is = missing_name package_name name r.before is
 
-    not_chosen : find (is_selected_named name) r.selected ≡ None → Selected r name → ⊥
+    not_chosen : find (is_candidate_named name) r.selected ≡ None → Selected r name → ⊥
     not_chosen is = missing_name (λ (c : Candidate). c.name) name r.selected is
 
-    go : (again : Bool) (old : Option Plain) (new : Option Candidate) → find (is_package_named name) r.before ≡ old → find (is_selected_named name) r.selected ≡ new
+    go : (again : Bool) (old : Option Plain) (new : Option Candidate) → find (is_package_named name) r.before ≡ old → find (is_candidate_named name) r.selected ≡ new
         → Sides r name (change_between again name old new)
     go again None None is are = record {
       purge = (λ e. let u = e.1 in absurd cc, λ e. absurd (was_not is e.0));
@@ -147,11 +147,11 @@ sides r name = go (list_any (bytes_eq name) r.again) (find (is_package_named nam
     }
     go again None (Some c) is are = record {
       purge = (λ e. let u = e.1 in absurd cc, λ e. absurd (was_not is e.0));
-      install = (λ e. (chosen c are, was_not is), λ e. (selected_version c, refl));
+      install = (λ e. (chosen c are, was_not is), λ e. (candidate_version_text c, refl));
       absent = λ a b. absurd (b (chosen c are));
     }
     go again (Some pkg) None is are = record {
-      purge = (λ e. (was pkg is, not_chosen are), λ e. (version_text pkg, refl));
+      purge = (λ e. (was pkg is, not_chosen are), λ e. (package_version_text pkg, refl));
       install = (λ e. let u = e.1 in absurd cc, λ e. absurd (not_chosen are e.0));
       absent = λ a b. absurd (a (was pkg is));
     }
@@ -170,14 +170,14 @@ installed r name = (sides r name).install
 pub absent : (r : Replacement) (name : List ℕ) → (WasInstalled r name → ⊥) → (IsSelected r name → ⊥) → change_of_name r name ≡ None
 absent r name = (sides r name).absent
 
-pub purged_version : (r : Replacement) (name : List ℕ) (pkg : Plain) → find (is_package_named name) r.before ≡ Some pkg → find (is_selected_named name) r.selected ≡ None → change_of_name r name ≡ Some (Purge name (version_text pkg))
+pub purged_version : (r : Replacement) (name : List ℕ) (pkg : Plain) → find (is_package_named name) r.before ≡ Some pkg → find (is_candidate_named name) r.selected ≡ None → change_of_name r name ≡ Some (Purge name (package_version_text pkg))
 unfolding change_of_name
 purged_version r name pkg is are =
-    ap (λ (o : Option Plain). change_between (list_any (bytes_eq name) r.again) name o (find (is_selected_named name) r.selected)) is
+    ap (λ (o : Option Plain). change_between (list_any (bytes_eq name) r.again) name o (find (is_candidate_named name) r.selected)) is
     ∙ ap (change_between (list_any (bytes_eq name) r.again) name (Some pkg)) are
 
-pub installed_version : (r : Replacement) (name : List ℕ) (c : Candidate) → find (is_package_named name) r.before ≡ None → find (is_selected_named name) r.selected ≡ Some c → change_of_name r name ≡ Some (Install name (selected_version c))
+pub installed_version : (r : Replacement) (name : List ℕ) (c : Candidate) → find (is_package_named name) r.before ≡ None → find (is_candidate_named name) r.selected ≡ Some c → change_of_name r name ≡ Some (Install name (candidate_version_text c))
 unfolding change_of_name
 installed_version r name c is are =
-    ap (λ (o : Option Plain). change_between (list_any (bytes_eq name) r.again) name o (find (is_selected_named name) r.selected)) is
+    ap (λ (o : Option Plain). change_between (list_any (bytes_eq name) r.again) name o (find (is_candidate_named name) r.selected)) is
     ∙ ap (change_between (list_any (bytes_eq name) r.again) name None) are

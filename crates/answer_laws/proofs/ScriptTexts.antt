@@ -4,7 +4,7 @@ use Rattle.std.specs.Prelude.{◌==◌, not, if◌then◌else◌}
 use Rattle.adb_view.specs.Plain.{Plain}
 use Rattle.base_core.specs.Lists.{IsIn}
 use Rattle.change_outcome.specs.PackageFiles.{first_script_of, has_script_of}
-use Rattle.answer_laws.specs.ScriptTexts.{IsFirstWithText, text_of_number}
+use Rattle.answer_laws.specs.ScriptTexts.{IsFirstWithText, script_text_by_number}
 
 pub nonempty : (text : List ℕ) → (not (length text == 0) ≡ true) ↔ (text ≢ [])
 nonempty [] = (λ e. absurd (cc), λ some. absurd (some refl))
@@ -17,19 +17,19 @@ empty (x ∷ text) e = absurd (true≢false (sym ((nonempty (x ∷ text)).1 (λ 
 without_text : (text : List ℕ) → text ≡ [] → not (length text == 0) ≡ false
 without_text text is = ap (λ (t : List ℕ). not (length t == 0)) is
 
-pub has_text : (pkg : Plain) (number : ℕ) → (has_script_of pkg number ≡ true) ↔ (text_of_number pkg number ≢ [])
-has_text pkg number = nonempty (text_of_number pkg number)
+pub has_text : (pkg : Plain) (number : ℕ) → (has_script_of pkg number ≡ true) ↔ (script_text_by_number pkg number ≢ [])
+has_text pkg number = nonempty (script_text_by_number pkg number)
 
 -- no number of a list has a script with text
 abbrev NoneHasText : Plain → List ℕ → Type 0
-NoneHasText pkg numbers = (m : ℕ) → IsIn m numbers → text_of_number pkg m ≡ []
+NoneHasText pkg numbers = (m : ℕ) → IsIn m numbers → script_text_by_number pkg m ≡ []
 
 none_more : (pkg : Plain) (n : ℕ) (numbers : List ℕ) (test : Bool) → has_script_of pkg n ≡ test → (first_script_of pkg numbers ≡ None) ↔ NoneHasText pkg numbers
     → ((if test then Some n else first_script_of pkg numbers) ≡ None) ↔ NoneHasText pkg (n ∷ numbers)
 none_more pkg n numbers true has later = (λ e. absurd (cc), λ each. absurd ((has_text pkg n).0 has (each n (inl refl))))
 none_more pkg n numbers false has later = (
   λ e m here. elim here [
-    | inl same ↦ ap (text_of_number pkg) same ∙ empty (text_of_number pkg n) has
+    | inl same ↦ ap (script_text_by_number pkg) same ∙ empty (script_text_by_number pkg n) has
     | inr further ↦ later.0 e m further
   ],
   λ each. later.1 (λ m further. each m (inr further)),
@@ -51,11 +51,11 @@ at_head pkg n number numbers (x ∷ front) rest has is earlier =
     absurd ((has_text pkg n).0 has (earlier n (inl same)))
 
 -- if the script of the head has no text, the first number is that of the rest
-in_rest : (pkg : Plain) (n number : ℕ) (numbers front rest : List ℕ) → has_script_of pkg n ≡ false → n ∷ numbers ≡ front ++ number ∷ rest → text_of_number pkg number ≢ [] → NoneHasText pkg front
+in_rest : (pkg : Plain) (n number : ℕ) (numbers front rest : List ℕ) → has_script_of pkg n ≡ false → n ∷ numbers ≡ front ++ number ∷ rest → script_text_by_number pkg number ≢ [] → NoneHasText pkg front
     → IsFirstWithText pkg numbers number
 in_rest pkg n number numbers [] rest has is text earlier =
     let same : number ≡ n = cc in
-    absurd (text (ap (text_of_number pkg) same ∙ empty (text_of_number pkg n) has))
+    absurd (text (ap (script_text_by_number pkg) same ∙ empty (script_text_by_number pkg n) has))
 in_rest pkg n number numbers (x ∷ front) rest has is text earlier = record {
   front = front;
   rest = rest;
@@ -73,7 +73,7 @@ first_more pkg n number numbers true has later = (
         front = [];
         rest = numbers;
         numbers_are = ap (λ (m : ℕ). m ∷ numbers) same;
-        text = subst (λ (m : ℕ). text_of_number pkg m ≢ []) same ((has_text pkg n).0 has);
+        text = subst (λ (m : ℕ). script_text_by_number pkg m ≢ []) same ((has_text pkg n).0 has);
         earlier = λ m here. absurd here;
       },
   λ f. ap Some (at_head pkg n number numbers f.front f.rest has f.numbers_are f.earlier),
@@ -87,7 +87,7 @@ first_more pkg n number numbers false has later = (
         numbers_are = ap (λ (ms : List ℕ). n ∷ ms) f.numbers_are;
         text = f.text;
         earlier = λ m here. elim here [
-          | inl same ↦ ap (text_of_number pkg) same ∙ empty (text_of_number pkg n) has
+          | inl same ↦ ap (script_text_by_number pkg) same ∙ empty (script_text_by_number pkg n) has
           | inr further ↦ f.earlier m further
         ];
       },

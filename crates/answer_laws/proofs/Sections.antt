@@ -2,13 +2,13 @@
 use Rattle.std.proofs.Common.{◌≡◌, ◌↔◌, ◌∙◌, ℕ, Bool, true, false, List, [], ◌∷◌, ◌++◌, refl, ap, sym, subst}
 use Rattle.std.specs.Prelude.{codes}
 use Rattle.std.proofs.lemmas.List.{append_assoc}
-use Rattle.change_outcome.specs.adb_fields.Repeated.{package_name, paths_in}
+use Rattle.change_outcome.specs.adb_fields.Repeated.{package_name, paths_of_package_files}
 use Rattle.adb_view.specs.Plain.{Plain}
 use Rattle.adb_view.specs.Values.{text_in}
 use Rattle.command_core.specs.declared.command.Flags.{Flags}
 use Rattle.change_outcome.specs.db_core.Packages.{lists_path}
 use Rattle.dep_core.specs.LeadingSlash.{without_slash}
-use Rattle.installed_info.specs.file_owners.Replaces.{version_text}
+use Rattle.installed_info.specs.file_owners.Replaces.{package_version_text}
 use Rattle.installed_info.specs.Form.{form_of}
 use Rattle.installed_info.specs.Info.{package_info}
 use Rattle.installed_info.proofs.Listers.{listed, is_listed}
@@ -45,7 +45,7 @@ contents flags name pkg e f g =
     (as_section (info_heading pkg (codes " contains:")) (paths_in_order pkg))
 
 pub listed_paths : (pkg : Plain) (path : List ℕ) → IsIn path (paths_in_order pkg) ↔ (lists_path path pkg ≡ true)
-listed_paths pkg path = (is_listed path (paths_in pkg), listed path (paths_in pkg))
+listed_paths pkg path = (is_listed path (paths_of_package_files pkg), listed path (paths_of_package_files pkg))
 
 pub depends : (flags : Flags) (name : List ℕ) (pkg : Plain) → flags.who_owns ≡ false → flags.installed ≡ false → flags.contents ≡ false → flags.depends ≡ true
     → package_info (form_of flags) name pkg ≡ section_lines (info_heading pkg (codes " depends on:")) (depends_in_order pkg)
@@ -62,5 +62,5 @@ description flags name pkg e f g h =
     (as_section (info_heading pkg (codes " description:")) (text_in (info_field (codes "description") pkg) ∷ []))
 
 pub owner : (flags : Flags) (path : List ℕ) (pkg : Plain) → flags.who_owns ≡ true
-    → package_info (form_of flags) path pkg ≡ report_line (owner_text (without_slash path) (package_name pkg) (version_text pkg))
+    → package_info (form_of flags) path pkg ≡ report_line (owner_text (without_slash path) (package_name pkg) (package_version_text pkg))
 owner flags path pkg e = ap (λ (b : Bool). package_info (form_of (flags_with flags b flags.installed flags.contents flags.depends)) path pkg) e

@@ -8,31 +8,31 @@ use Rattle.adb_view.specs.Plain.{Plain}
 use Rattle.base_core.specs.Lists.{IsIn}
 use Rattle.installed_info.specs.candidate_core.Candidates.{Candidate, is_same_id}
 use Rattle.change_outcome.specs.db_core.Packages.{installed_id}
-use Rattle.installed_info.specs.file_owners.Replaces.{version_text}
-use Rattle.change_outcome.specs.package_changes.Changes.{Replacement, change_between, change_of_name, is_selected_named, selected_version, change_unless_same}
+use Rattle.installed_info.specs.file_owners.Replaces.{package_version_text}
+use Rattle.change_outcome.specs.package_changes.Changes.{Replacement, change_between, change_of_name, is_candidate_named, candidate_version_text, change_unless_same}
 use Rattle.report_core.specs.Reports.{Change, Reinstall}
 use Rattle.answer_laws.specs.WhichChange.{IsInstalledPackageSelected}
 
 -- the change, by whether the name is asked for again
 abbrev unless_again : List ℕ → Candidate → Bool → Option Change
-unless_again name c again = if again then Some (Reinstall name (selected_version c)) else None
+unless_again name c again = if again then Some (Reinstall name (candidate_version_text c)) else None
 
 itself : (r : Replacement) (name : List ℕ) (c : Candidate) → IsInstalledPackageSelected r name c → change_of_name r name ≡ unless_again name c (list_any (bytes_eq name) r.again)
 unfolding change_of_name
 itself r name c is =
     let again : Bool = list_any (bytes_eq name) r.again in
-    let text : Bool = bytes_eq (version_text is.installed) (selected_version c) in
+    let text : Bool = bytes_eq (package_version_text is.installed) (candidate_version_text c) in
     let id : Bool = is_same_id (installed_id is.installed) c.id in
-    ap (λ (o : Option Plain). change_between again name o (find (is_selected_named name) r.selected)) is.before
+    ap (λ (o : Option Plain). change_between again name o (find (is_candidate_named name) r.selected)) is.before
     ∙ ap (λ (o : Option Candidate). change_between again name (Some is.installed) o) is.selected
     ∙ ap (λ (o : Option ℕ). change_unless_same name is.installed c (not (is_some o) || (text && id)) again) is.repository
 
 by_again : (name : List ℕ) (c : Candidate) (again : Bool)
-    → ((unless_again name c again ≡ Some (Reinstall name (selected_version c))) ↔ (again ≡ true)) × ((unless_again name c again ≡ None) ↔ (again ≡ true → ⊥))
+    → ((unless_again name c again ≡ Some (Reinstall name (candidate_version_text c))) ↔ (again ≡ true)) × ((unless_again name c again ≡ None) ↔ (again ≡ true → ⊥))
 by_again name c true = ((λ e. refl, λ e. refl), (λ e. absurd cc, λ f. absurd (f refl)))
 by_again name c false = ((λ e. absurd cc, λ e. absurd (true≢false (sym e))), (λ e b. true≢false (sym b), λ f. refl))
 
-pub again_itself : (r : Replacement) (name : List ℕ) (c : Candidate) → IsInstalledPackageSelected r name c → (change_of_name r name ≡ Some (Reinstall name (selected_version c))) ↔ IsIn name r.again
+pub again_itself : (r : Replacement) (name : List ℕ) (c : Candidate) → IsInstalledPackageSelected r name c → (change_of_name r name ≡ Some (Reinstall name (candidate_version_text c))) ↔ IsIn name r.again
 again_itself r name c is =
     let law = (by_again name c (list_any (bytes_eq name) r.again)).0 in
     (λ e. listed name r.again (law.0 (sym (itself r name c is) ∙ e)), λ at. itself r name c is ∙ law.1 (is_listed name r.again at))

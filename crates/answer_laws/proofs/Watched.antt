@@ -8,7 +8,7 @@ use Rattle.adb_view.specs.Plain.{Plain}
 use Rattle.base_core.proofs.Rising as rising
 use Rattle.base_core.specs.Listed.{AreSortedDistinctNames}
 use Rattle.base_core.specs.Lists.{IsIn}
-use Rattle.base_core.specs.Name.{parts_of}
+use Rattle.base_core.specs.Name.{path_parts_of}
 use Rattle.change_outcome.proofs.change_files.InOrder.{from_order, in_order, order_rises}
 use Rattle.change_outcome.specs.PackageFiles.{has_script_of}
 use Rattle.change_outcome.specs.Triggers.{are_parts_matched, folders_of_paths, is_trigger_due, is_folder_matched, watches_folder, patterns_of}
@@ -16,14 +16,14 @@ use Rattle.dep_core.specs.LeadingSlash.{without_slash}
 use Rattle.change_outcome.specs.package_files.Folders.{folder_of}
 use Rattle.report_core.specs.Numbers.{TRIGGER_SCRIPT}
 use Rattle.change_outcome.specs.star_patterns.Fills.{MatchesByFillingStars}
-use Rattle.change_outcome.specs.star_patterns.Patterns.{is_matched}
+use Rattle.change_outcome.specs.star_patterns.Patterns.{is_whole_text_matched}
 use Rattle.answer_laws.specs.DueTriggers.{HasFileIn, MatchesFolderByParts, IsTriggered}
 use Rattle.answer_laws.proofs.Members.{listed, risen}
 use Rattle.answer_laws.proofs.Tests.{any_passes, passes_any, text_in, text_of}
 
 -- what the crate of patterns says of one part
 abbrev pub Filled : Type 0
-Filled = (pattern text : List ℕ) → (is_matched pattern text ≡ true) ↔ MatchesByFillingStars pattern text
+Filled = (pattern text : List ℕ) → (is_whole_text_matched pattern text ≡ true) ↔ MatchesByFillingStars pattern text
 
 abbrev EachFilled : List (List ℕ) → List (List ℕ) → Type 0
 EachFilled patterns parts = (i : ℕ) (p part : List ℕ) → slice_get patterns i ≡ Some p → slice_get parts i ≡ Some part → MatchesByFillingStars p part
@@ -33,7 +33,7 @@ parts_filled law [] [] e = (refl, λ i p part is are. absurd cc)
 parts_filled law [] (part ∷ parts) e = absurd (true≢false (sym e))
 parts_filled law (p ∷ patterns) [] e = absurd (true≢false (sym e))
 parts_filled law (p ∷ patterns) (part ∷ parts) e =
-    let t = and_parts (is_matched p part) (are_parts_matched patterns parts) e in
+    let t = and_parts (is_whole_text_matched p part) (are_parts_matched patterns parts) e in
     let more = parts_filled law patterns parts t.1 in
     (ap suc more.0, at more.1 ((law p part).0 t.0))
   where
@@ -50,7 +50,7 @@ filled_parts law [] (part ∷ parts) e each = absurd cc
 filled_parts law (p ∷ patterns) [] e each = absurd cc
 filled_parts law (p ∷ patterns) (part ∷ parts) e each =
     let same : length patterns ≡ length parts = omega arith in
-    and_from (is_matched p part) (are_parts_matched patterns parts) ((law p part).1 (each zero p part refl refl))
+    and_from (is_whole_text_matched p part) (are_parts_matched patterns parts) ((law p part).1 (each zero p part refl refl))
     (filled_parts law patterns parts same (λ i q other is are. each (suc i) q other is are))
 
 above_zero : (n : ℕ) → 0 < n → (n == 0) ≡ false
@@ -60,17 +60,17 @@ above_zero n above = go (n == 0) refl
     go true e = absurd (omega (arith, eqb-true n 0 e, above))
     go false e = refl
 
-not_root : (folder pattern : List ℕ) → (folder ≡ [] → ⊥) → is_folder_matched folder pattern ≡ are_parts_matched (parts_of (without_slash pattern)) (parts_of folder)
+not_root : (folder pattern : List ℕ) → (folder ≡ [] → ⊥) → is_folder_matched folder pattern ≡ are_parts_matched (path_parts_of (without_slash pattern)) (path_parts_of folder)
 unfolding is_folder_matched
 not_root [] pattern some = absurd (some refl)
 not_root (b ∷ folder) pattern some =
     let test : (length (b ∷ folder) == 0) ≡ false = above_zero (length (b ∷ folder)) (omega arith) in
-    ap (λ (t : Bool). if t then bytes_eq pattern (codes "/") else are_parts_matched (parts_of (without_slash pattern)) (parts_of (b ∷ folder))) test
+    ap (λ (t : Bool). if t then bytes_eq pattern (codes "/") else are_parts_matched (path_parts_of (without_slash pattern)) (path_parts_of (b ∷ folder))) test
 
 pub matched_below : Filled → (folder pattern : List ℕ) → (folder ≡ [] → ⊥) → (is_folder_matched folder pattern ≡ true) ↔ MatchesFolderByParts pattern folder
 matched_below law folder pattern some = (
-  λ e. let t = parts_filled law (parts_of (without_slash pattern)) (parts_of folder) (sym (not_root folder pattern some) ∙ e) in record { count = t.0; each = t.1 },
-  λ f. not_root folder pattern some ∙ filled_parts law (parts_of (without_slash pattern)) (parts_of folder) f.count f.each,
+  λ e. let t = parts_filled law (path_parts_of (without_slash pattern)) (path_parts_of folder) (sym (not_root folder pattern some) ∙ e) in record { count = t.0; each = t.1 },
+  λ f. not_root folder pattern some ∙ filled_parts law (path_parts_of (without_slash pattern)) (path_parts_of folder) f.count f.each,
 )
 
 pub matched_root : (pattern : List ℕ) → (is_folder_matched [] pattern ≡ true) ↔ (pattern ≡ codes "/")

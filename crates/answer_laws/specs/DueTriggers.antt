@@ -5,22 +5,22 @@ use Rattle.std.specs.List.{flat_map}
 use Rattle.adb_view.specs.Plain.{Plain}
 use Rattle.base_core.specs.Listed.{AreSortedDistinctNames}
 use Rattle.base_core.specs.Lists.{IsIn}
-use Rattle.base_core.specs.Name.{parts_of}
+use Rattle.base_core.specs.Name.{path_parts_of}
 use Rattle.change_outcome.specs.PackageFiles.{has_script_of}
 use Rattle.change_outcome.specs.Triggers.{is_folder_matched, patterns_of}
 use Rattle.change_outcome.specs.db_core.Members.{Member, member_name}
 use Rattle.dep_core.specs.LeadingSlash.{without_slash}
 use Rattle.change_outcome.specs.package_files.Folders.{folder_of}
 use Rattle.report_core.specs.Numbers.{TRIGGER_SCRIPT}
-use Rattle.report_core.specs.Reports.{report_lines, trigger_text}
+use Rattle.report_core.specs.Reports.{report_lines, trigger_due_text}
 use Rattle.change_outcome.specs.star_patterns.Fills.{MatchesByFillingStars}
 
 -- A pattern, without one leading `/`, has as many parts as a folder, and the stars of each part can be
 -- replaced by bytes so that it reads as the folder's part at the same place.
 pub record MatchesFolderByParts (pattern folder : List ℕ) : Type 0 where
-  pub count : length (parts_of (without_slash pattern)) ≡ length (parts_of folder)
-  pub each : (i : ℕ) (p part : List ℕ) → slice_get (parts_of (without_slash pattern)) i ≡ Some p
-      → slice_get (parts_of folder) i ≡ Some part → MatchesByFillingStars p part
+  pub count : length (path_parts_of (without_slash pattern)) ≡ length (path_parts_of folder)
+  pub each : (i : ℕ) (p part : List ℕ) → slice_get (path_parts_of (without_slash pattern)) i ≡ Some p
+      → slice_get (path_parts_of folder) i ≡ Some part → MatchesByFillingStars p part
 
 -- a package has a trigger script and watches the folder by one of its patterns
 pub record IsTriggered (pkg : Plain) (folder : List ℕ) : Type 0 where
@@ -36,7 +36,7 @@ pub record HasFileIn (paths : List (List ℕ)) (folder : List ℕ) : Type 0 wher
   pub within : folder ≡ folder_of path
 
 -- the trigger of a package is due for a folder that has a file with one of these paths
-pub record IsDueFor (paths : List (List ℕ)) (m : Member) (folder : List ℕ) : Type 0 where
+pub record IsTriggerDueFor (paths : List (List ℕ)) (m : Member) (folder : List ℕ) : Type 0 where
   pub file : HasFileIn paths folder
   pub triggered : IsTriggered m.pkg folder
 
@@ -48,19 +48,20 @@ pub record HasTriggerLines (paths : List (List ℕ)) (members : List Member) (te
     : Type 0 where
   pub folders : Member → List (List ℕ)
   pub order : (m : Member) → AreSortedDistinctNames (folders m)
-  pub each : (m : Member) (folder : List ℕ) → IsIn folder (folders m) ↔ IsDueFor paths m folder
+  pub each : (m : Member) (folder : List ℕ) → IsIn folder (folders m) ↔ IsTriggerDueFor paths m folder
   pub text_is : text
-      ≡ report_lines (flat_map (λ m. map (trigger_text (member_name m)) (folders m)) members)
+      ≡ report_lines (flat_map (λ m. map (trigger_due_text (member_name m)) (folders m)) members)
 
 -- ---- what is refused
 
 -- the first package whose trigger is due has this name
-pub record IsFirstDue (paths : List (List ℕ)) (members : List Member) (name : List ℕ) : Type 0 where
+pub record IsFirstPackageWithDueTrigger (paths : List (List ℕ)) (members : List Member)
+    (name : List ℕ) : Type 0 where
   pub front : List Member
   pub member : Member
   pub rest : List Member
   pub members_are : members ≡ front ++ member ∷ rest
   pub named : member_name member ≡ name
   pub folder : List ℕ
-  pub due : IsDueFor paths member folder
-  pub earlier : (m : Member) → IsIn m front → (f : List ℕ) → IsDueFor paths m f → ⊥
+  pub due : IsTriggerDueFor paths member folder
+  pub earlier : (m : Member) → IsIn m front → (f : List ℕ) → IsTriggerDueFor paths m f → ⊥

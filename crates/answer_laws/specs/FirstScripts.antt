@@ -7,7 +7,7 @@ use Rattle.change_outcome.specs.PackageFiles.{has_script_of}
 use Rattle.report_core.specs.Numbers.{POST_DEINSTALL_SCRIPT, POST_INSTALL_SCRIPT, POST_UPGRADE_SCRIPT, PRE_DEINSTALL_SCRIPT, PRE_INSTALL_SCRIPT, PRE_UPGRADE_SCRIPT}
 use Rattle.report_core.specs.Reports.{Change, Downgrade, Install, Purge, Reinstall, Replace, Upgrade}
 
--- the script with this number is one of upgrades
+-- the script with this number is the pre-upgrade or the post-upgrade script
 abbrev pub IsUpgradeScript : ℕ → Type 0
 IsUpgradeScript n = (n ≡ PRE_UPGRADE_SCRIPT) ⊎ (n ≡ POST_UPGRADE_SCRIPT)
 

@@ -3,12 +3,12 @@
 use Rattle.std.specs.Prelude.{◌≡◌, ◌+◌, ℕ, false, List, Some, slice_get}
 use Rattle.installed_info.specs.candidate_core.Candidates.{Candidate}
 use Rattle.dep_core.specs.Repositories.{Repository}
-use Rattle.change_outcome.specs.package_changes.Changes.{selected_version}
+use Rattle.change_outcome.specs.package_changes.Changes.{candidate_version_text}
 use Rattle.change_outcome.specs.root_names.PackagePath.{has_slash, package_file_name}
 
 -- the file name of a candidate's package
 abbrev pub candidate_file_name : Candidate → List ℕ
-candidate_file_name c = package_file_name c.name (selected_version c)
+candidate_file_name c = package_file_name c.name (candidate_version_text c)
 
 -- a candidate is of the repository at a place, counted from 0, whose index has this path
 pub record IsCandidateOfIndex (repositories : List Repository) (c : Candidate) (path : List ℕ)

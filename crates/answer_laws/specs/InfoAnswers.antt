@@ -13,7 +13,7 @@ use Rattle.command_core.specs.declared.command.Flags.{Flags}
 use Rattle.command_core.specs.declared.operands.Operand.{Operand}
 use Rattle.installed_info.specs.candidate_core.Candidates.{dependencies_in}
 use Rattle.dep_core.specs.DependencyText.{dep_text}
-use Rattle.installed_info.specs.file_owners.Replaces.{version_text}
+use Rattle.installed_info.specs.file_owners.Replaces.{package_version_text}
 use Rattle.installed_info.specs.Form.{form_of}
 use Rattle.installed_info.specs.Packages.{package_meant_by}
 use Rattle.make_laws.specs.NamedFields.{field_named}
@@ -45,7 +45,7 @@ section_lines heading facts = report_lines (heading ∷ (facts ++ ([] ∷ [])))
 
 -- the heading of a section: a package with its version, and a text
 abbrev pub info_heading : Plain → List ℕ → List ℕ
-info_heading pkg text = name_dash_version (package_name pkg) (version_text pkg) ++ text
+info_heading pkg text = name_dash_version (package_name pkg) (package_version_text pkg) ++ text
 
 -- the field of this name in a package's information
 abbrev pub info_field : List ℕ → Plain → Plain

@@ -10,7 +10,7 @@ use Rattle.base_core.specs.Lists.{IsIn}
 use Rattle.installed_info.specs.candidate_core.Candidates.{Candidate}
 use Rattle.dep_core.specs.Dependency.{Dependency}
 use Rattle.dep_core.specs.Meets.{meets}
-use Rattle.change_outcome.specs.package_changes.Changes.{is_selected_named}
+use Rattle.change_outcome.specs.package_changes.Changes.{is_candidate_named}
 use Rattle.change_outcome.specs.package_changes.Report.{names_needing_candidate}
 use Rattle.report_core.specs.Reports.{report_lines, still_needed_text}
 
@@ -32,7 +32,8 @@ pub record NeedsOther (c other : Candidate) : Type 0 where
   pub met : (meets dependency other.name other.version ≡ true) ⊎ IsProvidedBy dependency other
 
 -- a selected candidate of this name, which is not that of the needed one, needs it
-pub record IsNeededBySelectedName (selected : List Candidate) (needed : Candidate) (name : List ℕ) : Type 0 where
+pub record IsNeededBySelectedName (selected : List Candidate) (needed : Candidate)
+    (name : List ℕ) : Type 0 where
   pub user : Candidate
   pub listed : IsIn user selected
   pub named : name ≡ user.name
@@ -43,14 +44,14 @@ pub record IsNeededBySelectedName (selected : List Candidate) (needed : Candidat
 
 -- of each name at most one candidate is selected
 abbrev pub AreNamedOnce : List Candidate → Type 0
-AreNamedOnce selected = (name : List ℕ) → length (filter (is_selected_named name) selected) ≤ 1
+AreNamedOnce selected = (name : List ℕ) → length (filter (is_candidate_named name) selected) ≤ 1
 
 -- the text on the selected candidate of a name that was to be removed, with the names of those that
 -- need it
 abbrev pub still_needed_text_of_name : List Candidate → List ℕ → List ℕ
 still_needed_text_of_name selected name =
     option_map_or (λ (c : Candidate). still_needed_text name (names_needing_candidate selected c))
-    (find (is_selected_named name) selected) []
+    (find (is_candidate_named name) selected) []
 
 -- a text with one line for each name that was to be removed, was installed and is selected, and no
 -- other, in byte order of the names

@@ -8,7 +8,7 @@ use Rattle.audit_core.specs.adb_fields.Repeated.{files_in, folders_in, name_of}
 use Rattle.audit_core.specs.db_core.Packages.{is_package_named}
 use Rattle.audit_core.specs.file_guard.AsListed.{file_hash}
 use Rattle.command_core.specs.declared.operands.Operand.{Operand}
-use Rattle.report_core.specs.AuditReports.{manifest_text}
+use Rattle.report_core.specs.AuditReports.{digest_and_path_text}
 use Rattle.report_core.specs.Reports.{report_line}
 
 -- the installed package of an operand, if there is one
@@ -18,7 +18,7 @@ package_of_operand packages o = find (is_package_named o.text) packages
 -- the line of a file in a folder: the digest that the file's entry has, and its path
 abbrev pub line_of_file : Plain → Plain → List ℕ
 line_of_file folder file =
-    report_line (manifest_text (file_hash file) (path_of (name_of folder) (name_of file)))
+    report_line (digest_and_path_text (file_hash file) (path_of (name_of folder) (name_of file)))
 
 -- a line for each file of a package, folder by folder, in the order of the database
 abbrev pub lines_of_package : Plain → List ℕ

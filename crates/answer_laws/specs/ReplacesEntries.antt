@@ -9,7 +9,7 @@ use Rattle.adb_view.specs.Values.{entry_in}
 use Rattle.base_core.specs.Lists.{IsIn}
 use Rattle.dep_core.specs.Dependency.{Dependency}
 use Rattle.dep_core.specs.Meets.{constraint_accepts}
-use Rattle.installed_info.specs.file_owners.Replaces.{version_text}
+use Rattle.installed_info.specs.file_owners.Replaces.{package_version_text}
 use Rattle.version_core.specs.Order.{is_version}
 
 -- an entry of a package's `replaces`, which is no conflict, has the other's own name and accepts its
@@ -21,5 +21,6 @@ pub record IsNamedInReplaces (pkg other : Plain) : Type 0 where
   pub read : dependency_in entry ≡ Some dependency
   pub positive : dependency.conflict ≡ false
   pub name : dependency.name ≡ package_name other
-  pub version : is_version (version_text other) ≡ true
-  pub wanted : constraint_accepts dependency.version dependency.bits (Some (version_text other)) ≡ true
+  pub version : is_version (package_version_text other) ≡ true
+  pub wanted : constraint_accepts dependency.version dependency.bits (Some (package_version_text other))
+      ≡ true

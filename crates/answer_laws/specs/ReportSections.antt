@@ -90,7 +90,8 @@ pub record HasSections (r : Replacement) (wishes : ChangeWishes) (change : FileC
   pub stays : List ℕ
   pub kept_lines : HasKeptLines r.before r.selected wishes.to_remove stays
   pub configuration : List ℕ
-  pub configured : HasConfigurationLines (paths_with_apk_new_file change files) (kept_paths_of change files) configuration
+  pub configured : HasConfigurationLines (paths_with_apk_new_file change files)
+      (kept_paths_of change files) configuration
   pub triggers : List ℕ
   pub due : HasTriggerLines (touched_paths change files) change.members triggers
   pub last : List ℕ

@@ -10,17 +10,18 @@ use Rattle.make_laws.specs.NamedFields.{field_named}
 use Rattle.make_laws.specs.ScriptFiles.{script_named}
 
 -- the text of the script with this number, which is its place in the field `scripts`, counted from 1
-abbrev pub text_of_number : Plain → ℕ → List ℕ
-text_of_number pkg number = text_in (entry_in (field_named Package (codes "scripts") pkg) (number - 1))
+abbrev pub script_text_by_number : Plain → ℕ → List ℕ
+script_text_by_number pkg number =
+    text_in (entry_in (field_named Package (codes "scripts") pkg) (number - 1))
 
 -- the text of the script with this name
-abbrev pub text_of_name : Plain → List ℕ → List ℕ
-text_of_name pkg name = text_in (script_named name pkg)
+abbrev pub script_text_by_name : Plain → List ℕ → List ℕ
+script_text_by_name pkg name = text_in (script_named name pkg)
 
 -- the first number of a list whose script has text
 pub record IsFirstWithText (pkg : Plain) (numbers : List ℕ) (number : ℕ) : Type 0 where
   pub front : List ℕ
   pub rest : List ℕ
   pub numbers_are : numbers ≡ front ++ number ∷ rest
-  pub text : text_of_number pkg number ≢ []
-  pub earlier : (m : ℕ) → IsIn m front → text_of_number pkg m ≡ []
+  pub text : script_text_by_number pkg number ≢ []
+  pub earlier : (m : ℕ) → IsIn m front → script_text_by_number pkg m ≡ []

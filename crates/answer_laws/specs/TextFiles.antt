@@ -68,7 +68,8 @@ files_listed (info_line f values ∷ lines) = files_listed lines
 files_listed (folder_line name ∷ lines) = files_listed lines
 files_listed (folder_access_line a ∷ lines) = files_listed lines
 files_listed (file_line name ∷ lines) =
-    listed_file_from_parts name (file_access_in (lines_up_to_file lines)) (file_hash_in (lines_up_to_file lines))
+    listed_file_from_parts name (file_access_in (lines_up_to_file lines))
+    (file_hash_in (lines_up_to_file lines))
     ∷ files_listed lines
 files_listed (file_access_line a ∷ lines) = files_listed lines
 files_listed (file_hash_line hash ∷ lines) = files_listed lines
@@ -80,7 +81,8 @@ abbrev pub folders_listed : List RecordLine → List ListedFolder
 folders_listed [] = []
 folders_listed (info_line f values ∷ lines) = folders_listed lines
 folders_listed (folder_line name ∷ lines) =
-    listed_folder_from_parts name (folder_access_in (lines_up_to_folder lines)) (files_listed (lines_up_to_folder lines))
+    listed_folder_from_parts name (folder_access_in (lines_up_to_folder lines))
+    (files_listed (lines_up_to_folder lines))
     ∷ folders_listed lines
 folders_listed (folder_access_line a ∷ lines) = folders_listed lines
 folders_listed (file_line name ∷ lines) = folders_listed lines

@@ -84,13 +84,14 @@ letter_value_in_package f pkg =
 
 -- ---- what a value says
 
--- `Q1` and the base64 of 20 bytes say these bytes
+-- a value gives these 20 bytes as a hash: the value is `Q1` and the base64 of the bytes
 abbrev pub SaysHash : List ℕ → List FieldValue → Type 0
 SaysHash value said =
     (encoded : List ℕ) × (bytes : List ℕ) × (value ≡ codes "Q1" ++ encoded)
     × (base64_bytes standard encoded ≡ Ok bytes) × (length bytes ≡ 20) × (said ≡ text bytes ∷ [])
 
--- a value says what it would say as a commit of `mkpkg`; one that may not be given there is dropped
+-- a value gives what it would give as the field `repo-commit` of `mkpkg`; a value that may not be given
+-- there is dropped
 abbrev pub SaysCommit : List ℕ → List FieldValue → Type 0
 SaysCommit value said =
     FieldTextGivesValues Options.RepoCommit value said
@@ -110,8 +111,10 @@ LetterValueGivesValues Letters.Origin value said = FieldTextGivesValues Options.
 LetterValueGivesValues Letters.Maintainer value said = FieldTextGivesValues Options.Maintainer value said
 LetterValueGivesValues Letters.InstalledSize value said = SaysNumber value said
 LetterValueGivesValues Letters.BuildTime value said = FieldTextGivesValues Options.BuildTime value said
-LetterValueGivesValues Letters.ProviderPriority value said = FieldTextGivesValues Options.ProviderPriority value said
-LetterValueGivesValues Letters.ReplacesPriority value said = FieldTextGivesValues Options.ReplacesPriority value said
+LetterValueGivesValues Letters.ProviderPriority value said =
+    FieldTextGivesValues Options.ProviderPriority value said
+LetterValueGivesValues Letters.ReplacesPriority value said =
+    FieldTextGivesValues Options.ReplacesPriority value said
 LetterValueGivesValues Letters.RepoCommit value said = SaysCommit value said
 LetterValueGivesValues Letters.Depends value said = FieldTextGivesValues Options.Depends value said
 LetterValueGivesValues Letters.Provides value said = FieldTextGivesValues Options.Provides value said

@@ -7,8 +7,8 @@ use Rattle.adb_view.specs.Plain.{Plain}
 use Rattle.base_core.specs.Lists.{IsIn}
 use Rattle.installed_info.specs.candidate_core.Candidates.{Candidate, is_same_id}
 use Rattle.change_outcome.specs.db_core.Packages.{installed_id, is_package_named}
-use Rattle.installed_info.specs.file_owners.Replaces.{version_text}
-use Rattle.change_outcome.specs.package_changes.Changes.{Replacement, change_of_name, is_selected_named, selected_version}
+use Rattle.installed_info.specs.file_owners.Replaces.{package_version_text}
+use Rattle.change_outcome.specs.package_changes.Changes.{Replacement, change_of_name, is_candidate_named, candidate_version_text}
 use Rattle.report_core.specs.Reports.{Change, Downgrade, Install, Purge, Reinstall, Replace, Upgrade, numbered_change, report_lines}
 use Rattle.version_core.specs.Order.{is_version}
 
@@ -16,22 +16,22 @@ use Rattle.version_core.specs.Order.{is_version}
 pub record HasBothVersions (r : Replacement) (name : List ℕ) (pkg : Plain) (c : Candidate)
     : Type 0 where
   pub before : find (is_package_named name) r.before ≡ Some pkg
-  pub selected : find (is_selected_named name) r.selected ≡ Some c
+  pub selected : find (is_candidate_named name) r.selected ≡ Some c
   pub repository : is_some c.repository ≡ true
-  pub old : is_version (version_text pkg) ≡ true
-  pub new : is_version (selected_version c) ≡ true
+  pub old : is_version (package_version_text pkg) ≡ true
+  pub new : is_version (candidate_version_text c) ≡ true
 
 -- a name with a package before and a selected candidate of no repository, which is that package
 pub record IsInstalledPackageSelected (r : Replacement) (name : List ℕ) (c : Candidate) : Type 0 where
   pub installed : Plain
   pub before : find (is_package_named name) r.before ≡ Some installed
-  pub selected : find (is_selected_named name) r.selected ≡ Some c
+  pub selected : find (is_candidate_named name) r.selected ≡ Some c
   pub repository : c.repository ≡ None
 
 -- a candidate with the text of a package's version and with its id
 abbrev pub IsSameVersionAndId : Plain → Candidate → Type 0
 IsSameVersionAndId pkg c =
-    (version_text pkg ≡ selected_version c) × (is_same_id (installed_id pkg) c.id ≡ true)
+    (package_version_text pkg ≡ candidate_version_text c) × (is_same_id (installed_id pkg) c.id ≡ true)
 
 -- the name of the package that a change is of
 abbrev pub changed_name : Change → List ℕ

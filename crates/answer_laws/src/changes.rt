@@ -11,8 +11,8 @@ ghost use Rattle.base_core.specs.Listed.{AreSortedDistinctNames};
 ghost use Rattle.base_core.specs.Lists.{IsIn};
 ghost use Rattle.installed_info.specs.candidate_core.Candidates.{Candidate};
 ghost use Rattle.change_outcome.specs.db_core.Packages.{is_package_named};
-ghost use Rattle.installed_info.specs.file_owners.Replaces.{version_text};
-ghost use Rattle.change_outcome.specs.package_changes.Changes.{Replacement, change_of_name, changes_of, is_selected_named, selected_version};
+ghost use Rattle.installed_info.specs.file_owners.Replaces.{package_version_text};
+ghost use Rattle.change_outcome.specs.package_changes.Changes.{Replacement, change_of_name, changes_of, is_candidate_named, candidate_version_text};
 ghost use Rattle.report_core.specs.Reports.{Change, Downgrade, Install, Purge, Reinstall, Replace, Upgrade, change_lines};
 ghost use Rattle.version_core.specs.Order.{version_cmp};
 
@@ -24,22 +24,22 @@ pub fn the_order_of_versions_decides_the_change()
     ensures upgrade { (r : Replacement) (name : List ℕ) (pkg : Plain) (c : Candidate)
         → HasBothVersions r name pkg c
         → (change_of_name r name
-        ≡ Some (Upgrade name (version_text pkg) (selected_version c)))
-        ↔ (version_cmp (version_text pkg) (selected_version c) ≡ Less) }
+        ≡ Some (Upgrade name (package_version_text pkg) (candidate_version_text c)))
+        ↔ (version_cmp (package_version_text pkg) (candidate_version_text c) ≡ Less) }
     ensures downgrade { (r : Replacement) (name : List ℕ) (pkg : Plain) (c : Candidate)
         → HasBothVersions r name pkg c
         → (change_of_name r name
-        ≡ Some (Downgrade name (version_text pkg) (selected_version c)))
-        ↔ (version_cmp (version_text pkg) (selected_version c) ≡ Greater) }
+        ≡ Some (Downgrade name (package_version_text pkg) (candidate_version_text c)))
+        ↔ (version_cmp (package_version_text pkg) (candidate_version_text c) ≡ Greater) }
     ensures replace { (r : Replacement) (name : List ℕ) (pkg : Plain) (c : Candidate)
         → HasBothVersions r name pkg c
         → (change_of_name r name
-        ≡ Some (Replace name (version_text pkg) (selected_version c)))
-        ↔ ((version_cmp (version_text pkg) (selected_version c) ≡ Equal)
+        ≡ Some (Replace name (package_version_text pkg) (candidate_version_text c)))
+        ↔ ((version_cmp (package_version_text pkg) (candidate_version_text c) ≡ Equal)
         × (IsSameVersionAndId pkg c → ⊥)) }
     ensures reinstall { (r : Replacement) (name : List ℕ) (pkg : Plain) (c : Candidate)
         → HasBothVersions r name pkg c
-        → (change_of_name r name ≡ Some (Reinstall name (selected_version c)))
+        → (change_of_name r name ≡ Some (Reinstall name (candidate_version_text c)))
         ↔ (IsSameVersionAndId pkg c × IsIn name r.again) }
     ensures kept { (r : Replacement) (name : List ℕ) (pkg : Plain) (c : Candidate)
         → HasBothVersions r name pkg c
@@ -52,7 +52,7 @@ pub fn the_order_of_versions_decides_the_change()
 pub fn a_package_of_no_index_is_kept()
     ensures reinstall { (r : Replacement) (name : List ℕ) (c : Candidate)
         → IsInstalledPackageSelected r name c
-        → (change_of_name r name ≡ Some (Reinstall name (selected_version c)))
+        → (change_of_name r name ≡ Some (Reinstall name (candidate_version_text c)))
         ↔ IsIn name r.again }
     ensures kept { (r : Replacement) (name : List ℕ) (c : Candidate)
         → IsInstalledPackageSelected r name c
@@ -79,12 +79,12 @@ pub fn a_package_on_one_side_is_installed_or_removed()
         → HasInstallChange r name ↔ (IsSelected r name × (WasInstalled r name → ⊥)) }
     ensures purged_version { (r : Replacement) (name : List ℕ) (pkg : Plain)
         → find (is_package_named name) r.before ≡ Some pkg
-        → find (is_selected_named name) r.selected ≡ None
-        → change_of_name r name ≡ Some (Purge name (version_text pkg)) }
+        → find (is_candidate_named name) r.selected ≡ None
+        → change_of_name r name ≡ Some (Purge name (package_version_text pkg)) }
     ensures installed_version { (r : Replacement) (name : List ℕ) (c : Candidate)
         → find (is_package_named name) r.before ≡ None
-        → find (is_selected_named name) r.selected ≡ Some c
-        → change_of_name r name ≡ Some (Install name (selected_version c)) }
+        → find (is_candidate_named name) r.selected ≡ Some c
+        → change_of_name r name ≡ Some (Install name (candidate_version_text c)) }
     ensures absent { (r : Replacement) (name : List ℕ)
         → (WasInstalled r name → ⊥) → (IsSelected r name → ⊥) → change_of_name r name ≡ None }
 {}

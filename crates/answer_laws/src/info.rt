@@ -12,7 +12,7 @@ ghost use Rattle.command_core.specs.declared.command.Flags.{Flags};
 ghost use Rattle.command_core.specs.declared.operands.Operand.{Operand};
 ghost use Rattle.change_outcome.specs.db_core.Packages.{lists_path};
 ghost use Rattle.dep_core.specs.LeadingSlash.{without_slash};
-ghost use Rattle.installed_info.specs.file_owners.Replaces.{version_text};
+ghost use Rattle.installed_info.specs.file_owners.Replaces.{package_version_text};
 ghost use Rattle.installed_info.specs.Form.{form_of};
 ghost use Rattle.installed_info.specs.Info.{info_refusal, names_info, operands_info, package_info};
 ghost use Rattle.installed_info.specs.Packages.{package_meant_by, package_named};
@@ -67,7 +67,8 @@ pub fn each_question_of_info_has_its_answer()
         (text_in (info_field (codes "description") pkg) ∷ []) }
     ensures owner { (flags : Flags) (path : List ℕ) (pkg : Plain) → flags.who_owns ≡ true
         → package_info (form_of flags) path pkg
-        ≡ report_line (owner_text (without_slash path) (package_name pkg) (version_text pkg)) }
+        ≡ report_line (owner_text (without_slash path) (package_name pkg)
+        (package_version_text pkg)) }
 {}
 
 /// The report of `info` on several operands is that on each of them, one after the other, in the

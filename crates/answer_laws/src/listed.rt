@@ -10,7 +10,7 @@ ghost use Rattle.make_laws.specs.NamedFields.{entries_named, field_named};
 ghost use Rattle.change_outcome.specs.v2_core.Database.{listed_access_value, listed_file_value, listed_folder_value, listed_hash_value, record_value};
 ghost use Rattle.change_outcome.specs.v2_core.Records.{ListedFile, ListedFolder, Record, empty_record};
 ghost use Rattle.change_outcome.specs.v2_lines.Accesses.{Access, access_in};
-ghost use Rattle.change_outcome.specs.v2_lines.InfoValues.{sha1_of};
+ghost use Rattle.change_outcome.specs.v2_lines.InfoValues.{sha1_in_text};
 ghost use Rattle.change_outcome.specs.v2_lines.Lines.{RecordLine, file_access_line, file_hash_line, file_line_if_one_part, folder_access_line, folder_line_if_path, record_line_of};
 
 /// F begins a folder and R a file; M gives the access of a folder, a that of a file, and Z its
@@ -25,7 +25,7 @@ pub fn each_path_letter_has_its_meaning()
     ensures file_access { (value : List ℕ) → record_line_of (letter_line (codes "a") value)
         ≡ option_map file_access_line (access_in value) }
     ensures hash { (value : List ℕ) → record_line_of (letter_line (codes "Z") value)
-        ≡ option_map file_hash_line (sha1_of value) }
+        ≡ option_map file_hash_line (sha1_in_text value) }
 {}
 
 /// A record lists one folder for each line that begins one, with the access and the files that the

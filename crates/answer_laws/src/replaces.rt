@@ -7,19 +7,19 @@ ghost use Rattle.change_outcome.specs.adb_fields.Repeated.{package_name};
 ghost use Rattle.adb_view.specs.Plain.{Plain};
 ghost use Rattle.answer_laws.specs.ReplacesEntries.{IsNamedInReplaces};
 ghost use Rattle.base_core.specs.ByteOrder.{bytes_cmp};
-ghost use Rattle.installed_info.specs.file_owners.Replaces.{replaces_names_package, replacing_priority, takes_over, version_text};
+ghost use Rattle.installed_info.specs.file_owners.Replaces.{replaces_names_package, replacing_priority, takes_over, package_version_text};
 
 /// The `replaces` of a package names another exactly by the other's own name and version. What the
 /// other one provides does not count.
 pub fn a_package_is_replaced_by_its_own_name_and_version()
     ensures named { (x y : Plain) → (replaces_names_package x y ≡ true) ↔ IsNamedInReplaces x y }
     ensures own { (x y z : Plain) → package_name y ≡ package_name z
-        → version_text y ≡ version_text z
+        → package_version_text y ≡ package_version_text z
         → replaces_names_package x y ≡ replaces_names_package x z }
 {}
 
-/// A package takes over the files of one that it names, unless it is named back; then that with the
-/// greater priority does, and at equal priority that with the later name.
+/// A package takes over the files of one that its `replaces` names. If each names the other, the
+/// one with the greater priority takes over, and at equal priority the one with the later name.
 pub fn of_two_packages_that_name_each_other_one_is_preferred()
     ensures unnamed { (x y : Plain) → replaces_names_package x y ≡ false → takes_over x y ≡ false }
     ensures alone { (x y : Plain) → replaces_names_package x y ≡ true

@@ -4,7 +4,7 @@
 ghost use Rattle.std.specs.Prelude.{◌≡◌, ◌≢◌, ◌↔◌, ℕ, List, [], Some, None, codes, true, false};
 ghost use Rattle.adb_view.specs.Plain.{Plain};
 ghost use Rattle.answer_laws.specs.FirstScripts.{IsFirstScript, RunsScript};
-ghost use Rattle.answer_laws.specs.ScriptTexts.{IsFirstWithText, text_of_name, text_of_number};
+ghost use Rattle.answer_laws.specs.ScriptTexts.{IsFirstWithText, script_text_by_name, script_text_by_number};
 ghost use Rattle.base_core.specs.Lists.{IsIn};
 ghost use Rattle.change_outcome.specs.PackageFiles.{first_script_of, has_script_of, scripts_of_change};
 ghost use Rattle.report_core.specs.Numbers.{POST_DEINSTALL_SCRIPT, POST_INSTALL_SCRIPT, POST_UPGRADE_SCRIPT, PRE_DEINSTALL_SCRIPT, PRE_INSTALL_SCRIPT, PRE_UPGRADE_SCRIPT, TRIGGER_SCRIPT};
@@ -24,21 +24,21 @@ pub fn the_first_script_by_number_is_named()
 /// numbers are those of the seven names.
 pub fn a_script_is_run_only_if_it_has_text()
     ensures each { (pkg : Plain) (number : ℕ)
-        → (has_script_of pkg number ≡ true) ↔ (text_of_number pkg number ≢ []) }
+        → (has_script_of pkg number ≡ true) ↔ (script_text_by_number pkg number ≢ []) }
     ensures trigger { (pkg : Plain) → (has_script_of pkg TRIGGER_SCRIPT ≡ true)
-        ↔ (text_of_name pkg (codes "trigger") ≢ []) }
+        ↔ (script_text_by_name pkg (codes "trigger") ≢ []) }
     ensures pre_install { (pkg : Plain) → (has_script_of pkg PRE_INSTALL_SCRIPT ≡ true)
-        ↔ (text_of_name pkg (codes "pre-install") ≢ []) }
+        ↔ (script_text_by_name pkg (codes "pre-install") ≢ []) }
     ensures post_install { (pkg : Plain) → (has_script_of pkg POST_INSTALL_SCRIPT ≡ true)
-        ↔ (text_of_name pkg (codes "post-install") ≢ []) }
+        ↔ (script_text_by_name pkg (codes "post-install") ≢ []) }
     ensures pre_deinstall { (pkg : Plain) → (has_script_of pkg PRE_DEINSTALL_SCRIPT ≡ true)
-        ↔ (text_of_name pkg (codes "pre-deinstall") ≢ []) }
+        ↔ (script_text_by_name pkg (codes "pre-deinstall") ≢ []) }
     ensures post_deinstall { (pkg : Plain) → (has_script_of pkg POST_DEINSTALL_SCRIPT ≡ true)
-        ↔ (text_of_name pkg (codes "post-deinstall") ≢ []) }
+        ↔ (script_text_by_name pkg (codes "post-deinstall") ≢ []) }
     ensures pre_upgrade { (pkg : Plain) → (has_script_of pkg PRE_UPGRADE_SCRIPT ≡ true)
-        ↔ (text_of_name pkg (codes "pre-upgrade") ≢ []) }
+        ↔ (script_text_by_name pkg (codes "pre-upgrade") ≢ []) }
     ensures post_upgrade { (pkg : Plain) → (has_script_of pkg POST_UPGRADE_SCRIPT ≡ true)
-        ↔ (text_of_name pkg (codes "post-upgrade") ≢ []) }
+        ↔ (script_text_by_name pkg (codes "post-upgrade") ≢ []) }
 {}
 
 /// Of some numbers of scripts, the first whose script has text is taken; none is taken exactly if
@@ -48,5 +48,5 @@ pub fn the_first_script_that_has_text_is_taken()
         → (first_script_of pkg numbers ≡ Some number) ↔ IsFirstWithText pkg numbers number }
     ensures none { (pkg : Plain) (numbers : List ℕ)
         → (first_script_of pkg numbers ≡ None)
-        ↔ ((m : ℕ) → IsIn m numbers → text_of_number pkg m ≡ []) }
+        ↔ ((m : ℕ) → IsIn m numbers → script_text_by_number pkg m ≡ []) }
 {}

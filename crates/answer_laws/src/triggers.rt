@@ -3,7 +3,7 @@
 
 ghost use Rattle.std.specs.Prelude.{◌≡◌, ◌⊎◌, ◌↔◌, ℕ, List, [], true, false, Ok, Err, codes};
 ghost use Rattle.adb_view.specs.Plain.{Plain};
-ghost use Rattle.answer_laws.specs.DueTriggers.{HasFileIn, HasTriggerLines, IsDueFor, MatchesFolderByParts, IsFirstDue, IsTriggered};
+ghost use Rattle.answer_laws.specs.DueTriggers.{HasFileIn, HasTriggerLines, IsTriggerDueFor, MatchesFolderByParts, IsFirstPackageWithDueTrigger, IsTriggered};
 ghost use Rattle.base_core.specs.Files.{Files};
 ghost use Rattle.base_core.specs.Listed.{AreSortedDistinctNames};
 ghost use Rattle.base_core.specs.Lists.{IsIn};
@@ -52,10 +52,10 @@ pub fn each_due_trigger_has_a_line()
 pub fn a_due_trigger_refuses_the_change()
     ensures accepted { (paths : List (List ℕ)) (members : List Member)
         → (unless_trigger_due false paths members ≡ Ok true)
-        ↔ ((m : Member) → IsIn m members → (folder : List ℕ) → IsDueFor paths m folder → ⊥) }
+        ↔ ((m : Member) → IsIn m members → (folder : List ℕ) → IsTriggerDueFor paths m folder → ⊥) }
     ensures named { (paths : List (List ℕ)) (members : List Member) (name : List ℕ)
         → unless_trigger_due false paths members ≡ Err (TriggerNeeded name)
-        → IsFirstDue paths members name }
+        → IsFirstPackageWithDueTrigger paths members name }
 {}
 
 /// The files whose folders count for triggers are exactly those of packages that a change writes or

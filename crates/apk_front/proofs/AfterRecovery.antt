@@ -13,7 +13,7 @@ use Rattle.base_core.specs.Tree.{TreeState, files_of}
 use Rattle.base_core.specs.declared.cause.Cause.{Cause}
 use Rattle.base_core.specs.declared.tree.TreeFault.{TreeFault}
 use Rattle.base_core.specs.declared.tree.TreeFault.TheVariants.{Memory as NoMemory}
-use Rattle.journal_core.specs.Kept.{HasOldOrNewBytes, JournalOnlyShrinks, ShownNamesAreDurable}
+use Rattle.journal_core.specs.Kept.{HasOldOrNewBytes, JournalOnlyShrinks, NamesOutsideJournalAreDurable}
 use Rattle.journal_core.specs.Quiet.{EachCrashLeavesOld, StateIsUnchanged}
 use Rattle.journal_core.specs.Recovery.{EachCrashLeavesOldOrNew, EachCrashLeaves, StateDependsOn, intent_name, intent_of, state_of}
 use Rattle.journal_core.specs.Replacing.{IsMomentOfReplacing}
@@ -21,9 +21,9 @@ use Rattle.journal_core.specs.Staged.{IsEmptyStage, IsOldUntilCommit, unstaged_f
 use Rattle.journal_core.proofs.Lasting.{some_none}
 use Rattle.outcome.specs.Effect.{Effect, does_recover}
 use Rattle.outcome.specs.Outcome.{Outcome}
-use Rattle.outcome.specs.Work.{recovery_fault, work_files}
-use Rattle.apk_front.specs.Moments.{MomentsLeadTo, AreReadDuringRun, AreOldOrLeadToOutcome, CanRecover, HasNothingToRecover, IsDurableState, IsRecoveringOrNext, IsStateDuringRun, IsRecovering, MustOutcomeBeDurable, MustOutcomeBeDurableWithoutRecovery, NamesAreDurableWithoutIntentExcept, ignored_except_output}
-use Rattle.apk_front.specs.Runs.{AreReadDuringWork, IsRun, IsWholeRun, IsOutOfMemoryOrWithoutCommit}
+use Rattle.outcome.specs.Work.{recovery_fault, files_recovered_if_needed}
+use Rattle.apk_front.specs.Moments.{MomentsLeadToFiles, AreFilesReadDuringRun, AreStatesOldOrLeadToOutcome, CanRecover, HasNothingToRecover, IsDurableState, IsRecoveringOrNext, IsStateDuringRun, IsRecovering, MustOutcomeBeDurable, MustOutcomeBeDurableWithoutRecovery, NamesAreDurableWithoutIntentExcept, ignored_except_output}
+use Rattle.apk_front.specs.Runs.{AreFilesReadWithoutRecovery, IsRunAfterRecovery, IsRunWithRecovery, IsOutOfMemoryOrWithoutCommit}
 use Rattle.apk_front.proofs.Runs.{History, Judged, Leaves, err_ok, on_ok, settled_before, since_weaker}
 
 -- ---- laws
@@ -88,7 +88,7 @@ each_behind : AreLaws → (ignored : Ignored) (files : Files) (v u : TreeState) 
 each_behind laws ignored files v u [] first is_unchanged earlier each = earlier
 each_behind laws ignored files v u (m ∷ added) first is_unchanged earlier (here, others) = (laws.before ignored files v u m added first is_unchanged here, each_behind laws ignored files v u added first is_unchanged earlier others)
 
-way_after : AreLaws → (makes : Bool) (ignored : Ignored) (files : Files) (v u : TreeState) (old mid now : History) → StateIsUnchanged ignored v u → Since (StateIsUnchanged ignored v) old mid → MomentsLeadTo makes ignored files u mid now → MomentsLeadTo makes ignored files v old now
+way_after : AreLaws → (makes : Bool) (ignored : Ignored) (files : Files) (v u : TreeState) (old mid now : History) → StateIsUnchanged ignored v u → Since (StateIsUnchanged ignored v) old mid → MomentsLeadToFiles makes ignored files u mid now → MomentsLeadToFiles makes ignored files v old now
 way_after laws true ignored files v u old mid now is_unchanged first way =
     since_both (StateIsUnchanged ignored v) (IsMomentOfReplacing ignored files u) (IsMomentOfReplacing ignored files v) old mid now (still_replaces laws ignored files v) (λ w there. replaces_from laws ignored files v u w is_unchanged there) first way
 way_after laws false ignored files v u old mid now is_unchanged first way = record {
@@ -98,7 +98,7 @@ way_after laws false ignored files v u old mid now is_unchanged first way = reco
 }
 
 safe_after : AreLaws → (A B : Outcome → Type 0) (makes : Bool) (ignored : Ignored) (v u : TreeState) (old mid now : History) → ((o : Outcome) → A o → B o) → StateIsUnchanged ignored v u → Since (StateIsUnchanged ignored v) old mid
-    → AreOldOrLeadToOutcome A makes ignored u mid now → AreOldOrLeadToOutcome B makes ignored v old now
+    → AreStatesOldOrLeadToOutcome A makes ignored u mid now → AreStatesOldOrLeadToOutcome B makes ignored v old now
 safe_after laws A B makes ignored v u old mid now into is_unchanged first (inl then) = inl (laws.calls ignored v u old mid now first is_unchanged then)
 safe_after laws A B makes ignored v u old mid now into is_unchanged first (inr (o, one, commits, way)) = inr (o, into o one, commits, way_after laws makes ignored o.files v u old mid now is_unchanged first way)
 
@@ -117,7 +117,7 @@ settles_after laws effect ignored v u o is_unchanged found (inr (recovers, some)
 abbrev pub StaysWithout : History → History → Judged → Type 0
 StaysWithout old now judged = IsErrOf judged NoMemory → now ≡ old
 
-unwritten : (A B : Outcome → Type 0) (effect : Effect) (output : Option (List ℕ)) (judged : Judged) (u : TreeState) (mid now : History) → ((o : Outcome) → B o → A o) → IsRun A effect output judged u mid now → StaysWithout mid now judged → IsOutOfMemoryOrWithoutCommit B judged → now ≡ mid
+unwritten : (A B : Outcome → Type 0) (effect : Effect) (output : Option (List ℕ)) (judged : Judged) (u : TreeState) (mid now : History) → ((o : Outcome) → B o → A o) → IsRunAfterRecovery A effect output judged u mid now → StaysWithout mid now judged → IsOutOfMemoryOrWithoutCommit B judged → now ≡ mid
 unwritten A B effect output judged u mid now from run memory (inl none) = memory none
 unwritten A B effect output judged u mid now from run memory (inr (o, one, commits)) = run.idle o (from o one) commits
 
@@ -135,7 +135,7 @@ BytesAs v w = HasOldOrNewBytes (files_of v) (unstaged_files (files_of v)) w
 
 -- as soon as no intent is read, a crash undoes no change of a name that does not wait
 abbrev pub NamesAreDurableWithoutIntent : TreeState → Type 0
-NamesAreDurableWithoutIntent w = w.names intent_name ≡ None → ShownNamesAreDurable w
+NamesAreDurableWithoutIntent w = w.names intent_name ≡ None → NamesOutsideJournalAreDurable w
 
 -- what a recovery says, whatever it answers
 pub record IsRecovery (v : TreeState) (old mid : History) : Type 0 where
@@ -172,16 +172,16 @@ recovering v old mid recovery =
     since_weaker (λ w. RecoversAs v w × (BytesAs v w × JournalOnlyShrinks v w)) (IsRecovering v) old mid (λ w all. record { reads = all.0; bytes = all.1.0; waiting = all.1.1 })
     (since_and (RecoversAs v) (λ w. BytesAs v w × JournalOnlyShrinks v w) old mid recovery.reads (since_and (BytesAs v) (JournalOnlyShrinks v) old mid recovery.bytes recovery.waiting))
 
-reads_after : (A B : Outcome → Type 0) (effect : Effect) (output : Option (List ℕ)) (v u : TreeState) (old mid now : History) → does_recover effect ≡ true → files_of u ≡ work_files effect (files_of v) → ((o : Outcome) → A o → B o)
-    → Since (IsRecovering v) old mid → AreReadDuringWork A effect output u mid now → AreReadDuringRun B effect output v old now
+reads_after : (A B : Outcome → Type 0) (effect : Effect) (output : Option (List ℕ)) (v u : TreeState) (old mid now : History) → does_recover effect ≡ true → files_of u ≡ files_recovered_if_needed effect (files_of v) → ((o : Outcome) → A o → B o)
+    → Since (IsRecovering v) old mid → AreFilesReadWithoutRecovery A effect output u mid now → AreFilesReadDuringRun B effect output v old now
 reads_after A B effect output v u old mid now recovers work into first (inl same) =
-    inl (since_both (IsRecovering v) (λ w. files_of w ≡ files_of u) (IsRecoveringOrNext effect (λ w. files_of w ≡ work_files effect (files_of v)) v) old mid now (λ w r. inl (recovers, r)) (λ w is. inr (is ∙ work)) first same)
+    inl (since_both (IsRecovering v) (λ w. files_of w ≡ files_of u) (IsRecoveringOrNext effect (λ w. files_of w ≡ files_recovered_if_needed effect (files_of v)) v) old mid now (λ w r. inl (recovers, r)) (λ w is. inr (is ∙ work)) first same)
 reads_after A B effect output v u old mid now recovers work into first (inr (o, one, commits, at_work)) =
     inr (
       o,
       into o one,
       commits,
-      since_both (IsRecovering v) (IsStateDuringRun effect output o.files (files_of u)) (IsRecoveringOrNext effect (IsStateDuringRun effect output o.files (work_files effect (files_of v))) v) old mid now
+      since_both (IsRecovering v) (IsStateDuringRun effect output o.files (files_of u)) (IsRecoveringOrNext effect (IsStateDuringRun effect output o.files (files_recovered_if_needed effect (files_of v))) v) old mid now
           (λ w r. inl (recovers, r))
           (λ w is. inr (subst (λ (f : Files). IsStateDuringRun effect output o.files f w) work is)) first at_work,
     )
@@ -191,13 +191,13 @@ reads_after A B effect output v u old mid now recovers work into first (inr (o, 
 unread_last : (output : Option (List ℕ)) (w : TreeState) → NamesAreDurableWithoutIntent w → NamesAreDurableWithoutIntentExcept output w
 unread_last output w last none map among q off no_intent unstaged = last none map among q no_intent unstaged
 
-newest_last : (v u : TreeState) (rest more added : History) → IsSome (v.names intent_name) → u ∷ more ≡ added ++ v ∷ rest → All NamesAreDurableWithoutIntent added → u.names intent_name ≡ None → ShownNamesAreDurable u
+newest_last : (v u : TreeState) (rest more added : History) → IsSome (v.names intent_name) → u ∷ more ≡ added ++ v ∷ rest → All NamesAreDurableWithoutIntent added → u.names intent_name ≡ None → NamesOutsideJournalAreDurable u
 newest_last v u rest more [] some is each none = absurd (some_none (v.names intent_name) (sym (ap (λ (h : History). (first_or v h).names intent_name) is) ∙ none) some)
 newest_last v u rest more (m ∷ added) some is each none =
     let same : u ≡ m = ap (first_or v) is in
-    subst ShownNamesAreDurable (sym same) (All-head NamesAreDurableWithoutIntent m added each (subst (λ (w : TreeState). w.names intent_name ≡ None) same none))
+    subst NamesOutsideJournalAreDurable (sym same) (All-head NamesAreDurableWithoutIntent m added each (subst (λ (w : TreeState). w.names intent_name ≡ None) same none))
 
-last_after : (output : Option (List ℕ)) (v u : TreeState) (rest more now : History) → IsRecovery v (v ∷ rest) (u ∷ more) → u.names intent_name ≡ None → (ShownNamesAreDurable u → Since (NamesAreDurableWithoutIntentExcept output) (u ∷ more) now)
+last_after : (output : Option (List ℕ)) (v u : TreeState) (rest more now : History) → IsRecovery v (v ∷ rest) (u ∷ more) → u.names intent_name ≡ None → (NamesOutsideJournalAreDurable u → Since (NamesAreDurableWithoutIntentExcept output) (u ∷ more) now)
     → IsSome (v.names intent_name) → Since (NamesAreDurableWithoutIntentExcept output) (v ∷ rest) now
 last_after output v u rest more now recovery none then some =
     let first = recovery.last some in
@@ -210,8 +210,8 @@ no_fault_to_recover : (effect : Effect) (files : Files) (P : Type 0) → recover
 no_fault_to_recover effect files P none some = absurd (false≢true (sym (ap (λ (o : Option Cause). is_some o) none) ∙ some))
 
 pub whole_after : AreLaws → (A B : Outcome → Type 0) (effect : Effect) (output : Option (List ℕ)) (judged : Judged) (v u : TreeState) (rest more now : History)
-    → does_recover effect ≡ true → recovery_fault effect (files_of v) ≡ None → files_of u ≡ work_files effect (files_of v) → u.names intent_name ≡ None → ((o : Outcome) → A o → B o) → ((o : Outcome) → B o → A o)
-    → IsRecovered v (v ∷ rest) (u ∷ more) → IsRun A effect output judged u (u ∷ more) now → StaysWithout (u ∷ more) now judged → IsWholeRun B effect output judged v (v ∷ rest) now
+    → does_recover effect ≡ true → recovery_fault effect (files_of v) ≡ None → files_of u ≡ files_recovered_if_needed effect (files_of v) → u.names intent_name ≡ None → ((o : Outcome) → A o → B o) → ((o : Outcome) → B o → A o)
+    → IsRecovered v (v ∷ rest) (u ∷ more) → IsRunAfterRecovery A effect output judged u (u ∷ more) now → StaysWithout (u ∷ more) now judged → IsRunWithRecovery B effect output judged v (v ∷ rest) now
 whole_after laws A B effect output judged v u rest more now recovers good work none into from recovered run memory =
     let calm = recovered.recovery.calm in
     let is_unchanged : (ignored : Ignored) → IsDurable (StateDependsOn ignored) v → StateIsUnchanged ignored v u = λ ignored is_durable. newest laws ignored v u rest more is_durable (calm ignored is_durable) in
@@ -235,7 +235,7 @@ whole_after laws A B effect output judged v u rest more now recovers good work n
 
 -- the recovery failed
 pub whole_failed : AreLaws → (IsOne : Outcome → Type 0) (effect : Effect) (output : Option (List ℕ)) (judged : Judged) (e : TreeFault) (v : TreeState) (rest now : History) → does_recover effect ≡ true → judged ≡ Err e
-    → IsRecovery v (v ∷ rest) now → (IsSome (recovery_fault effect (files_of v)) → now ≡ v ∷ rest) → IsWholeRun IsOne effect output judged v (v ∷ rest) now
+    → IsRecovery v (v ∷ rest) now → (IsSome (recovery_fault effect (files_of v)) → now ≡ v ∷ rest) → IsRunWithRecovery IsOne effect output judged v (v ∷ rest) now
 whole_failed laws IsOne effect output judged e v rest now recovers failed recovery bad = record {
   moments = λ ignored is_durable hides. inl (recovery.calm ignored is_durable);
   is_durable = λ ignored is_durable hides. newest_durable laws ignored v rest now is_durable (recovery.calm ignored is_durable);
@@ -244,7 +244,7 @@ whole_failed laws IsOne effect output judged e v rest now recovers failed recove
   left = λ without ignored is_durable. recovery.calm ignored is_durable;
   idle = λ without nothing. nothing_done effect v (now ≡ v ∷ rest) recovers recovery.idle nothing;
   bad = bad;
-  reads = inl (since_weaker (IsRecovering v) (IsRecoveringOrNext effect (λ w. files_of w ≡ work_files effect (files_of v)) v) (v ∷ rest) now (λ w r. inl (recovers, r)) (recovering v (v ∷ rest) now recovery));
+  reads = inl (since_weaker (IsRecovering v) (IsRecoveringOrNext effect (λ w. files_of w ≡ files_recovered_if_needed effect (files_of v)) v) (v ∷ rest) now (λ w r. inl (recovers, r)) (recovering v (v ∷ rest) now recovery));
   last = λ some. since_weaker NamesAreDurableWithoutIntent (NamesAreDurableWithoutIntentExcept output) (v ∷ rest) now (unread_last output) (recovery.last some);
   leaves = λ o one. err_ok (HoldsNow now (λ w. files_of w ≡ o.files)) judged e failed;
 }
@@ -259,7 +259,7 @@ settled_left effect ignored v o (leaves, never) (inr can) = absurd (never can)
 
 -- nothing was written
 pub whole_idle : (IsOne : Outcome → Type 0) (effect : Effect) (output : Option (List ℕ)) (judged : Judged) (v : TreeState) (rest now : History) → now ≡ v ∷ rest → ((o : Outcome) → IsOne o → OnOk judged (LeavesAll effect v o))
-    → IsWholeRun IsOne effect output judged v (v ∷ rest) now
+    → IsRunWithRecovery IsOne effect output judged v (v ∷ rest) now
 whole_idle IsOne effect output judged v rest now same all = record {
   moments = λ ignored is_durable hides. inl (none_since (StateIsUnchanged ignored v) (v ∷ rest) now same);
   is_durable = λ ignored is_durable hides. subst (λ (h : History). HoldsNow h (IsDurable (StateDependsOn ignored))) (sym same) is_durable;
@@ -271,7 +271,7 @@ whole_idle IsOne effect output judged v rest now same all = record {
   left = λ without ignored is_durable. none_since (StateIsUnchanged ignored v) (v ∷ rest) now same;
   idle = λ without nothing. same;
   bad = λ some. same;
-  reads = inl (none_since (IsRecoveringOrNext effect (λ w. files_of w ≡ work_files effect (files_of v)) v) (v ∷ rest) now same);
+  reads = inl (none_since (IsRecoveringOrNext effect (λ w. files_of w ≡ files_recovered_if_needed effect (files_of v)) v) (v ∷ rest) now same);
   last = λ some. none_since (NamesAreDurableWithoutIntentExcept output) (v ∷ rest) now same;
   leaves = λ o one. on_ok judged (λ left. subst (λ (h : History). HoldsNow h (λ w. files_of w ≡ o.files)) (sym same) (sym left.0.0)) (all o one);
 }

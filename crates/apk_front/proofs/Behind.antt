@@ -2,7 +2,7 @@
 use Rattle.std.proofs.Common.{◌≡◌, inl, inr, ℕ, Bool, true, List, [], ◌∷◌, Option, Some, None, IsSome, Ok, Err, refl, sym, ap, subst, ◌∙◌}
 use Rattle.std.specs.Prelude.{if◌then◌else◌, IfOk, OnOk}
 use Rattle.std.proofs.lemmas.Bool.{false≢true}
-use Rattle.adb_dump.specs.adb_schema.Soundness.{first_fault, payload_in, root_value}
+use Rattle.adb_dump.specs.adb_schema.Soundness.{container_fault_except_contents, payload_in, root_value}
 use Rattle.adb_view.specs.declared.tables.Which.TheVariants.{Intent as IntentTable}
 use Rattle.base_core.specs.Calls.{HoldsNow, IfObservable}
 use Rattle.base_core.specs.Crash.{Since}
@@ -16,14 +16,14 @@ use Rattle.journal_core.specs.Recovery.{EachCrashLeaves, StateDependsOn, intent_
 use Rattle.journal_core.specs.Staged.{AreReplayPathsFree, IsEmptyStage, IsIntentFault, unstaged_files}
 use Rattle.journal_core.specs.declared.fault.RecoverFault.{RecoverFault}
 use Rattle.journal_core.specs.declared.fault.RecoverFault.TheVariants.{IntentBad as BadIntent}
-use Rattle.outcome.specs.Commands.{IsPossibleOutcomeWithoutDemo, IsPossibleOutcomeAfterRecovery, IsOutcomeWithoutDemo, IsOutcomeAfterRecovery, IsOutcomeUnlessBadIntent}
+use Rattle.outcome.specs.Commands.{IsPossibleOutcomeWithoutDemo, IsPossibleOutcomeAfterRecovery, IsOutcomeWithoutDemo, IsOutcomeOverRecoveredFiles, IsOutcomeUnlessBadIntent}
 use Rattle.outcome.specs.Effect.{Effect, Computes, OnlyReadsFiles, AsksRoot, Makes, Changes, does_recover, effect_of}
 use Rattle.outcome.specs.Outcome.{Outcome, just_refusal}
 use Rattle.outcome.specs.Work.{fault_of_intent, recovery_fault}
 use Rattle.outcome.proofs.Recovering.{work_is}
 use Rattle.report_core.specs.declared.refusal.Refusal.TheVariants.{IntentBad}
 use Rattle.apk_front.specs.Moments.{ArePathsToWriteFree, AreOutcomePathsFree}
-use Rattle.apk_front.specs.Runs.{HasNothingStaged, IfNothingStaged, IsRun, IsWholeRun}
+use Rattle.apk_front.specs.Runs.{HasNothingStaged, IfNothingStaged, IsRunAfterRecovery, IsRunWithRecovery}
 use Rattle.apk_front.specs.Verdicts.{ReportsOneOfOutcomes, as_outcome}
 use Rattle.apk_front.specs.declared.answer.Verdict.{Verdict}
 use Rattle.apk_front.proofs.Carried.{Ones, RoomFor, Wholes}
@@ -35,13 +35,13 @@ use Rattle.apk_front.proofs.Runs.{History, Judged, Leaves, none_is_some}
 no_bad : (files : Files) → ((cause : Cause) → IsIntentFault files cause → ⊥) → fault_of_intent (files intent_name) ≡ None
 no_bad files good = by_found (files intent_name) refl
   where
-    by_fault : (file : List ℕ) (fault : Option Cause) → files intent_name ≡ Some file → first_fault IntentTable file ≡ fault → fault ≡ None
+    by_fault : (file : List ℕ) (fault : Option Cause) → files intent_name ≡ Some file → container_fault_except_contents IntentTable file ≡ fault → fault ≡ None
     by_fault file None at is = refl
     by_fault file (Some cause) at is = absurd (good cause (file, at, is))
 
     by_found : (found : Option (List ℕ)) → files intent_name ≡ found → fault_of_intent found ≡ None
     by_found None at = refl
-    by_found (Some file) at = by_fault file (first_fault IntentTable file) at refl
+    by_found (Some file) at = by_fault file (container_fault_except_contents IntentTable file) at refl
 
 good_is : (effect : Effect) (files : Files) → does_recover effect ≡ true → ((cause : Cause) → IsIntentFault files cause → ⊥) → recovery_fault effect files ≡ None
 good_is Computes files recovering good = cc
@@ -60,13 +60,13 @@ bad_is Changes files cause recovering (file, at, is) = ap fault_of_intent at ∙
 fault_found : (files : Files) → IsSome (fault_of_intent (files intent_name)) → (cause : Cause) × IsIntentFault files cause
 fault_found files some = by_found (files intent_name) refl some
   where
-    by_fault : (file : List ℕ) (fault : Option Cause) → files intent_name ≡ Some file → first_fault IntentTable file ≡ fault → IsSome fault → (cause : Cause) × IsIntentFault files cause
+    by_fault : (file : List ℕ) (fault : Option Cause) → files intent_name ≡ Some file → container_fault_except_contents IntentTable file ≡ fault → IsSome fault → (cause : Cause) × IsIntentFault files cause
     by_fault file None at is none = absurd (false≢true none)
     by_fault file (Some cause) at is there = (cause, (file, at, is))
 
     by_found : (found : Option (List ℕ)) → files intent_name ≡ found → IsSome (fault_of_intent found) → (cause : Cause) × IsIntentFault files cause
     by_found None at none = absurd (false≢true none)
-    by_found (Some file) at there = by_fault file (first_fault IntentTable file) at refl there
+    by_found (Some file) at there = by_fault file (container_fault_except_contents IntentTable file) at refl there
 
 -- why a command cannot recover
 bad_found : (effect : Effect) (files : Files) → IsSome (recovery_fault effect files) → (cause : Cause) × IsIntentFault files cause
@@ -87,11 +87,11 @@ LeavesUnstaged v w = (files_of w ≡ unstaged_files (files_of v)) × (w.names in
 into : (command : CommandLine) (v u : TreeState) (o : Outcome) → does_recover (effect_of command.applet) ≡ true → IsGood v → LeavesUnstaged v u → Ones command u o → Wholes command v o
 into command v u o recovering good left one =
     subst (λ (fault : Option Cause). IsOutcomeUnlessBadIntent fault command (files_of v) o) (sym (good_is (effect_of command.applet) (files_of v) recovering good))
-    (subst (λ (f : Files). IsOutcomeAfterRecovery command f o) (left.0 ∙ sym (work_is (effect_of command.applet) (files_of v) recovering)) one)
+    (subst (λ (f : Files). IsOutcomeOverRecoveredFiles command f o) (left.0 ∙ sym (work_is (effect_of command.applet) (files_of v) recovering)) one)
 
 from : (command : CommandLine) (v u : TreeState) (o : Outcome) → does_recover (effect_of command.applet) ≡ true → IsGood v → LeavesUnstaged v u → Wholes command v o → Ones command u o
 from command v u o recovering good left one =
-    subst (λ (f : Files). IsOutcomeAfterRecovery command f o) (sym (left.0 ∙ sym (work_is (effect_of command.applet) (files_of v) recovering)))
+    subst (λ (f : Files). IsOutcomeOverRecoveredFiles command f o) (sym (left.0 ∙ sym (work_is (effect_of command.applet) (files_of v) recovering)))
     (subst (λ (fault : Option Cause). IsOutcomeUnlessBadIntent fault command (files_of v) o) (good_is (effect_of command.applet) (files_of v) recovering good) one)
 
 -- nothing waits then
@@ -119,8 +119,8 @@ Idle old mid v = v.names intent_name ≡ None → IsEmptyStage v.names → mid �
 
 pub behind_run : AreLaws → (command : CommandLine) (output : Option (List ℕ)) (judged : Judged) (old mid now : History) → does_recover (effect_of command.applet) ≡ true
     → IfObservable old (λ v. IsRecovery v old mid) → IfObservable old IsGood → IfObservable old (λ v. HoldsNow mid (LeavesUnstaged v)) → IfObservable old (Settled mid)
-    → IfNothingStaged mid (λ u. IsRun (Ones command u) (effect_of command.applet) output judged u mid now) → IfNothingStaged mid (λ u. StaysWithout mid now judged)
-    → IfObservable old (λ v. IsWholeRun (Wholes command v) (effect_of command.applet) output judged v old now)
+    → IfNothingStaged mid (λ u. IsRunAfterRecovery (Ones command u) (effect_of command.applet) output judged u mid now) → IfNothingStaged mid (λ u. StaysWithout mid now judged)
+    → IfObservable old (λ v. IsRunWithRecovery (Wholes command v) (effect_of command.applet) output judged v old now)
 behind_run laws command output judged [] mid now recovering recovery good left settled run memory = tt
 behind_run laws command output judged (v ∷ rest) [] now recovering recovery good left settled run memory = absurd left
 behind_run laws command output judged (v ∷ rest) (u ∷ more) now recovering recovery good left settled run memory =
@@ -161,7 +161,7 @@ refused_found command fault [] mid (Ok verdict) recovering bad refused = tt
 refused_found command fault (v ∷ rest) mid (Ok verdict) recovering bad (cause, is, same) =
     (just_refusal (files_of v) (IntentBad cause), bad_one command (files_of v) cause recovering (bad cause is).1, same (files_of v))
 
-pub refused_read : (command : CommandLine) (fault : RecoverFault) (judged : Judged) → does_recover (effect_of command.applet) ≡ true → ((cause : Cause) → fault ≡ BadIntent cause → (file : List ℕ) × (first_fault IntentTable file ≡ Some cause)) → IfOk judged (IsRefused fault)
+pub refused_read : (command : CommandLine) (fault : RecoverFault) (judged : Judged) → does_recover (effect_of command.applet) ≡ true → ((cause : Cause) → fault ≡ BadIntent cause → (file : List ℕ) × (container_fault_except_contents IntentTable file ≡ Some cause)) → IfOk judged (IsRefused fault)
     → IfOk judged (ReportsOneOfOutcomes (IsPossibleOutcomeWithoutDemo command))
 refused_read command fault (Err e) recovering found refused = tt
 refused_read command fault (Ok verdict) recovering found (cause, is, same) =
@@ -180,7 +180,7 @@ bad_leaves command v cause o recovering bad one =
 
 pub refused_run : AreLaws → (command : CommandLine) (fault : RecoverFault) (output : Option (List ℕ)) (judged : Judged) (old mid : History) → does_recover (effect_of command.applet) ≡ true
     → IfObservable old (λ v. IsRecovery v old mid) → SaysBad fault old mid → IfObservable old (λ v. (cause : Cause) → IsIntentFault (files_of v) cause → mid ≡ old) → IfOk judged (IsRefused fault)
-    → IfObservable old (λ v. IsWholeRun (Wholes command v) (effect_of command.applet) output judged v old mid)
+    → IfObservable old (λ v. IsRunWithRecovery (Wholes command v) (effect_of command.applet) output judged v old mid)
 refused_run laws command fault output judged [] mid recovering recovery bad idle refused = tt
 refused_run laws command fault output (Ok verdict) (v ∷ rest) mid recovering recovery bad idle (cause, is, same) =
     whole_idle (Wholes command v) (effect_of command.applet) output (Ok verdict) v rest mid (bad cause is).0 (λ o one. bad_leaves command v cause o recovering (bad cause is).1 one)

@@ -5,7 +5,7 @@ use Rattle.std.specs.Prelude.{if◌then◌else◌, is_some, IfOk, IsErrOf, IsTru
 use Rattle.base_core.specs.Calls.{HoldsNow, IfObservable}
 use Rattle.base_core.specs.Crash.{Since}
 use Rattle.base_core.specs.Undone.{IsDurable}
-use Rattle.base_core.specs.Faults.{Counts, IsNoFault}
+use Rattle.base_core.specs.Faults.{Counts, CountsNoNewFault}
 use Rattle.base_core.specs.Files.{Files, no_names}
 use Rattle.base_core.specs.Read.{OnlyReads}
 use Rattle.base_core.specs.Sink.{SinkBeforeAndAfter}
@@ -16,14 +16,14 @@ use Rattle.base_core.specs.declared.tree.TreeFault.TheVariants.{Disk, Memory as 
 use Rattle.journal_core.specs.Quiet.{StateIsUnchanged}
 use Rattle.journal_core.specs.Recovery.{EachCrashLeaves, StateDependsOn, intent_name}
 use Rattle.make_core.specs.make_info.Output.{output_name}
-use Rattle.make_core.specs.package_files.Sources.{AreNamesBelowFirst, values_of_letter}
+use Rattle.make_core.specs.package_files.Sources.{AreNamesBelowFirstFolder, values_of_letter}
 use Rattle.command_core.specs.declared.values.TheConstants.{FILES}
 use Rattle.make_core.specs.make_index.Files.{FindOnlyFiles}
 use Rattle.make_core.specs.make_info.Reads.{Reads}
 use Rattle.outcome.specs.Make.{mkndx, mkpkg}
-use Rattle.outcome.specs.Commands.{IsPossibleOutcomeWithoutDemo, IsPossibleOutcomeAfterRecovery, IsOutcomeWithoutDemo, IsOutcomeAfterRecovery, reads_in, computing_outcome, effect_outcome, reading_outcome}
-use Rattle.outcome.specs.Given.{Given, IsChosenFor, IsClashBy, IsGiven, IsListingFor, MayBeGiven, MayBeListedFor, IsClashForEffect, nothing_given}
-use Rattle.outcome.specs.Effect.{Effect, Computes, OnlyReadsFiles, AsksRoot, Makes, Changes, does_only_read, does_recover, ignores_files, effect_of_arguments, effect_of, output, output_of_arguments, output_for_effect, reads_only, depends_only_on_arguments}
+use Rattle.outcome.specs.Commands.{IsPossibleOutcomeWithoutDemo, IsPossibleOutcomeAfterRecovery, IsOutcomeWithoutDemo, IsOutcomeOverRecoveredFiles, reads_in, outcome_from_arguments_alone, effect_outcome, reading_outcome}
+use Rattle.outcome.specs.Given.{Given, IsChosenFor, IsFirstClashForEffect, IsListingChoiceAndClashFor, IsListingFor, MayBeListingChoiceAndClashFor, MayBeListedFor, MayBeFirstClashForEffect, no_listing_choice_or_clash}
+use Rattle.outcome.specs.Effect.{Effect, Computes, OnlyReadsFiles, AsksRoot, Makes, Changes, does_only_read, does_recover, ignores_files, effect_of_arguments, effect_of, output, output_name_of_arguments, output_name_for_effect, reads_only, depends_only_on_arguments}
 use Rattle.outcome.specs.Words.{IsPossibleOutcome, IsOutcome}
 use Rattle.outcome.specs.Work.{recovery_fault}
 use Rattle.outcome.specs.Outcome.{Outcome, just_refusal, just_report, outcome_of, report_unless}
@@ -41,9 +41,9 @@ use Rattle.command_core.specs.declared.operands.Operand.{Operand}
 use Rattle.outcome.proofs.Looking.{look_leaves}
 use Rattle.apk_front.specs.Answers.{answer_for_refusal}
 use Rattle.apk_front.specs.Effects.{root_access_if_read_only}
-use Rattle.apk_front.specs.Moments.{AnswersOutcome, AreReadDuringRun, AreOldOrLeadToOutcome, CommitsNothing, HasNothingToRecover, ArePathsToWriteFree, IgnoresScratchOf, IsDurableState, IsRefusedOrOutOfMemory, LeavesDurableState, LeavesDurableOnceAnswered, AreRunPathsFree, AreOutcomePathsFree, LeavesDurable, MustOutcomeBeDurable, NamesAreDurableWithoutIntentExcept, ignored_except_output}
+use Rattle.apk_front.specs.Moments.{AnswersOutcome, AreFilesReadDuringRun, AreStatesOldOrLeadToOutcome, IsRefusedOrCommitsNothing, HasNothingToRecover, ArePathsToWriteFree, IgnoresScratchOf, IsDurableState, IsRefusedOrOutOfMemory, LeavesDurableStateIfCommitted, LeavesDurableFilesOnceAnswered, AreRunPathsFree, AreOutcomePathsFree, LeavesDurableFilesIfRequired, MustOutcomeBeDurable, NamesAreDurableWithoutIntentExcept, ignored_except_output}
 use Rattle.apk_front.specs.RunContracts.{IsRunByArguments}
-use Rattle.apk_front.specs.Runs.{IfNothingStaged, IsRun, IsWholeRun, IsOutOfMemoryOrWithoutCommit}
+use Rattle.apk_front.specs.Runs.{IfNothingStaged, IsRunAfterRecovery, IsRunWithRecovery, IsOutOfMemoryOrWithoutCommit}
 use Rattle.apk_front.specs.Containers.{IsIndexOutcome, IsPackageOutcome}
 use Rattle.apk_front.specs.Verdicts.{IsPrinted, IsVerdictPrinted, Reports, ReportsOneOfOutcomes, as_outcome, read_only_outcome}
 use Rattle.apk_front.specs.declared.answer.Answer.{Answer}
@@ -58,7 +58,7 @@ use Rattle.apk_front.proofs.Runs.{History, Judged, Leaves, ok_always, run_among}
 -- ---- an applet that only reads
 
 abbrev pub Ones : CommandLine → TreeState → Outcome → Type 0
-Ones command v = IsOutcomeAfterRecovery command (files_of v)
+Ones command v = IsOutcomeOverRecoveredFiles command (files_of v)
 
 -- the outcomes of a command that may first recover
 abbrev pub Wholes : CommandLine → TreeState → Outcome → Type 0
@@ -69,18 +69,18 @@ pub look_found : (command : CommandLine) (old : History) (judged : Judged) → d
 look_found command old (Err e) reads found = tt
 look_found command [] (Ok verdict) reads found = tt
 look_found command (v ∷ rest) (Ok verdict) reads found =
-    (as_outcome (files_of v) verdict, of_over command (files_of v) (as_outcome (files_of v) verdict) (reads_without (effect_of command.applet) reads) (nothing_given, none_given command (reads_in (files_of v)) (files_of v) reads, found), refl)
+    (as_outcome (files_of v) verdict, of_over command (files_of v) (as_outcome (files_of v) verdict) (reads_without (effect_of command.applet) reads) (no_listing_choice_or_clash, none_given command (reads_in (files_of v)) (files_of v) reads, found), refl)
 
 pub look_read : (command : CommandLine) (judged : Judged) → does_only_read (effect_of command.applet) ≡ true → IfOk judged (λ verdict. (read : Reads) × (as_outcome no_names verdict ≡ read_only_outcome command read no_names)) → IfOk judged (ReportsOneOfOutcomes (IsPossibleOutcomeWithoutDemo command))
 look_read command (Err e) reads found = tt
-look_read command (Ok verdict) reads (read, is) = (as_outcome no_names verdict, inl (nothing_given, read, no_names, none_by_some command read no_names reads, inl is), refl)
+look_read command (Ok verdict) reads (read, is) = (as_outcome no_names verdict, inl (no_listing_choice_or_clash, read, no_names, none_by_some command read no_names reads, inl is), refl)
 
 pub look_run : (command : CommandLine) (old now : History) (judged : Judged) → does_only_read (effect_of command.applet) ≡ true → now ≡ old
-    → IfObservable old (λ v. IsWholeRun (Wholes command v) (effect_of command.applet) (output_for_effect (effect_of command.applet) command) judged v old now)
+    → IfObservable old (λ v. IsRunWithRecovery (Wholes command v) (effect_of command.applet) (output_name_for_effect (effect_of command.applet) command) judged v old now)
 look_run command [] now judged reads same = tt
 look_run command (v ∷ rest) now judged reads same =
     let none = reads_without (effect_of command.applet) reads in
-    whole_idle (Wholes command v) (effect_of command.applet) (output_for_effect (effect_of command.applet) command) judged v rest now same
+    whole_idle (Wholes command v) (effect_of command.applet) (output_name_for_effect (effect_of command.applet) command) judged v rest now same
     (λ o one.
     let is = over_of command (files_of v) o none one in
     ok_always (LeavesAll (effect_of command.applet) v o) judged
@@ -92,21 +92,21 @@ abbrev listed : List (List ℕ) → Given
 listed names = record { names = names; chosen = None; clash = None }
 
 made_given : (applet : Applet) (command : CommandLine) (files : Files) (names : List (List ℕ)) → effect_of applet ≡ Makes → IsListingFor applet command files names
-    → IsListingFor applet command files names × IsChosenFor (effect_of applet) command (reads_in files) None × IsClashBy (effect_of applet) command (reads_in files) files None None
+    → IsListingFor applet command files names × IsChosenFor (effect_of applet) command (reads_in files) None × IsFirstClashForEffect (effect_of applet) command (reads_in files) files None None
 made_given Mkpkg command files names makes are = (are, refl, refl)
 made_given Mkndx command files names makes are = (are, refl, refl)
 made_given other command files names makes are = cc
 
-given_of_names : (command : CommandLine) (files : Files) (names : List (List ℕ)) → effect_of command.applet ≡ Makes → IsListingFor command.applet command files names → IsGiven command (reads_in files) files (listed names)
+given_of_names : (command : CommandLine) (files : Files) (names : List (List ℕ)) → effect_of command.applet ≡ Makes → IsListingFor command.applet command files names → IsListingChoiceAndClashFor command (reads_in files) files (listed names)
 given_of_names command files names makes are = let (list, choice, clash) = made_given command.applet command files names makes are in record { names = list; chosen = choice; clash = clash }
 
 made_by_some : (applet : Applet) (command : CommandLine) (read : Reads) (files : Files) (names : List (List ℕ)) → effect_of applet ≡ Makes → MayBeListedFor applet command names
-    → MayBeListedFor applet command names × IsChosenFor (effect_of applet) command read None × IsClashForEffect (effect_of applet) command read files None None
+    → MayBeListedFor applet command names × IsChosenFor (effect_of applet) command read None × MayBeFirstClashForEffect (effect_of applet) command read files None None
 made_by_some Mkpkg command read files names makes are = (are, refl, refl)
 made_by_some Mkndx command read files names makes are = (are, refl, refl)
 made_by_some other command read files names makes are = absurd (cc)
 
-given_by_some : (command : CommandLine) (read : Reads) (files : Files) (names : List (List ℕ)) → effect_of command.applet ≡ Makes → MayBeListedFor command.applet command names → MayBeGiven command read files (listed names)
+given_by_some : (command : CommandLine) (read : Reads) (files : Files) (names : List (List ℕ)) → effect_of command.applet ≡ Makes → MayBeListedFor command.applet command names → MayBeListingChoiceAndClashFor command read files (listed names)
 given_by_some command read files names makes are = let (list, choice, clash) = made_by_some command.applet command read files names makes are in record { names = list; chosen = choice; clash = clash }
 
 makes_package : (command : CommandLine) → Mkpkg ≡ command.applet → effect_of command.applet ≡ Makes
@@ -115,19 +115,19 @@ makes_package command same = sym (ap effect_of same)
 makes_index : (command : CommandLine) → Mkndx ≡ command.applet → effect_of command.applet ≡ Makes
 makes_index command same = sym (ap effect_of same)
 
-package_one : (command : CommandLine) (files : Files) (o : Outcome) → Mkpkg ≡ command.applet → IsPackageOutcome command files o → IsOutcomeAfterRecovery command files o
+package_one : (command : CommandLine) (files : Files) (o : Outcome) → Mkpkg ≡ command.applet → IsPackageOutcome command files o → IsOutcomeOverRecoveredFiles command files o
 package_one command files o same (names, are, is) =
     (listed names, given_of_names command files names (makes_package command same) (subst (λ (a : Applet). IsListingFor a command files names) same are), is ∙ ap (λ (a : Applet). effect_outcome (effect_of a) a command (listed names) (reads_in files) files) same)
 
-one_package : (command : CommandLine) (files : Files) (o : Outcome) → Mkpkg ≡ command.applet → IsOutcomeAfterRecovery command files o → IsPackageOutcome command files o
+one_package : (command : CommandLine) (files : Files) (o : Outcome) → Mkpkg ≡ command.applet → IsOutcomeOverRecoveredFiles command files o → IsPackageOutcome command files o
 one_package command files o same (given, are, is) =
     (given.names, subst (λ (a : Applet). IsListingFor a command files given.names) (sym same) are.names, is ∙ ap (λ (a : Applet). effect_outcome (effect_of a) a command given (reads_in files) files) (sym same))
 
-index_one : (command : CommandLine) (files : Files) (o : Outcome) → Mkndx ≡ command.applet → IsIndexOutcome command files o → IsOutcomeAfterRecovery command files o
+index_one : (command : CommandLine) (files : Files) (o : Outcome) → Mkndx ≡ command.applet → IsIndexOutcome command files o → IsOutcomeOverRecoveredFiles command files o
 index_one command files o same is =
     (listed [], given_of_names command files [] (makes_index command same) (subst (λ (a : Applet). IsListingFor a command files []) same refl), is ∙ ap (λ (a : Applet). effect_outcome (effect_of a) a command (listed []) (reads_in files) files) same)
 
-one_index : (command : CommandLine) (files : Files) (o : Outcome) → Mkndx ≡ command.applet → IsOutcomeAfterRecovery command files o → IsIndexOutcome command files o
+one_index : (command : CommandLine) (files : Files) (o : Outcome) → Mkndx ≡ command.applet → IsOutcomeOverRecoveredFiles command files o → IsIndexOutcome command files o
 one_index command files o same (given, are, is) = is ∙ ap (λ (a : Applet). effect_outcome (effect_of a) a command given (reads_in files) files) (sym same)
 
 reports_among : (A B : TreeState → Outcome → Type 0) (old : History) (judged : Judged) → ((v : TreeState) (o : Outcome) → A v o → B v o) → IfOk judged (λ verdict. IfObservable old (λ v. ReportsOneOfOutcomes (A v) verdict))
@@ -144,7 +144,7 @@ pub index_found_one : (command : CommandLine) (old : History) (judged : Judged) 
     → IfOk judged (λ verdict. IfNothingStaged old (λ v. ReportsOneOfOutcomes (Ones command v) verdict))
 index_found_one command old judged same found = reports_among (λ v. IsIndexOutcome command (files_of v)) (Ones command) old judged (λ v o one. index_one command (files_of v) o same one) found
 
-pub package_read_one : (command : CommandLine) (judged : Judged) → Mkpkg ≡ command.applet → IfOk judged (λ verdict. (names : List (List ℕ)) × AreNamesBelowFirst (values_of_letter FILES command.values) names × (read : Reads) × Reports verdict (mkpkg read no_names command names))
+pub package_read_one : (command : CommandLine) (judged : Judged) → Mkpkg ≡ command.applet → IfOk judged (λ verdict. (names : List (List ℕ)) × AreNamesBelowFirstFolder (values_of_letter FILES command.values) names × (read : Reads) × Reports verdict (mkpkg read no_names command names))
     → IfOk judged (ReportsOneOfOutcomes (IsPossibleOutcomeAfterRecovery command))
 package_read_one command (Err e) same found = tt
 package_read_one command (Ok verdict) same (names, named, read, reports) =
@@ -157,20 +157,20 @@ index_read_one command (Ok verdict) same (read, files, reports) =
     (mkndx read no_names command, (listed [], read, no_names, given_by_some command read no_names [] (makes_index command same) (subst (λ (a : Applet). MayBeListedFor a command []) same refl), inl (ap (λ (a : Applet). effect_outcome (effect_of a) a command (listed []) read no_names) same)), reports)
 
 runs_among : (A B : TreeState → Outcome → Type 0) (out : Option (List ℕ)) (judged : Judged) (old now : History) → ((v : TreeState) (o : Outcome) → A v o → B v o) → ((v : TreeState) (o : Outcome) → B v o → A v o)
-    → IfObservable old (λ v. IsRun (A v) Makes out judged v old now) → IfNothingStaged old (λ v. IsRun (B v) Makes out judged v old now)
+    → IfObservable old (λ v. IsRunAfterRecovery (A v) Makes out judged v old now) → IfNothingStaged old (λ v. IsRunAfterRecovery (B v) Makes out judged v old now)
 runs_among A B out judged [] now into from run = tt
 runs_among A B out judged (v ∷ rest) now into from run = λ nothing. run_among (A v) (B v) Makes out judged v (v ∷ rest) now (into v) (from v) run
 
-pub package_run : (command : CommandLine) (judged : Judged) (old now : History) → Mkpkg ≡ command.applet → IfObservable old (λ v. IsRun (IsPackageOutcome command (files_of v)) Makes (output_name command) judged v old now)
-    → IfNothingStaged old (λ v. IsRun (Ones command v) (effect_of command.applet) (output_for_effect (effect_of command.applet) command) judged v old now)
+pub package_run : (command : CommandLine) (judged : Judged) (old now : History) → Mkpkg ≡ command.applet → IfObservable old (λ v. IsRunAfterRecovery (IsPackageOutcome command (files_of v)) Makes (output_name command) judged v old now)
+    → IfNothingStaged old (λ v. IsRunAfterRecovery (Ones command v) (effect_of command.applet) (output_name_for_effect (effect_of command.applet) command) judged v old now)
 package_run command judged old now same run =
-    subst (λ (a : Applet). IfNothingStaged old (λ v. IsRun (Ones command v) (effect_of a) (output_for_effect (effect_of a) command) judged v old now)) same
+    subst (λ (a : Applet). IfNothingStaged old (λ v. IsRunAfterRecovery (Ones command v) (effect_of a) (output_name_for_effect (effect_of a) command) judged v old now)) same
     (runs_among (λ v. IsPackageOutcome command (files_of v)) (Ones command) (output_name command) judged old now (λ v o one. package_one command (files_of v) o same one) (λ v o one. one_package command (files_of v) o same one) run)
 
-pub index_run : (command : CommandLine) (judged : Judged) (old now : History) → Mkndx ≡ command.applet → IfObservable old (λ v. IsRun (IsIndexOutcome command (files_of v)) Makes (output_name command) judged v old now)
-    → IfNothingStaged old (λ v. IsRun (Ones command v) (effect_of command.applet) (output_for_effect (effect_of command.applet) command) judged v old now)
+pub index_run : (command : CommandLine) (judged : Judged) (old now : History) → Mkndx ≡ command.applet → IfObservable old (λ v. IsRunAfterRecovery (IsIndexOutcome command (files_of v)) Makes (output_name command) judged v old now)
+    → IfNothingStaged old (λ v. IsRunAfterRecovery (Ones command v) (effect_of command.applet) (output_name_for_effect (effect_of command.applet) command) judged v old now)
 index_run command judged old now same run =
-    subst (λ (a : Applet). IfNothingStaged old (λ v. IsRun (Ones command v) (effect_of a) (output_for_effect (effect_of a) command) judged v old now)) same
+    subst (λ (a : Applet). IfNothingStaged old (λ v. IsRunAfterRecovery (Ones command v) (effect_of a) (output_name_for_effect (effect_of a) command) judged v old now)) same
     (runs_among (λ v. IsIndexOutcome command (files_of v)) (Ones command) (output_name command) judged old now (λ v o one. index_one command (files_of v) o same one) (λ v o one. one_index command (files_of v) o same one) run)
 
 -- where memory ran out nothing was written
@@ -187,15 +187,15 @@ rooms_among A B out [] P f proper = tt
 rooms_among A B out (v ∷ rest) P f proper = λ nothing room. proper (λ o one commits. room o (f v o one) commits)
 
 pub package_proper : (command : CommandLine) (old : History) (P : Type 0) → Mkpkg ≡ command.applet → IfObservable old (λ v. RoomFor (IsPackageOutcome command (files_of v)) Makes (output_name command) (files_of v) → P)
-    → IfNothingStaged old (λ v. RoomFor (Ones command v) (effect_of command.applet) (output_for_effect (effect_of command.applet) command) (files_of v) → P)
+    → IfNothingStaged old (λ v. RoomFor (Ones command v) (effect_of command.applet) (output_name_for_effect (effect_of command.applet) command) (files_of v) → P)
 package_proper command old P same proper =
-    subst (λ (a : Applet). IfNothingStaged old (λ v. RoomFor (Ones command v) (effect_of a) (output_for_effect (effect_of a) command) (files_of v) → P)) same
+    subst (λ (a : Applet). IfNothingStaged old (λ v. RoomFor (Ones command v) (effect_of a) (output_name_for_effect (effect_of a) command) (files_of v) → P)) same
     (rooms_among (λ v. IsPackageOutcome command (files_of v)) (Ones command) (output_name command) old P (λ v o one. package_one command (files_of v) o same one) proper)
 
 pub index_proper : (command : CommandLine) (old : History) (P : Type 0) → Mkndx ≡ command.applet → IfObservable old (λ v. RoomFor (IsIndexOutcome command (files_of v)) Makes (output_name command) (files_of v) → P)
-    → IfNothingStaged old (λ v. RoomFor (Ones command v) (effect_of command.applet) (output_for_effect (effect_of command.applet) command) (files_of v) → P)
+    → IfNothingStaged old (λ v. RoomFor (Ones command v) (effect_of command.applet) (output_name_for_effect (effect_of command.applet) command) (files_of v) → P)
 index_proper command old P same proper =
-    subst (λ (a : Applet). IfNothingStaged old (λ v. RoomFor (Ones command v) (effect_of a) (output_for_effect (effect_of a) command) (files_of v) → P)) same
+    subst (λ (a : Applet). IfNothingStaged old (λ v. RoomFor (Ones command v) (effect_of a) (output_name_for_effect (effect_of a) command) (files_of v) → P)) same
     (rooms_among (λ v. IsIndexOutcome command (files_of v)) (Ones command) (output_name command) old P (λ v o one. index_one command (files_of v) o same one) proper)
 
 -- ---- the words
@@ -209,12 +209,12 @@ pub by_command : (words : List (List ℕ)) (command : CommandLine) (old : Histor
 by_command words command old judged is found = subst (λ (r : Result CommandLine ℕ). IfOk judged (λ verdict. IfObservable old (λ v. ReportsOneOfOutcomes (IsOutcome r (files_of v)) verdict))) (sym is) found
 
 pub run_by_command : (words : List (List ℕ)) (command : CommandLine) (judged : Judged) (old now : History) → command_of words ≡ Ok command
-    → IfObservable old (λ v. IsWholeRun (OfCommand command v) (effect_of command.applet) (output_for_effect (effect_of command.applet) command) judged v old now) → Runs words judged old now
-run_by_command words command judged old now is run = subst (λ (r : Result CommandLine ℕ). IfObservable old (λ v. IsWholeRun (IsOutcome r (files_of v)) (effect_of_arguments r) (output_of_arguments r) judged v old now)) (sym is) run
+    → IfObservable old (λ v. IsRunWithRecovery (OfCommand command v) (effect_of command.applet) (output_name_for_effect (effect_of command.applet) command) judged v old now) → Runs words judged old now
+run_by_command words command judged old now is run = subst (λ (r : Result CommandLine ℕ). IfObservable old (λ v. IsRunWithRecovery (IsOutcome r (files_of v)) (effect_of_arguments r) (output_name_of_arguments r) judged v old now)) (sym is) run
 
 pub proper_by_command : (words : List (List ℕ)) (command : CommandLine) (old : History) (P : Type 0) → command_of words ≡ Ok command
-    → IfObservable old (λ v. AreOutcomePathsFree (effect_of command.applet) (output_for_effect (effect_of command.applet) command) (OfCommand command v) (files_of v) → P) → IfObservable old (λ v. AreRunPathsFree words (files_of v) → P)
-proper_by_command words command old P is proper = subst (λ (r : Result CommandLine ℕ). IfObservable old (λ v. AreOutcomePathsFree (effect_of_arguments r) (output_of_arguments r) (IsOutcome r (files_of v)) (files_of v) → P)) (sym is) proper
+    → IfObservable old (λ v. AreOutcomePathsFree (effect_of command.applet) (output_name_for_effect (effect_of command.applet) command) (OfCommand command v) (files_of v) → P) → IfObservable old (λ v. AreRunPathsFree words (files_of v) → P)
+proper_by_command words command old P is proper = subst (λ (r : Result CommandLine ℕ). IfObservable old (λ v. AreOutcomePathsFree (effect_of_arguments r) (output_name_of_arguments r) (IsOutcome r (files_of v)) (files_of v) → P)) (sym is) proper
 
 pub found_by_command : (words : List (List ℕ)) (command : CommandLine) (judged : Judged) → command_of words ≡ Ok command → IfOk judged (ReportsOneOfOutcomes (IsPossibleOutcome (Ok command))) → IfOk judged (ReportsOneOfOutcomes (IsPossibleOutcome (command_of words)))
 found_by_command words command judged is found = subst (λ (r : Result CommandLine ℕ). IfOk judged (ReportsOneOfOutcomes (IsPossibleOutcome r))) (sym is) found
@@ -247,7 +247,7 @@ failed_run words e (v ∷ rest) = whole_idle (IsOutcome (command_of words) (file
 -- ---- the answer
 
 pub reads_by : (words : List (List ℕ)) (judged : Judged) (old now : History) → Runs words judged old now
-    → IfObservable old (λ v. AreReadDuringRun (IsOutcome (command_of words) (files_of v)) (effect_of_arguments (command_of words)) (output words) v old now)
+    → IfObservable old (λ v. AreFilesReadDuringRun (IsOutcome (command_of words) (files_of v)) (effect_of_arguments (command_of words)) (output words) v old now)
 reads_by words judged [] now run = tt
 reads_by words judged (v ∷ rest) now run = run.reads
 
@@ -257,7 +257,7 @@ last_by words judged [] now run = tt
 last_by words judged (v ∷ rest) now run = run.last
 
 pub crash_by : (words : List (List ℕ)) (judged : Judged) (old now : History) → Runs words judged old now
-    → IfObservable old (λ v. (ignored : List ℕ → Bool) → IsDurable (StateDependsOn ignored) v → IgnoresScratchOf (output words) ignored → AreOldOrLeadToOutcome (IsOutcome (command_of words) (files_of v)) (is_some (output words)) ignored v old now)
+    → IfObservable old (λ v. (ignored : List ℕ → Bool) → IsDurable (StateDependsOn ignored) v → IgnoresScratchOf (output words) ignored → AreStatesOldOrLeadToOutcome (IsOutcome (command_of words) (files_of v)) (is_some (output words)) ignored v old now)
 crash_by words judged [] now run = tt
 crash_by words judged (v ∷ rest) now run = run.moments
 
@@ -277,7 +277,7 @@ the_refusal None r same = cc
 the_refusal (Some x) r same = cc
 
 lasting_shown : (IsOne : Outcome → Type 0) (effect : Effect) (ignored : List ℕ → Bool) (v : TreeState) (now : History) (verdict : Verdict) (o : Outcome) (answer : Answer) (out err : SinkBeforeAndAfter) → IsOne o → Reports verdict o
-    → LeavesDurable effect ignored v now o → IsPrinted (as_outcome o.files verdict) answer out err → LeavesDurableOnceAnswered IsOne effect ignored v now answer
+    → LeavesDurableFilesIfRequired effect ignored v now o → IsPrinted (as_outcome o.files verdict) answer out err → LeavesDurableFilesOnceAnswered IsOne effect ignored v now answer
 lasting_shown IsOne effect ignored v now verdict o Done out err one reports lasts printed =
     (o, one, sym (ap (λ (x : Outcome). x.refusal) reports) ∙ no_refusal verdict.refusal printed.same, lasts)
 lasting_shown IsOne effect ignored v now verdict o (Refused r) out err one reports lasts printed =
@@ -287,13 +287,13 @@ lasting_shown IsOne effect ignored v now verdict o TreeFailed out err one report
 lasting_shown IsOne effect ignored v now verdict o Memory out err one reports lasts printed = tt
 
 lasting_judged : (IsOne : Outcome → Type 0) (effect : Effect) (ignored : List ℕ → Bool) (v : TreeState) (now : History) (judged : Judged) (answer : Answer) (out err : SinkBeforeAndAfter) → IfOk judged (ReportsOneOfOutcomes IsOne) → IsVerdictPrinted judged answer out err
-    → ((o : Outcome) → IsOne o → MustOutcomeBeDurable effect ignored v o → OnOk judged (HoldsNow now (EachCrashLeaves ignored o.files))) → LeavesDurableOnceAnswered IsOne effect ignored v now answer
+    → ((o : Outcome) → IsOne o → MustOutcomeBeDurable effect ignored v o → OnOk judged (HoldsNow now (EachCrashLeaves ignored o.files))) → LeavesDurableFilesOnceAnswered IsOne effect ignored v now answer
 lasting_judged IsOne effect ignored v now (Ok verdict) answer out err (o, one, reports) is_shown settled = lasting_shown IsOne effect ignored v now verdict o answer out err one reports (settled o one) (is_shown o.files)
-lasting_judged IsOne effect ignored v now (Err Disk) answer out err found is_shown settled = subst (LeavesDurableOnceAnswered IsOne effect ignored v now) (sym is_shown.0) tt
-lasting_judged IsOne effect ignored v now (Err NoMemory) answer out err found is_shown settled = subst (LeavesDurableOnceAnswered IsOne effect ignored v now) (sym is_shown.0) tt
+lasting_judged IsOne effect ignored v now (Err Disk) answer out err found is_shown settled = subst (LeavesDurableFilesOnceAnswered IsOne effect ignored v now) (sym is_shown.0) tt
+lasting_judged IsOne effect ignored v now (Err NoMemory) answer out err found is_shown settled = subst (LeavesDurableFilesOnceAnswered IsOne effect ignored v now) (sym is_shown.0) tt
 
 pub settled_by : (words : List (List ℕ)) (judged : Judged) (answer : Answer) (out err : SinkBeforeAndAfter) (old now : History) → IsVerdictPrinted judged answer out err → IfOk judged (λ verdict. IfObservable old (λ v. ReportsOneOfOutcomes (IsOutcome (command_of words) (files_of v)) verdict)) → Runs words judged old now
-    → IfObservable old (λ v. (ignored : List ℕ → Bool) → IsDurable (StateDependsOn ignored) v → IgnoresScratchOf (output words) ignored → LeavesDurableOnceAnswered (IsOutcome (command_of words) (files_of v)) (effect_of_arguments (command_of words)) ignored v now answer)
+    → IfObservable old (λ v. (ignored : List ℕ → Bool) → IsDurable (StateDependsOn ignored) v → IgnoresScratchOf (output words) ignored → LeavesDurableFilesOnceAnswered (IsOutcome (command_of words) (files_of v)) (effect_of_arguments (command_of words)) ignored v now answer)
 settled_by words judged answer out err [] now is_shown found run = tt
 settled_by words judged answer out err (v ∷ rest) now is_shown found run = λ ignored is_durable hides.
     lasting_judged (IsOutcome (command_of words) (files_of v)) (effect_of_arguments (command_of words)) ignored v now judged answer out err (found_at v rest judged (λ verdict w. ReportsOneOfOutcomes (IsOutcome (command_of words) (files_of w)) verdict) found) is_shown
@@ -319,7 +319,7 @@ undone_without law words v (Ok verdict) Memory out err is_shown found undone = a
 undone_without law words v (Err Disk) answer out err is_shown found undone = absurd (subst IsRefusedOrOutOfMemory is_shown.0 undone)
 undone_without law words v (Err NoMemory) answer out err is_shown found undone = inl refl
 
-without : RefusesAll → (words : List (List ℕ)) (v : TreeState) (judged : Judged) (answer : Answer) (out err : SinkBeforeAndAfter) → IsVerdictPrinted judged answer out err → IfOk judged (ReportsOneOfOutcomes (IsOutcome (command_of words) (files_of v))) → CommitsNothing (IsOutcome (command_of words) (files_of v)) answer → IsOutOfMemoryOrWithoutCommit (IsOutcome (command_of words) (files_of v)) judged
+without : RefusesAll → (words : List (List ℕ)) (v : TreeState) (judged : Judged) (answer : Answer) (out err : SinkBeforeAndAfter) → IsVerdictPrinted judged answer out err → IfOk judged (ReportsOneOfOutcomes (IsOutcome (command_of words) (files_of v))) → IsRefusedOrCommitsNothing (IsOutcome (command_of words) (files_of v)) answer → IsOutOfMemoryOrWithoutCommit (IsOutcome (command_of words) (files_of v)) judged
 without law words v judged answer out err is_shown found (inl undone) = undone_without law words v judged answer out err is_shown found undone
 without law words v judged answer out err is_shown found (inr one) = inr one
 
@@ -330,12 +330,12 @@ found_first : (words : List (List ℕ)) (judged : Judged) (v : TreeState) (rest 
 found_first words judged v rest found = found_at v rest judged (λ verdict w. ReportsOneOfOutcomes (IsOutcome (command_of words) (files_of w)) verdict) found
 
 pub idle_by : RefusesAll → (words : List (List ℕ)) (judged : Judged) (answer : Answer) (out err : SinkBeforeAndAfter) (old now : History) → IsVerdictPrinted judged answer out err → FindsOne words judged old → Runs words judged old now
-    → IfObservable old (λ v. CommitsNothing (IsOutcome (command_of words) (files_of v)) answer → HasNothingToRecover (effect_of_arguments (command_of words)) v → now ≡ old)
+    → IfObservable old (λ v. IsRefusedOrCommitsNothing (IsOutcome (command_of words) (files_of v)) answer → HasNothingToRecover (effect_of_arguments (command_of words)) v → now ≡ old)
 idle_by law words judged answer out err [] now is_shown found run = tt
 idle_by law words judged answer out err (v ∷ rest) now is_shown found run = λ nothing. run.idle (without law words v judged answer out err is_shown (found_first words judged v rest found) nothing)
 
 pub left_by : RefusesAll → (words : List (List ℕ)) (judged : Judged) (answer : Answer) (out err : SinkBeforeAndAfter) (old now : History) → IsVerdictPrinted judged answer out err → FindsOne words judged old → Runs words judged old now
-    → IfObservable old (λ v. CommitsNothing (IsOutcome (command_of words) (files_of v)) answer → (ignored : List ℕ → Bool) → IsDurable (StateDependsOn ignored) v → Since (StateIsUnchanged ignored v) old now)
+    → IfObservable old (λ v. IsRefusedOrCommitsNothing (IsOutcome (command_of words) (files_of v)) answer → (ignored : List ℕ → Bool) → IsDurable (StateDependsOn ignored) v → Since (StateIsUnchanged ignored v) old now)
 left_by law words judged answer out err [] now is_shown found run = tt
 left_by law words judged answer out err (v ∷ rest) now is_shown found run = λ nothing. run.left (without law words v judged answer out err is_shown (found_first words judged v rest found) nothing)
 
@@ -347,13 +347,13 @@ bad_by words judged (v ∷ rest) now run = run.bad
 -- ---- the output counts again
 
 rest_of : (IsOne : Outcome → Type 0) (output : Option (List ℕ)) (ignored : List ℕ → Bool) (now : History) (judged : Judged) (answer : Answer) (out err : SinkBeforeAndAfter) → IfOk judged (ReportsOneOfOutcomes IsOne) → IsVerdictPrinted judged answer out err → AnswersOutcome answer
-    → ((o : Outcome) → IsOne o → o.commits ≡ true → OnOk judged (HoldsNow now (IsDurableState (ignored_except_output output ignored) o.files))) → LeavesDurableState IsOne output ignored now
+    → ((o : Outcome) → IsOne o → o.commits ≡ true → OnOk judged (HoldsNow now (IsDurableState (ignored_except_output output ignored) o.files))) → LeavesDurableStateIfCommitted IsOne output ignored now
 rest_of IsOne output ignored now (Ok verdict) answer out err (o, one, reports) is_shown answers rests = (o, one, λ commits. rests o one commits)
 rest_of IsOne output ignored now (Err Disk) answer out err found is_shown answers rests = absurd (subst AnswersOutcome is_shown.0 answers)
 rest_of IsOne output ignored now (Err NoMemory) answer out err found is_shown answers rests = absurd (subst AnswersOutcome is_shown.0 answers)
 
 pub rest_by : (words : List (List ℕ)) (judged : Judged) (answer : Answer) (out err : SinkBeforeAndAfter) (old now : History) → IsVerdictPrinted judged answer out err → FindsOne words judged old → Runs words judged old now
-    → IfObservable old (λ v. (ignored : List ℕ → Bool) → IsDurable (StateDependsOn ignored) v → IgnoresScratchOf (output words) ignored → AnswersOutcome answer → LeavesDurableState (IsOutcome (command_of words) (files_of v)) (output words) ignored now)
+    → IfObservable old (λ v. (ignored : List ℕ → Bool) → IsDurable (StateDependsOn ignored) v → IgnoresScratchOf (output words) ignored → AnswersOutcome answer → LeavesDurableStateIfCommitted (IsOutcome (command_of words) (files_of v)) (output words) ignored now)
 rest_by words judged answer out err [] now is_shown found run = tt
 rest_by words judged answer out err (v ∷ rest) now is_shown found run = λ ignored is_durable hides answers.
     rest_of (IsOutcome (command_of words) (files_of v)) (output words) ignored now judged answer out err (found_first words judged v rest found) is_shown answers (λ o one commits. run.durable_state ignored o is_durable hides one commits)
@@ -413,8 +413,8 @@ ran_by_words command verdict ran files = ran (reads_in files) files
 
 -- by the applet as it is read of the command
 ran_as : (command : CommandLine) (applet : Applet) (asked : Applet) (verdict : Verdict) → applet ≡ command.applet → applet ≡ asked
-    → ((read : Reads) (files : Files) → as_outcome files verdict ≡ effect_outcome (effect_of asked) asked command nothing_given read files) → Ran command verdict
-ran_as command applet asked verdict same is ran read files = ran read files ∙ ap (λ (a : Applet). effect_outcome (effect_of a) a command nothing_given read files) (sym is ∙ same)
+    → ((read : Reads) (files : Files) → as_outcome files verdict ≡ effect_outcome (effect_of asked) asked command no_listing_choice_or_clash read files) → Ran command verdict
+ran_as command applet asked verdict same is ran read files = ran read files ∙ ap (λ (a : Applet). effect_outcome (effect_of a) a command no_listing_choice_or_clash read files) (sym is ∙ same)
 
 pub help_ran : (command : CommandLine) (applet : Applet) (operands : List Operand) (text : List ℕ) (verdict : Verdict) → applet ≡ command.applet → applet ≡ Help → operands ≡ command.operands → text ≡ help_text operands
     → ((files : Files) → as_outcome files verdict ≡ just_report files text) → Ran command verdict
@@ -432,7 +432,7 @@ abbrev pub IsNoneOfThese : Applet → Type 0
 IsNoneOfThese applet =
     (applet ≡ Verify → ⊥) × (applet ≡ Version → ⊥) × (applet ≡ Help → ⊥) × (applet ≡ ProgramVersion → ⊥) × (applet ≡ Adbdump → ⊥) × (applet ≡ Adbgen → ⊥)
 
-computes_nothing : (applet : Applet) (command : CommandLine) (files : Files) → IsNoneOfThese applet → computing_outcome applet command files ≡ just_report files []
+computes_nothing : (applet : Applet) (command : CommandLine) (files : Files) → IsNoneOfThese applet → outcome_from_arguments_alone applet command files ≡ just_report files []
 computes_nothing Version command files (verify, version, help, program, dump, generate) = absurd (version refl)
 computes_nothing Help command files (verify, version, help, program, dump, generate) = absurd (help refl)
 computes_nothing ProgramVersion command files (verify, version, help, program, dump, generate) = absurd (program refl)
@@ -444,7 +444,7 @@ reads_nothing Adbdump command read files (verify, version, help, program, dump, 
 reads_nothing Adbgen command read files (verify, version, help, program, dump, generate) = absurd (generate refl)
 reads_nothing other command read files none = refl
 
-nothing_of : (effect : Effect) (applet : Applet) (command : CommandLine) → IsNoneOfThese applet → does_only_read effect ≡ true → (read : Reads) (files : Files) → effect_outcome effect applet command nothing_given read files ≡ just_report files []
+nothing_of : (effect : Effect) (applet : Applet) (command : CommandLine) → IsNoneOfThese applet → does_only_read effect ≡ true → (read : Reads) (files : Files) → effect_outcome effect applet command no_listing_choice_or_clash read files ≡ just_report files []
 nothing_of Computes applet command none reads read files = computes_nothing applet command files none
 nothing_of OnlyReadsFiles applet command none reads read files = reads_nothing applet command read files none
 nothing_of AsksRoot applet command none reads read files = absurd (false≢true reads)
@@ -459,7 +459,7 @@ nothing_ran command applet verdict same none reads empty read files =
 -- ---- what is said of every run
 
 -- want of memory is no fault of the tree
-pub look_memory : (judged : Judged) (old new : History) (a b : Counts) → OnlyReads Disk old new a b judged → IsErrOf judged NoMemory → IsNoFault a b
+pub look_memory : (judged : Judged) (old new : History) (a b : Counts) → OnlyReads Disk old new a b judged → IsErrOf judged NoMemory → CountsNoNewFault a b
 look_memory (Ok verdict) old new a b tree none = cc
 look_memory (Err Disk) old new a b tree none = cc
 look_memory (Err NoMemory) old new a b tree none = tree.others (λ is. cc)

@@ -4,7 +4,7 @@ use Rattle.std.specs.Prelude.{IfOk, IsErrOf, OnOk, IfErr}
 use Rattle.std.proofs.lemmas.Bool.{false≢true}
 use Rattle.base_core.specs.Calls.{HoldsNow}
 use Rattle.base_core.specs.Undone.{IsDurable}
-use Rattle.base_core.specs.Faults.{Counts, HasCause, IsNoFault}
+use Rattle.base_core.specs.Faults.{Counts, IsFaultCountedWithCause, CountsNoNewFault}
 use Rattle.base_core.specs.Files.{Files}
 use Rattle.base_core.specs.Restart.{EachMoment, SinceGivenEarlier}
 use Rattle.base_core.specs.Tree.{TreeState, files_of}
@@ -18,7 +18,7 @@ use Rattle.command_core.specs.Command.{CommandLine}
 use Rattle.command_core.specs.declared.command.Applet.{Applet}
 use Rattle.command_core.specs.declared.command.Applet.TheVariants.{Add, Del, Fix, Upgrade}
 use Rattle.engine_core.specs.ChangeRun.{CarriesOut, DoesCommit, IsChangeRun, IsCommit, IsChangedSinceTested, IsUnchangedOrCommit, report_as_is, report_of_result}
-use Rattle.engine_core.specs.Changed.{IsClashFor, IsClashForAmong, change_of_command, found_packages, selected_for}
+use Rattle.engine_core.specs.Changed.{IsClashOfCommand, IsClashOfCommandAmong, change_of_command, found_packages, selected_for}
 use Rattle.engine_core.specs.Choice.{IsChoiceFrom}
 use Rattle.engine_core.specs.Runs.{IsRunCounted}
 use Rattle.engine_core.specs.Selecting.{pool_of_command}
@@ -28,15 +28,15 @@ use Rattle.journal_core.specs.Staged.{IsOldUntilCommit}
 use Rattle.make_core.specs.make_info.Reads.{Reads}
 use Rattle.tell_core.specs.path_clashes.Clash.{NamePair}
 use Rattle.report_core.specs.declared.refusal.Refusal.{Refusal}
-use Rattle.engine_core.specs.journal_commit.StageRun.{IsStateDuringChange, IsStageRunComplete, NamesAreDurableWithoutIntent}
+use Rattle.engine_core.specs.journal_commit.StageRun.{IsStateDuringChange, IsStagedChangeComplete, NamesAreDurableWithoutIntent}
 use Rattle.outcome.proofs.Applets.{change_is}
 use Rattle.outcome.specs.Changing.{change_outcome}
-use Rattle.outcome.specs.Commands.{IsPossibleOutcomeAfterRecovery, IsOutcomeAfterRecovery, effect_outcome, reads_in}
-use Rattle.outcome.specs.Effect.{Effect, Changes, effect_of, output_for_effect}
-use Rattle.outcome.specs.Given.{Given, IsChosenFor, IsClashBy, IsGiven, IsListingFor, MayBeGiven, MayBeListedFor, IsClashForEffect}
+use Rattle.outcome.specs.Commands.{IsPossibleOutcomeAfterRecovery, IsOutcomeOverRecoveredFiles, effect_outcome, reads_in}
+use Rattle.outcome.specs.Effect.{Effect, Changes, effect_of, output_name_for_effect}
+use Rattle.outcome.specs.Given.{Given, IsChosenFor, IsFirstClashForEffect, IsListingChoiceAndClashFor, IsListingFor, MayBeListingChoiceAndClashFor, MayBeListedFor, MayBeFirstClashForEffect}
 use Rattle.outcome.specs.Outcome.{Outcome, just_refusal, just_report}
 use Rattle.apk_front.specs.Moments.{IsDurableState, IsStateDuringRun, NamesAreDurableWithoutIntentExcept}
-use Rattle.apk_front.specs.Runs.{HasNothingStaged, IfNothingStaged, IsRun}
+use Rattle.apk_front.specs.Runs.{HasNothingStaged, IfNothingStaged, IsRunAfterRecovery}
 use Rattle.apk_front.specs.Told.{IsVerdictOnChange}
 use Rattle.apk_front.specs.Verdicts.{Reports, ReportsOneOfOutcomes, as_outcome}
 use Rattle.apk_front.specs.declared.answer.Verdict.{Verdict}
@@ -48,32 +48,32 @@ abbrev pub Answered : Type 0
 Answered = Result (List ℕ) Refused
 
 abbrev pub HaveOne : Type 0
-HaveOne = (command : CommandLine) (files : Files) (a b : Outcome) → IsOutcomeAfterRecovery command files a → IsOutcomeAfterRecovery command files b → a ≡ b
+HaveOne = (command : CommandLine) (files : Files) (a b : Outcome) → IsOutcomeOverRecoveredFiles command files a → IsOutcomeOverRecoveredFiles command files b → a ≡ b
 
 abbrev pub HaveIdle : Type 0
-HaveIdle = (command : CommandLine) (files : Files) (o : Outcome) → IsOutcomeAfterRecovery command files o → o.commits ≡ false → o.files ≡ files
+HaveIdle = (command : CommandLine) (files : Files) (o : Outcome) → IsOutcomeOverRecoveredFiles command files o → o.commits ≡ false → o.files ≡ files
 
 -- ---- what is given
 
 abbrev given_by : Option (List ℕ) → Option NamePair → Given
 given_by chosen clash = record { names = []; chosen = chosen; clash = clash }
 
-parts_given : (applet : Applet) (command : CommandLine) (read : Reads) (files : Files) (chosen : Option (List ℕ)) (clash : Option NamePair) → effect_of applet ≡ Changes → IsChoiceFrom (pool_of_command command read) chosen → IsClashFor command read files chosen clash
-    → IsListingFor applet command files [] × IsChosenFor (effect_of applet) command read chosen × IsClashBy (effect_of applet) command read files chosen clash
+parts_given : (applet : Applet) (command : CommandLine) (read : Reads) (files : Files) (chosen : Option (List ℕ)) (clash : Option NamePair) → effect_of applet ≡ Changes → IsChoiceFrom (pool_of_command command read) chosen → IsClashOfCommand command read files chosen clash
+    → IsListingFor applet command files [] × IsChosenFor (effect_of applet) command read chosen × IsFirstClashForEffect (effect_of applet) command read files chosen clash
 parts_given Add command read files chosen clash changes choice first = (refl, choice, first)
 parts_given Del command read files chosen clash changes choice first = (refl, choice, first)
 parts_given Upgrade command read files chosen clash changes choice first = (refl, choice, first)
 parts_given Fix command read files chosen clash changes choice first = (refl, choice, first)
 parts_given other command read files chosen clash changes choice first = cc
 
-are_given : (command : CommandLine) (read : Reads) (files : Files) (chosen : Option (List ℕ)) (clash : Option NamePair) → effect_of command.applet ≡ Changes → IsChoiceFrom (pool_of_command command read) chosen → IsClashFor command read files chosen clash
-    → IsGiven command read files (given_by chosen clash)
+are_given : (command : CommandLine) (read : Reads) (files : Files) (chosen : Option (List ℕ)) (clash : Option NamePair) → effect_of command.applet ≡ Changes → IsChoiceFrom (pool_of_command command read) chosen → IsClashOfCommand command read files chosen clash
+    → IsListingChoiceAndClashFor command read files (given_by chosen clash)
 are_given command read files chosen clash changes choice first =
     let (list, chosen_so, clash_so) = parts_given command.applet command read files chosen clash changes choice first in
     record { names = list; chosen = chosen_so; clash = clash_so }
 
 parts_by_some : (applet : Applet) (command : CommandLine) (read : Reads) (files present_files : Files) (chosen : Option (List ℕ)) (clash : Option NamePair) → effect_of applet ≡ Changes → IsChoiceFrom (pool_of_command command read) chosen
-    → IsClashForAmong command read files present_files chosen clash → MayBeListedFor applet command [] × IsChosenFor (effect_of applet) command read chosen × IsClashForEffect (effect_of applet) command read files chosen clash
+    → IsClashOfCommandAmong command read files present_files chosen clash → MayBeListedFor applet command [] × IsChosenFor (effect_of applet) command read chosen × MayBeFirstClashForEffect (effect_of applet) command read files chosen clash
 parts_by_some Add command read files present_files chosen clash changes choice first = (refl, choice, (present_files, first))
 parts_by_some Del command read files present_files chosen clash changes choice first = (refl, choice, (present_files, first))
 parts_by_some Upgrade command read files present_files chosen clash changes choice first = (refl, choice, (present_files, first))
@@ -81,7 +81,7 @@ parts_by_some Fix command read files present_files chosen clash changes choice f
 parts_by_some other command read files present_files chosen clash changes choice first = absurd (cc)
 
 may_be_given : (command : CommandLine) (read : Reads) (files present_files : Files) (chosen : Option (List ℕ)) (clash : Option NamePair) → effect_of command.applet ≡ Changes → IsChoiceFrom (pool_of_command command read) chosen
-    → IsClashForAmong command read files present_files chosen clash → MayBeGiven command read files (given_by chosen clash)
+    → IsClashOfCommandAmong command read files present_files chosen clash → MayBeListingChoiceAndClashFor command read files (given_by chosen clash)
 may_be_given command read files present_files chosen clash changes choice first =
     let (list, chosen_so, clash_so) = parts_by_some command.applet command read files present_files chosen clash changes choice first in
     record { names = list; chosen = chosen_so; clash = clash_so }
@@ -177,12 +177,12 @@ module _ (command : CommandLine) (changes : effect_of command.applet ≡ Changes
 pub record IsRunAt (command : CommandLine) (v : TreeState) (old now : History) (a b : Counts) (answer : Answered) : Type 0 where
   pub chosen : Option (List ℕ)
   pub clash : Option NamePair
-  pub given : IsGiven command (reads_in (files_of v)) (files_of v) (given_by chosen clash)
+  pub given : IsListingChoiceAndClashFor command (reads_in (files_of v)) (files_of v) (given_by chosen clash)
   pub comes : CarriesOut (found_packages command (reads_in (files_of v)) (selected_for command (reads_in (files_of v)) chosen)) (change_of_command command (reads_in (files_of v)) (files_of v) chosen clash) old now a b answer
 
 abbrev RunFacts : CommandLine → History → History → Counts → Counts → Answered → Option (List ℕ) → Option NamePair → Reads → Files → Files → Type 0
 RunFacts command old now a b answer chosen clash read files present_files =
-    IsChoiceFrom (pool_of_command command read) chosen × IsClashForAmong command read files present_files chosen clash
+    IsChoiceFrom (pool_of_command command read) chosen × IsClashOfCommandAmong command read files present_files chosen clash
     × CarriesOut (found_packages command read (selected_for command read chosen)) (change_of_command command read files chosen clash) old now a b answer
 
 run_at : (command : CommandLine) → effect_of command.applet ≡ Changes → (v : TreeState) (rest now : History) (a b : Counts) (answer : Answered) → IsChangeRun command (v ∷ rest) now a b answer → IsRunAt command v (v ∷ rest) now a b answer
@@ -249,7 +249,7 @@ module _ (command : CommandLine) (changes : effect_of command.applet ≡ Changes
   idle_commits (Err Disk) wanted agrees never (Ok verdict) told = absurd (cc (told))
   idle_commits (Err Memory) wanted agrees never (Ok verdict) told = absurd (cc (told))
 
-  idle_run : now ≡ v ∷ rest → OnOk answer (DoesCommit asked → ⊥) → IsRun (Ones command v) Changes None judged v (v ∷ rest) now
+  idle_run : now ≡ v ∷ rest → OnOk answer (DoesCommit asked → ⊥) → IsRunAfterRecovery (Ones command v) Changes None judged v (v ∷ rest) now
   idle_run same never =
       run_idle (Ones command v) Changes None judged v rest now same
       (λ o one. on_ok judged (λ idle. (leaves command (files_of v) o one (sym (ap (λ (x : Outcome). x.commits) (the_one o one)) ∙ idle), sym (ap (λ (x : Outcome). x.commits) (the_one o one)) ∙ idle)) (idle_commits answer asked told_so never judged told))
@@ -266,8 +266,8 @@ module _ (command : CommandLine) (changes : effect_of command.applet ≡ Changes
     files_of_one : (o : Outcome) → Ones command v o → commit.done.files ≡ o.files
     files_of_one o one = sym files_are ∙ ap (λ (x : Outcome). x.files) (the_one o one)
 
-    done_so : OnOk judged (IsStageRunComplete commit.done.files v now)
-    done_so = told_ok (IsStageRunComplete commit.done.files v now) answer judged told commit.err commit.ok
+    done_so : OnOk judged (IsStagedChangeComplete commit.done.files v now)
+    done_so = told_ok (IsStagedChangeComplete commit.done.files v now) answer judged told commit.err commit.ok
 
     left_durable : (ignored : List ℕ → Bool) → IsDurable (StateDependsOn ignored) v → HoldsNow now (IsDurable (StateDependsOn ignored))
     left_durable ignored is_durable = by_added (commit.run.moments ignored is_durable).added (commit.run.moments ignored is_durable).is (commit.run.moments ignored is_durable).each
@@ -285,7 +285,7 @@ module _ (command : CommandLine) (changes : effect_of command.applet ≡ Changes
     rests ignored [] files is_durable settled = absurd is_durable
     rests ignored (w ∷ h) files is_durable settled = record { is_durable = is_durable; settled = settled }
 
-    commit_run : IsRun (Ones command v) Changes None judged v (v ∷ rest) now
+    commit_run : IsRunAfterRecovery (Ones command v) Changes None judged v (v ∷ rest) now
     commit_run = record {
       moments = λ ignored is_durable hides. inr (outcome, is_one, commits_are, subst (λ (f : Files). SinceGivenEarlier (IsOldUntilCommit ignored f v) (v ∷ rest) now) (sym files_are) (commit.run.moments ignored is_durable));
       is_durable = λ ignored is_durable hides. left_durable ignored is_durable;
@@ -304,11 +304,11 @@ module _ (command : CommandLine) (changes : effect_of command.applet ≡ Changes
 
   -- ---- either
 
-  run_so : IsUnchangedOrCommit asked v (v ∷ rest) now answer → IsRun (Ones command v) Changes None judged v (v ∷ rest) now
+  run_so : IsUnchangedOrCommit asked v (v ∷ rest) now answer → IsRunAfterRecovery (Ones command v) Changes None judged v (v ∷ rest) now
   run_so (inl (same, never)) = idle_run same never
   run_so (inr commit) = commit_run commit
 
-  pub change_run_at : IsRun (Ones command v) Changes None judged v (v ∷ rest) now
+  pub change_run_at : IsRunAfterRecovery (Ones command v) Changes None judged v (v ∷ rest) now
   change_run_at = run_so (run.comes.run nothing.0 nothing.1)
 
   no_memory_after : IsUnchangedOrCommit asked v (v ∷ rest) now answer → answer ≡ Err Memory → now ≡ v ∷ rest
@@ -340,10 +340,10 @@ module _ (command : CommandLine) (changes : effect_of command.applet ≡ Changes
       reports command changes unique leaves v rest now a b answer (Ok verdict) told (run_at command changes v rest now a b answer run) nothing verdict refl
 
   pub change_run : (old now : History) (a b : Counts) (answer : Answered) (judged : Judged) → IsVerdictOnChange answer judged → IsChangeRun command old now a b answer
-      → IfNothingStaged old (λ v. IsRun (Ones command v) (effect_of command.applet) (output_for_effect (effect_of command.applet) command) judged v old now)
+      → IfNothingStaged old (λ v. IsRunAfterRecovery (Ones command v) (effect_of command.applet) (output_name_for_effect (effect_of command.applet) command) judged v old now)
   change_run [] now a b answer judged told run = tt
   change_run (v ∷ rest) now a b answer judged told run = λ nothing.
-      subst (λ (e : Effect). IsRun (Ones command v) e (output_for_effect e command) judged v (v ∷ rest) now) (sym changes)
+      subst (λ (e : Effect). IsRunAfterRecovery (Ones command v) e (output_name_for_effect e command) judged v (v ∷ rest) now) (sym changes)
       (change_run_at command changes unique leaves v rest now a b answer judged told (run_at command changes v rest now a b answer run) nothing)
 
   pub change_undone : (old now : History) (a b : Counts) (answer : Answered) (judged : Judged) → IsVerdictOnChange answer judged → IsChangeRun command old now a b answer → IfNothingStaged old (λ v. StaysWithout old now judged)
@@ -351,28 +351,28 @@ module _ (command : CommandLine) (changes : effect_of command.applet ≡ Changes
   change_undone (v ∷ rest) now a b answer judged told run = λ nothing. change_undone_at command changes unique leaves v rest now a b answer judged told (run_at command changes v rest now a b answer run) nothing
 
   pub change_proper : (old now : History) (a b : Counts) (answer : Answered) (judged : Judged) → IsVerdictOnChange answer judged → IsChangeRun command old now a b answer
-      → IfNothingStaged old (λ v. RoomFor (Ones command v) (effect_of command.applet) (output_for_effect (effect_of command.applet) command) (files_of v) → b.misuses ≡ a.misuses)
+      → IfNothingStaged old (λ v. RoomFor (Ones command v) (effect_of command.applet) (output_name_for_effect (effect_of command.applet) command) (files_of v) → b.misuses ≡ a.misuses)
   change_proper [] now a b answer judged told run = tt
   change_proper (v ∷ rest) now a b answer judged told run = λ nothing.
-      subst (λ (e : Effect). RoomFor (Ones command v) e (output_for_effect e command) (files_of v) → b.misuses ≡ a.misuses) (sym changes)
+      subst (λ (e : Effect). RoomFor (Ones command v) e (output_name_for_effect e command) (files_of v) → b.misuses ≡ a.misuses) (sym changes)
       (change_proper_at command changes unique leaves v rest now a b answer judged told (run_at command changes v rest now a b answer run) nothing)
 
 -- ---- the counts
 
-pub change_disk : (answer : Answered) (judged : Judged) (a b : Counts) → IsVerdictOnChange answer judged → IsRunCounted a b answer → IsErrOf judged Trees.Disk → HasCause a b
+pub change_disk : (answer : Answered) (judged : Judged) (a b : Counts) → IsVerdictOnChange answer judged → IsRunCounted a b answer → IsErrOf judged Trees.Disk → IsFaultCountedWithCause a b
 change_disk answer (Ok verdict) a b told counted none = absurd (cc (none))
 change_disk answer (Err e) a b told counted none =
     let e_is : e ≡ Trees.Disk = cc in
     elim (told_error answer e told) [ inl disk ↦ counted.disk disk.1 | inr memory ↦ absurd (let same : Trees.Memory ≡ Trees.Disk = sym memory.0 ∙ e_is in cc) ]
 
-pub change_kept : (answer : Answered) (judged : Judged) (a b : Counts) → IsVerdictOnChange answer judged → IsRunCounted a b answer → OnOk judged (IsNoFault a b)
+pub change_kept : (answer : Answered) (judged : Judged) (a b : Counts) → IsVerdictOnChange answer judged → IsRunCounted a b answer → OnOk judged (CountsNoNewFault a b)
 change_kept answer (Err e) a b told counted = tt
 change_kept (Ok report) (Ok verdict) a b told counted = counted.kept
 change_kept (Err (IsRefused refusal)) (Ok verdict) a b told counted = counted.others (λ is. cc (is))
 change_kept (Err Disk) (Ok verdict) a b told counted = absurd (cc (told))
 change_kept (Err Memory) (Ok verdict) a b told counted = absurd (cc (told))
 
-pub change_memory : (answer : Answered) (judged : Judged) (a b : Counts) → IsVerdictOnChange answer judged → IsRunCounted a b answer → IsErrOf judged Trees.Memory → IsNoFault a b
+pub change_memory : (answer : Answered) (judged : Judged) (a b : Counts) → IsVerdictOnChange answer judged → IsRunCounted a b answer → IsErrOf judged Trees.Memory → CountsNoNewFault a b
 change_memory answer (Ok verdict) a b told counted none = absurd (cc (none))
 change_memory answer (Err e) a b told counted none =
     let e_is : e ≡ Trees.Memory = cc in
@@ -381,7 +381,7 @@ change_memory answer (Err e) a b told counted none =
       | inr memory ↦ not_disk answer memory.1 counted
     ]
   where
-    not_disk : (answer : Answered) → answer ≡ Err Memory → IsRunCounted a b answer → IsNoFault a b
+    not_disk : (answer : Answered) → answer ≡ Err Memory → IsRunCounted a b answer → CountsNoNewFault a b
     not_disk answer is counted = (subst (λ (r : Answered). IsRunCounted a b r) is counted).others (λ same. cc (same))
 
 -- ---- the applets

@@ -9,26 +9,26 @@ use Rattle.base_core.specs.Files.{Files, no_names}
 use Rattle.base_core.specs.Tree.{TreeState, files_of}
 use Rattle.make_core.specs.make_info.Information.{information}
 use Rattle.make_core.specs.make_index.Index.{made_index}
-use Rattle.make_core.specs.make_index.Kept.{AgreesUnlessStopped}
+use Rattle.make_core.specs.make_index.Kept.{AgreesUnlessMemoryOrDisk}
 use Rattle.make_core.specs.make_info.Reads.{Reads}
-use Rattle.make_core.specs.make_package.Answers.{IsMadeBySome, IsMadeFromTree, UnlessDiskOrMemory}
+use Rattle.make_core.specs.make_package.Answers.{IsMadeBySomeReads, IsMadeFromTree, UnlessDiskOrMemory}
 use Rattle.make_core.specs.make_package.Making.{made_package}
 use Rattle.make_core.specs.make_info.Output.{output_name}
 use Rattle.make_core.specs.make_index.Files.{FindOnlyFiles, reads_of}
-use Rattle.make_core.specs.package_files.Sources.{AreNamesBelowFirst, values_of_letter}
+use Rattle.make_core.specs.package_files.Sources.{AreNamesBelowFirstFolder, values_of_letter}
 use Rattle.make_core.specs.make_info.declared.fault.MakeFault.{MakeFault}
 use Rattle.command_core.specs.declared.values.TheConstants.{FILES}
 use Rattle.outcome.specs.Commands.{reads_in}
 use Rattle.outcome.specs.Effect.{Makes}
-use Rattle.outcome.specs.Make.{index_line, make_outcome, mkndx, mkpkg, unless_reserved}
+use Rattle.outcome.specs.Make.{index_report_line, make_outcome, mkndx, mkpkg, unless_reserved}
 use Rattle.outcome.proofs.Existing.{HaveOneList, listing_one}
 use Rattle.outcome.specs.Outcome.{Outcome, just_refusal}
 use Rattle.report_core.specs.declared.refusal.Refusal.{Refusal}
 use Rattle.report_core.specs.declared.refusal.Refusal.TheVariants.{Reserved, ResultTooLarge}
 use Rattle.command_core.specs.Command.{CommandLine}
 use Rattle.apk_front.specs.Moments.{CanAddOutputNamesIfAny}
-use Rattle.apk_front.specs.Runs.{IsRun}
-use Rattle.apk_front.specs.Containers.{IsIndexMade, IsIndexFound, IsIndexOutcome, IsPackageMade, IsPackageOutcome, OnMade, is_disk_or_memory, ended_by_disk_or_memory, made_file_bytes}
+use Rattle.apk_front.specs.Runs.{IsRunAfterRecovery}
+use Rattle.apk_front.specs.Containers.{IsIndexMade, IsIndexFound, IsIndexOutcome, IsPackageMade, IsPackageOutcome, OnMade, is_disk_or_memory, is_making_ended_by_disk_or_memory, made_file_bytes}
 use Rattle.apk_front.specs.Verdicts.{Reports, ReportsOneOfOutcomes, as_outcome}
 use Rattle.apk_front.specs.declared.answer.Verdict.{Verdict}
 use Rattle.apk_front.proofs.Packages.{HaveListing, made_allowed, package_here}
@@ -81,11 +81,11 @@ package_made law command container old ok err =
     (λ v m. weaker container (IsMadeFromTree command v) (IsPackageMade command (files_of v)) (λ made. package_here law command v made) m)
     (means_at container old (IsMadeFromTree command) ok err)
 
-pub package_found : (command : CommandLine) (container : Container) → IfOk container (λ file. IsMadeBySome command (Ok file.items)) → IfErr container (λ why. UnlessDiskOrMemory why (IsMadeBySome command)) → OnMade container (IsMadeBySome command)
+pub package_found : (command : CommandLine) (container : Container) → IfOk container (λ file. IsMadeBySomeReads command (Ok file.items)) → IfErr container (λ why. UnlessDiskOrMemory why (IsMadeBySomeReads command)) → OnMade container (IsMadeBySomeReads command)
 package_found command container ok err =
-    weaker container (IsMadeBySome command) (IsMadeBySome command) (λ made m. m) (means container (IsMadeBySome command) ok err)
+    weaker container (IsMadeBySomeReads command) (IsMadeBySomeReads command) (λ made m. m) (means container (IsMadeBySomeReads command) ok err)
 
-made_means : (container : Container) (answer : Result (List ℕ) MakeFault) → AgreesUnlessStopped (λ (file : Vec ℕ Global). file.items) container answer → OnMade container (λ made. answer ≡ made)
+made_means : (container : Container) (answer : Result (List ℕ) MakeFault) → AgreesUnlessMemoryOrDisk (λ (file : Vec ℕ Global). file.items) container answer → OnMade container (λ made. answer ≡ made)
 made_means (Ok file) answer h = h
 made_means (Err (Faults.FileMissing place)) answer h = λ cut. h
 made_means (Err (Faults.FileBad place cause)) answer h = λ cut. h
@@ -94,18 +94,18 @@ made_means (Err (Faults.TooLarge bytes values)) answer h = λ cut. h
 made_means (Err Faults.Disk) answer h = λ cut. cc
 made_means (Err Faults.Memory) answer h = λ cut. cc
 
-pub index_made : (command : CommandLine) (container : Container) (old : History) → IfObservable old (λ v. AgreesUnlessStopped (λ (file : Vec ℕ Global). file.items) container (made_index command (reads_of v))) → IfObservable old (λ v. OnMade container (IsIndexMade command (files_of v)))
+pub index_made : (command : CommandLine) (container : Container) (old : History) → IfObservable old (λ v. AgreesUnlessMemoryOrDisk (λ (file : Vec ℕ Global). file.items) container (made_index command (reads_of v))) → IfObservable old (λ v. OnMade container (IsIndexMade command (files_of v)))
 index_made command container old h =
-    map_observable old (λ v. AgreesUnlessStopped (λ (file : Vec ℕ Global). file.items) container (made_index command (reads_of v))) (λ v. OnMade container (IsIndexMade command (files_of v)))
+    map_observable old (λ v. AgreesUnlessMemoryOrDisk (λ (file : Vec ℕ Global). file.items) container (made_index command (reads_of v))) (λ v. OnMade container (IsIndexMade command (files_of v)))
     (λ v m. made_means container (made_index command (reads_of v)) m) h
 
-pub index_found : (command : CommandLine) (container : Container) → (read : Reads) × FindOnlyFiles read 0 command.operands × AgreesUnlessStopped (λ (file : Vec ℕ Global). file.items) container (made_index command read) → OnMade container (IsIndexFound command)
+pub index_found : (command : CommandLine) (container : Container) → (read : Reads) × FindOnlyFiles read 0 command.operands × AgreesUnlessMemoryOrDisk (λ (file : Vec ℕ Global). file.items) container (made_index command read) → OnMade container (IsIndexFound command)
 index_found command container (read, files, m) =
     weaker container (λ made. made_index command read ≡ made) (IsIndexFound command) (λ made is. record { read = read; files = files; is = is }) (made_means container (made_index command read) m)
 
 -- ---- there is an output
 
-pub package_output : (command : CommandLine) (container : Container) → OnMade container (IsMadeBySome command) → (is_ok (information command) ≡ true → IsSome (output_name command)) → IfOk container (λ file. IsSome (output_name command))
+pub package_output : (command : CommandLine) (container : Container) → OnMade container (IsMadeBySomeReads command) → (is_ok (information command) ≡ true → IsSome (output_name command)) → IfOk container (λ file. IsSome (output_name command))
 package_output command (Ok file) found there = there (made_allowed command found.names found.read file.items found.is)
 package_output command (Err why) found there = tt
 
@@ -150,49 +150,49 @@ fault_leaves output report files Faults.Memory = (refl, refl)
 
 -- what is made is refused
 pub refused_run : (output : Option (List ℕ)) (report : List ℕ) (container : Container) (why : MakeFault) (judged : Judged) (old now : History) → container ≡ Err why → now ≡ old
-    → IfObservable old (λ v. IsRun (λ o. o ≡ make_outcome (files_of v) output report (made_file_bytes container)) Makes output judged v old now)
+    → IfObservable old (λ v. IsRunAfterRecovery (λ o. o ≡ make_outcome (files_of v) output report (made_file_bytes container)) Makes output judged v old now)
 refused_run output report container why judged old now is same =
     left_at (λ v o. o ≡ make_outcome (files_of v) output report (made_file_bytes container)) Makes output judged old now same
     (λ v o one. subst (Leaves (files_of v)) (sym (one ∙ ap (λ (c : Container). make_outcome (files_of v) output report (made_file_bytes c)) is)) (fault_leaves output report (files_of v) why))
 
 -- what is made is written
 pub written_made : (output : Option (List ℕ)) (report : List ℕ) (container : Container) (file : Vec ℕ Global) (bytes : List ℕ) (judged : Judged) (old now : History) → container ≡ Ok file → bytes ≡ file.items
-    → IfObservable old (λ v. IsRun (λ o. o ≡ make_outcome (files_of v) output report (Ok bytes)) Makes output judged v old now)
-    → IfObservable old (λ v. IsRun (λ o. o ≡ make_outcome (files_of v) output report (made_file_bytes container)) Makes output judged v old now)
+    → IfObservable old (λ v. IsRunAfterRecovery (λ o. o ≡ make_outcome (files_of v) output report (Ok bytes)) Makes output judged v old now)
+    → IfObservable old (λ v. IsRunAfterRecovery (λ o. o ≡ make_outcome (files_of v) output report (made_file_bytes container)) Makes output judged v old now)
 written_made output report container file bytes judged old now is same run =
-    subst (λ (r : Result (List ℕ) MakeFault). IfObservable old (λ v. IsRun (λ o. o ≡ make_outcome (files_of v) output report r) Makes output judged v old now)) (ap Ok same ∙ sym (ap made_file_bytes is)) run
+    subst (λ (r : Result (List ℕ) MakeFault). IfObservable old (λ v. IsRunAfterRecovery (λ o. o ≡ make_outcome (files_of v) output report r) Makes output judged v old now)) (ap Ok same ∙ sym (ap made_file_bytes is)) run
 
 -- outcomes that what is made determines
 pub record AreOutcomes (Means : TreeState → Result (List ℕ) MakeFault → Type 0) (IsOne : Outcomes) (output : Option (List ℕ)) (report : List ℕ) : Type 0 where
   pub one : (v : TreeState) (answer : Result (List ℕ) MakeFault) → Means v answer → IsOne v (make_outcome (files_of v) output report answer)
   pub only : (v : TreeState) (answer : Result (List ℕ) MakeFault) → Means v answer → (o : Outcome) → IsOne v o → o ≡ make_outcome (files_of v) output report answer
 
-meant : (container : Container) (Means : Result (List ℕ) MakeFault → Type 0) → ended_by_disk_or_memory container ≡ false → OnMade container Means → Means (made_file_bytes container)
+meant : (container : Container) (Means : Result (List ℕ) MakeFault → Type 0) → is_making_ended_by_disk_or_memory container ≡ false → OnMade container Means → Means (made_file_bytes container)
 meant (Ok file) Means cut m = m
 meant (Err why) Means cut m = m cut
 
 module _ (Means : TreeState → Result (List ℕ) MakeFault → Type 0) (IsOne : Outcomes) (output : Option (List ℕ)) (report : List ℕ) (are : AreOutcomes Means IsOne output report) (container : Container) where
-  pub reports_one : (judged : Judged) (old : History) → IfObservable old (λ v. OnMade container (Means v)) → IfOk judged (λ verdict. ended_by_disk_or_memory container ≡ false)
+  pub reports_one : (judged : Judged) (old : History) → IfObservable old (λ v. OnMade container (Means v)) → IfOk judged (λ verdict. is_making_ended_by_disk_or_memory container ≡ false)
       → IfOk judged (λ verdict. (files : Files) → Reports verdict (make_outcome files output report (made_file_bytes container))) → IfOk judged (λ verdict. IfObservable old (λ v. ReportsOneOfOutcomes (IsOne v) verdict))
   reports_one (Err e) old found whole reports = tt
   reports_one (Ok verdict) [] found whole reports = tt
   reports_one (Ok verdict) (v ∷ rest) found whole reports =
       (make_outcome (files_of v) output report (made_file_bytes container), are.one v (made_file_bytes container) (meant container (Means v) whole found), reports (files_of v))
 
-  runs_by : (judged : Judged) (v : TreeState) (rest now : History) (b : Bool) → ended_by_disk_or_memory container ≡ b → OnMade container (Means v) → IfOk judged (λ verdict. ended_by_disk_or_memory container ≡ false) → (ended_by_disk_or_memory container ≡ true → now ≡ v ∷ rest)
-      → IsRun (λ o. o ≡ make_outcome (files_of v) output report (made_file_bytes container)) Makes output judged v (v ∷ rest) now → IsRun (IsOne v) Makes output judged v (v ∷ rest) now
+  runs_by : (judged : Judged) (v : TreeState) (rest now : History) (b : Bool) → is_making_ended_by_disk_or_memory container ≡ b → OnMade container (Means v) → IfOk judged (λ verdict. is_making_ended_by_disk_or_memory container ≡ false) → (is_making_ended_by_disk_or_memory container ≡ true → now ≡ v ∷ rest)
+      → IsRunAfterRecovery (λ o. o ≡ make_outcome (files_of v) output report (made_file_bytes container)) Makes output judged v (v ∷ rest) now → IsRunAfterRecovery (IsOne v) Makes output judged v (v ∷ rest) now
   runs_by judged v rest now false is found whole cut run =
       run_among (λ o. o ≡ make_outcome (files_of v) output report (made_file_bytes container)) (IsOne v) Makes output judged v (v ∷ rest) now
       (λ o same. subst (IsOne v) (sym same) (are.one v (made_file_bytes container) (meant container (Means v) is found))) (are.only v (made_file_bytes container) (meant container (Means v) is found)) run
   runs_by (Ok verdict) v rest now true is found whole cut run = absurd (false≢true (sym whole ∙ is))
   runs_by (Err e) v rest now true is found whole cut run = run_idle (IsOne v) Makes output (Err e) v rest now (cut is) (λ o one. tt)
 
-  pub runs : (judged : Judged) (old mid now : History) → mid ≡ old → IfObservable old (λ v. OnMade container (Means v)) → IfOk judged (λ verdict. ended_by_disk_or_memory container ≡ false) → (ended_by_disk_or_memory container ≡ true → now ≡ mid)
-      → IfObservable mid (λ v. IsRun (λ o. o ≡ make_outcome (files_of v) output report (made_file_bytes container)) Makes output judged v mid now) → IfObservable old (λ v. IsRun (IsOne v) Makes output judged v old now)
+  pub runs : (judged : Judged) (old mid now : History) → mid ≡ old → IfObservable old (λ v. OnMade container (Means v)) → IfOk judged (λ verdict. is_making_ended_by_disk_or_memory container ≡ false) → (is_making_ended_by_disk_or_memory container ≡ true → now ≡ mid)
+      → IfObservable mid (λ v. IsRunAfterRecovery (λ o. o ≡ make_outcome (files_of v) output report (made_file_bytes container)) Makes output judged v mid now) → IfObservable old (λ v. IsRunAfterRecovery (IsOne v) Makes output judged v old now)
   runs judged [] mid now same found whole cut run = tt
   runs judged (v ∷ rest) mid now same found whole cut run =
-      runs_by judged v rest now (ended_by_disk_or_memory container) refl found whole (λ is. cut is ∙ same)
-      (subst (λ (h : History). IfObservable h (λ v. IsRun (λ o. o ≡ make_outcome (files_of v) output report (made_file_bytes container)) Makes output judged v h now)) same run)
+      runs_by judged v rest now (is_making_ended_by_disk_or_memory container) refl found whole (λ is. cut is ∙ same)
+      (subst (λ (h : History). IfObservable h (λ v. IsRunAfterRecovery (λ o. o ≡ make_outcome (files_of v) output report (made_file_bytes container)) Makes output judged v h now)) same run)
 
   room_by : (c : Container) (v : TreeState) → OnMade c (Means v) → ((o : Outcome) → IsOne v o → o.commits ≡ true → CanAddOutputNamesIfAny output (files_of v))
       → IfOk c (λ file. (make_outcome (files_of v) output report (Ok file.items)).commits ≡ true → CanAddOutputNamesIfAny output (files_of v))
@@ -223,31 +223,31 @@ package_outcomes one command report none = record {
       ∙ ap (make_outcome (files_of v) (output_name command) report) m.is;
 }
 
-pub package_read : (command : CommandLine) (report : List ℕ) (container : Container) (judged : Judged) → report ≡ [] → OnMade container (IsMadeBySome command) → IfOk judged (λ verdict. ended_by_disk_or_memory container ≡ false)
+pub package_read : (command : CommandLine) (report : List ℕ) (container : Container) (judged : Judged) → report ≡ [] → OnMade container (IsMadeBySomeReads command) → IfOk judged (λ verdict. is_making_ended_by_disk_or_memory container ≡ false)
     → IfOk judged (λ verdict. (files : Files) → Reports verdict (make_outcome files (output_name command) report (made_file_bytes container)))
-    → IfOk judged (λ verdict. (names : List (List ℕ)) × AreNamesBelowFirst (values_of_letter FILES command.values) names × (read : Reads) × Reports verdict (mkpkg read no_names command names))
+    → IfOk judged (λ verdict. (names : List (List ℕ)) × AreNamesBelowFirstFolder (values_of_letter FILES command.values) names × (read : Reads) × Reports verdict (mkpkg read no_names command names))
 package_read command report container (Err e) none found whole reports = tt
 package_read command report container (Ok verdict) none found whole reports =
-    let m = meant container (IsMadeBySome command) whole found in
+    let m = meant container (IsMadeBySomeReads command) whole found in
     let same : make_outcome no_names (output_name command) report (made_file_bytes container) ≡ mkpkg m.read no_names command m.names =
     ap (λ r. make_outcome no_names (output_name command) r (made_file_bytes container)) none ∙ ap (make_outcome no_names (output_name command) []) (sym m.is) in
     (m.names, m.named, m.read, subst (Reports verdict) same (reports no_names))
 
 -- ---- of an index
 
-pub index_outcomes : (command : CommandLine) (report : List ℕ) → report ≡ index_line (length command.operands) → AreOutcomes (λ v. IsIndexMade command (files_of v)) (λ v. IsIndexOutcome command (files_of v)) (output_name command) report
+pub index_outcomes : (command : CommandLine) (report : List ℕ) → report ≡ index_report_line (length command.operands) → AreOutcomes (λ v. IsIndexMade command (files_of v)) (λ v. IsIndexOutcome command (files_of v)) (output_name command) report
 index_outcomes command report is = record {
-  one = λ v answer m. ap (λ r. make_outcome (files_of v) (output_name command) r answer) is ∙ ap (make_outcome (files_of v) (output_name command) (index_line (length command.operands))) (sym m);
+  one = λ v answer m. ap (λ r. make_outcome (files_of v) (output_name command) r answer) is ∙ ap (make_outcome (files_of v) (output_name command) (index_report_line (length command.operands))) (sym m);
   only = λ v answer m o one.
-      one ∙ ap (make_outcome (files_of v) (output_name command) (index_line (length command.operands))) m ∙ ap (λ r. make_outcome (files_of v) (output_name command) r answer) (sym is);
+      one ∙ ap (make_outcome (files_of v) (output_name command) (index_report_line (length command.operands))) m ∙ ap (λ r. make_outcome (files_of v) (output_name command) r answer) (sym is);
 }
 
-pub index_read : (command : CommandLine) (report : List ℕ) (container : Container) (judged : Judged) → report ≡ index_line (length command.operands) → OnMade container (IsIndexFound command) → IfOk judged (λ verdict. ended_by_disk_or_memory container ≡ false)
+pub index_read : (command : CommandLine) (report : List ℕ) (container : Container) (judged : Judged) → report ≡ index_report_line (length command.operands) → OnMade container (IsIndexFound command) → IfOk judged (λ verdict. is_making_ended_by_disk_or_memory container ≡ false)
     → IfOk judged (λ verdict. (files : Files) → Reports verdict (make_outcome files (output_name command) report (made_file_bytes container)))
     → IfOk judged (λ verdict. (read : Reads) × FindOnlyFiles read 0 command.operands × Reports verdict (mkndx read no_names command))
 index_read command report container (Err e) is found whole reports = tt
 index_read command report container (Ok verdict) is found whole reports =
     let m = meant container (IsIndexFound command) whole found in
     let same : make_outcome no_names (output_name command) report (made_file_bytes container) ≡ mkndx m.read no_names command =
-    ap (λ r. make_outcome no_names (output_name command) r (made_file_bytes container)) is ∙ ap (make_outcome no_names (output_name command) (index_line (length command.operands))) (sym m.is) in
+    ap (λ r. make_outcome no_names (output_name command) r (made_file_bytes container)) is ∙ ap (make_outcome no_names (output_name command) (index_report_line (length command.operands))) (sym m.is) in
     (m.read, m.files, subst (Reports verdict) same (reports no_names))

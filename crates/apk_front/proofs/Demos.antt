@@ -15,8 +15,8 @@ use Rattle.outcome.specs.demo_lines.Lines.{add_words, demo_repositories, mkndx_w
 use Rattle.outcome.specs.demo_lines.Report.{demo_line}
 use Rattle.outcome.proofs.demo_lines.Lengths.{plus_one}
 use Rattle.outcome.specs.Commands.{IsPossibleOutcomeWithoutDemo, IsOutcomeWithoutDemo, reads_in}
-use Rattle.outcome.specs.Demo.{IsOutcomeAfterIndexing, IsOutcomeAfterInstalling, IsOutcomeAfterPackaging, IsDemoOutcome, IsOutcomeOfNextRun, IsOutcomeOfNextRunUnlessRefused, outcome_before_demo, with_demo_file}
-use Rattle.outcome.specs.Effect.{does_recover, ignores_files, effect_of, output_for_effect}
+use Rattle.outcome.specs.Demo.{IsDemoOutcomeAfterIndexing, IsDemoOutcomeAfterInstalling, IsDemoOutcomeAfterPackaging, IsDemoOutcome, IsOutcomeOfNextRun, IsOutcomeOfNextRunUnlessRefused, outcome_before_demo, with_demo_file}
+use Rattle.outcome.specs.Effect.{does_recover, ignores_files, effect_of, output_name_for_effect}
 use Rattle.outcome.specs.Outcome.{Outcome, just_refusal, just_report, report_unless}
 use Rattle.outcome.specs.Words.{IsPossibleOutcome, IsPossibleOutcomeOfApplet, IsOutcome, IsOutcomeOfApplet}
 use Rattle.report_core.specs.declared.refusal.Refusal.{Refusal}
@@ -30,7 +30,7 @@ use Rattle.words_core.specs.declared.read.WordsFault.{WordsFault}
 use Rattle.words_core.specs.declared.read.WordsFault.TheVariants.{Usage as WrongWord}
 use Rattle.apk_front.specs.DemoRuns.{IsRunToOutcome}
 use Rattle.apk_front.specs.Moments.{CanRecover, AreOutcomePathsFree}
-use Rattle.apk_front.specs.Runs.{IsWholeRun}
+use Rattle.apk_front.specs.Runs.{IsRunWithRecovery}
 use Rattle.apk_front.specs.Verdicts.{Reports, ReportsOneOfOutcomes, as_outcome, read_only_outcome}
 use Rattle.apk_front.specs.declared.answer.Verdict.{Verdict}
 use Rattle.apk_front.proofs.AfterRecovery.{LeavesAll, whole_idle}
@@ -78,16 +78,16 @@ other_by_words command applet judged same never ran rests =
     but_demo (λ Is. MatchResult judged (λ verdict. (files : Files) → Is files (as_outcome files verdict)) (λ fault. fault ≡ NoMemory)) command.applet command (never_demo command applet same never) (ran_on_words command judged rests (ran rests))
 
 pub other_run : (command : CommandLine) (applet : Applet) (judged : Judged) (old now : History) → applet ≡ command.applet → (applet ≡ Demo → ⊥)
-    → IfObservable old (λ v. IsWholeRun (IsOutcomeWithoutDemo (Ok command) (files_of v)) (effect_of command.applet) (output_for_effect (effect_of command.applet) command) judged v old now)
-    → IfObservable old (λ v. IsWholeRun (IsOutcome (Ok command) (files_of v)) (effect_of command.applet) (output_for_effect (effect_of command.applet) command) judged v old now)
+    → IfObservable old (λ v. IsRunWithRecovery (IsOutcomeWithoutDemo (Ok command) (files_of v)) (effect_of command.applet) (output_name_for_effect (effect_of command.applet) command) judged v old now)
+    → IfObservable old (λ v. IsRunWithRecovery (IsOutcome (Ok command) (files_of v)) (effect_of command.applet) (output_name_for_effect (effect_of command.applet) command) judged v old now)
 other_run command applet judged old now same never run =
-    but_demo (λ Is. IfObservable old (λ v. IsWholeRun (Is (files_of v)) (effect_of command.applet) (output_for_effect (effect_of command.applet) command) judged v old now)) command.applet command (never_demo command applet same never) run
+    but_demo (λ Is. IfObservable old (λ v. IsRunWithRecovery (Is (files_of v)) (effect_of command.applet) (output_name_for_effect (effect_of command.applet) command) judged v old now)) command.applet command (never_demo command applet same never) run
 
 pub other_proper : (command : CommandLine) (applet : Applet) (old : History) (P : Type 0) → applet ≡ command.applet → (applet ≡ Demo → ⊥)
-    → IfObservable old (λ v. AreOutcomePathsFree (effect_of command.applet) (output_for_effect (effect_of command.applet) command) (IsOutcomeWithoutDemo (Ok command) (files_of v)) (files_of v) → P)
-    → IfObservable old (λ v. AreOutcomePathsFree (effect_of command.applet) (output_for_effect (effect_of command.applet) command) (IsOutcome (Ok command) (files_of v)) (files_of v) → P)
+    → IfObservable old (λ v. AreOutcomePathsFree (effect_of command.applet) (output_name_for_effect (effect_of command.applet) command) (IsOutcomeWithoutDemo (Ok command) (files_of v)) (files_of v) → P)
+    → IfObservable old (λ v. AreOutcomePathsFree (effect_of command.applet) (output_name_for_effect (effect_of command.applet) command) (IsOutcome (Ok command) (files_of v)) (files_of v) → P)
 other_proper command applet old P same never proper =
-    but_demo (λ Is. IfObservable old (λ v. AreOutcomePathsFree (effect_of command.applet) (output_for_effect (effect_of command.applet) command) (Is (files_of v)) (files_of v) → P)) command.applet command (never_demo command applet same never) proper
+    but_demo (λ Is. IfObservable old (λ v. AreOutcomePathsFree (effect_of command.applet) (output_name_for_effect (effect_of command.applet) command) (Is (files_of v)) (files_of v) → P)) command.applet command (never_demo command applet same never) proper
 
 -- ---- `demo`
 
@@ -133,10 +133,10 @@ no_recovery : (applet : Applet) (v : TreeState) → applet ≡ Demo → CanRecov
 no_recovery applet v demo can = false≢true (subst (λ (a : Applet). does_recover (effect_of a) ≡ true) demo can.0)
 
 pub demo_run : (command : CommandLine) (applet : Applet) (judged : Judged) (old : History) → applet ≡ command.applet → applet ≡ Demo
-    → IfObservable old (λ v. IsWholeRun (IsOutcome (Ok command) (files_of v)) (effect_of command.applet) (output_for_effect (effect_of command.applet) command) judged v old old)
+    → IfObservable old (λ v. IsRunWithRecovery (IsOutcome (Ok command) (files_of v)) (effect_of command.applet) (output_name_for_effect (effect_of command.applet) command) judged v old old)
 demo_run command applet judged [] same is = tt
 demo_run command applet judged (v ∷ rest) same is =
-    whole_idle (IsOutcome (Ok command) (files_of v)) (effect_of command.applet) (output_for_effect (effect_of command.applet) command) judged v rest (v ∷ rest) refl
+    whole_idle (IsOutcome (Ok command) (files_of v)) (effect_of command.applet) (output_name_for_effect (effect_of command.applet) command) judged v rest (v ∷ rest) refl
     (λ o one. ok_always (LeavesAll (effect_of command.applet) v o) judged
     (demo_leaves command.applet command (files_of v) o (sym same ∙ is) one, no_recovery command.applet v (sym same ∙ is)))
 
@@ -151,7 +151,7 @@ never_disk (Err fault) operands one is =
 
 pub ran_to : (words : List (List ℕ)) (command : CommandLine) (old new : MemoryTree) (judged : Judged) → command_of words ≡ Ok command
     → IfOk judged (λ verdict. ReportsOneOfOutcomes (IsOutcomeWithoutDemo (Ok command) (files_of (tree_state old))) verdict)
-    → IsWholeRun (IsOutcomeWithoutDemo (Ok command) (files_of (tree_state old))) (effect_of command.applet) (output_for_effect (effect_of command.applet) command) judged (tree_state old) (history_of old) (history_of new)
+    → IsRunWithRecovery (IsOutcomeWithoutDemo (Ok command) (files_of (tree_state old))) (effect_of command.applet) (output_name_for_effect (effect_of command.applet) command) judged (tree_state old) (history_of old) (history_of new)
     → IfOk judged (λ verdict. IsRunToOutcome (IsOutcomeWithoutDemo (command_of words) (files_of (tree_state old))) verdict new)
 ran_to words command old new (Err fault) is found run = tt
 ran_to words command old new (Ok verdict) is (o, one, reports) run =
@@ -197,24 +197,24 @@ behind_run words change last old (Ok verdict) new none (o, one, reported, files)
 
 -- ---- all runs
 
-pub start_to : (tree : MemoryTree) (verdict : Verdict) → ((files : Files) → as_outcome files verdict ≡ just_report files []) → files_of (tree_state tree) ≡ outcome_before_demo.files → IsRunToOutcome (IsOutcomeAfterPackaging 0) verdict tree
+pub start_to : (tree : MemoryTree) (verdict : Verdict) → ((files : Files) → as_outcome files verdict ≡ just_report files []) → files_of (tree_state tree) ≡ outcome_before_demo.files → IsRunToOutcome (IsDemoOutcomeAfterPackaging 0) verdict tree
 start_to tree verdict shown files = (outcome_before_demo, refl, shown outcome_before_demo.files, files)
 
-next_at : (i : ℕ) (last verdict : Verdict) (old new : MemoryTree) → IsRunToOutcome (IsOutcomeAfterPackaging i) last old → CountsOnlyRise (mkpkg_words (suc i)) (with_demo_file (suc i)) last old verdict new → IsRunToOutcome (IsOutcomeAfterPackaging (suc i)) verdict new
+next_at : (i : ℕ) (last verdict : Verdict) (old new : MemoryTree) → IsRunToOutcome (IsDemoOutcomeAfterPackaging i) last old → CountsOnlyRise (mkpkg_words (suc i)) (with_demo_file (suc i)) last old verdict new → IsRunToOutcome (IsDemoOutcomeAfterPackaging (suc i)) verdict new
 next_at i last verdict old new (before, is, reports, files) on =
     let (o, one, reported, after) = on before reports files in
     (o, (before, is, one), reported, after)
 
-pub next_to : (i : ℕ) (last verdict : Verdict) (old new : MemoryTree) → IsRunToOutcome (IsOutcomeAfterPackaging i) last old → CountsOnlyRise (mkpkg_words (i + 1)) (with_demo_file (i + 1)) last old verdict new → IsRunToOutcome (IsOutcomeAfterPackaging (i + 1)) verdict new
+pub next_to : (i : ℕ) (last verdict : Verdict) (old new : MemoryTree) → IsRunToOutcome (IsDemoOutcomeAfterPackaging i) last old → CountsOnlyRise (mkpkg_words (i + 1)) (with_demo_file (i + 1)) last old verdict new → IsRunToOutcome (IsDemoOutcomeAfterPackaging (i + 1)) verdict new
 next_to i last verdict old new one =
-    subst (λ k. CountsOnlyRise (mkpkg_words k) (with_demo_file k) last old verdict new → IsRunToOutcome (IsOutcomeAfterPackaging k) verdict new) (sym (plus_one i)) (next_at i last verdict old new one)
+    subst (λ k. CountsOnlyRise (mkpkg_words k) (with_demo_file k) last old verdict new → IsRunToOutcome (IsDemoOutcomeAfterPackaging k) verdict new) (sym (plus_one i)) (next_at i last verdict old new one)
 
-pub index_to : (n : ℕ) (last verdict : Verdict) (old new : MemoryTree) → IsRunToOutcome (IsOutcomeAfterPackaging n) last old → CountsOnlyRise (mkndx_words n) (λ files. files) last old verdict new → IsRunToOutcome (IsOutcomeAfterIndexing n) verdict new
+pub index_to : (n : ℕ) (last verdict : Verdict) (old new : MemoryTree) → IsRunToOutcome (IsDemoOutcomeAfterPackaging n) last old → CountsOnlyRise (mkndx_words n) (λ files. files) last old verdict new → IsRunToOutcome (IsDemoOutcomeAfterIndexing n) verdict new
 index_to n last verdict old new (before, is, reports, files) on =
     let (o, one, reported, after) = on before reports files in
     (o, (before, is, one), reported, after)
 
-pub add_to : (n : ℕ) (last : Verdict) (old new : MemoryTree) (judged : Judged) → IsRunToOutcome (IsOutcomeAfterIndexing n) last old → IfOk judged (λ verdict. CountsOnlyRise (add_words n) (λ files. files) last old verdict new) → IfOk judged (λ verdict. IsRunToOutcome (IsOutcomeAfterInstalling n) verdict new)
+pub add_to : (n : ℕ) (last : Verdict) (old new : MemoryTree) (judged : Judged) → IsRunToOutcome (IsDemoOutcomeAfterIndexing n) last old → IfOk judged (λ verdict. CountsOnlyRise (add_words n) (λ files. files) last old verdict new) → IfOk judged (λ verdict. IsRunToOutcome (IsDemoOutcomeAfterInstalling n) verdict new)
 add_to n last old new (Err fault) one on = tt
 add_to n last old new (Ok verdict) (before, is, reports, files) on =
     let (o, one, reported, after) = on before reports files in
@@ -222,7 +222,7 @@ add_to n last old new (Ok verdict) (before, is, reports, files) on =
 
 -- ---- what is told
 
-pub told_demo : (n : ℕ) (last : Verdict) (tree : MemoryTree) (judged : Judged) → IsRunToOutcome (IsOutcomeAfterInstalling n) last tree
+pub told_demo : (n : ℕ) (last : Verdict) (tree : MemoryTree) (judged : Judged) → IsRunToOutcome (IsDemoOutcomeAfterInstalling n) last tree
     → MatchResult judged (λ verdict. (files : Files) → as_outcome files verdict ≡ report_unless files last.refusal (demo_line n last.report)) (λ fault. fault ≡ NoMemory)
     → MatchResult judged (λ verdict. (files : Files) → IsDemoOutcome n files (as_outcome files verdict)) (λ fault. fault ≡ NoMemory)
 told_demo n last tree (Err fault) one shown = shown
@@ -251,9 +251,9 @@ start_files files new bytes is none same =
 
 -- ---- the index, and the installation
 
-pub install_to : (n : ℕ) (packaged indexed : Verdict) (first second third : MemoryTree) (index add : List (List ℕ)) (judged : Judged) → IsRunToOutcome (IsOutcomeAfterPackaging n) packaged first
+pub install_to : (n : ℕ) (packaged indexed : Verdict) (first second third : MemoryTree) (index add : List (List ℕ)) (judged : Judged) → IsRunToOutcome (IsDemoOutcomeAfterPackaging n) packaged first
     → index ≡ mkndx_words n → CountsOnlyRise index (λ files. files) packaged first indexed second → add ≡ add_words n → IfOk judged (λ verdict. CountsOnlyRise add (λ files. files) indexed second verdict third)
-    → IfOk judged (λ verdict. IsRunToOutcome (IsOutcomeAfterInstalling n) verdict third)
+    → IfOk judged (λ verdict. IsRunToOutcome (IsDemoOutcomeAfterInstalling n) verdict third)
 install_to n packaged indexed first second third index add judged one is_index on_index is_add on_add =
     add_to n indexed second third judged
     (index_to n packaged indexed first second one (subst (λ (w : List (List ℕ)). CountsOnlyRise w (λ files. files) packaged first indexed second) is_index on_index))

@@ -15,7 +15,7 @@ use Rattle.outcome.specs.Words.{IsOutcome}
 use Rattle.outcome.specs.Effect.{Effect, effect_of_arguments, output}
 use Rattle.outcome.specs.Outcome.{Outcome}
 use Rattle.words_core.specs.Grammar.{command_of}
-use Rattle.apk_front.specs.Moments.{MomentsLeadTo, AreOldOrLeadToOutcome, IsCarriedOut, LeavesDurableOnceAnswered, MustOutcomeBeDurable}
+use Rattle.apk_front.specs.Moments.{MomentsLeadToFiles, AreStatesOldOrLeadToOutcome, IsCarriedOut, LeavesDurableFilesOnceAnswered, MustOutcomeBeDurable}
 use Rattle.apk_front.specs.declared.answer.Answer.{Answer}
 use Rattle.apk_front.specs.declared.answer.Answer.TheVariants.{Ok, Refused, TreeFault, OutFault, Memory}
 
@@ -35,12 +35,12 @@ each_replaces ignored files v [] each = All-nil (IsMomentOfReplacing ignored fil
 each_replaces ignored files v (w ∷ added) (here, earlier) =
     All-cons (IsMomentOfReplacing ignored files v) w added (record { is_durable = here.is_durable; old_or_new = here.old_or_new; made = here.made }) (each_replaces ignored files v added earlier)
 
-way_replaces : (makes : Bool) (ignored : List ℕ → Bool) (files : Files) (v : TreeState) (old now : List TreeState) → MomentsLeadTo makes ignored files v old now → Since (IsMomentOfReplacing ignored files v) old now
+way_replaces : (makes : Bool) (ignored : List ℕ → Bool) (files : Files) (v : TreeState) (old now : List TreeState) → MomentsLeadToFiles makes ignored files v old now → Since (IsMomentOfReplacing ignored files v) old now
 way_replaces true ignored files v old now way = way
 way_replaces false ignored files v old now way = record { added = way.added; is = way.is; each = each_replaces ignored files v way.added way.each }
 
 pub safe_for_each : IsUnique → QuietIsOld → (words : List (List ℕ)) (ignored : List ℕ → Bool) (v : TreeState) (outcome : Outcome) (old now : List TreeState)
-    → AreOldOrLeadToOutcome (IsOutcome (command_of words) (files_of v)) (is_some (output words)) ignored v old now → IsOutcome (command_of words) (files_of v) outcome → Since (IsMomentOfReplacing ignored outcome.files v) old now
+    → AreStatesOldOrLeadToOutcome (IsOutcome (command_of words) (files_of v)) (is_some (output words)) ignored v old now → IsOutcome (command_of words) (files_of v) outcome → Since (IsMomentOfReplacing ignored outcome.files v) old now
 safe_for_each unique law words ignored v outcome old now (inl is_unchanged) one = record {
   added = is_unchanged.added;
   is = is_unchanged.is;
@@ -56,7 +56,7 @@ lasts_for : (effect : Effect) (ignored : List ℕ → Bool) (v : TreeState) (o o
 lasts_for effect ignored v o outcome now same settles last = subst (λ (x : Outcome). (MustOutcomeBeDurable effect ignored v x → HoldsNow now (EachCrashLeaves ignored x.files))) same last settles
 
 pub lasting_for_each : IsUnique → (words : List (List ℕ)) (ignored : List ℕ → Bool) (v : TreeState) (outcome : Outcome) (now : List TreeState) (answer : Answer)
-    → LeavesDurableOnceAnswered (IsOutcome (command_of words) (files_of v)) (effect_of_arguments (command_of words)) ignored v now answer → IsCarriedOut answer → IsOutcome (command_of words) (files_of v) outcome → outcome.refusal ≡ None
+    → LeavesDurableFilesOnceAnswered (IsOutcome (command_of words) (files_of v)) (effect_of_arguments (command_of words)) ignored v now answer → IsCarriedOut answer → IsOutcome (command_of words) (files_of v) outcome → outcome.refusal ≡ None
     → MustOutcomeBeDurable (effect_of_arguments (command_of words)) ignored v outcome → HoldsNow now (EachCrashLeaves ignored outcome.files)
 lasting_for_each unique words ignored v outcome now Ok (o, its, its_none, last) carried one none settles =
     lasts_for (effect_of_arguments (command_of words)) ignored v o outcome now (unique words (files_of v) o outcome its one) settles last

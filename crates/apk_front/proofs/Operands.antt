@@ -27,7 +27,7 @@ use Rattle.make_core.specs.make_info.Reads.{Reads}
 use Rattle.outcome.specs.Commands.{reads_in}
 use Rattle.outcome.specs.Outcome.{just_refusal, just_report, report_unless}
 use Rattle.outcome.specs.Verify.{file_refusal, sound_lines, verify, verify_refusal}
-use Rattle.outcome.specs.Version.{invalid_line, invalid_lines, order_line, order_report, version_refusal}
+use Rattle.outcome.specs.Version.{invalid_version_line, invalid_version_lines, order_line, version_order_report, version_refusal}
 use Rattle.report_core.specs.declared.refusal.Refusal.{Refusal}
 use Rattle.report_core.specs.declared.refusal.Refusal.TheVariants.{VersionBad}
 use Rattle.version_core.specs.Order.{is_version, version_cmp}
@@ -243,12 +243,12 @@ valid_more os i o at e = rw (left_at os i o at) (rw e refl)
 pub invalid_here : (os : List Operand) (i : ℕ) (o : Operand) → slice_get os i ≡ Some o → is_version o.text ≡ false → version_refusal (drop i os) ≡ Some (VersionBad o.place)
 invalid_here os i o at e = rw (left_at os i o at) (rw e refl)
 
-pub invalid_more : (os : List Operand) (i : ℕ) (o : Operand) (report now text : List ℕ) → slice_get os i ≡ Some o → text ≡ o.text → now ≡ report ++ invalid_line text
-    → report ++ invalid_lines (drop i os) ≡ invalid_lines os → now ++ invalid_lines (drop (i + 1) os) ≡ invalid_lines os
+pub invalid_more : (os : List Operand) (i : ℕ) (o : Operand) (report now text : List ℕ) → slice_get os i ≡ Some o → text ≡ o.text → now ≡ report ++ invalid_version_line text
+    → report ++ invalid_version_lines (drop i os) ≡ invalid_version_lines os → now ++ invalid_version_lines (drop (i + 1) os) ≡ invalid_version_lines os
 invalid_more os i o report now text at is so h =
-    ap (λ (l : List ℕ). l ++ invalid_lines (drop (i + 1) os)) (so ∙ ap (λ (t : List ℕ). report ++ invalid_line t) is)
-    ∙ append_assoc report (invalid_line o.text) (invalid_lines (drop (i + 1) os))
-    ∙ ap (λ (l : List Operand). report ++ invalid_lines l) (sym (left_at os i o at)) ∙ h
+    ap (λ (l : List ℕ). l ++ invalid_version_lines (drop (i + 1) os)) (so ∙ ap (λ (t : List ℕ). report ++ invalid_version_line t) is)
+    ∙ append_assoc report (invalid_version_line o.text) (invalid_version_lines (drop (i + 1) os))
+    ∙ ap (λ (l : List Operand). report ++ invalid_version_lines l) (sym (left_at os i o at)) ∙ h
 
 three_not_two : (n : ℕ) → suc (suc (suc n)) ≡ 2 → ⊥
 three_not_two n e = omega arith
@@ -259,13 +259,13 @@ two_of (p ∷ []) a b n x y = cc
 two_of (p ∷ (q ∷ [])) a b n x y = cc
 two_of (p ∷ (q ∷ (r ∷ os))) a b n x y = absurd (three_not_two (length os) n)
 
-pub first_bad : (os : List Operand) (a b : Operand) → os ≡ a ∷ (b ∷ []) → is_version a.text ≡ false → (files : Files) → report_unless files (version_refusal os) (order_report os) ≡ just_refusal files (VersionBad a.place)
+pub first_bad : (os : List Operand) (a b : Operand) → os ≡ a ∷ (b ∷ []) → is_version a.text ≡ false → (files : Files) → report_unless files (version_refusal os) (version_order_report os) ≡ just_refusal files (VersionBad a.place)
 first_bad os a b is e files = rw is (rw e refl)
 
-pub second_bad : (os : List Operand) (a b : Operand) → os ≡ a ∷ (b ∷ []) → is_version a.text ≡ true → is_version b.text ≡ false → (files : Files) → report_unless files (version_refusal os) (order_report os) ≡ just_refusal files (VersionBad b.place)
+pub second_bad : (os : List Operand) (a b : Operand) → os ≡ a ∷ (b ∷ []) → is_version a.text ≡ true → is_version b.text ≡ false → (files : Files) → report_unless files (version_refusal os) (version_order_report os) ≡ just_refusal files (VersionBad b.place)
 second_bad os a b is e f files = rw is (rw e (rw f refl))
 
-pub both_good : (os : List Operand) (a b : Operand) → os ≡ a ∷ (b ∷ []) → is_version a.text ≡ true → is_version b.text ≡ true → (files : Files) → report_unless files (version_refusal os) (order_report os) ≡ just_report files (order_line (version_cmp a.text b.text))
+pub both_good : (os : List Operand) (a b : Operand) → os ≡ a ∷ (b ∷ []) → is_version a.text ≡ true → is_version b.text ≡ true → (files : Files) → report_unless files (version_refusal os) (version_order_report os) ≡ just_report files (order_line (version_cmp a.text b.text))
 both_good os a b is e f files = rw is (rw e (rw f refl))
 
 pub cmp_same : (v w a b : List ℕ) → v ≡ a → w ≡ b → version_cmp v w ≡ version_cmp a b

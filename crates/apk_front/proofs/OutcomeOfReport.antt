@@ -2,7 +2,7 @@
 use Rattle.std.proofs.Common.{◌≡◌, ◌⊎◌, inl, inr, false, [], ◌∷◌, None, Result, Ok, Err, refl, sym, ap, subst, ◌∙◌}
 use Rattle.std.specs.Prelude.{IfOk, IsErrOf, OnOk}
 use Rattle.base_core.specs.Calls.{IfObservable}
-use Rattle.base_core.specs.Faults.{Counts, HasCause, IsNoFault}
+use Rattle.base_core.specs.Faults.{Counts, IsFaultCountedWithCause, CountsNoNewFault}
 use Rattle.base_core.specs.Files.{Files, no_names}
 use Rattle.base_core.specs.Read.{OnlyReads}
 use Rattle.base_core.specs.Tree.{TreeState, files_of}
@@ -21,11 +21,11 @@ use Rattle.make_core.specs.package_files.Runs.{IsExplainedBySomeReads}
 use Rattle.report_core.specs.declared.refusal.Refusal.{Refusal}
 use Rattle.outcome.proofs.Applets.{report_is, told_commits, told_files}
 use Rattle.outcome.specs.Commands.{IsPossibleOutcomeAfterRecovery, reads_in}
-use Rattle.outcome.specs.Effect.{AsksRoot, Effect, effect_of, output_for_effect}
-use Rattle.outcome.specs.Given.{IsChosenFor, IsClashBy, IsGiven, IsListingFor, MayBeGiven, MayBeListedFor, IsClashForEffect, nothing_given}
+use Rattle.outcome.specs.Effect.{AsksRoot, Effect, effect_of, output_name_for_effect}
+use Rattle.outcome.specs.Given.{IsChosenFor, IsFirstClashForEffect, IsListingChoiceAndClashFor, IsListingFor, MayBeListingChoiceAndClashFor, MayBeListedFor, MayBeFirstClashForEffect, no_listing_choice_or_clash}
 use Rattle.outcome.specs.Outcome.{Outcome}
 use Rattle.outcome.specs.OutcomeOfReport.{outcome_of_report}
-use Rattle.apk_front.specs.Runs.{IfNothingStaged, IsRun}
+use Rattle.apk_front.specs.Runs.{IfNothingStaged, IsRunAfterRecovery}
 use Rattle.apk_front.specs.Told.{IsVerdictOnReport}
 use Rattle.apk_front.specs.Verdicts.{Reports, ReportsOneOfOutcomes}
 use Rattle.apk_front.specs.declared.answer.Verdict.{Verdict}
@@ -47,22 +47,22 @@ tells_listed : (applet : Applet) (command : CommandLine) (files : Files) → eff
 tells_listed Mkpkg command files tells = absurd (cc (tells))
 tells_listed other command files tells = refl
 
-are_given : (command : CommandLine) (read : Reads) (files : Files) → effect_of command.applet ≡ AsksRoot → IsGiven command read files nothing_given
+are_given : (command : CommandLine) (read : Reads) (files : Files) → effect_of command.applet ≡ AsksRoot → IsListingChoiceAndClashFor command read files no_listing_choice_or_clash
 are_given command read files tells = record {
   names = tells_listed command.applet command files tells;
   chosen = subst (λ (e : Effect). IsChosenFor e command read None) (sym tells) refl;
-  clash = subst (λ (e : Effect). IsClashBy e command read files None None) (sym tells) refl;
+  clash = subst (λ (e : Effect). IsFirstClashForEffect e command read files None None) (sym tells) refl;
 }
 
 tells_some : (applet : Applet) (command : CommandLine) → effect_of applet ≡ AsksRoot → MayBeListedFor applet command []
 tells_some Mkpkg command tells = absurd (cc (tells))
 tells_some other command tells = refl
 
-may_be_given : (command : CommandLine) (read : Reads) (files : Files) → effect_of command.applet ≡ AsksRoot → MayBeGiven command read files nothing_given
+may_be_given : (command : CommandLine) (read : Reads) (files : Files) → effect_of command.applet ≡ AsksRoot → MayBeListingChoiceAndClashFor command read files no_listing_choice_or_clash
 may_be_given command read files tells = record {
   names = tells_some command.applet command tells;
   chosen = subst (λ (e : Effect). IsChosenFor e command read None) (sym tells) refl;
-  clash = subst (λ (e : Effect). IsClashForEffect e command read files None None) (sym tells) refl;
+  clash = subst (λ (e : Effect). MayBeFirstClashForEffect e command read files None None) (sym tells) refl;
 }
 
 -- ---- what was answered as wanted is reported so
@@ -84,7 +84,7 @@ module _ (command : CommandLine) (tells : effect_of command.applet ≡ AsksRoot)
   report_found [] answer (Ok verdict) told by = tt
   report_found (v ∷ rest) answer (Ok verdict) told by = λ nothing. (
     outcome_of_report (files_of v) (report_for_command command (reads_in (files_of v))),
-    (nothing_given, are_given command (reads_in (files_of v)) (files_of v) tells, report_is command.applet command nothing_given (reads_in (files_of v)) (files_of v) tells),
+    (no_listing_choice_or_clash, are_given command (reads_in (files_of v)) (files_of v) tells, report_is command.applet command no_listing_choice_or_clash (reads_in (files_of v)) (files_of v) tells),
     reports_wanted answer verdict (files_of v) (report_for_command command (reads_in (files_of v)))
         (subst (λ (read : Reads). AgreesUnlessDisk (λ done. done) answer (report_for_command command read)) (same_reads v rest (λ read. AgreesUnlessDisk (λ done. done) answer (report_for_command command read)) by) by.is) told,
   )
@@ -93,7 +93,7 @@ module _ (command : CommandLine) (tells : effect_of command.applet ≡ AsksRoot)
   report_read old answer (Err e) told by = tt
   report_read old answer (Ok verdict) told by = (
     outcome_of_report no_names (report_for_command command by.read),
-    (nothing_given, by.read, no_names, may_be_given command by.read no_names tells, inl (report_is command.applet command nothing_given by.read no_names tells)),
+    (no_listing_choice_or_clash, by.read, no_names, may_be_given command by.read no_names tells, inl (report_is command.applet command no_listing_choice_or_clash by.read no_names tells)),
     reports_wanted answer verdict no_names (report_for_command command by.read) by.is told,
   )
 
@@ -105,13 +105,13 @@ module _ (command : CommandLine) (tells : effect_of command.applet ≡ AsksRoot)
       subst (Leaves files) (report_is command.applet command given (reads_in files) files tells ∙ sym is)
       (told_files files (report_for_command command (reads_in files)), told_commits files (report_for_command command (reads_in files)))
 
-  pub report_run : (old now : History) (judged : Judged) → now ≡ old → IfNothingStaged old (λ v. IsRun (Ones command v) (effect_of command.applet) (output_for_effect (effect_of command.applet) command) judged v old now)
+  pub report_run : (old now : History) (judged : Judged) → now ≡ old → IfNothingStaged old (λ v. IsRunAfterRecovery (Ones command v) (effect_of command.applet) (output_name_for_effect (effect_of command.applet) command) judged v old now)
   report_run [] now judged same = tt
   report_run (v ∷ rest) now judged same = λ nothing.
-      run_idle (Ones command v) (effect_of command.applet) (output_for_effect (effect_of command.applet) command) judged v rest now same
+      run_idle (Ones command v) (effect_of command.applet) (output_name_for_effect (effect_of command.applet) command) judged v rest now same
       (λ o one. ok_always (Leaves (files_of v) o) judged (leaves v o one))
 
-  pub report_proper : (old : History) (P : Type 0) → IfObservable old (λ v. P) → IfNothingStaged old (λ v. RoomFor (Ones command v) (effect_of command.applet) (output_for_effect (effect_of command.applet) command) (files_of v) → P)
+  pub report_proper : (old : History) (P : Type 0) → IfObservable old (λ v. P) → IfNothingStaged old (λ v. RoomFor (Ones command v) (effect_of command.applet) (output_name_for_effect (effect_of command.applet) command) (files_of v) → P)
   report_proper [] P p = tt
   report_proper (v ∷ rest) P p = λ nothing room. p
 
@@ -124,29 +124,29 @@ told_error (Err (IsRefused refusal)) e told = absurd told
 told_error (Err Disk) e told = inl (cc (told), refl)
 told_error (Err Memory) e told = inr (cc (told), refl)
 
-pub report_disk : (answer : Answered) (judged : Judged) (old now : History) (a b : Counts) → IsVerdictOnReport answer judged → OnlyReads Disk old now a b answer → IsErrOf judged Trees.Disk → HasCause a b
+pub report_disk : (answer : Answered) (judged : Judged) (old now : History) (a b : Counts) → IsVerdictOnReport answer judged → OnlyReads Disk old now a b answer → IsErrOf judged Trees.Disk → IsFaultCountedWithCause a b
 report_disk answer (Ok verdict) old now a b told tree none = absurd (cc (none))
 report_disk answer (Err e) old now a b told tree none =
     let e_is : e ≡ Trees.Disk = cc in
-    elim (told_error answer e told) as (λ _. HasCause a b) [ inl disk ↦ tree.disk disk.1 | inr memory ↦ absurd (let same : Trees.Memory ≡ Trees.Disk = sym memory.0 ∙ e_is in cc) ]
+    elim (told_error answer e told) as (λ _. IsFaultCountedWithCause a b) [ inl disk ↦ tree.disk disk.1 | inr memory ↦ absurd (let same : Trees.Memory ≡ Trees.Disk = sym memory.0 ∙ e_is in cc) ]
 
-pub report_kept : (answer : Answered) (judged : Judged) (old now : History) (a b : Counts) → IsVerdictOnReport answer judged → OnlyReads Disk old now a b answer → OnOk judged (IsNoFault a b)
+pub report_kept : (answer : Answered) (judged : Judged) (old now : History) (a b : Counts) → IsVerdictOnReport answer judged → OnlyReads Disk old now a b answer → OnOk judged (CountsNoNewFault a b)
 report_kept answer (Err e) old now a b told tree = tt
 report_kept (Ok done) (Ok verdict) old now a b told tree = tree.kept
 report_kept (Err (IsRefused refusal)) (Ok verdict) old now a b told tree = tree.others (λ is. cc (is))
 report_kept (Err Disk) (Ok verdict) old now a b told tree = absurd (cc (told))
 report_kept (Err Memory) (Ok verdict) old now a b told tree = absurd (cc (told))
 
-pub report_memory : (answer : Answered) (judged : Judged) (old now : History) (a b : Counts) → IsVerdictOnReport answer judged → OnlyReads Disk old now a b answer → IsErrOf judged Trees.Memory → IsNoFault a b
+pub report_memory : (answer : Answered) (judged : Judged) (old now : History) (a b : Counts) → IsVerdictOnReport answer judged → OnlyReads Disk old now a b answer → IsErrOf judged Trees.Memory → CountsNoNewFault a b
 report_memory answer (Ok verdict) old now a b told tree none = absurd (cc (none))
 report_memory answer (Err e) old now a b told tree none =
     let e_is : e ≡ Trees.Memory = cc in
-    elim (told_error answer e told) as (λ _. IsNoFault a b) [
+    elim (told_error answer e told) as (λ _. CountsNoNewFault a b) [
       | inl disk ↦ absurd (let same : Trees.Disk ≡ Trees.Memory = sym disk.0 ∙ e_is in cc)
       | inr memory ↦ not_disk answer memory.1 tree
     ]
   where
-    not_disk : (answer : Answered) → answer ≡ Err Memory → OnlyReads Disk old now a b answer → IsNoFault a b
+    not_disk : (answer : Answered) → answer ≡ Err Memory → OnlyReads Disk old now a b answer → CountsNoNewFault a b
     not_disk answer is tree = (subst (λ (r : Answered). OnlyReads Disk old now a b r) is tree).others (λ same. cc (same))
 
 -- ---- the applets

@@ -14,7 +14,7 @@ use Rattle.make_core.specs.make_package.Answers.{AreNamesBelowFirstOption, IsMad
 use Rattle.make_core.specs.make_package.Making.{made_package, or_info_bad, package_of_parts}
 use Rattle.make_core.specs.package_files.Sources.{and_then, folders_below, values_of_letter, scripts_from}
 use Rattle.outcome.specs.Commands.{reads_in}
-use Rattle.outcome.specs.Make.{AreNamesBelowOption, files_below}
+use Rattle.outcome.specs.Make.{AreNamesBelowOptionFolder, files_below}
 use Rattle.apk_front.specs.Containers.{IsPackageMade}
 
 -- the names below a folder, as a tree lists them, are those of its files
@@ -36,12 +36,12 @@ package_here law command v made m = by_values (values_of_letter FILES command.va
     by_values : (values : List OptionValue) → values_of_letter FILES command.values ≡ values → AreNamesBelowFirstOption values v m.names → IsPackageMade command (files_of v) made
     by_values [] is listed = record {
       names = [];
-      listing = subst (λ (vs : List OptionValue). AreNamesBelowOption vs (files_of v) []) (sym is) refl;
+      listing = subst (λ (vs : List OptionValue). AreNamesBelowOptionFolder vs (files_of v) []) (sym is) refl;
       is = no_folder command (reads_in (files_of v)) [] m.names is ∙ m.is;
     }
     by_values (dir ∷ dirs) is listed = record {
       names = m.names;
-      listing = subst (λ (vs : List OptionValue). AreNamesBelowOption vs (files_of v) m.names) (sym is) (law (without_dot_slash dir.text) v m.names listed);
+      listing = subst (λ (vs : List OptionValue). AreNamesBelowOptionFolder vs (files_of v) m.names) (sym is) (law (without_dot_slash dir.text) v m.names listed);
       is = m.is;
     }
 

@@ -14,7 +14,7 @@ use Rattle.command_core.specs.declared.operands.Operand.{Operand}
 use Rattle.make_core.specs.make_info.Reads.{Reads}
 use Rattle.outcome.specs.Commands.{effect_outcome}
 use Rattle.outcome.specs.Effect.{effect_of}
-use Rattle.outcome.specs.Given.{nothing_given}
+use Rattle.outcome.specs.Given.{no_listing_choice_or_clash}
 use Rattle.outcome.specs.Outcome.{Outcome}
 use Rattle.apk_front.specs.RunContracts.{IsReadingRun, IsRunByArguments}
 use Rattle.apk_front.specs.Verdicts.{read_only_outcome}
@@ -103,9 +103,9 @@ arguments_memory IsOne tree judged is = subst (λ (j : Judged). IsRunByArguments
 
 -- by the applet as it is read of the command
 pub looked : (command : CommandLine) (applet : Applet) (old now : History) (before after : Counts) (judged : Judged) → command.applet ≡ applet
-    → IsReadingRun (λ read files. effect_outcome (effect_of applet) applet command nothing_given read files) old now before after judged → IsReadingRun (read_only_outcome command) old now before after judged
+    → IsReadingRun (λ read files. effect_outcome (effect_of applet) applet command no_listing_choice_or_clash read files) old now before after judged → IsReadingRun (read_only_outcome command) old now before after judged
 looked command applet old now before after judged is run =
-    subst (λ (a : Applet). IsReadingRun (λ read files. effect_outcome (effect_of a) a command nothing_given read files) old now before after judged) (sym is) run
+    subst (λ (a : Applet). IsReadingRun (λ read files. effect_outcome (effect_of a) a command no_listing_choice_or_clash read files) old now before after judged) (sym is) run
 
 -- over the same operands
 pub over_operands : (outcome : List Operand → Reads → Files → Outcome) (given asked : List Operand) (old now : History) (before after : Counts) (judged : Judged) → given ≡ asked → IsReadingRun (outcome given) old now before after judged

@@ -13,18 +13,18 @@ use Rattle.base_core.specs.Tree.{File, TreeState, bytes_of_file_number, files_un
 use Rattle.base_core.specs.Undone.{IsDurable, IsCrashMap}
 use Rattle.base_core.specs.declared.tree.TreeFault.{TreeFault}
 use Rattle.adb_dump.specs.adb_schema.Reserved.{is_reserved}
-use Rattle.journal_core.specs.Kept.{IsSyncedAt, KeepsCrashMapsExcept, ShownNamesAreDurable}
+use Rattle.journal_core.specs.Kept.{IsSyncedAt, KeepsCrashMapsExcept, NamesOutsideJournalAreDurable}
 use Rattle.journal_core.specs.Quiet.{StateIsUnchanged}
 use Rattle.journal_core.specs.Recovery.{EachCrashLeaves, StateDependsOn, intent_name, is_staged, state_of}
-use Rattle.journal_core.specs.Replacing.{CanAddOutputNames, IgnoresScratch, IsMomentOfReplacing, replaced_files, scratch_of}
+use Rattle.journal_core.specs.Replacing.{CanAddOutputNames, IgnoresScratch, IsMomentOfReplacing, replaced_files, scratch_name_of}
 use Rattle.journal_core.specs.Reading.{ReadsOldOrReplaced}
 use Rattle.outcome.specs.Effect.{Effect, Makes}
 use Rattle.outcome.specs.Make.{make_outcome}
 use Rattle.outcome.specs.Outcome.{Outcome, commit_report, just_refusal, just_report}
 use Rattle.report_core.specs.declared.refusal.Refusal.TheVariants.{Reserved}
-use Rattle.apk_front.specs.Moments.{AreOldOrLeadToOutcome, CanAddOutputNamesIfAny, IgnoresScratchOf, IsDurableState, IsStateDuringRun, MustOutcomeBeDurableWithoutRecovery, NamesAreDurableWithoutIntentExcept, ignored_except_output, is_draft_name, output_names}
+use Rattle.apk_front.specs.Moments.{AreStatesOldOrLeadToOutcome, CanAddOutputNamesIfAny, IgnoresScratchOf, IsDurableState, IsStateDuringRun, MustOutcomeBeDurableWithoutRecovery, NamesAreDurableWithoutIntentExcept, ignored_except_output, is_temporary_name, output_names}
 use Rattle.apk_front.specs.RunContracts.{IsMakingRun}
-use Rattle.apk_front.specs.Runs.{AreReadDuringWork, IsRun}
+use Rattle.apk_front.specs.Runs.{AreFilesReadWithoutRecovery, IsRunAfterRecovery}
 use Rattle.apk_front.specs.Verdicts.{Reports, as_outcome}
 use Rattle.apk_front.specs.declared.answer.Verdict.{Verdict}
 
@@ -63,7 +63,7 @@ pub settled_before : (ignored : List ℕ → Bool) (v : TreeState) (o : Outcome)
 settled_before ignored v o none (inl commits) = absurd (false≢true (sym none ∙ commits))
 settled_before ignored v o none (inr before) = before
 
-pub run_idle : (IsOne : Outcome → Type 0) (effect : Effect) (output : Option (List ℕ)) (judged : Judged) (v : TreeState) (rest now : History) → now ≡ v ∷ rest → IsEventWithoutCommit IsOne judged v → IsRun IsOne effect output judged v (v ∷ rest) now
+pub run_idle : (IsOne : Outcome → Type 0) (effect : Effect) (output : Option (List ℕ)) (judged : Judged) (v : TreeState) (rest now : History) → now ≡ v ∷ rest → IsEventWithoutCommit IsOne judged v → IsRunAfterRecovery IsOne effect output judged v (v ∷ rest) now
 run_idle IsOne effect output judged v rest now same idle = record {
   moments = λ ignored is_durable hides. inl (record { added = []; is = same; each = All-nil (StateIsUnchanged ignored v) });
   is_durable = λ ignored is_durable hides. subst (λ (h : History). HoldsNow h (IsDurable (StateDependsOn ignored))) (sym same) is_durable;
@@ -76,16 +76,16 @@ run_idle IsOne effect output judged v rest now same idle = record {
   idle = λ o one no. same;
 }
 
-pub idle_at : (IsOne : TreeState → Outcome → Type 0) (effect : Effect) (output : Option (List ℕ)) (judged : Judged) (old now : History) → now ≡ old → ((v : TreeState) → IsEventWithoutCommit (IsOne v) judged v) → IfObservable old (λ v. IsRun (IsOne v) effect output judged v old now)
+pub idle_at : (IsOne : TreeState → Outcome → Type 0) (effect : Effect) (output : Option (List ℕ)) (judged : Judged) (old now : History) → now ≡ old → ((v : TreeState) → IsEventWithoutCommit (IsOne v) judged v) → IfObservable old (λ v. IsRunAfterRecovery (IsOne v) effect output judged v old now)
 idle_at IsOne effect output judged [] now same idle = tt
 idle_at IsOne effect output judged (v ∷ rest) now same idle = run_idle (IsOne v) effect output judged v rest now same (idle v)
 
 -- it failed
-pub failed_at : (IsOne : TreeState → Outcome → Type 0) (effect : Effect) (output : Option (List ℕ)) (judged : Judged) (e : TreeFault) (old now : History) → judged ≡ Err e → now ≡ old → IfObservable old (λ v. IsRun (IsOne v) effect output judged v old now)
+pub failed_at : (IsOne : TreeState → Outcome → Type 0) (effect : Effect) (output : Option (List ℕ)) (judged : Judged) (e : TreeFault) (old now : History) → judged ≡ Err e → now ≡ old → IfObservable old (λ v. IsRunAfterRecovery (IsOne v) effect output judged v old now)
 failed_at IsOne effect output judged e old now is same = idle_at IsOne effect output judged old now same (λ v o one. err_ok _ judged e is)
 
 -- each outcome leaves the files
-pub left_at : (IsOne : TreeState → Outcome → Type 0) (effect : Effect) (output : Option (List ℕ)) (judged : Judged) (old now : History) → now ≡ old → ((v : TreeState) (o : Outcome) → IsOne v o → Leaves (files_of v) o) → IfObservable old (λ v. IsRun (IsOne v) effect output judged v old now)
+pub left_at : (IsOne : TreeState → Outcome → Type 0) (effect : Effect) (output : Option (List ℕ)) (judged : Judged) (old now : History) → now ≡ old → ((v : TreeState) (o : Outcome) → IsOne v o → Leaves (files_of v) o) → IfObservable old (λ v. IsRunAfterRecovery (IsOne v) effect output judged v old now)
 left_at IsOne effect output judged old now same all = idle_at IsOne effect output judged old now same (λ v o one. ok_always (Leaves (files_of v) o) judged (all v o one))
 
 -- a refusal writes nothing
@@ -122,7 +122,7 @@ free_is output report file name files is free =
     ∙ ap (λ b. if b then just_refusal files (Reserved name) else commit_report (replaced_files name file files) report) free
 
 pub reserved_run : (output : Option (List ℕ)) (report file name : List ℕ) (judged : Judged) (old now : History) → output ≡ Some name → is_reserved name ≡ true → now ≡ old
-    → IfObservable old (λ v. IsRun (IsMade output report file v) Makes output judged v old now)
+    → IfObservable old (λ v. IsRunAfterRecovery (IsMade output report file v) Makes output judged v old now)
 reserved_run output report file name judged old now is reserved same =
     left_at (IsMade output report file) Makes output judged old now same
     (λ v o one. subst (Leaves (files_of v)) (sym (one ∙ reserved_is output report file name (files_of v) is reserved)) (refl, refl))
@@ -148,28 +148,28 @@ ImageHasState = (ignored : List ℕ → Bool) (v : TreeState) → IsDurable (Sta
 only_map : (w : TreeState) (map : NameMap) → w.older ≡ [] → IsCrashMap w map → map ≡ w.names
 only_map w map one left = left_only w one map left
 
-scratch_gone : (name file : List ℕ) (files : Files) (q : List ℕ) → bytes_eq q name ≡ false → bytes_eq q (scratch_of name) ≡ true → replaced_files name file files q ≡ None
-scratch_gone name file files q other scratch = ap (λ b. if b then Some file else drop_name files (scratch_of name) q) other ∙ ap (λ b. if b then None else files q) scratch
+scratch_gone : (name file : List ℕ) (files : Files) (q : List ℕ) → bytes_eq q name ≡ false → bytes_eq q (scratch_name_of name) ≡ true → replaced_files name file files q ≡ None
+scratch_gone name file files q other scratch = ap (λ b. if b then Some file else drop_name files (scratch_name_of name) q) other ∙ ap (λ b. if b then None else files q) scratch
 
 none_read : (files : ℕ → File) (o : Option ℕ) (n : ℕ) → o ≡ Some n → bytes_of_file_number files o ≡ None → ⊥
 none_read files None n is none = cc
 none_read files (Some k) n is none = cc
 
 module _ (ignored : List ℕ → Bool) (name file : List ℕ) (files : Files) (w : TreeState) (is_durable : IsDurable (StateDependsOn ignored) w) (synced : IsSyncedAt name w) (reads : files_of w ≡ replaced_files name file files) where
-  rests_too : (q : List ℕ) (F : Files) → bytes_eq q name ≡ false → bytes_eq q (scratch_of name) ≡ false → StateDependsOn (ignored_except_output (Some name) ignored) F q → StateDependsOn ignored F q
+  rests_too : (q : List ℕ) (F : Files) → bytes_eq q name ≡ false → bytes_eq q (scratch_name_of name) ≡ false → StateDependsOn (ignored_except_output (Some name) ignored) F q → StateDependsOn ignored F q
   rests_too q F other another (inl intent) = inl intent
   rests_too q F other another (inr (inl shown)) =
-      inr (inl (sym (ap (λ b. is_staged q || (if b || bytes_eq q (scratch_of name) then false else ignored q)) other ∙ ap (λ b. is_staged q || (if b then false else ignored q)) another) ∙ shown))
+      inr (inl (sym (ap (λ b. is_staged q || (if b || bytes_eq q (scratch_name_of name) then false else ignored q)) other ∙ ap (λ b. is_staged q || (if b then false else ignored q)) another) ∙ shown))
   rests_too q F other another (inr (inr place)) = inr (inr place)
 
-  synced_map : (map : NameMap) → IsCrashMap w map → (q : List ℕ) (n : ℕ) (a b : Bool) → bytes_eq q name ≡ a → bytes_eq q (scratch_of name) ≡ b → StateDependsOn (ignored_except_output (Some name) ignored) (files_under_map w map) q → map q ≡ Some n → (w.files n).synced ≡ true
+  synced_map : (map : NameMap) → IsCrashMap w map → (q : List ℕ) (n : ℕ) (a b : Bool) → bytes_eq q name ≡ a → bytes_eq q (scratch_name_of name) ≡ b → StateDependsOn (ignored_except_output (Some name) ignored) (files_under_map w map) q → map q ≡ Some n → (w.files n).synced ≡ true
   synced_map map among q n true b is_name is_scratch rests at = synced.file n (ap w.names (sym ((bytes_eq-Decides q name).0 is_name)) ∙ sym (ap (λ (m : NameMap). m q) (only_map w map synced.one_map among)) ∙ at)
   synced_map map among q n false true is_name is_scratch rests at =
       absurd (none_read w.files (w.names q) n (sym (ap (λ (m : NameMap). m q) (only_map w map synced.one_map among)) ∙ at) (ap (λ (f : Files). f q) reads ∙ scratch_gone name file files q is_name is_scratch))
   synced_map map among q n false false is_name is_scratch rests at = is_durable.each map among q n (rests_too q (files_under_map w map) is_name is_scratch rests) at
 
   counts_again : IsDurable (StateDependsOn (ignored_except_output (Some name) ignored)) w
-  counts_again = record { each = λ map among q n rests at. synced_map map among q n (bytes_eq q name) (bytes_eq q (scratch_of name)) refl refl rests at }
+  counts_again = record { each = λ map among q n rests at. synced_map map among q n (bytes_eq q name) (bytes_eq q (scratch_name_of name)) refl refl rests at }
 
   rest_at : ImageHasState → IsDurableState (ignored_except_output (Some name) ignored) (replaced_files name file files) w
   rest_at law = record {
@@ -189,14 +189,14 @@ pub since_weaker : (P Q : TreeState → Type 0) (old now : History) → ((w : Tr
 since_weaker P Q old now f since = record { added = since.added; is = since.is; each = All-weaker P Q f since.added since.each }
 
 -- a name that is no draft name is not the scratch name
-off_scratch : (name q : List ℕ) → is_draft_name Makes (Some name) q ≡ false → q ≢ scratch_of name
-off_scratch name q off is = false≢true (sym off ∙ (bytes_eq-Decides q (scratch_of name)).1 is)
+off_scratch : (name q : List ℕ) → is_temporary_name Makes (Some name) q ≡ false → q ≢ scratch_name_of name
+off_scratch name q off is = false≢true (sym off ∙ (bytes_eq-Decides q (scratch_name_of name)).1 is)
 
 drafting : (name file : List ℕ) (files : Files) (w : TreeState) → ReadsOldOrReplaced name file files w → IsStateDuringRun Makes (Some name) (replaced_files name file files) files w
 drafting name file files w (inl others) = inl (λ q off. others q (off_scratch name q off))
 drafting name file files w (inr is) = inr (inr is)
 
-names_kept : (output : Option (List ℕ)) (u w : TreeState) → ShownNamesAreDurable u → KeepsCrashMapsExcept (output_names output) u w → NamesAreDurableWithoutIntentExcept output w
+names_kept : (output : Option (List ℕ)) (u w : TreeState) → NamesOutsideJournalAreDurable u → KeepsCrashMapsExcept (output_names output) u w → NamesAreDurableWithoutIntentExcept output w
 names_kept output u w last keeps none map among q off no_intent unstaged =
     let (was, is_was, same) = keeps map among in
     let (own, is_own, own_same) = keeps w.names (read_may_be_left w) in
@@ -210,16 +210,16 @@ pub record IsReplaced (name file : List ℕ) (judged : Judged) (v : TreeState) (
   pub reads : Since (ReadsOldOrReplaced name file (files_of v)) old now
   pub leaves : OnOk judged (HoldsNow now (λ w. files_of w ≡ replaced_files name file (files_of v)))
   pub synced : OnOk judged (HoldsNow now (IsSyncedAt name))
-  pub others : Since (KeepsCrashMapsExcept (name ∷ scratch_of name ∷ []) v) old now
+  pub others : Since (KeepsCrashMapsExcept (name ∷ scratch_name_of name ∷ []) v) old now
 
 free_run : ImageHasState → (output : Option (List ℕ)) (report file name : List ℕ) (judged : Judged) (v : TreeState) (old now : History) → output ≡ Some name → is_reserved name ≡ false
-    → IsReplaced name file judged v old now → IsRun (IsMade output report file v) Makes output judged v old now
+    → IsReplaced name file judged v old now → IsRunAfterRecovery (IsMade output report file v) Makes output judged v old now
 free_run law output report file name judged v old now is free done =
     let same = free_is output report file name (files_of v) is free in
     let hidden : (ignored : List ℕ → Bool) → IgnoresScratchOf output ignored → IgnoresScratch ignored name = λ ignored hides. subst (λ (out : Option (List ℕ)). IgnoresScratchOf out ignored) is hides in
     let left : (o : Outcome) → IsMade output report file v o → replaced_files name file (files_of v) ≡ o.files = λ o one. sym (ap (λ (x : Outcome). x.files) (one ∙ same)) in
     record {
-      moments = λ ignored is_durable hides. subst (λ (out : Option (List ℕ)). AreOldOrLeadToOutcome (IsMade output report file v) (is_some out) ignored v old now) (sym is)
+      moments = λ ignored is_durable hides. subst (λ (out : Option (List ℕ)). AreStatesOldOrLeadToOutcome (IsMade output report file v) (is_some out) ignored v old now) (sym is)
           (inr (commit_report (replaced_files name file (files_of v)) report, sym same, refl, done.moments ignored is_durable (hidden ignored hides)));
       is_durable = λ ignored is_durable hides. done.is_durable ignored is_durable (hidden ignored hides);
       settled = λ ignored o is_durable hides one lasts. subst (λ (f : Files). OnOk judged (HoldsNow now (EachCrashLeaves ignored f))) (left o one) (done.settled ignored is_durable (hidden ignored hides));
@@ -227,10 +227,10 @@ free_run law output report file name judged v old now is free done =
           subst (λ (f : Files). OnOk judged (HoldsNow now (IsDurableState (ignored_except_output output ignored) f))) (left o one)
           (subst (λ (out : Option (List ℕ)). OnOk judged (HoldsNow now (IsDurableState (ignored_except_output out ignored) (replaced_files name file (files_of v))))) (sym is)
           (rest_now law ignored name file (files_of v) judged now (done.is_durable ignored is_durable (hidden ignored hides)) done.synced done.leaves));
-      reads = subst (λ (out : Option (List ℕ)). AreReadDuringWork (IsMade output report file v) Makes out v old now) (sym is)
+      reads = subst (λ (out : Option (List ℕ)). AreFilesReadWithoutRecovery (IsMade output report file v) Makes out v old now) (sym is)
           (inr (commit_report (replaced_files name file (files_of v)) report, sym same, refl, since_weaker (ReadsOldOrReplaced name file (files_of v)) (IsStateDuringRun Makes (Some name) (replaced_files name file (files_of v)) (files_of v)) old now (drafting name file (files_of v)) done.reads));
-      last = subst (λ (out : Option (List ℕ)). ShownNamesAreDurable v → Since (NamesAreDurableWithoutIntentExcept out) old now) (sym is)
-          (λ last. since_weaker (KeepsCrashMapsExcept (name ∷ scratch_of name ∷ []) v) (NamesAreDurableWithoutIntentExcept (Some name)) old now (λ w. names_kept (Some name) v w last) done.others);
+      last = subst (λ (out : Option (List ℕ)). NamesOutsideJournalAreDurable v → Since (NamesAreDurableWithoutIntentExcept out) old now) (sym is)
+          (λ last. since_weaker (KeepsCrashMapsExcept (name ∷ scratch_name_of name ∷ []) v) (NamesAreDurableWithoutIntentExcept (Some name)) old now (λ w. names_kept (Some name) v w last) done.others);
       leaves = λ o one. subst (λ (f : Files). OnOk judged (HoldsNow now (λ w. files_of w ≡ f))) (left o one) done.leaves;
       idle = λ o one no. absurd (false≢true (sym no ∙ ap (λ (x : Outcome). x.commits) (one ∙ same)));
     }
@@ -245,20 +245,20 @@ abbrev StaysDurable : List ℕ → History → History → Type 0
 StaysDurable name old now = IfObservable old (λ v. (ignored : List ℕ → Bool) → IsDurable (StateDependsOn ignored) v → IgnoresScratch ignored name → HoldsNow now (IsDurable (StateDependsOn ignored)))
 
 abbrev StaysElsewhere : List ℕ → History → History → Type 0
-StaysElsewhere name old now = IfObservable old (λ v. Since (KeepsCrashMapsExcept (name ∷ scratch_of name ∷ []) v) old now)
+StaysElsewhere name old now = IfObservable old (λ v. Since (KeepsCrashMapsExcept (name ∷ scratch_name_of name ∷ []) v) old now)
 
 pub written_run : ImageHasState → (output : Option (List ℕ)) (report file name : List ℕ) (verdict : Verdict) (old now : History) → output ≡ Some name → is_reserved name ≡ false
     → ChangesHistory name file old now → StaysDurable name old now → IsReadOnTheWay name file old now
     → IfObservable old (λ v. (ignored : List ℕ → Bool) → IsDurable (StateDependsOn ignored) v → IgnoresScratch ignored name → HoldsNow now (EachCrashLeaves ignored (replaced_files name file (files_of v))))
     → IfObservable old (λ v. HoldsNow now (λ w. files_of w ≡ replaced_files name file (files_of v))) → IfObservable old (λ v. HoldsNow now (IsSyncedAt name)) → StaysElsewhere name old now
-    → IfObservable old (λ v. IsRun (IsMade output report file v) Makes output (Ok verdict) v old now)
+    → IfObservable old (λ v. IsRunAfterRecovery (IsMade output report file v) Makes output (Ok verdict) v old now)
 written_run law output report file name verdict [] now is free moves is_durable reads settled leaves synced others = tt
 written_run law output report file name verdict (v ∷ rest) now is free moves is_durable reads settled leaves synced others =
     free_run law output report file name (Ok verdict) v (v ∷ rest) now is free (record { moments = moves; is_durable = is_durable; settled = settled; reads = reads; leaves = leaves; synced = synced; others = others })
 
 pub cut_run : ImageHasState → (output : Option (List ℕ)) (report file name : List ℕ) (judged : Judged) (e : TreeFault) (old now : History) → judged ≡ Err e → output ≡ Some name → is_reserved name ≡ false
     → ChangesHistory name file old now → StaysDurable name old now → IsReadOnTheWay name file old now → StaysElsewhere name old now
-    → IfObservable old (λ v. IsRun (IsMade output report file v) Makes output judged v old now)
+    → IfObservable old (λ v. IsRunAfterRecovery (IsMade output report file v) Makes output judged v old now)
 cut_run law output report file name judged e [] now failed is free moves is_durable reads others = tt
 cut_run law output report file name judged e (v ∷ rest) now failed is free moves is_durable reads others =
     free_run law output report file name judged v (v ∷ rest) now is free
@@ -301,15 +301,15 @@ report_no_refusal verdict report P same_outcome some = absurd (none_is_some verd
 
 -- ---- outcomes that are among others
 
-safe_among : (A B : Outcome → Type 0) (makes : Bool) (ignored : List ℕ → Bool) (v : TreeState) (old now : History) → ((o : Outcome) → A o → B o) → AreOldOrLeadToOutcome A makes ignored v old now → AreOldOrLeadToOutcome B makes ignored v old now
+safe_among : (A B : Outcome → Type 0) (makes : Bool) (ignored : List ℕ → Bool) (v : TreeState) (old now : History) → ((o : Outcome) → A o → B o) → AreStatesOldOrLeadToOutcome A makes ignored v old now → AreStatesOldOrLeadToOutcome B makes ignored v old now
 safe_among A B makes ignored v old now f (inl is_unchanged) = inl is_unchanged
 safe_among A B makes ignored v old now f (inr (o, one, commits, moments)) = inr (o, f o one, commits, moments)
 
-reads_among : (A B : Outcome → Type 0) (effect : Effect) (output : Option (List ℕ)) (v : TreeState) (old now : History) → ((o : Outcome) → A o → B o) → AreReadDuringWork A effect output v old now → AreReadDuringWork B effect output v old now
+reads_among : (A B : Outcome → Type 0) (effect : Effect) (output : Option (List ℕ)) (v : TreeState) (old now : History) → ((o : Outcome) → A o → B o) → AreFilesReadWithoutRecovery A effect output v old now → AreFilesReadWithoutRecovery B effect output v old now
 reads_among A B effect output v old now f (inl same) = inl same
 reads_among A B effect output v old now f (inr (o, one, commits, work)) = inr (o, f o one, commits, work)
 
-pub run_among : (A B : Outcome → Type 0) (effect : Effect) (output : Option (List ℕ)) (judged : Judged) (v : TreeState) (old now : History) → ((o : Outcome) → A o → B o) → ((o : Outcome) → B o → A o) → IsRun A effect output judged v old now → IsRun B effect output judged v old now
+pub run_among : (A B : Outcome → Type 0) (effect : Effect) (output : Option (List ℕ)) (judged : Judged) (v : TreeState) (old now : History) → ((o : Outcome) → A o → B o) → ((o : Outcome) → B o → A o) → IsRunAfterRecovery A effect output judged v old now → IsRunAfterRecovery B effect output judged v old now
 run_among A B effect output judged v old now into from run = record {
   moments = λ ignored is_durable hides. safe_among A B (is_some output) ignored v old now into (run.moments ignored is_durable hides);
   is_durable = run.is_durable;

@@ -8,7 +8,7 @@ use Rattle.journal_core.specs.Kept.{IsJournalName}
 use Rattle.journal_core.specs.Recovery.{intent_in_file, intent_name, is_staged, recovered_files, files_after_intent}
 use Rattle.journal_core.specs.Staged.{unstaged_files}
 use Rattle.outcome.specs.Effect.{Effect, Computes, OnlyReadsFiles, AsksRoot, Makes, Changes, does_recover}
-use Rattle.outcome.specs.Work.{work_files}
+use Rattle.outcome.specs.Work.{files_recovered_if_needed}
 use Rattle.apk_front.specs.Moments.{HasNothingToRecover, IsRecovering}
 
 -- neither an intent is there, nor anything that waits
@@ -35,7 +35,7 @@ same_files effect v w nothing (recovers, moment) =
     let now : NoneWaits (files_of w) = λ q waits. ⊎_elim (λ gone. gone) (λ was. was ∙ before q waits) (moment.waiting q waits) in
     sym (stays (files_of w) now) ∙ moment.reads ∙ stays (files_of v) before
 
-pub same_work : (effect : Effect) (v : TreeState) → HasNothingToRecover effect v → work_files effect (files_of v) ≡ files_of v
+pub same_work : (effect : Effect) (v : TreeState) → HasNothingToRecover effect v → files_recovered_if_needed effect (files_of v) ≡ files_of v
 same_work Computes v nothing = refl
 same_work OnlyReadsFiles v nothing = refl
 same_work AsksRoot v nothing = stays (files_of v) (no_staged_intent AsksRoot v refl nothing)

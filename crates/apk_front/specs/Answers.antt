@@ -3,9 +3,9 @@
 -- faults and counts".
 use Rattle.std.specs.Prelude.{◌≡◌, ◌≢◌, ◌⊎◌, ◌<◌, ℕ, ◌-◌, ◌^◌, false, Bool, ◌||◌, List, [], Option, Some, None, is_ok}
 use Rattle.base_core.specs.Calls.{HoldsNow}
-use Rattle.base_core.specs.Faults.{Counts, HasCause, IsNoFault, RoseOrIsSaturated}
+use Rattle.base_core.specs.Faults.{Counts, IsFaultCountedWithCause, CountsNoNewFault, RoseOrIsSaturated}
 use Rattle.base_core.specs.Files.{Files}
-use Rattle.base_core.specs.Sink.{SinkBeforeAndAfter, Gets, GetsPrefix, SinkFailed}
+use Rattle.base_core.specs.Sink.{SinkBeforeAndAfter, SinkGets, SinkGetsPrefix, SinkFailed}
 use Rattle.base_core.specs.Tree.{TreeState, files_of}
 use Rattle.outcome.specs.Outcome.{Outcome}
 use Rattle.outcome.specs.Words.{IsOutcome}
@@ -30,22 +30,24 @@ answer_of outcome = answer_for_refusal outcome.refusal
 
 -- a sink did not fail: its counts of faults and of calls without memory are unchanged
 abbrev pub DidNotFail : SinkBeforeAndAfter → Type 0
-DidNotFail sink = IsNoFault sink.before sink.after
+DidNotFail sink = CountsNoNewFault sink.before sink.after
 
 -- a sink gets a whole line, or a prefix of the line if the sink failed
 abbrev pub GetsLineOrPrefix : SinkBeforeAndAfter → List ℕ → Type 0
-GetsLineOrPrefix sink line = (Gets sink line × DidNotFail sink) ⊎ (GetsPrefix sink line × SinkFailed sink)
+GetsLineOrPrefix sink line =
+    (SinkGets sink line × DidNotFail sink) ⊎ (SinkGetsPrefix sink line × SinkFailed sink)
 
--- a sink failed that had at least one byte to get
-pub record FailedWithBytes (sink : SinkBeforeAndAfter) (bytes : List ℕ) : Type 0 where
+-- a sink failed, and at least one byte was to be printed on it
+pub record FailedWithBytesToPrint (sink : SinkBeforeAndAfter) (bytes : List ℕ) : Type 0 where
   pub some : bytes ≢ []
   pub failed : SinkFailed sink
 
 -- the answer and all bytes are those of an outcome, and no sink failed
-pub record IsAnsweredInFull (outcome : Outcome) (answer : Answer) (out err : SinkBeforeAndAfter) : Type 0 where
+pub record IsAnsweredInFull (outcome : Outcome) (answer : Answer)
+    (out err : SinkBeforeAndAfter) : Type 0 where
   pub same : answer ≡ answer_of outcome
-  pub out_gets : Gets out outcome.out
-  pub err_gets : Gets err outcome.err
+  pub out_gets : SinkGets out outcome.out
+  pub err_gets : SinkGets err outcome.err
   pub out_kept : DidNotFail out
   pub err_kept : DidNotFail err
 
@@ -53,35 +55,38 @@ pub record IsAnsweredInFull (outcome : Outcome) (answer : Answer) (out err : Sin
 pub record IsSingleSinkFault (outcome : Outcome) (out err : SinkBeforeAndAfter) : Type 0 where
   -- out failed, and then nothing is printed on err; or err failed, after the whole report on out
   pub which :
-      (FailedWithBytes out outcome.out × Gets err [] × DidNotFail err)
-      ⊎ (FailedWithBytes err outcome.err × Gets out outcome.out × DidNotFail out)
-  pub out_gets : GetsPrefix out outcome.out
-  pub err_gets : GetsPrefix err outcome.err
+      (FailedWithBytesToPrint out outcome.out × SinkGets err [] × DidNotFail err)
+      ⊎ (FailedWithBytesToPrint err outcome.err × SinkGets out outcome.out × DidNotFail out)
+  pub out_gets : SinkGetsPrefix out outcome.out
+  pub err_gets : SinkGetsPrefix err outcome.err
 
 -- no outcome was printed: only this line on err; out got nothing, and did not fail
 pub record PrintsOnlyErrorLine (line : List ℕ) (out err : SinkBeforeAndAfter) : Type 0 where
-  pub out_gets : Gets out []
+  pub out_gets : SinkGets out []
   pub out_kept : DidNotFail out
   pub err_gets : GetsLineOrPrefix err line
 
 -- ---- the answer
 
--- The answer of one of these outcomes, with its bytes and files; or an I/O error of the tree that has
--- its cause there; or out of memory.
-abbrev pub IsAnswerOf :
-    (Outcome → Type 0) → (Outcome → Type 0) → Type 0 → Answer → SinkBeforeAndAfter → SinkBeforeAndAfter → Type 0
-IsAnswerOf IsOne Leaves tree_failed Ok out err =
+-- The answer is that of an outcome in `IsOne`: its bytes are printed, and `Leaves` holds of it. A fault
+-- of a sink may replace the answer and cut the bytes short. Or the tree failed (`tree_failed` holds), or
+-- memory ran out: then only that error line is printed.
+abbrev pub IsAnswerOfSomeOutcome :
+    (Outcome → Type 0) → (Outcome → Type 0) → Type 0 → Answer → SinkBeforeAndAfter → SinkBeforeAndAfter
+    → Type 0
+IsAnswerOfSomeOutcome IsOne Leaves tree_failed Ok out err =
     (outcome : Outcome) × IsOne outcome × IsAnsweredInFull outcome Ok out err × Leaves outcome
-IsAnswerOf IsOne Leaves tree_failed (Refused refusal) out err =
+IsAnswerOfSomeOutcome IsOne Leaves tree_failed (Refused refusal) out err =
     (outcome : Outcome)
     × IsOne outcome
     × IsAnsweredInFull outcome (Refused refusal) out err
     × Leaves outcome
-IsAnswerOf IsOne Leaves tree_failed OutFault out err =
+IsAnswerOfSomeOutcome IsOne Leaves tree_failed OutFault out err =
     (outcome : Outcome) × IsOne outcome × IsSingleSinkFault outcome out err × Leaves outcome
-IsAnswerOf IsOne Leaves tree_failed TreeFault out err = tree_failed
+IsAnswerOfSomeOutcome IsOne Leaves tree_failed TreeFault out err = tree_failed
     × PrintsOnlyErrorLine tree_failure_line out err
-IsAnswerOf IsOne Leaves tree_failed Memory out err = PrintsOnlyErrorLine out_of_memory_line out err
+IsAnswerOfSomeOutcome IsOne Leaves tree_failed Memory out err =
+    PrintsOnlyErrorLine out_of_memory_line out err
 
 -- the files as read after a run are its outcome's
 abbrev pub LeavesFiles : List TreeState → Outcome → Type 0
@@ -97,15 +102,19 @@ LeavesAnyFiles outcome = Unit {0}
 -- and a refusal nothing failed. An I/O error of the tree has its cause there. After a fault of a sink
 -- exactly one sink failed, and the tree did not. Out of memory is answered only if the tree did not
 -- fail. After an I/O error of the tree, and out of memory, exactly its line is printed.
-abbrev pub HasCauses : Answer → Counts → Counts → SinkBeforeAndAfter → SinkBeforeAndAfter → Type 0
-HasCauses Ok before after out err = IsNoFault before after × DidNotFail out × DidNotFail err
-HasCauses (Refused refusal) before after out err =
-    IsNoFault before after × DidNotFail out × DidNotFail err
-HasCauses TreeFault before after out err = HasCause before after × PrintsOnlyErrorLine tree_failure_line out err
-HasCauses OutFault before after out err =
-    IsNoFault before after
+abbrev pub IsAnswerExplainedByCounts : Answer → Counts → Counts → SinkBeforeAndAfter → SinkBeforeAndAfter
+    → Type 0
+IsAnswerExplainedByCounts Ok before after out err =
+    CountsNoNewFault before after × DidNotFail out × DidNotFail err
+IsAnswerExplainedByCounts (Refused refusal) before after out err =
+    CountsNoNewFault before after × DidNotFail out × DidNotFail err
+IsAnswerExplainedByCounts TreeFault before after out err =
+    IsFaultCountedWithCause before after × PrintsOnlyErrorLine tree_failure_line out err
+IsAnswerExplainedByCounts OutFault before after out err =
+    CountsNoNewFault before after
     × ((SinkFailed out × DidNotFail err) ⊎ (SinkFailed err × DidNotFail out))
-HasCauses Memory before after out err = IsNoFault before after × PrintsOnlyErrorLine out_of_memory_line out err
+IsAnswerExplainedByCounts Memory before after out err =
+    CountsNoNewFault before after × PrintsOnlyErrorLine out_of_memory_line out err
 
 -- a run in which no count of faults rose: neither the tree's, nor a sink's
 pub record IsFaultless (before after : Counts) (out err : SinkBeforeAndAfter) : Type 0 where
@@ -121,35 +130,35 @@ AnswersOutcomeUnlessMemory words files answer =
     × IsOutcome (command_of words) files outcome
     × (answer ≡ answer_of outcome))
 
--- no failure of a tree or a sink is planned, and its count of misuses is below its last value, 2^64 -
--- 1, so that one more misuse would be counted
+-- no failure of a tree or a sink is planned, and its count of misuses is below 2^64 - 1, the greatest
+-- count, so that one more misuse would be counted
 pub record HasNoPlannedFailure (counts : Counts) : Type 0 where
   pub unplanned : counts.fallible ≡ false
   pub below : counts.misuses < 2 ^ 64 - 1
 
 -- The answer, all bytes and the files are the outcome's, or memory ran out: the run's, or the own
 -- memory of the tree or of a sink.
-abbrev pub IsOutcomeUnlessMemory :
+abbrev pub IsAnsweredInFullUnlessMemory :
     List (List ℕ) → Files → (Outcome → Type 0) → Answer → Counts → Counts
     → SinkBeforeAndAfter → SinkBeforeAndAfter → Type 0
-IsOutcomeUnlessMemory words files Leaves Ok before after out err =
+IsAnsweredInFullUnlessMemory words files Leaves Ok before after out err =
     (outcome : Outcome)
     × IsOutcome (command_of words) files outcome
     × IsAnsweredInFull outcome Ok out err
     × Leaves outcome
-IsOutcomeUnlessMemory words files Leaves (Refused refusal) before after out err =
+IsAnsweredInFullUnlessMemory words files Leaves (Refused refusal) before after out err =
     (outcome : Outcome)
     × IsOutcome (command_of words) files outcome
     × IsAnsweredInFull outcome (Refused refusal) out err
     × Leaves outcome
-IsOutcomeUnlessMemory words files Leaves TreeFault before after out err =
+IsAnsweredInFullUnlessMemory words files Leaves TreeFault before after out err =
     RoseOrIsSaturated before.memory_faults after.memory_faults
-IsOutcomeUnlessMemory words files Leaves OutFault before after out err =
+IsAnsweredInFullUnlessMemory words files Leaves OutFault before after out err =
     RoseOrIsSaturated out.before.memory_faults out.after.memory_faults
     ⊎ RoseOrIsSaturated err.before.memory_faults err.after.memory_faults
-IsOutcomeUnlessMemory words files Leaves Memory before after out err = Unit {0}
+IsAnsweredInFullUnlessMemory words files Leaves Memory before after out err = Unit {0}
 
--- whether the arguments name an applet after the options that precede it, or are a command without one,
--- which asks for help or for the version
-abbrev pub name_a_command : List (List ℕ) → Bool
-name_a_command words = is_ok (start_of_command_line words) || is_ok (command_of words)
+-- whether the arguments name an applet, perhaps after leading options, or ask for help or for the version
+-- without one
+abbrev pub is_command_named : List (List ℕ) → Bool
+is_command_named words = is_ok (start_of_command_line words) || is_ok (command_of words)

@@ -19,8 +19,8 @@ use Rattle.make_core.specs.make_info.declared.fault.MakeFault.TheVariants.{Disk,
 use Rattle.make_core.specs.make_package.Making.{made_package}
 use Rattle.make_core.specs.package_files.Sources.{values_of_letter}
 use Rattle.outcome.specs.Commands.{reads_in}
-use Rattle.outcome.specs.Dump.{head_or_shape_fault}
-use Rattle.outcome.specs.Make.{AreNamesBelowOption, mkndx, mkpkg}
+use Rattle.outcome.specs.Dump.{payload_head_or_shape_fault}
+use Rattle.outcome.specs.Make.{AreNamesBelowOptionFolder, mkndx, mkpkg}
 use Rattle.outcome.specs.Outcome.{Outcome}
 
 -- ---- the text of a container
@@ -35,14 +35,14 @@ IsDumpFault ReadFaults.Memory text = Unit {0}
 abbrev pub first_block_head_or_shape_fault : Which → Reading → Option Cause
 first_block_head_or_shape_fault which done = None
 first_block_head_or_shape_fault which (fault c) = Some c
-first_block_head_or_shape_fault which (more b at r) = head_or_shape_fault which b.payload
+first_block_head_or_shape_fault which (more b at r) = payload_head_or_shape_fault which b.payload
 
--- a first block with this payload passed its tests, and the reader that was before it is after it
+-- the first block has this payload and passed its tests; `later` are the blocks after it
 abbrev pub IsAfterShapedFirstBlock : Which → List ℕ → Reading → Reading → Type 0
 IsAfterShapedFirstBlock which payload done later = ⊥
 IsAfterShapedFirstBlock which payload (fault c) later = ⊥
 IsAfterShapedFirstBlock which payload (more b at r) later =
-    (payload ≡ b.payload) × (head_or_shape_fault which b.payload ≡ None) × (r ≡ later)
+    (payload ≡ b.payload) × (payload_head_or_shape_fault which b.payload ≡ None) × (r ≡ later)
 
 -- ---- a container that is made
 
@@ -59,11 +59,12 @@ is_disk_or_memory Memory = true
 is_disk_or_memory other = false
 
 -- whether a fault stopped the making, so that no outcome is answered
-abbrev pub ended_by_disk_or_memory : Result (Vec ℕ Global) MakeFault → Bool
-ended_by_disk_or_memory (Ok file) = false
-ended_by_disk_or_memory (Err why) = is_disk_or_memory why
+abbrev pub is_making_ended_by_disk_or_memory : Result (Vec ℕ Global) MakeFault → Bool
+is_making_ended_by_disk_or_memory (Ok file) = false
+is_making_ended_by_disk_or_memory (Err why) = is_disk_or_memory why
 
--- what was made, or why not, has this meaning; an I/O error of the tree and out of memory have none
+-- `Means` holds of what was made, or of why nothing was; after an I/O error of the tree and out of memory
+-- nothing is said
 abbrev pub OnMade :
     Result (Vec ℕ Global) MakeFault → (Result (List ℕ) MakeFault → Type 0) → Type 0
 OnMade (Ok file) Means = Means (Ok file.items)
@@ -76,7 +77,7 @@ OnMade (Err why) Means = is_disk_or_memory why ≡ false → Means (Err why)
 pub record IsPackageMade (command : CommandLine) (files : Files)
     (made : Result (List ℕ) MakeFault) : Type 0 where
   pub names : List (List ℕ)
-  pub listing : AreNamesBelowOption (values_of_letter FILES command.values) files names
+  pub listing : AreNamesBelowOptionFolder (values_of_letter FILES command.values) files names
   pub is : made_package command names (reads_in files) ≡ made
 
 -- what `mkndx` makes of a command and these files, or why it makes none
@@ -87,7 +88,7 @@ IsIndexMade command files made = made_index command (reads_in files) ≡ made
 abbrev pub IsPackageOutcome : CommandLine → Files → Outcome → Type 0
 IsPackageOutcome command files outcome =
     (names : List (List ℕ))
-    × AreNamesBelowOption (values_of_letter FILES command.values) files names
+    × AreNamesBelowOptionFolder (values_of_letter FILES command.values) files names
     × (outcome ≡ mkpkg (reads_in files) files command names)
 
 -- the outcome of `mkndx` over these files

@@ -9,15 +9,15 @@ use Rattle.base_core.specs.Undone.{IsDurable}
 use Rattle.base_core.specs.Files.{Files}
 use Rattle.base_core.specs.Restart.{SinceGivenEarlier}
 use Rattle.base_core.specs.Tree.{TreeState, files_of}
-use Rattle.journal_core.specs.Kept.{HasOldOrNewBytes, JournalOnlyShrinks, ShownNamesAreDurableExcept}
+use Rattle.journal_core.specs.Kept.{HasOldOrNewBytes, JournalOnlyShrinks, NamesOutsideJournalAreDurableExcept}
 use Rattle.journal_core.specs.Quiet.{StateIsUnchanged}
 use Rattle.journal_core.specs.Recovery.{EachCrashLeaves, StateDependsOn, intent_name, intent_of, is_staged}
-use Rattle.journal_core.specs.Replacing.{CanAddOutputNames, IgnoresScratch, IsMomentOfReplacing, scratch_of}
+use Rattle.journal_core.specs.Replacing.{CanAddOutputNames, IgnoresScratch, IsMomentOfReplacing, scratch_name_of}
 use Rattle.journal_core.specs.Staged.{AreReplayPathsFree, AreStagingPathsFree, IsEmptyStage, IsOldUntilCommit, unstaged_files}
 use Rattle.outcome.specs.Effect.{Effect, Computes, OnlyReadsFiles, AsksRoot, Makes, Changes, does_recover, effect_of_arguments, output}
 use Rattle.outcome.specs.Outcome.{Outcome}
 use Rattle.outcome.specs.Words.{IsOutcome}
-use Rattle.outcome.specs.Work.{work_files}
+use Rattle.outcome.specs.Work.{files_recovered_if_needed}
 use Rattle.engine_core.specs.journal_commit.Asked.{HasAcceptedTargets}
 use Rattle.words_core.specs.Grammar.{command_of}
 use Rattle.apk_front.specs.declared.answer.Answer.{Answer}
@@ -28,7 +28,7 @@ use Rattle.apk_front.specs.declared.answer.Answer.TheVariants.{Ok, Refused, OutF
 -- the names that a run of a command with an output may write: the output's own and its scratch name
 abbrev pub output_names : Option (List ℕ) → List (List ℕ)
 output_names None = []
-output_names (Some name) = name ∷ scratch_of name ∷ []
+output_names (Some name) = name ∷ scratch_name_of name ∷ []
 
 -- the ignored names contain the scratch name of an output, and not the name of the intent
 abbrev pub IgnoresScratchOf : Option (List ℕ) → (List ℕ → Bool) → Type 0
@@ -39,7 +39,7 @@ IgnoresScratchOf (Some name) ignored = IgnoresScratch ignored name
 abbrev pub ignored_except_output : Option (List ℕ) → (List ℕ → Bool) → List ℕ → Bool
 ignored_except_output None ignored q = ignored q
 ignored_except_output (Some name) ignored q =
-    if bytes_eq q name || bytes_eq q (scratch_of name) then false else ignored q
+    if bytes_eq q name || bytes_eq q (scratch_name_of name) then false else ignored q
 
 -- ---- free paths
 
@@ -62,31 +62,32 @@ abbrev pub AreOutcomePathsFree : Effect → Option (List ℕ) → (Outcome → T
 AreOutcomePathsFree effect output IsOne files =
     (does_recover effect ≡ true → AreReplayPathsFree files)
     × ((outcome : Outcome) → IsOne outcome → outcome.commits ≡ true
-    → ArePathsToWriteFree effect output (work_files effect files))
+    → ArePathsToWriteFree effect output (files_recovered_if_needed effect files))
 
 -- the paths that a run of this command line writes are free
 abbrev pub AreRunPathsFree : List (List ℕ) → Files → Type 0
 AreRunPathsFree words files =
-    AreOutcomePathsFree (effect_of_arguments (command_of words)) (output words) (IsOutcome (command_of words)
+    AreOutcomePathsFree (effect_of_arguments (command_of words)) (output words)
+    (IsOutcome (command_of words)
     files)
     files
 
 -- ---- what is read while the command works
 
--- whether a name is a draft: a command makes a file there that it then moves to its name. It is the
--- scratch name of an output, or any name below the staging area.
-abbrev pub is_draft_name : Effect → Option (List ℕ) → List ℕ → Bool
-is_draft_name Makes (Some name) q = bytes_eq q (scratch_of name)
-is_draft_name Makes None q = false
-is_draft_name Changes output q = is_staged q
-is_draft_name Computes output q = false
-is_draft_name OnlyReadsFiles output q = false
-is_draft_name AsksRoot output q = false
+-- whether a name is temporary: a command writes a file under it, and then moves the file to its final
+-- name. It is the scratch name of an output, or any name below the staging area.
+abbrev pub is_temporary_name : Effect → Option (List ℕ) → List ℕ → Bool
+is_temporary_name Makes (Some name) q = bytes_eq q (scratch_name_of name)
+is_temporary_name Makes None q = false
+is_temporary_name Changes output q = is_staged q
+is_temporary_name Computes output q = false
+is_temporary_name OnlyReadsFiles output q = false
+is_temporary_name AsksRoot output q = false
 
--- the files as read are these, apart from the draft names
-abbrev pub HasFilesExceptDrafts : Effect → Option (List ℕ) → Files → TreeState → Type 0
-HasFilesExceptDrafts effect output files w =
-    (q : List ℕ) → is_draft_name effect output q ≡ false → files_of w q ≡ files q
+-- the files as read are these, except under temporary names
+abbrev pub HasFilesExceptTemporaryOnes : Effect → Option (List ℕ) → Files → TreeState → Type 0
+HasFilesExceptTemporaryOnes effect output files w =
+    (q : List ℕ) → is_temporary_name effect output q ≡ false → files_of w q ≡ files q
 
 -- a change has committed its journal entry (intent), and recovery yields the new files; each name
 -- outside the staging area has its old bytes or its new ones
@@ -96,11 +97,12 @@ pub record IsCommittedChange (effect : Effect) (new old : Files) (w : TreeState)
   pub leads : unstaged_files (files_of w) ≡ new
   pub bytes : HasOldOrNewBytes old new w
 
--- the files as read are the old ones, apart from the draft names; or on the way to the new ones by a
--- committed change; or the new ones
+-- the files as read are the old ones, except under temporary names; or a change to the new files is
+-- committed and in progress; or the files as read are the new ones
 abbrev pub IsStateDuringRun : Effect → Option (List ℕ) → Files → Files → TreeState → Type 0
 IsStateDuringRun effect output new old w =
-    HasFilesExceptDrafts effect output old w ⊎ (IsCommittedChange effect new old w ⊎ (files_of w ≡ new))
+    HasFilesExceptTemporaryOnes effect output old w
+    ⊎ (IsCommittedChange effect new old w ⊎ (files_of w ≡ new))
 
 -- ---- recovery
 
@@ -122,58 +124,63 @@ pub record IsRecovering (v w : TreeState) : Type 0 where
   pub bytes : HasOldOrNewBytes (files_of v) (unstaged_files (files_of v)) w
   pub waiting : JournalOnlyShrinks v w
 
--- at a moment of a run the tree is being recovered, if the command does that; or what is required after
--- recovery holds
+-- in state `w` of a run the tree is being recovered from state `v`, if the command recovers; or `IsNext`,
+-- which is required after recovery, holds of `w`
 abbrev pub IsRecoveringOrNext : Effect → (TreeState → Type 0) → TreeState → TreeState → Type 0
 IsRecoveringOrNext effect IsNext v w = ((does_recover effect ≡ true) × IsRecovering v w) ⊎ IsNext w
 
--- After recovery, the files as read are those that it leaves; or the run has an outcome that commits,
--- and works on them.
-abbrev pub AreReadDuringRun :
+-- Except while the tree is recovered, the files as read are those on which the command works
+-- (*files_recovered_if_needed*). Or the run has an outcome that commits, and its states are those of such a run
+-- (*IsStateDuringRun*).
+abbrev pub AreFilesReadDuringRun :
     (Outcome → Type 0) → Effect → Option (List ℕ) → TreeState → List TreeState → List TreeState
     → Type 0
-AreReadDuringRun IsOne effect output v old now =
-    Since (IsRecoveringOrNext effect (λ w. files_of w ≡ work_files effect (files_of v)) v) old now
+AreFilesReadDuringRun IsOne effect output v old now =
+    Since (IsRecoveringOrNext effect
+    (λ w. files_of w ≡ files_recovered_if_needed effect (files_of v)) v) old now
     ⊎ ((outcome : Outcome)
     × IsOne outcome
     × (outcome.commits ≡ true)
     × Since (IsRecoveringOrNext effect
-    (IsStateDuringRun effect output outcome.files (work_files effect (files_of v))) v) old now)
+    (IsStateDuringRun effect output outcome.files
+    (files_recovered_if_needed effect (files_of v))) v) old now)
 
 -- if no intent is read, a crash undoes no change of a name, except for those of the output and of
 -- staged files
 abbrev pub NamesAreDurableWithoutIntentExcept : Option (List ℕ) → TreeState → Type 0
 NamesAreDurableWithoutIntentExcept output w =
-    w.names intent_name ≡ None → ShownNamesAreDurableExcept (output_names output) w
+    w.names intent_name ≡ None → NamesOutsideJournalAreDurableExcept (output_names output) w
 
 -- ---- what a crash leaves
 
--- The moments of a run that leads to these files. At each the tree is durable, and a crash leaves a
+-- The states of a run that leads to these files. In each the tree is durable, and a crash leaves a
 -- state from before or that of the files. It leaves one from before as long as no intent is committed,
 -- unless the run makes one file, for which it needs no intent.
-abbrev pub MomentsLeadTo :
+abbrev pub MomentsLeadToFiles :
     Bool → (List ℕ → Bool) → Files → TreeState → List TreeState → List TreeState → Type 0
-MomentsLeadTo true ignored files v old now = Since (IsMomentOfReplacing ignored files v) old now
-MomentsLeadTo false ignored files v old now = SinceGivenEarlier (IsOldUntilCommit ignored files v) old now
+MomentsLeadToFiles true ignored files v old now = Since (IsMomentOfReplacing ignored files v) old now
+MomentsLeadToFiles false ignored files v old now =
+    SinceGivenEarlier (IsOldUntilCommit ignored files v) old now
 
 -- The state is unchanged; or the run has an outcome that commits, and leads to its files.
-abbrev pub AreOldOrLeadToOutcome :
+abbrev pub AreStatesOldOrLeadToOutcome :
     (Outcome → Type 0) → Bool → (List ℕ → Bool) → TreeState → List TreeState → List TreeState
     → Type 0
-AreOldOrLeadToOutcome IsOne makes ignored v old now =
+AreStatesOldOrLeadToOutcome IsOne makes ignored v old now =
     Since (StateIsUnchanged ignored v) old now
     ⊎ ((outcome : Outcome)
     × IsOne outcome
     × (outcome.commits ≡ true)
-    × MomentsLeadTo makes ignored outcome.files v old now)
+    × MomentsLeadToFiles makes ignored outcome.files v old now)
 
--- an outcome's files last after the run if it commits, or if each crash left the old ones before
+-- an outcome's files must be durable after the run: the outcome commits, or each crash at the start left
+-- the files as read
 abbrev pub MustOutcomeBeDurableWithoutRecovery : (List ℕ → Bool) → TreeState → Outcome → Type 0
 MustOutcomeBeDurableWithoutRecovery ignored v outcome =
     (outcome.commits ≡ true) ⊎ EachCrashLeaves ignored (files_of v) v
 
--- an outcome's files last after the run, by *MustOutcomeBeDurableWithoutRecovery* or if an intent can be
--- recovered
+-- an outcome's files must be durable after the run: by *MustOutcomeBeDurableWithoutRecovery*, or because an
+-- intent can be recovered
 abbrev pub MustOutcomeBeDurable : Effect → (List ℕ → Bool) → TreeState → Outcome → Type 0
 MustOutcomeBeDurable effect ignored v outcome = MustOutcomeBeDurableWithoutRecovery ignored v outcome
     ⊎ CanRecover effect v
@@ -208,39 +215,39 @@ AnswersOutcome other = ⊥
 abbrev pub HasOutcomeWithoutCommit : (Outcome → Type 0) → Type 0
 HasOutcomeWithoutCommit IsOne = (outcome : Outcome) × IsOne outcome × (outcome.commits ≡ false)
 
--- a run was not carried out, or its outcome commits nothing, whatever was answered instead
-abbrev pub CommitsNothing : (Outcome → Type 0) → Answer → Type 0
-CommitsNothing IsOne answer = IsRefusedOrOutOfMemory answer ⊎ HasOutcomeWithoutCommit IsOne
+-- the answer is a refusal or out of memory; or one of these outcomes commits nothing, whatever the answer
+abbrev pub IsRefusedOrCommitsNothing : (Outcome → Type 0) → Answer → Type 0
+IsRefusedOrCommitsNothing IsOne answer = IsRefusedOrOutOfMemory answer ⊎ HasOutcomeWithoutCommit IsOne
 
--- each crash after a run leaves the outcome's files, if something makes them durable
-abbrev pub LeavesDurable :
+-- if an outcome's files must be durable, each crash after the run leaves them
+abbrev pub LeavesDurableFilesIfRequired :
     Effect → (List ℕ → Bool) → TreeState → List TreeState → Outcome → Type 0
-LeavesDurable effect ignored v now outcome =
+LeavesDurableFilesIfRequired effect ignored v now outcome =
     MustOutcomeBeDurable effect ignored v outcome → HoldsNow now (EachCrashLeaves ignored outcome.files)
 
--- Once the outcome is answered, even a refusal, or a sink's fault instead, its files are durable, if
--- something makes them so.
-abbrev pub LeavesDurableOnceAnswered :
+-- Once an outcome is answered, even a refusal, or a sink's fault instead, its files are durable if they
+-- must be. After other answers nothing is said.
+abbrev pub LeavesDurableFilesOnceAnswered :
     (Outcome → Type 0) → Effect → (List ℕ → Bool) → TreeState → List TreeState → Answer → Type 0
-LeavesDurableOnceAnswered IsOne effect ignored v now Ok =
+LeavesDurableFilesOnceAnswered IsOne effect ignored v now Ok =
     (outcome : Outcome)
     × IsOne outcome
     × (outcome.refusal ≡ None)
-    × LeavesDurable effect ignored v now outcome
-LeavesDurableOnceAnswered IsOne effect ignored v now (Refused refusal) =
+    × LeavesDurableFilesIfRequired effect ignored v now outcome
+LeavesDurableFilesOnceAnswered IsOne effect ignored v now (Refused refusal) =
     (outcome : Outcome)
     × IsOne outcome
     × (outcome.refusal ≡ Some refusal)
-    × LeavesDurable effect ignored v now outcome
-LeavesDurableOnceAnswered IsOne effect ignored v now OutFault =
-    (outcome : Outcome) × IsOne outcome × LeavesDurable effect ignored v now outcome
-LeavesDurableOnceAnswered IsOne effect ignored v now other = Unit {0}
+    × LeavesDurableFilesIfRequired effect ignored v now outcome
+LeavesDurableFilesOnceAnswered IsOne effect ignored v now OutFault =
+    (outcome : Outcome) × IsOne outcome × LeavesDurableFilesIfRequired effect ignored v now outcome
+LeavesDurableFilesOnceAnswered IsOne effect ignored v now other = Unit {0}
 
--- the tree is at rest with the files of one of these outcomes, if it commits: the output and its
--- scratch name are no longer ignored
-abbrev pub LeavesDurableState :
+-- there is one of these outcomes, and if it commits the tree is durable with its files; the output and
+-- its scratch name are no longer ignored
+abbrev pub LeavesDurableStateIfCommitted :
     (Outcome → Type 0) → Option (List ℕ) → (List ℕ → Bool) → List TreeState → Type 0
-LeavesDurableState IsOne output ignored now =
+LeavesDurableStateIfCommitted IsOne output ignored now =
     (outcome : Outcome)
     × IsOne outcome
     × (outcome.commits ≡ true → HoldsNow now (IsDurableState (ignored_except_output output ignored)
@@ -250,7 +257,7 @@ LeavesDurableState IsOne output ignored now =
 
 -- at each moment of a run the tree accepts each name to which a recovery gives other bytes than a
 -- recovery of the files at the start: it was asked for the name before
-abbrev pub TargetsAreAcceptedThroughout :
+abbrev pub AreRecoveryTargetsAccepted :
     (Option (List ℕ) → List ℕ → Type 0) → List TreeState → List TreeState → Type 0
-TargetsAreAcceptedThroughout accepts old now = IfObservable old (λ v.
+AreRecoveryTargetsAccepted accepts old now = IfObservable old (λ v.
     Since (HasAcceptedTargets accepts (unstaged_files (files_of v))) old now)

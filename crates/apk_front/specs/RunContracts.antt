@@ -3,7 +3,7 @@
 -- rules are in `docs/crash-safety.md`, "Misuses, faults and counts" and "Recovery".
 use Rattle.std.specs.Prelude.{◌≡◌, ℕ, true, List, Option, Result, IfOk, IsErrOf, IsSome, MatchResult, OnOk}
 use Rattle.base_core.specs.Calls.{IfObservable}
-use Rattle.base_core.specs.Faults.{Counts, CountsOnlyRise, HasCause, IsNoFault}
+use Rattle.base_core.specs.Faults.{Counts, CountsOnlyRise, IsFaultCountedWithCause, CountsNoNewFault}
 use Rattle.base_core.specs.Files.{Files, no_names}
 use Rattle.base_core.specs.Read.{OnlyReads}
 use Rattle.base_core.specs.Tree.{TreeState, files_of}
@@ -11,32 +11,33 @@ use Rattle.base_core.specs.declared.tree.TreeFault.{TreeFault}
 use Rattle.base_core.specs.declared.tree.TreeFault.TheVariants.{Disk, Memory}
 use Rattle.command_core.specs.Command.{CommandLine}
 use Rattle.make_core.specs.make_info.Reads.{Reads}
-use Rattle.outcome.specs.Commands.{IsOutcomeAfterRecovery, IsPossibleOutcomeAfterRecovery, reads_in}
-use Rattle.outcome.specs.Effect.{Effect, Changes, Makes, effect_of, output_for_effect}
+use Rattle.outcome.specs.Commands.{IsOutcomeOverRecoveredFiles, IsPossibleOutcomeAfterRecovery, reads_in}
+use Rattle.outcome.specs.Effect.{Effect, Changes, Makes, effect_of, output_name_for_effect}
 use Rattle.outcome.specs.Outcome.{Outcome}
 use Rattle.outcome.specs.Verify.{file_refusal}
 use Rattle.report_core.specs.declared.refusal.Refusal.{Refusal}
-use Rattle.apk_front.specs.Moments.{AreOutcomePathsFree, ArePathsToWriteFree, TargetsAreAcceptedThroughout}
-use Rattle.apk_front.specs.Runs.{IfNothingStaged, IsRun, IsWholeRun}
+use Rattle.apk_front.specs.Moments.{AreOutcomePathsFree, ArePathsToWriteFree, AreRecoveryTargetsAccepted}
+use Rattle.apk_front.specs.Runs.{IfNothingStaged, IsRunAfterRecovery, IsRunWithRecovery}
 use Rattle.apk_front.specs.Verdicts.{ReportsOneOfOutcomes, as_outcome}
 use Rattle.apk_front.specs.declared.answer.Verdict.{Verdict}
 
 -- how the tree's counts explain a verdict, or why there is none
-pub record IsVerdictExplainedByCounts (before now : Counts) (judged : Result Verdict TreeFault) : Type 0 where
+pub record IsVerdictExplainedByCounts (before now : Counts)
+    (judged : Result Verdict TreeFault) : Type 0 where
   -- no count falls
   pub goes_on : CountsOnlyRise before now
   -- an I/O error has its cause
-  pub disk : IsErrOf judged Disk → HasCause before now
+  pub disk : IsErrOf judged Disk → IsFaultCountedWithCause before now
   -- neither a verdict nor out of memory hides a fault
-  pub kept : OnOk judged (IsNoFault before now)
-  pub memory : IsErrOf judged Memory → IsNoFault before now
+  pub kept : OnOk judged (CountsNoNewFault before now)
+  pub memory : IsErrOf judged Memory → CountsNoNewFault before now
 
 -- a run of `mkpkg` or `mkndx`, or a call that writes what such a run has made: its effect on the tree, if
 -- its outcome over some files is one of these
 pub record IsMakingRun (IsOne : Files → Outcome → Type 0) (output : Option (List ℕ))
     (old now : List TreeState) (judged : Result Verdict TreeFault) : Type 0 where
   -- the effect of the run on the tree: crashes, files and calls
-  pub tree : IfObservable old (λ v. IsRun (IsOne (files_of v)) Makes output judged v old now)
+  pub tree : IfObservable old (λ v. IsRunAfterRecovery (IsOne (files_of v)) Makes output judged v old now)
   -- a refusal writes nothing
   pub refused : IfOk judged (λ verdict. IsSome verdict.refusal → now ≡ old)
   -- if memory ran out nothing was written
@@ -49,7 +50,8 @@ pub record IsReadingRun (outcome : Reads → Files → Outcome) (old now : List 
   pub found : IfOk judged (λ verdict. IfObservable old (λ v.
       as_outcome (files_of v) verdict ≡ outcome (reads_in (files_of v)) (files_of v)))
   -- on every tree it is that of the outcome for some contents at each read
-  pub by_reads : IfOk judged (λ verdict. (read : Reads) × (as_outcome no_names verdict ≡ outcome read no_names))
+  pub by_reads : IfOk judged
+      (λ verdict. (read : Reads) × (as_outcome no_names verdict ≡ outcome read no_names))
   -- the tree is only read; an I/O error has its cause there
   pub tree : OnlyReads Disk old now counts_before counts_now judged
 
@@ -78,19 +80,23 @@ pub record IsRecoveredRun (command : CommandLine) (old now : List TreeState)
     (counts_before counts_now : Counts) (judged : Result Verdict TreeFault) : Type 0 where
   -- on a tree that shows its files the verdict is that of the outcome over these files
   pub found : IfOk judged (λ verdict. IfNothingStaged old (λ v.
-      ReportsOneOfOutcomes (IsOutcomeAfterRecovery command (files_of v)) verdict))
+      ReportsOneOfOutcomes (IsOutcomeOverRecoveredFiles command (files_of v)) verdict))
   -- on every tree it is that of an outcome for some listing and some contents at each read
-  pub by_reads : IfOk judged (λ verdict. ReportsOneOfOutcomes (IsPossibleOutcomeAfterRecovery command) verdict)
+  pub by_reads : IfOk judged
+      (λ verdict. ReportsOneOfOutcomes (IsPossibleOutcomeAfterRecovery command) verdict)
   -- the effect of the run on the tree: crashes, files and calls
-  pub tree : IfNothingStaged old (λ v. IsRun (IsOutcomeAfterRecovery command (files_of v))
-      (effect_of command.applet) (output_for_effect (effect_of command.applet) command) judged v old now)
+  pub tree : IfNothingStaged old (λ v. IsRunAfterRecovery (IsOutcomeOverRecoveredFiles command (files_of v))
+      (effect_of command.applet)
+      (output_name_for_effect (effect_of command.applet) command) judged v old now)
   -- if memory ran out nothing was written
   pub undone : IfNothingStaged old (λ v. IsErrOf judged Memory → now ≡ old)
   pub counts : IsVerdictExplainedByCounts counts_before counts_now judged
   -- no call is a misuse if the paths are free that an outcome that commits writes
   pub proper : IfNothingStaged old (λ v.
-      ((outcome : Outcome) → IsOutcomeAfterRecovery command (files_of v) outcome → outcome.commits ≡ true
-      → ArePathsToWriteFree (effect_of command.applet) (output_for_effect (effect_of command.applet) command)
+      ((outcome : Outcome) → IsOutcomeOverRecoveredFiles command (files_of v) outcome → outcome.commits
+      ≡ true
+      → ArePathsToWriteFree (effect_of command.applet)
+      (output_name_for_effect (effect_of command.applet) command)
       (files_of v))
       → counts_now.misuses ≡ counts_before.misuses)
 
@@ -101,13 +107,14 @@ pub record IsJudgedRun (accepts : Option (List ℕ) → List ℕ → Type 0)
     (output : Option (List ℕ)) (old now : List TreeState) (counts_before counts_now : Counts)
     (judged : Result Verdict TreeFault) : Type 0 where
   -- on a tree that shows its files the verdict is that of the outcome over the files at the start
-  pub found : IfOk judged (λ verdict. IfObservable old (λ v. ReportsOneOfOutcomes (IsOne (files_of v)) verdict))
+  pub found : IfOk judged (λ verdict. IfObservable old
+      (λ v. ReportsOneOfOutcomes (IsOne (files_of v)) verdict))
   -- on every tree it is that of an outcome for some listing and some contents at each read
   pub by_reads : IfOk judged (λ verdict. ReportsOneOfOutcomes IsPossible verdict)
   -- the effect of the run on the tree: crashes, files and calls
-  pub tree : IfObservable old (λ v. IsWholeRun (IsOne (files_of v)) effect output judged v old now)
+  pub tree : IfObservable old (λ v. IsRunWithRecovery (IsOne (files_of v)) effect output judged v old now)
   -- a change has asked the tree for each name that it promises
-  pub promised : effect ≡ Changes → TargetsAreAcceptedThroughout accepts old now
+  pub promised : effect ≡ Changes → AreRecoveryTargetsAccepted accepts old now
   pub counts : IsVerdictExplainedByCounts counts_before counts_now judged
   -- no call is a misuse if the paths of the run are free
   pub proper : IfObservable old (λ v. AreOutcomePathsFree effect output (IsOne (files_of v)) (files_of v)

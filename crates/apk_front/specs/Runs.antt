@@ -8,14 +8,14 @@ use Rattle.base_core.specs.Undone.{IsDurable}
 use Rattle.base_core.specs.Tree.{TreeState, files_of}
 use Rattle.base_core.specs.declared.tree.TreeFault.{TreeFault}
 use Rattle.base_core.specs.declared.tree.TreeFault.TheVariants.{Memory}
-use Rattle.journal_core.specs.Kept.{ShownNamesAreDurable}
+use Rattle.journal_core.specs.Kept.{NamesOutsideJournalAreDurable}
 use Rattle.journal_core.specs.Quiet.{StateIsUnchanged}
 use Rattle.journal_core.specs.Recovery.{StateDependsOn, EachCrashLeaves, intent_name}
 use Rattle.journal_core.specs.Staged.{IsEmptyStage}
 use Rattle.outcome.specs.Effect.{Effect}
 use Rattle.outcome.specs.Outcome.{Outcome}
 use Rattle.outcome.specs.Work.{recovery_fault}
-use Rattle.apk_front.specs.Moments.{AreReadDuringRun, AreOldOrLeadToOutcome, HasOutcomeWithoutCommit, HasNothingToRecover, IgnoresScratchOf, IsDurableState, IsStateDuringRun, MustOutcomeBeDurable, MustOutcomeBeDurableWithoutRecovery, NamesAreDurableWithoutIntentExcept, ignored_except_output}
+use Rattle.apk_front.specs.Moments.{AreFilesReadDuringRun, AreStatesOldOrLeadToOutcome, HasOutcomeWithoutCommit, HasNothingToRecover, IgnoresScratchOf, IsDurableState, IsStateDuringRun, MustOutcomeBeDurable, MustOutcomeBeDurableWithoutRecovery, NamesAreDurableWithoutIntentExcept, ignored_except_output}
 use Rattle.apk_front.specs.declared.answer.Verdict.{Verdict}
 
 -- ---- after recovery
@@ -31,12 +31,12 @@ IfNothingStaged history P = IfObservable history (λ v. HasNothingStaged v → P
 
 -- ---- a run
 
--- at each moment of a run that recovers nothing the files as read are the old ones; or the run has an
--- outcome that commits, and works on them
-abbrev pub AreReadDuringWork :
+-- in each state of a run that recovers nothing the files as read are the old ones. Or the run has an
+-- outcome that commits, and its states are those of such a run (*IsStateDuringRun*).
+abbrev pub AreFilesReadWithoutRecovery :
     (Outcome → Type 0) → Effect → Option (List ℕ) → TreeState → List TreeState → List TreeState
     → Type 0
-AreReadDuringWork IsOne effect output v old now =
+AreFilesReadWithoutRecovery IsOne effect output v old now =
     Since (λ w. files_of w ≡ files_of v) old now
     ⊎ ((outcome : Outcome)
     × IsOne outcome
@@ -44,18 +44,18 @@ AreReadDuringWork IsOne effect output v old now =
     × Since (IsStateDuringRun effect output outcome.files (files_of v)) old now)
 
 -- The effect of a run on a tree in state v, after recovery, if its outcome is one of these.
-pub record IsRun (IsOne : Outcome → Type 0) (effect : Effect) (output : Option (List ℕ))
+pub record IsRunAfterRecovery (IsOne : Outcome → Type 0) (effect : Effect) (output : Option (List ℕ))
     (judged : Result Verdict TreeFault) (v : TreeState) (old now : List TreeState) : Type 0 where
   -- at each moment the tree is durable, and a crash leaves a state from before or that of the files of
   -- an outcome that commits
   pub moments : (ignored : List ℕ → Bool)
       → IsDurable (StateDependsOn ignored) v → IgnoresScratchOf output ignored
-      → AreOldOrLeadToOutcome IsOne (is_some output) ignored v old now
+      → AreStatesOldOrLeadToOutcome IsOne (is_some output) ignored v old now
   -- the tree is left durable
   pub is_durable : (ignored : List ℕ → Bool)
       → IsDurable (StateDependsOn ignored) v → IgnoresScratchOf output ignored
       → HoldsNow now (IsDurable (StateDependsOn ignored))
-  -- if an outcome was judged, and something makes its files durable, each crash leaves their state
+  -- if an outcome was judged whose files must be durable, each crash leaves them
   pub settled : (ignored : List ℕ → Bool) (outcome : Outcome)
       → IsDurable (StateDependsOn ignored) v → IgnoresScratchOf output ignored
       → IsOne outcome → MustOutcomeBeDurableWithoutRecovery ignored v outcome
@@ -66,10 +66,10 @@ pub record IsRun (IsOne : Outcome → Type 0) (effect : Effect) (output : Option
       → IsOne outcome → outcome.commits ≡ true
       → OnOk judged (HoldsNow now (IsDurableState (ignored_except_output output ignored) outcome.files))
   -- the files as read are the old ones, or the run works on them
-  pub reads : AreReadDuringWork IsOne effect output v old now
+  pub reads : AreFilesReadWithoutRecovery IsOne effect output v old now
   -- if no crash undoes a change of a name at the start, none does as long as no intent is read, except
   -- for the output and staged files
-  pub last : ShownNamesAreDurable v → Since (NamesAreDurableWithoutIntentExcept output) old now
+  pub last : NamesOutsideJournalAreDurable v → Since (NamesAreDurableWithoutIntentExcept output) old now
   -- the files as read are the outcome's once it was judged
   pub leaves : (outcome : Outcome) → IsOne outcome
       → OnOk judged (HoldsNow now (λ w. files_of w ≡ outcome.files))
@@ -81,12 +81,12 @@ abbrev pub IsOutOfMemoryOrWithoutCommit : (Outcome → Type 0) → Result Verdic
 IsOutOfMemoryOrWithoutCommit IsOne judged = IsErrOf judged Memory ⊎ HasOutcomeWithoutCommit IsOne
 
 -- The effect of a run that first recovers, if its command does. Fields without a comment say what those
--- of *IsRun* say, with the recovery before it.
-pub record IsWholeRun (IsOne : Outcome → Type 0) (effect : Effect) (output : Option (List ℕ))
+-- of *IsRunAfterRecovery* say, with the recovery before it.
+pub record IsRunWithRecovery (IsOne : Outcome → Type 0) (effect : Effect) (output : Option (List ℕ))
     (judged : Result Verdict TreeFault) (v : TreeState) (old now : List TreeState) : Type 0 where
   pub moments : (ignored : List ℕ → Bool)
       → IsDurable (StateDependsOn ignored) v → IgnoresScratchOf output ignored
-      → AreOldOrLeadToOutcome IsOne (is_some output) ignored v old now
+      → AreStatesOldOrLeadToOutcome IsOne (is_some output) ignored v old now
   pub is_durable : (ignored : List ℕ → Bool)
       → IsDurable (StateDependsOn ignored) v → IgnoresScratchOf output ignored
       → HoldsNow now (IsDurable (StateDependsOn ignored))
@@ -104,7 +104,7 @@ pub record IsWholeRun (IsOne : Outcome → Type 0) (effect : Effect) (output : O
   pub idle : IsOutOfMemoryOrWithoutCommit IsOne judged → HasNothingToRecover effect v → now ≡ old
   -- nothing is written either if the intent is bad
   pub bad : IsSome (recovery_fault effect (files_of v)) → now ≡ old
-  pub reads : AreReadDuringRun IsOne effect output v old now
+  pub reads : AreFilesReadDuringRun IsOne effect output v old now
   pub last : IsSome (v.names intent_name) → Since (NamesAreDurableWithoutIntentExcept output) old now
   pub leaves : (outcome : Outcome) → IsOne outcome
       → OnOk judged (HoldsNow now (λ w. files_of w ≡ outcome.files))

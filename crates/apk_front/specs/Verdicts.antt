@@ -2,14 +2,14 @@
 -- `apk` is made; the rule is in `docs/commands.md`, "Answers and statuses".
 use Rattle.std.specs.Prelude.{◌≡◌, ◌⊎◌, [], Option, Some, None, Result, Ok, Err}
 use Rattle.base_core.specs.Files.{Files}
-use Rattle.base_core.specs.Sink.{SinkBeforeAndAfter, Gets, GetsPrefix, SinkFailed}
+use Rattle.base_core.specs.Sink.{SinkBeforeAndAfter, SinkGets, SinkGetsPrefix, SinkFailed}
 use Rattle.base_core.specs.declared.tree.TreeFault.{TreeFault}
 use Rattle.base_core.specs.declared.tree.TreeFault.TheVariants.{Disk, Memory as NoMemory}
 use Rattle.command_core.specs.Command.{CommandLine}
 use Rattle.make_core.specs.make_info.Reads.{Reads}
 use Rattle.outcome.specs.Commands.{effect_outcome}
 use Rattle.outcome.specs.Effect.{effect_of}
-use Rattle.outcome.specs.Given.{nothing_given}
+use Rattle.outcome.specs.Given.{no_listing_choice_or_clash}
 use Rattle.outcome.specs.Outcome.{Outcome, outcome_of}
 use Rattle.report_core.specs.Texts.{refusal_line, tree_failure_line, out_of_memory_line}
 use Rattle.report_core.specs.declared.refusal.Refusal.{Refusal}
@@ -25,7 +25,7 @@ as_outcome files verdict = outcome_of verdict.refusal verdict.report files
 -- the outcome of a command that only reads: it needs no listing of a folder, and no selection
 abbrev pub read_only_outcome : CommandLine → Reads → Files → Outcome
 read_only_outcome command read files =
-    effect_outcome (effect_of command.applet) command.applet command nothing_given read files
+    effect_outcome (effect_of command.applet) command.applet command no_listing_choice_or_clash read files
 
 -- the verdict's refusal and report are those of an outcome
 abbrev pub Reports : Verdict → Outcome → Type 0
@@ -47,14 +47,17 @@ IsPrinted outcome Memory out err = ⊥
 -- the answer and the bytes of standard error after a report: a refusal, if there is one, or a fault of
 -- that sink instead
 abbrev pub IsRefusalPrinted : Option Refusal → Answer → SinkBeforeAndAfter → Type 0
-IsRefusalPrinted None answer err = (answer ≡ Good) × Gets err [] × DidNotFail err
+IsRefusalPrinted None answer err = (answer ≡ Good) × SinkGets err [] × DidNotFail err
 IsRefusalPrinted (Some refusal) answer err =
-    ((answer ≡ Refused refusal) × Gets err (refusal_line refusal) × DidNotFail err)
-    ⊎ ((answer ≡ OutFault) × GetsPrefix err (refusal_line refusal) × SinkFailed err)
+    ((answer ≡ Refused refusal) × SinkGets err (refusal_line refusal) × DidNotFail err)
+    ⊎ ((answer ≡ OutFault) × SinkGetsPrefix err (refusal_line refusal) × SinkFailed err)
 
 -- the answer to a verdict, and the bytes of the two sinks
-abbrev pub IsVerdictPrinted : Result Verdict TreeFault → Answer → SinkBeforeAndAfter → SinkBeforeAndAfter → Type 0
+abbrev pub IsVerdictPrinted : Result Verdict TreeFault → Answer → SinkBeforeAndAfter → SinkBeforeAndAfter
+    → Type 0
 IsVerdictPrinted (Ok verdict) answer out err =
     (files : Files) → IsPrinted (as_outcome files verdict) answer out err
-IsVerdictPrinted (Err Disk) answer out err = (answer ≡ TreeFailed) × PrintsOnlyErrorLine tree_failure_line out err
-IsVerdictPrinted (Err NoMemory) answer out err = (answer ≡ Memory) × PrintsOnlyErrorLine out_of_memory_line out err
+IsVerdictPrinted (Err Disk) answer out err =
+    (answer ≡ TreeFailed) × PrintsOnlyErrorLine tree_failure_line out err
+IsVerdictPrinted (Err NoMemory) answer out err =
+    (answer ≡ Memory) × PrintsOnlyErrorLine out_of_memory_line out err

@@ -5,7 +5,7 @@ ghost use Rattle.apk_front.specs.Answers.{GetsLineOrPrefix};
 ghost use Rattle.apk_front.specs.Status.{status_of};
 ghost use Rattle.apk_front.specs.Verdicts.{IsPrinted, IsRefusalPrinted, IsVerdictPrinted, as_outcome};
 ghost use Rattle.base_core.specs.Files.{Files};
-ghost use Rattle.base_core.specs.Sink.{sink_before_and_after, IsProperUse};
+ghost use Rattle.base_core.specs.Sink.{sink_before_and_after, IsUseWithoutMisuse};
 ghost use Rattle.base_core.specs.Write.{Writes};
 ghost use Rattle.outcome.specs.Outcome.{just_refusal, just_report};
 
@@ -20,11 +20,11 @@ pub enum Answer {
     Ok,
     /// The command was refused, for a fault of its arguments or files.
     Refused(Refusal),
-    /// The tree failed.
+    /// A call on the tree failed with an I/O error.
     TreeFault,
     /// A sink failed. The files are those of the answer that could not be printed.
     OutFault,
-    /// There was no memory.
+    /// Memory ran out.
     Memory,
 }
 
@@ -91,8 +91,10 @@ pub(crate) fn show<O: Sink, E: Sink>(
         (sink_before_and_after O.bytes O.counts out.old out.new)
         (sink_before_and_after E.bytes E.counts err.old err.new) }
     // Of each sink: no count falls, and no call is a misuse.
-    ensures out_counts { IsProperUse (sink_before_and_after O.bytes O.counts out.old out.new) }
-    ensures err_counts { IsProperUse (sink_before_and_after E.bytes E.counts err.old err.new) }
+    ensures out_counts { IsUseWithoutMisuse
+        (sink_before_and_after O.bytes O.counts out.old out.new) }
+    ensures err_counts { IsUseWithoutMisuse
+        (sink_before_and_after E.bytes E.counts err.old err.new) }
 {
     match judged {
         Ok(verdict) => print_verdict(verdict, out, err),
@@ -106,8 +108,10 @@ fn print_fault<O: Sink, E: Sink>(fault: TreeFault, _out: &mut O, err: &mut E) ->
     ensures shown { IsVerdictPrinted (Err fault) result
         (sink_before_and_after O.bytes O.counts _out.old _out.new)
         (sink_before_and_after E.bytes E.counts err.old err.new) }
-    ensures out_counts { IsProperUse (sink_before_and_after O.bytes O.counts _out.old _out.new) }
-    ensures err_counts { IsProperUse (sink_before_and_after E.bytes E.counts err.old err.new) }
+    ensures out_counts { IsUseWithoutMisuse
+        (sink_before_and_after O.bytes O.counts _out.old _out.new) }
+    ensures err_counts { IsUseWithoutMisuse
+        (sink_before_and_after E.bytes E.counts err.old err.new) }
 {
     match fault {
         TreeFault::Disk => {
@@ -126,8 +130,10 @@ fn print_verdict<O: Sink, E: Sink>(verdict: Verdict, out: &mut O, err: &mut E) -
     ensures printed { (files : Files) → IsPrinted (as_outcome files verdict) result
         (sink_before_and_after O.bytes O.counts out.old out.new)
         (sink_before_and_after E.bytes E.counts err.old err.new) }
-    ensures out_counts { IsProperUse (sink_before_and_after O.bytes O.counts out.old out.new) }
-    ensures err_counts { IsProperUse (sink_before_and_after E.bytes E.counts err.old err.new) }
+    ensures out_counts { IsUseWithoutMisuse
+        (sink_before_and_after O.bytes O.counts out.old out.new) }
+    ensures err_counts { IsUseWithoutMisuse
+        (sink_before_and_after E.bytes E.counts err.old err.new) }
 {
     // A law that the proof needs; it has no effect at run time.
     counts_of_consecutive_calls_compose();
@@ -139,7 +145,8 @@ fn print_verdict<O: Sink, E: Sink>(verdict: Verdict, out: &mut O, err: &mut E) -
 
 // Prints a report. An empty one makes no call on the sink, so it cannot fail.
 fn print_report<O: Sink>(bytes: &[u8], out: &mut O) -> Result<(), SinkFault>
-    ensures written { Writes bytes.now (sink_before_and_after O.bytes O.counts out.old out.new) result }
+    ensures written { Writes bytes.now
+        (sink_before_and_after O.bytes O.counts out.old out.new) result }
     ensures some { OnErr result (bytes.now ≢ []) }
 {
     if bytes.is_empty() {
@@ -152,7 +159,7 @@ fn print_report<O: Sink>(bytes: &[u8], out: &mut O) -> Result<(), SinkFault>
 fn print_refusal<E: Sink>(refusal: Option<Refusal>, err: &mut E) -> Answer
     ensures printed { IsRefusalPrinted refusal result
         (sink_before_and_after E.bytes E.counts err.old err.new) }
-    ensures counts { IsProperUse (sink_before_and_after E.bytes E.counts err.old err.new) }
+    ensures counts { IsUseWithoutMisuse (sink_before_and_after E.bytes E.counts err.old err.new) }
 {
     let Some(refusal) = refusal else {
         return Answer::Ok;
@@ -166,8 +173,9 @@ fn print_refusal<E: Sink>(refusal: Option<Refusal>, err: &mut E) -> Answer
 // Prints a fault's line. A fault of the sink does not change the answer: the status reports the
 // first fault.
 fn print_line<E: Sink>(line: &[u8], err: &mut E)
-    ensures line { GetsLineOrPrefix (sink_before_and_after E.bytes E.counts err.old err.new) line.now }
-    ensures counts { IsProperUse (sink_before_and_after E.bytes E.counts err.old err.new) }
+    ensures line { GetsLineOrPrefix
+        (sink_before_and_after E.bytes E.counts err.old err.new) line.now }
+    ensures counts { IsUseWithoutMisuse (sink_before_and_after E.bytes E.counts err.old err.new) }
 {
     let _ = write_all(err, line);
 }

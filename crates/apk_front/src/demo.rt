@@ -14,7 +14,7 @@ ghost use Rattle.outcome.specs.demo_lines.Count.{demo_count};
 ghost use Rattle.outcome.specs.demo_lines.Lines.{mkpkg_words};
 ghost use Rattle.outcome.specs.demo_lines.Report.{demo_line};
 ghost use Rattle.outcome.specs.Commands.{IsOutcomeWithoutDemo};
-ghost use Rattle.outcome.specs.Demo.{IsOutcomeAfterInstalling, IsOutcomeAfterPackaging, IsDemoOutcome, IsOutcomeOfNextRun, with_demo_file};
+ghost use Rattle.outcome.specs.Demo.{IsDemoOutcomeAfterInstalling, IsDemoOutcomeAfterPackaging, IsDemoOutcome, IsOutcomeOfNextRun, with_demo_file};
 ghost use Rattle.outcome.specs.Outcome.{Outcome, report_unless};
 ghost use Rattle.tree_memory.specs.Memory.{tree_state};
 ghost use Rattle.words_core.specs.Grammar.{command_of};
@@ -78,7 +78,8 @@ fn unless_refused(alloc: Global, refusal: Option<Refusal>, report: Text) -> Verd
 // last run that was not skipped.
 fn install(alloc: Global, n: u16, tree: &mut MemoryTree) -> Result<Verdict, TreeFault>
     requires { files_of (tree_state tree.old) ≡ no_names }
-    ensures { IfOk result (λ verdict. IsRunToOutcome (IsOutcomeAfterInstalling n) verdict tree.new) }
+    ensures { IfOk result (λ verdict. IsRunToOutcome
+        (IsDemoOutcomeAfterInstalling n) verdict tree.new) }
 {
     let packaged = package_all(alloc, n, tree)?;
     let words = mkndx_words(alloc, n)?;
@@ -91,7 +92,8 @@ fn install(alloc: Global, n: u16, tree: &mut MemoryTree) -> Result<Verdict, Tree
 // Returns the last verdict.
 fn package_all(alloc: Global, n: u16, tree: &mut MemoryTree) -> Result<Verdict, TreeFault>
     requires { files_of (tree_state tree.old) ≡ no_names }
-    ensures { IfOk result (λ verdict. IsRunToOutcome (IsOutcomeAfterPackaging n) verdict tree.new) }
+    ensures { IfOk result (λ verdict. IsRunToOutcome
+        (IsDemoOutcomeAfterPackaging n) verdict tree.new) }
 {
     put(alloc, REPOSITORIES, demo_repositories(), tree)?;
     let mut last = Verdict::empty(alloc);
@@ -121,7 +123,8 @@ fn package_behind(
 
 // Puts the one file of package i into the tree, and runs `mkpkg` on it.
 fn package(alloc: Global, i: u16, tree: &mut MemoryTree) -> Result<Verdict, TreeFault>
-    ensures { IfOk result (λ verdict. IsRunToOutcome (IsOutcomeWithoutDemo (command_of (mkpkg_words i))
+    ensures { IfOk result (λ verdict. IsRunToOutcome (IsOutcomeWithoutDemo (command_of
+        (mkpkg_words i))
         (with_demo_file i (files_of (tree_state tree.old)))) verdict tree.new) }
 {
     let name = demo_file(alloc, i)?;

@@ -12,7 +12,7 @@ ghost use Rattle.apk_front.specs.Verdicts.{as_outcome};
 ghost use Rattle.base_core.specs.Files.{Files};
 ghost use Rattle.base_core.specs.Read.{bytes_in};
 ghost use Rattle.command_core.specs.Named.{are_files};
-ghost use Rattle.outcome.specs.Dump.{adbdump, dump_of, dump_of_blocks, dump_outcome, head_or_shape_fault, framing_fault};
+ghost use Rattle.outcome.specs.Dump.{adbdump, dump_of, dump_of_blocks, dump_outcome, payload_head_or_shape_fault, framing_fault};
 
 use crate::answer::Verdict;
 use adb_block::Blocks;
@@ -80,7 +80,8 @@ fn text_of_blocks(alloc: Global, blocks: &mut Blocks<'_>, which: Which) -> Resul
     requires first { blocks.old.last ≡ None }
     // The table is one that may be at a root.
     requires root { IsTrue (is_some (schema_word which)) }
-    ensures ok { IfOk result (λ text. dump_of_blocks which (block_stream_from blocks.old) ≡ Ok text) }
+    ensures ok { IfOk result (λ text. dump_of_blocks which (block_stream_from blocks.old)
+        ≡ Ok text) }
     ensures bad { IfErr result (λ fault.
         IsDumpFault fault (dump_of_blocks which (block_stream_from blocks.old))) }
 {
@@ -97,7 +98,8 @@ fn shape_first<'a>(blocks: &mut Blocks<'a>, which: Which) -> Result<Shaped<'a>, 
         first_block_head_or_shape_fault which (block_stream_from blocks.old) ≡ Some cause) }
     ensures table { IfOk result (λ shaped. table_of shaped ≡ which) }
     // The reader is then after that block.
-    ensures behind { IfOk result (λ shaped. IsAfterShapedFirstBlock which (payload_of (adb_of shaped))
+    ensures behind { IfOk result (λ shaped. IsAfterShapedFirstBlock which (payload_of
+        (adb_of shaped))
         (block_stream_from blocks.old) (block_stream_from blocks.new)) }
 {
     match blocks.next()? {
@@ -108,7 +110,7 @@ fn shape_first<'a>(blocks: &mut Blocks<'a>, which: Which) -> Result<Shaped<'a>, 
 
 // Tests the head of a payload and its shape.
 fn shape_payload<'a>(payload: &'a [u8], which: Which) -> Result<Shaped<'a>, Cause>
-    ensures exact { result_err result ≡ head_or_shape_fault which payload.entry.now }
+    ensures exact { result_err result ≡ payload_head_or_shape_fault which payload.entry.now }
     ensures table { IfOk result (λ shaped. table_of shaped ≡ which) }
     // The shaped payload is this payload, not a copy.
     ensures lent { IfOk result (λ shaped. payload_of (adb_of shaped) ≡ payload.entry.now) }

@@ -2,14 +2,14 @@
 //! run is described in `docs/commands.md`, and its effect on a tree in `docs/crash-safety.md`,
 //! "Recovery", in the table of what a run of `apk` may leave.
 ghost use Rattle.std.specs.Prelude.{◌≡◌, ℕ, Bool, List, IsSome, IsTrue, is_some};
-ghost use Rattle.apk_front.specs.Answers.{name_a_command, IsAnswerOf, LeavesFiles, LeavesAnyFiles, HasCauses, IsFaultless, AnswersOutcomeUnlessMemory, HasNoPlannedFailure, IsOutcomeUnlessMemory};
-ghost use Rattle.apk_front.specs.Moments.{AnswersOutcome, AreReadDuringRun, AreOldOrLeadToOutcome, CommitsNothing, HasNothingToRecover, IgnoresScratchOf, TargetsAreAcceptedThroughout, LeavesDurableState, LeavesDurableOnceAnswered, AreRunPathsFree, NamesAreDurableWithoutIntentExcept};
+ghost use Rattle.apk_front.specs.Answers.{is_command_named, IsAnswerOfSomeOutcome, LeavesFiles, LeavesAnyFiles, IsAnswerExplainedByCounts, IsFaultless, AnswersOutcomeUnlessMemory, HasNoPlannedFailure, IsAnsweredInFullUnlessMemory};
+ghost use Rattle.apk_front.specs.Moments.{AnswersOutcome, AreFilesReadDuringRun, AreStatesOldOrLeadToOutcome, IsRefusedOrCommitsNothing, HasNothingToRecover, IgnoresScratchOf, AreRecoveryTargetsAccepted, LeavesDurableStateIfCommitted, LeavesDurableFilesOnceAnswered, AreRunPathsFree, NamesAreDurableWithoutIntentExcept};
 ghost use Rattle.base_core.specs.Calls.{HoldsNow, IfObservable};
 ghost use Rattle.base_core.specs.Crash.{Since};
 ghost use Rattle.base_core.specs.Undone.{IsDurable};
-ghost use Rattle.base_core.specs.Faults.{CountsOnlyRise, HasCause};
+ghost use Rattle.base_core.specs.Faults.{CountsOnlyRise, IsFaultCountedWithCause};
 ghost use Rattle.base_core.specs.Files.{no_names};
-ghost use Rattle.base_core.specs.Sink.{sink_before_and_after, IsProperUse};
+ghost use Rattle.base_core.specs.Sink.{sink_before_and_after, IsUseWithoutMisuse};
 ghost use Rattle.base_core.specs.Tree.{files_of};
 ghost use Rattle.journal_core.specs.Quiet.{StateIsUnchanged};
 ghost use Rattle.journal_core.specs.Recovery.{StateDependsOn, intent_name};
@@ -46,8 +46,9 @@ pub fn apk<T: Tree, O: Sink, E: Sink>(
     // refusal. An I/O error of the tree or a fault of a sink, with its cause, or out of memory, may
     // be answered instead. After a sink's fault the files left are still the outcome's.
     ensures stated { IfObservable (T.history tree.old) (λ v.
-        IsAnswerOf (IsOutcome (command_of words.now) (files_of v))
-        (LeavesFiles (T.history tree.new)) (HasCause (T.counts tree.old) (T.counts tree.new)) result
+        IsAnswerOfSomeOutcome (IsOutcome (command_of words.now) (files_of v))
+        (LeavesFiles (T.history tree.new)) (IsFaultCountedWithCause (T.counts tree.old)
+        (T.counts tree.new)) result
         (sink_before_and_after O.bytes O.counts out.old out.new)
         (sink_before_and_after E.bytes E.counts err.old err.new)) }
 
@@ -61,16 +62,16 @@ pub fn apk<T: Tree, O: Sink, E: Sink>(
     // On every tree: an outcome that depends on the arguments alone is the answer, and the tree
     // never fails.
     ensures every_tree { IsTrue (depends_only_on_arguments (command_of words.now))
-        → IsAnswerOf (IsOutcome (command_of words.now) no_names) LeavesAnyFiles ⊥ result
+        → IsAnswerOfSomeOutcome (IsOutcome (command_of words.now) no_names) LeavesAnyFiles ⊥ result
         (sink_before_and_after O.bytes O.counts out.old out.new)
         (sink_before_and_after E.bytes E.counts err.old err.new) }
 
     // On every tree: the answer and the bytes are those of the specification for some listing, some
     // contents at each read, and the first clash of names among some files. Or an added package is
     // no longer what was tested, and is reported as bad, with the cause of some file that has its
-    // identity and other contents. That these are the real ones of a file system is trusted.
-    ensures found { IsAnswerOf (IsPossibleOutcome (command_of words.now)) LeavesAnyFiles
-        (HasCause (T.counts tree.old) (T.counts tree.new)) result
+    // identity and other contents. That these are the contents of a real file system is trusted.
+    ensures found { IsAnswerOfSomeOutcome (IsPossibleOutcome (command_of words.now)) LeavesAnyFiles
+        (IsFaultCountedWithCause (T.counts tree.old) (T.counts tree.new)) result
         (sink_before_and_after O.bytes O.counts out.old out.new)
         (sink_before_and_after E.bytes E.counts err.old err.new) }
 
@@ -80,18 +81,20 @@ pub fn apk<T: Tree, O: Sink, E: Sink>(
     // a fault of a sink has its cause there. Running out of memory, or a fault of a sink, hides no
     // I/O error of the tree. After an I/O error of the tree, or out of memory, exactly its line is
     // printed.
-    ensures causes { HasCauses result (T.counts tree.old) (T.counts tree.new)
+    ensures causes { IsAnswerExplainedByCounts result (T.counts tree.old) (T.counts tree.new)
         (sink_before_and_after O.bytes O.counts out.old out.new)
         (sink_before_and_after E.bytes E.counts err.old err.new) }
 
     // No count falls, and no sink is misused.
     ensures tree_counts { CountsOnlyRise (T.counts tree.old) (T.counts tree.new) }
-    ensures out_counts { IsProperUse (sink_before_and_after O.bytes O.counts out.old out.new) }
-    ensures err_counts { IsProperUse (sink_before_and_after E.bytes E.counts err.old err.new) }
+    ensures out_counts { IsUseWithoutMisuse
+        (sink_before_and_after O.bytes O.counts out.old out.new) }
+    ensures err_counts { IsUseWithoutMisuse
+        (sink_before_and_after E.bytes E.counts err.old err.new) }
 
     // Out of memory is answered only if the arguments name an applet, or ask for help or the
     // version.
-    ensures memory { result ≡ Answer.Memory → IsTrue (name_a_command words.now) }
+    ensures memory { result ≡ Answer.Memory → IsTrue (is_command_named words.now) }
 
     // No call is a misuse of the tree if two conditions hold: the paths that recovery writes are
     // free in the files, and those that the outcome writes are free in the recovered files. Then
@@ -100,11 +103,12 @@ pub fn apk<T: Tree, O: Sink, E: Sink>(
         → (T.counts tree.new).misuses ≡ (T.counts tree.old).misuses) }
 
     // If moreover no failure of the tree and the sinks is planned, the run ends as its outcome
-    // says, unless memory ran out: the run's, or the own memory of one of the three.
+    // says, unless memory ran out: the run's, or the own memory of the tree or of a sink.
     ensures unless_memory { IfObservable (T.history tree.old) (λ v.
         AreRunPathsFree words.now (files_of v) → HasNoPlannedFailure (T.counts tree.old)
         → HasNoPlannedFailure (O.counts out.old) → HasNoPlannedFailure (E.counts err.old)
-        → IsOutcomeUnlessMemory words.now (files_of v) (LeavesFiles (T.history tree.new)) result
+        → IsAnsweredInFullUnlessMemory words.now (files_of v) (LeavesFiles
+        (T.history tree.new)) result
         (T.counts tree.old) (T.counts tree.new)
         (sink_before_and_after O.bytes O.counts out.old out.new)
         (sink_before_and_after E.bytes E.counts err.old err.new)) }
@@ -123,12 +127,12 @@ pub fn apk<T: Tree, O: Sink, E: Sink>(
     // at each moment, if recovery would now change a name that it would not have changed at the
     // start, the tree has accepted that name.
     ensures promised { effect_of_arguments (command_of words.now) ≡ Changes
-        → TargetsAreAcceptedThroughout T.accepts (T.history tree.old) (T.history tree.new) }
+        → AreRecoveryTargetsAccepted T.accepts (T.history tree.old) (T.history tree.new) }
 
     // If there is nothing to recover, nothing is written by a run that is refused, that runs out of
     // memory, or whose outcome commits nothing, whatever is answered instead.
     ensures idle { IfObservable (T.history tree.old) (λ v.
-        CommitsNothing (IsOutcome (command_of words.now) (files_of v)) result
+        IsRefusedOrCommitsNothing (IsOutcome (command_of words.now) (files_of v)) result
         → HasNothingToRecover (effect_of_arguments (command_of words.now)) v
         → T.history tree.new ≡ T.history tree.old) }
 
@@ -141,12 +145,12 @@ pub fn apk<T: Tree, O: Sink, E: Sink>(
     // yields of the old ones, and staged files are only removed. After recovery the files as read
     // are those on which the command works, except under the names at which an outcome that commits
     // makes new files; or a change has committed its journal entry (intent), and recovery yields
-    // the outcome's files; or they are the outcome's. So each name except the intent's and those of
-    // drafts has its old bytes, its recovered ones or the outcome's, even if the tree fails: no
-    // file is ever temporarily missing. Not proved: that an unchanged file is never rewritten with
-    // the same bytes.
+    // the outcome's files; or they are the outcome's. So each name except the intent's and
+    // temporary ones has its old bytes, its recovered ones or the outcome's, even if the tree
+    // fails: no file is ever temporarily missing. Not proved: that an unchanged file is never
+    // rewritten with the same bytes.
     ensures reads { IfObservable (T.history tree.old) (λ v.
-        AreReadDuringRun (IsOutcome (command_of words.now) (files_of v))
+        AreFilesReadDuringRun (IsOutcome (command_of words.now) (files_of v))
         (effect_of_arguments (command_of words.now)) (output words.now) v (T.history tree.old)
         (T.history tree.new)) }
 
@@ -162,7 +166,7 @@ pub fn apk<T: Tree, O: Sink, E: Sink>(
     // A run that commits nothing leaves the state unchanged: at each moment a crash leaves a state
     // from before, and the files as read have the old one.
     ensures left { IfObservable (T.history tree.old) (λ v.
-        CommitsNothing (IsOutcome (command_of words.now) (files_of v)) result
+        IsRefusedOrCommitsNothing (IsOutcome (command_of words.now) (files_of v)) result
         → (ignored : List ℕ → Bool) → IsDurable (StateDependsOn ignored) v
         → Since (StateIsUnchanged ignored v) (T.history tree.old) (T.history tree.new)) }
 
@@ -171,7 +175,8 @@ pub fn apk<T: Tree, O: Sink, E: Sink>(
     // a bad intent, so a crash leaves one only if it might have left one before.
     ensures crash { IfObservable (T.history tree.old) (λ v. (ignored : List ℕ → Bool)
         → IsDurable (StateDependsOn ignored) v → IgnoresScratchOf (output words.now) ignored
-        → AreOldOrLeadToOutcome (IsOutcome (command_of words.now) (files_of v)) (is_some (output
+        → AreStatesOldOrLeadToOutcome (IsOutcome (command_of words.now) (files_of v)) (is_some
+        (output
         words.now))
         ignored v (T.history tree.old) (T.history tree.new)) }
 
@@ -185,7 +190,7 @@ pub fn apk<T: Tree, O: Sink, E: Sink>(
     // intent was found and done.
     ensures settled { IfObservable (T.history tree.old) (λ v. (ignored : List ℕ → Bool)
         → IsDurable (StateDependsOn ignored) v → IgnoresScratchOf (output words.now) ignored
-        → LeavesDurableOnceAnswered (IsOutcome (command_of words.now) (files_of v))
+        → LeavesDurableFilesOnceAnswered (IsOutcome (command_of words.now) (files_of v))
         (effect_of_arguments (command_of words.now)) ignored v (T.history tree.new) result) }
 
     // Once an outcome that commits is answered, or a sink's fault instead, OUTPUT and
@@ -193,7 +198,8 @@ pub fn apk<T: Tree, O: Sink, E: Sink>(
     // outcome's files, under these names too.
     ensures durable_state { IfObservable (T.history tree.old) (λ v. (ignored : List ℕ → Bool)
         → IsDurable (StateDependsOn ignored) v → IgnoresScratchOf (output words.now) ignored
-        → AnswersOutcome result → LeavesDurableState (IsOutcome (command_of words.now) (files_of v))
+        → AnswersOutcome result
+        → LeavesDurableStateIfCommitted (IsOutcome (command_of words.now) (files_of v))
         (output words.now) ignored (T.history tree.new)) }
 {
     // A law that the proof needs; it has no effect at run time.

@@ -4,11 +4,11 @@
 //! does"; and for how counts explain an answer in "Misuses, faults and counts".
 
 ghost use Rattle.std.specs.Prelude.{◌≡◌, Ok, IfOk, IsErrOf, IsTrue};
-ghost use Rattle.apk_front.specs.Answers.{name_a_command};
+ghost use Rattle.apk_front.specs.Answers.{is_command_named};
 ghost use Rattle.apk_front.specs.RunContracts.{IsJudgedRun, IsReadingRun, IsRunByArguments};
 ghost use Rattle.apk_front.specs.Verdicts.{read_only_outcome};
 ghost use Rattle.outcome.specs.Commands.{IsPossibleOutcomeWithoutDemo, IsOutcomeWithoutDemo, reads_in};
-ghost use Rattle.outcome.specs.Effect.{does_only_read, ignores_files, effect_of_arguments, effect_of, output, output_for_effect, reads_only, depends_only_on_arguments};
+ghost use Rattle.outcome.specs.Effect.{does_only_read, ignores_files, effect_of_arguments, effect_of, output, output_name_for_effect, reads_only, depends_only_on_arguments};
 ghost use Rattle.outcome.specs.Words.{IsPossibleOutcome, IsOutcome};
 ghost use Rattle.words_core.specs.Grammar.{command_of};
 ghost use Rattle.apk_front.specs.Effects.{root_access_if_read_only};
@@ -38,12 +38,13 @@ pub(crate) fn judge<T: Tree>(
         (IsPossibleOutcome (command_of words.now)) (effect_of_arguments (command_of words.now))
         (output words.now)
         (T.history tree.old) (T.history tree.new) (T.counts tree.old) (T.counts tree.new) result }
-    // An outcome that rests on the words alone is judged on every tree, unless memory ran out.
+    // An outcome that depends on the arguments alone is judged on every tree, unless memory ran
+    // out.
     ensures by_arguments { IsTrue (depends_only_on_arguments (command_of words.now))
         → IsRunByArguments (IsOutcome (command_of words.now)) tree.old tree.new result }
     ensures same { IsTrue (reads_only (command_of words.now))
         → T.history tree.new ≡ T.history tree.old }
-    ensures named { IsErrOf result TreeFault.Memory → IsTrue (name_a_command words.now) }
+    ensures named { IsErrOf result TreeFault.Memory → IsTrue (is_command_named words.now) }
 {
     match read_words(alloc, words) {
         Ok(command) => run_command(alloc, &command, tree),
@@ -64,7 +65,7 @@ fn run_command<T: Tree>(
 ) -> Result<Verdict, TreeFault>
     ensures run { IsJudgedRun T.accepts (IsOutcome (Ok command.now))
         (IsPossibleOutcome (Ok command.now)) (effect_of command.now.applet)
-        (output_for_effect (effect_of command.now.applet) command.now)
+        (output_name_for_effect (effect_of command.now.applet) command.now)
         (T.history tree.old) (T.history tree.new) (T.counts tree.old) (T.counts tree.new) result }
     ensures by_arguments { IsTrue (ignores_files (effect_of command.now.applet))
         → IsRunByArguments (IsOutcome (Ok command.now)) tree.old tree.new result }
@@ -77,7 +78,7 @@ fn run_command<T: Tree>(
     }
 }
 
-/// Runs an applet other than `demo`. The clauses are those of `judge`, for a command that was read.
+/// Runs an applet other than `demo`. The clauses are those of `judge`, for a parsed command.
 pub(crate) fn run<T: Tree>(
     alloc: Global,
     command: &Command,
@@ -85,7 +86,7 @@ pub(crate) fn run<T: Tree>(
 ) -> Result<Verdict, TreeFault>
     ensures run { IsJudgedRun T.accepts (IsOutcomeWithoutDemo (Ok command.now))
         (IsPossibleOutcomeWithoutDemo command.now) (effect_of command.now.applet)
-        (output_for_effect (effect_of command.now.applet) command.now)
+        (output_name_for_effect (effect_of command.now.applet) command.now)
         (T.history tree.old) (T.history tree.new) (T.counts tree.old) (T.counts tree.new) result }
     ensures by_arguments { IsTrue (ignores_files (effect_of command.now.applet))
         → IsRunByArguments
@@ -146,7 +147,8 @@ pub enum RootAccess {
 /// What the run of a command line does below its root. Arguments that are no command do nothing, so
 /// such a run only reads.
 pub fn access_for(alloc: Global, words: &Words) -> Result<RootAccess, AllocError>
-    ensures { IfOk result (λ access. access ≡ root_access_if_read_only (reads_only (command_of words.now))) }
+    ensures { IfOk result (λ access. access
+        ≡ root_access_if_read_only (reads_only (command_of words.now))) }
 {
     match read_words(alloc, words) {
         Ok(command) => Ok(applet_access(command.applet())),

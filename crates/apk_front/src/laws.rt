@@ -1,7 +1,7 @@
 //! Laws: the clauses of `apk` hold of each outcome that a command line has, and not only of the one
 //! that they name. They serve `run_lists`; the rules are in `docs/crash-safety.md`, "Recovery".
 ghost use Rattle.std.specs.Prelude.{◌≡◌, ℕ, Bool, true, List, None, is_some};
-ghost use Rattle.apk_front.specs.Moments.{AreOldOrLeadToOutcome, HasNothingToRecover, IsCarriedOut, IsRecovering, LeavesDurableOnceAnswered, MustOutcomeBeDurable};
+ghost use Rattle.apk_front.specs.Moments.{AreStatesOldOrLeadToOutcome, HasNothingToRecover, IsCarriedOut, IsRecovering, LeavesDurableFilesOnceAnswered, MustOutcomeBeDurable};
 ghost use Rattle.apk_front.specs.declared.answer.Answer.{Answer};
 ghost use Rattle.base_core.specs.Calls.{HoldsNow};
 ghost use Rattle.base_core.specs.Crash.{Since};
@@ -11,7 +11,7 @@ ghost use Rattle.journal_core.specs.Replacing.{IsMomentOfReplacing};
 ghost use Rattle.outcome.specs.Effect.{Effect, does_recover, effect_of_arguments, output};
 ghost use Rattle.outcome.specs.Outcome.{Outcome};
 ghost use Rattle.outcome.specs.Words.{IsOutcome};
-ghost use Rattle.outcome.specs.Work.{work_files};
+ghost use Rattle.outcome.specs.Work.{files_recovered_if_needed};
 ghost use Rattle.words_core.specs.Grammar.{command_of};
 
 use journal_core::quiet_then_old_or_new_is_old_or_new;
@@ -22,7 +22,7 @@ use outcome::an_outcome_is_unique;
 pub fn a_crash_leaves_the_old_files_or_those_of_the_outcome()
     ensures { (words : List (List ℕ)) (ignored : List ℕ → Bool) (v : TreeState) (outcome : Outcome)
         (old now : List TreeState)
-        → AreOldOrLeadToOutcome (IsOutcome (command_of words) (files_of v)) (is_some (output
+        → AreStatesOldOrLeadToOutcome (IsOutcome (command_of words) (files_of v)) (is_some (output
         words)) ignored v
         old now
         → IsOutcome (command_of words) (files_of v) outcome
@@ -38,7 +38,8 @@ pub fn a_crash_leaves_the_old_files_or_those_of_the_outcome()
 pub fn what_is_carried_out_is_durable()
     ensures { (words : List (List ℕ)) (ignored : List ℕ → Bool) (v : TreeState) (outcome : Outcome)
         (now : List TreeState) (answer : Answer)
-        → LeavesDurableOnceAnswered (IsOutcome (command_of words) (files_of v)) (effect_of_arguments
+        → LeavesDurableFilesOnceAnswered (IsOutcome (command_of words) (files_of v))
+        (effect_of_arguments
         (command_of words))
         ignored v now answer → IsCarriedOut answer
         → IsOutcome (command_of words) (files_of v) outcome → outcome.refusal ≡ None
@@ -54,5 +55,5 @@ pub fn without_recovery_the_files_are_the_old_ones()
     ensures moments { (effect : Effect) (v w : TreeState) → HasNothingToRecover effect v
         → (does_recover effect ≡ true) × IsRecovering v w → files_of w ≡ files_of v }
     ensures work { (effect : Effect) (v : TreeState) → HasNothingToRecover effect v
-        → work_files effect (files_of v) ≡ files_of v }
+        → files_recovered_if_needed effect (files_of v) ≡ files_of v }
 {}

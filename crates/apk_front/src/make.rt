@@ -2,13 +2,13 @@
 //! in `docs/commands.md`, "`mkpkg`" and "`mkndx PACKAGE..`", and for the writing in
 //! `docs/crash-safety.md`, "A whole file replaced". The container is made by `make_core`.
 ghost use Rattle.std.specs.Prelude.{◌≡◌, ◌≢◌, ◌⊎◌, ℕ, false, true, List, Ok, Err, IsSome, IfOk, IsErrOf, OnOk};
-ghost use Rattle.make_core.specs.make_package.Answers.{IsMadeBySome};
-ghost use Rattle.apk_front.specs.Containers.{IsIndexMade, IsIndexFound, IsIndexOutcome, IsPackageMade, IsPackageOutcome, OnMade, is_disk_or_memory, ended_by_disk_or_memory, made_file_bytes};
+ghost use Rattle.make_core.specs.make_package.Answers.{IsMadeBySomeReads};
+ghost use Rattle.apk_front.specs.Containers.{IsIndexMade, IsIndexFound, IsIndexOutcome, IsPackageMade, IsPackageOutcome, OnMade, is_disk_or_memory, is_making_ended_by_disk_or_memory, made_file_bytes};
 ghost use Rattle.apk_front.specs.Moments.{CanAddOutputNamesIfAny};
 ghost use Rattle.apk_front.specs.RunContracts.{IsMakingRun, IsVerdictExplainedByCounts};
 ghost use Rattle.apk_front.specs.Verdicts.{Reports, ReportsOneOfOutcomes};
 ghost use Rattle.base_core.specs.Calls.{IfObservable};
-ghost use Rattle.base_core.specs.Faults.{CountsOnlyRise, HasCause, IsNoFault};
+ghost use Rattle.base_core.specs.Faults.{CountsOnlyRise, IsFaultCountedWithCause, CountsNoNewFault};
 ghost use Rattle.base_core.specs.Files.{Files, no_names};
 ghost use Rattle.base_core.specs.Read.{OnlyReads};
 ghost use Rattle.base_core.specs.Tree.{files_of};
@@ -18,8 +18,8 @@ ghost use Rattle.command_core.specs.declared.values.TheConstants.{FILES};
 ghost use Rattle.make_core.specs.make_index.Files.{FindOnlyFiles};
 ghost use Rattle.make_core.specs.make_info.Output.{output_name};
 ghost use Rattle.make_core.specs.make_info.Reads.{Reads};
-ghost use Rattle.make_core.specs.package_files.Sources.{AreNamesBelowFirst, values_of_letter};
-ghost use Rattle.outcome.specs.Make.{index_line, make_outcome, mkndx, mkpkg, unless_reserved};
+ghost use Rattle.make_core.specs.package_files.Sources.{AreNamesBelowFirstFolder, values_of_letter};
+ghost use Rattle.outcome.specs.Make.{index_report_line, make_outcome, mkndx, mkpkg, unless_reserved};
 ghost use Rattle.outcome.specs.Outcome.{Outcome, just_refusal};
 ghost use Rattle.report_core.specs.declared.refusal.Refusal.TheVariants.{ResultTooLarge};
 
@@ -48,14 +48,18 @@ pub(crate) fn mkpkg<T: Tree>(
 ) -> Result<Verdict, TreeFault>
     requires command { IsValidCommand command.now }
     requires applet { command.now.applet ≡ Mkpkg }
+    // On an observable tree the verdict is that of the outcome over its files.
     ensures found { IfOk result (λ verdict. IfObservable (T.history tree.old) (λ v.
         ReportsOneOfOutcomes (IsPackageOutcome command.now (files_of v)) verdict)) }
+    // On every tree it is that of an outcome for some listing and some contents at each read.
     ensures by_reads { IfOk result (λ verdict. (names : List (List ℕ))
-        × AreNamesBelowFirst (values_of_letter FILES command.now.values) names
+        × AreNamesBelowFirstFolder (values_of_letter FILES command.now.values) names
         × (read : Reads) × Reports verdict (mkpkg read no_names command.now names)) }
+    // The effect of the run on the tree.
     ensures run { IsMakingRun (IsPackageOutcome command.now) (output_name command.now)
         (T.history tree.old) (T.history tree.new) result }
     ensures counts { IsVerdictExplainedByCounts (T.counts tree.old) (T.counts tree.new) result }
+    // No call is a misuse if the paths of the output and its scratch name are free.
     ensures proper { IfObservable (T.history tree.old) (λ v.
         ((outcome : Outcome) → IsPackageOutcome command.now (files_of v) outcome
         → outcome.commits ≡ true → CanAddOutputNamesIfAny (output_name command.now) (files_of v))
@@ -96,7 +100,7 @@ pub(crate) fn mkndx<T: Tree>(
     // Laws that the proof needs; they have no effect at run time.
     counts_of_consecutive_calls_compose();
     an_index_has_an_output();
-    let report = index_line(alloc, command.operands().len())?;
+    let report = index_report_line(alloc, command.operands().len())?;
     let container = index(alloc, command, tree);
     finish(alloc, command, container, report, tree)
 }
@@ -108,7 +112,7 @@ fn package<T: Tree>(alloc: Global, command: &Command, tree: &mut T) -> Result<Ve
     ensures made { IfObservable (T.history tree.old) (λ v.
         OnMade result (IsPackageMade command.now (files_of v))) }
     // On every tree: what is made of some contents at each read.
-    ensures found { OnMade result (IsMadeBySome command.now) }
+    ensures found { OnMade result (IsMadeBySomeReads command.now) }
     // The tree is only read; an I/O error has its cause there.
     ensures tree { OnlyReads MakeFault.Disk (T.history tree.old) (T.history tree.new)
         (T.counts tree.old) (T.counts tree.new) result }
@@ -134,17 +138,18 @@ fn index<T: Tree>(alloc: Global, command: &Command, tree: &mut T) -> Result<Vec<
 }
 
 // The report of `mkndx` over this many packages.
-fn index_line(alloc: Global, count: usize) -> Result<Text, AllocError>
-    ensures { IfOk result (λ line. line ≡ index_line count) }
+fn index_report_line(alloc: Global, count: usize) -> Result<Text, AllocError>
+    ensures { IfOk result (λ line. line ≡ index_report_line count) }
 {
     let line = format!(in alloc; "Index has {count} packages\n")?;
     Text::of(alloc, line.as_bytes())
 }
 
-// Writes the container that was made, or refuses. The clauses are those of `mkpkg`. Its `counts` are
-// `goes_on`, `disk`, `kept` and `memory` here, since an I/O error may also be that of the making.
-// Three more: if a fault stopped the making, nothing is judged (`done`) and nothing is written
-// (`cut`). An I/O error of the tree is not reported as out of memory (`lost`).
+// Writes the container that was made, or refuses. The clauses are those of `mkpkg`; four of them,
+// `goes_on`, `disk`, `kept` and `memory`, replace its `counts`, since the tree may also have failed
+// while the container was made. Three more: if a fault stopped the making, there is no verdict
+// (`done`) and nothing is written (`cut`). An I/O error of the tree is not reported as out of
+// memory (`lost`).
 fn finish<T: Tree>(
     alloc: Global,
     command: &Command,
@@ -153,21 +158,24 @@ fn finish<T: Tree>(
     tree: &mut T,
 ) -> Result<Verdict, TreeFault>
     requires command { IsValidCommand command.now }
+    // If a container was made, the command has an output.
     requires output { IfOk container (λ file. IsSome (output_name command.now)) }
+    // The verdict is that of the outcome, whatever the files are.
     ensures reported { IfOk result (λ verdict. (files : Files) → Reports verdict
         (make_outcome files (output_name command.now) report (made_file_bytes container))) }
     ensures run { IsMakingRun (λ files outcome. outcome
         ≡ make_outcome files (output_name command.now) report (made_file_bytes container))
         (output_name command.now) (T.history tree.old) (T.history tree.new) result }
-    ensures done { IfOk result (λ verdict. ended_by_disk_or_memory container ≡ false) }
-    ensures cut { ended_by_disk_or_memory container ≡ true → T.history tree.new
+    ensures done { IfOk result (λ verdict. is_making_ended_by_disk_or_memory container ≡ false) }
+    ensures cut { is_making_ended_by_disk_or_memory container ≡ true → T.history tree.new
         ≡ T.history tree.old }
     ensures goes_on { CountsOnlyRise (T.counts tree.old) (T.counts tree.new) }
     ensures disk { IsErrOf result TreeFault.Disk
-        → IsErrOf container MakeFault.Disk ⊎ HasCause (T.counts tree.old) (T.counts tree.new) }
-    ensures kept { OnOk result (IsNoFault (T.counts tree.old) (T.counts tree.new)) }
+        → IsErrOf container MakeFault.Disk
+        ⊎ IsFaultCountedWithCause (T.counts tree.old) (T.counts tree.new) }
+    ensures kept { OnOk result (CountsNoNewFault (T.counts tree.old) (T.counts tree.new)) }
     ensures memory { IsErrOf result TreeFault.Memory
-        → IsNoFault (T.counts tree.old) (T.counts tree.new) }
+        → CountsNoNewFault (T.counts tree.old) (T.counts tree.new) }
     ensures lost { IsErrOf result TreeFault.Memory → container ≢ Err MakeFault.Disk }
     ensures proper { IfObservable (T.history tree.old) (λ v.
         IfOk container (λ file.

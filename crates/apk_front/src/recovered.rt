@@ -6,7 +6,7 @@ ghost use Rattle.apk_front.specs.Verdicts.{as_outcome};
 ghost use Rattle.base_core.specs.Files.{Files};
 ghost use Rattle.base_core.specs.declared.cause.Cause.{Cause};
 ghost use Rattle.outcome.specs.Commands.{IsOutcomeWithoutDemo, IsPossibleOutcomeWithoutDemo};
-ghost use Rattle.outcome.specs.Effect.{Changes, does_recover, effect_of, output_for_effect};
+ghost use Rattle.outcome.specs.Effect.{Changes, does_recover, effect_of, output_name_for_effect};
 ghost use Rattle.outcome.specs.Outcome.{just_refusal};
 ghost use Rattle.report_core.specs.declared.refusal.Refusal.TheVariants.{IntentBad};
 ghost use Rattle.engine_core.specs.journal_commit.Asked.{TargetsAreAccepted};
@@ -34,7 +34,7 @@ pub(crate) fn recover_and_run<T: Tree>(
     requires { does_recover (effect_of command.now.applet) ≡ true }
     ensures { IsJudgedRun T.accepts (IsOutcomeWithoutDemo (Ok command.now))
         (IsPossibleOutcomeWithoutDemo command.now) (effect_of command.now.applet)
-        (output_for_effect (effect_of command.now.applet) command.now)
+        (output_name_for_effect (effect_of command.now.applet) command.now)
         (T.history tree.old) (T.history tree.new) (T.counts tree.old) (T.counts tree.new) result }
 {
     // Laws that the proof needs; they have no effect at run time.

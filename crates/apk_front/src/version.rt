@@ -5,7 +5,7 @@ ghost use Rattle.std.specs.Prelude.{◌≡◌, ◌++◌, length, true, IfOk, OnO
 ghost use Rattle.apk_front.specs.Verdicts.{as_outcome};
 ghost use Rattle.base_core.specs.Files.{Files};
 ghost use Rattle.outcome.specs.Outcome.{outcome_of, report_unless};
-ghost use Rattle.outcome.specs.Version.{invalid_line, invalid_lines, order_line, order_report, version, version_refusal};
+ghost use Rattle.outcome.specs.Version.{invalid_version_line, invalid_version_lines, order_line, version_order_report, version, version_refusal};
 
 use crate::answer::Verdict;
 use base_core::Text;
@@ -37,7 +37,7 @@ pub(crate) fn version(
 fn compare(alloc: Global, operands: &Operands) -> Result<Verdict, AllocError>
     requires { length operands.now ≡ 2 }
     ensures { IfOk result (λ verdict. (files : Files) → as_outcome files verdict
-        ≡ report_unless files (version_refusal operands.now) (order_report operands.now)) }
+        ≡ report_unless files (version_refusal operands.now) (version_order_report operands.now)) }
 {
     let (first, second) = (operands.get(0), operands.get(1));
     let Some(version) = Version::read(first.text.as_bytes()) else {
@@ -67,7 +67,7 @@ fn order_line(order: Ordering) -> &'static [u8]
 // them.
 fn check(alloc: Global, operands: &Operands) -> Result<Verdict, AllocError>
     ensures { IfOk result (λ verdict. (files : Files) → as_outcome files verdict
-        ≡ outcome_of (version_refusal operands.now) (invalid_lines operands.now) files) }
+        ≡ outcome_of (version_refusal operands.now) (invalid_version_lines operands.now) files) }
 {
     let report = lines(alloc, operands)?;
     let refusal = first_refusal(operands);
@@ -90,7 +90,7 @@ fn first_refusal(operands: &Operands) -> Option<Refusal>
 
 // The report of `--check`: a line for each operand that is no version.
 fn lines(alloc: Global, operands: &Operands) -> Result<Text, AllocError>
-    ensures { IfOk result (λ report. report ≡ invalid_lines operands.now) }
+    ensures { IfOk result (λ report. report ≡ invalid_version_lines operands.now) }
 {
     let mut report = Vec::new(alloc);
     for i in 0..operands.len() {
@@ -101,7 +101,7 @@ fn lines(alloc: Global, operands: &Operands) -> Result<Text, AllocError>
 
 // Adds the line of a text that is no version; for a version nothing is added.
 fn add_line(report: &mut Vec<u8>, text: &[u8]) -> Result<(), AllocError>
-    ensures { OnOk result (report.new.items ≡ report.old.items ++ invalid_line text.now) }
+    ensures { OnOk result (report.new.items ≡ report.old.items ++ invalid_version_line text.now) }
 {
     if Version::read(text).is_some() {
         return Ok(());

@@ -8,7 +8,7 @@ use Rattle.adb_view.specs.Plain.{Plain}
 use Rattle.command_core.proofs.Entries.{left_at}
 use Rattle.command_core.specs.declared.operands.Operand.{Operand}
 use Rattle.db_core.specs.Packages.{is_package_named}
-use Rattle.report_core.specs.AuditReports.{manifest_text, named_digest}
+use Rattle.report_core.specs.AuditReports.{digest_and_path_text, named_digest}
 use Rattle.report_core.specs.Reports.{report_line}
 use Rattle.report_core.specs.declared.refusal.Refusal.{Refusal}
 use Rattle.report_core.specs.declared.refusal.Refusal.TheVariants.{NotInstalled}
@@ -25,11 +25,11 @@ four_added r0 r1 r2 r3 a b p e one two three =
     ∙ ap (λ z. r0 ++ z) (sym (append_assoc (a ++ b) p e))))
 
 pub line_added : {E : Type 0} (r0 r1 r2 r3 digest path wanted_digest wanted_path : List ℕ) (result : Result (Unit {0}) E) → r1 ≡ r0 ++ named_digest digest → r2 ≡ r1 ++ codes "  "
-    → OnOk result (r3 ≡ r2 ++ report_line path) → digest ≡ wanted_digest → path ≡ wanted_path → OnOk result (r3 ≡ r0 ++ report_line (manifest_text wanted_digest wanted_path))
+    → OnOk result (r3 ≡ r2 ++ report_line path) → digest ≡ wanted_digest → path ≡ wanted_path → OnOk result (r3 ≡ r0 ++ report_line (digest_and_path_text wanted_digest wanted_path))
 line_added r0 r1 r2 r3 digest path wanted_digest wanted_path (Err e) one two three d p = tt
 line_added r0 r1 r2 r3 digest path wanted_digest wanted_path (Ok x) one two three d p =
     four_added r0 r1 r2 r3 (named_digest digest) (codes "  ") path (codes "\n") one two three
-    ∙ (ap (λ z. r0 ++ report_line (manifest_text z path)) d ∙ ap (λ z. r0 ++ report_line (manifest_text wanted_digest z)) p)
+    ∙ (ap (λ z. r0 ++ report_line (digest_and_path_text z path)) d ∙ ap (λ z. r0 ++ report_line (digest_and_path_text wanted_digest z)) p)
 
 -- ---- operands
 

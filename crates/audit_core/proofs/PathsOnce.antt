@@ -9,10 +9,10 @@ use Rattle.base_core.proofs.Booleans.{both_second, both_first}
 use Rattle.path_clashes.specs.adb_fields.FirstPair.{IsIn}
 use Rattle.path_clashes.specs.adb_fields.Once.{EachHasDistinctNames, ShareNoName, AreDistinctNames, IsInOneOf}
 use Rattle.path_clashes.specs.adb_fields.Paths.{path_of}
-use Rattle.path_clashes.specs.adb_fields.Repeated.{entries_at, files_in, folders_in, list_of, name_of, paths_in, paths_under}
+use Rattle.path_clashes.specs.adb_fields.Repeated.{entries_at, files_in, folders_in, list_of, name_of, paths_of_package_files, paths_of_folder_files}
 use Rattle.path_clashes.proofs.adb_fields.Members.{from-flat_map, from-map, in-map}
 use Rattle.path_clashes.proofs.adb_fields.Distinct.{distinct_front}
-use Rattle.db_core.specs.adb_schema.Rules.{is_file_name, is_one_part}
+use Rattle.db_core.specs.adb_schema.Rules.{is_file_name_in_folder, is_one_part}
 use Rattle.db_core.specs.adb_schema.SoundContainers.{IsSoundValue}
 use Rattle.db_core.specs.adb_schema.SoundValues.{IsSoundFileOf, IsSoundFolder, IsSoundPackage}
 use Rattle.adb_view.specs.FieldIndexes.{DIR_FILES, IDB_PACKAGES, PACKAGE_PATHS}
@@ -48,7 +48,7 @@ abbrev is_slash : ℕ → Bool
 is_slash b = b == 47
 
 -- a file's name has no slash
-no_slash : (folder name : List ℕ) → is_file_name folder name ≡ true → list_any is_slash name ≡ false
+no_slash : (folder name : List ℕ) → is_file_name_in_folder folder name ≡ true → list_any is_slash name ≡ false
 no_slash folder name h = not-true (list_any is_slash name) (both_second _ (not (list_any is_slash name)) (both_first (is_one_part name) (nat_le (length (path_of folder name)) 1024) h))
 
 slash_after : (xs ys : List ℕ) → list_any is_slash (xs ++ 47 ∷ ys) ≡ true
@@ -96,7 +96,7 @@ map_twice : (f : List ℕ → List ℕ) (files : List Plain) → map f (map name
 map_twice f [] = refl
 map_twice f (file ∷ files) = ap (λ rest. f (name_of file) ∷ rest) (map_twice f files)
 
-folder_once : (folder : Plain) → AreParts folder → AreDistinctNames (map name_of (files_in folder)) → AreDistinctNames (paths_under folder)
+folder_once : (folder : Plain) → AreParts folder → AreDistinctNames (map name_of (files_in folder)) → AreDistinctNames (paths_of_folder_files folder)
 folder_once folder parts d =
     subst AreDistinctNames (map_twice (path_of (name_of folder)) (files_in folder))
     (distinct_map (path_of (name_of folder)) (map name_of (files_in folder)) (λ a b h k e.
@@ -107,14 +107,14 @@ folder_once folder parts d =
 -- ---- the folders of a package
 
 folders_once : (folders : List Plain) → ((folder : Plain) → IsIn folder folders → AreParts folder) → AreDistinctNames (map name_of folders) → EachHasDistinctNames (map (λ folder. map name_of (files_in folder)) folders)
-    → AreDistinctNames (flat_map paths_under folders)
+    → AreDistinctNames (flat_map paths_of_folder_files folders)
 folders_once [] parts names files = tt
 folders_once (folder ∷ folders) parts names files =
-    distinct_both (paths_under folder) (flat_map paths_under folders) (folder_once folder (parts folder (inl refl)) files.0)
+    distinct_both (paths_of_folder_files folder) (flat_map paths_of_folder_files folders) (folder_once folder (parts folder (inl refl)) files.0)
     (folders_once folders (λ f h. parts f (inr h)) names.1 files.1)
     (λ q h k.
     (let here = from-map (λ file. path_of (name_of folder) (name_of file)) q (files_in folder) h in
-    let there = from-flat_map paths_under q folders k in
+    let there = from-flat_map paths_of_folder_files q folders k in
     let file = from-map (λ file. path_of (name_of there.0) (name_of file)) q (files_in there.0) there.2 in
     let same = same_path (name_of folder) (name_of there.0) (name_of here.0) (name_of file.0) (parts folder (inl refl) here.0 here.1) (parts there.0 (inr there.1) file.0 file.1) (sym here.2 ∙ file.2) in
     names.0 (subst (λ (name : List ℕ). IsIn name (map name_of folders)) (sym same.0) (in-map name_of there.0 folders there.1))))
@@ -125,48 +125,48 @@ distinct_after : (xs ys : List (List (List ℕ))) → EachHasDistinctNames (xs +
 distinct_after [] ys h = h
 distinct_after (x ∷ xs) ys h = distinct_after xs ys h.1
 
-in_one_of : (q : List ℕ) (pkg : Plain) (packages : List Plain) → IsIn pkg packages → IsIn q (paths_in pkg) → IsInOneOf q (map paths_in packages)
+in_one_of : (q : List ℕ) (pkg : Plain) (packages : List Plain) → IsIn pkg packages → IsIn q (paths_of_package_files pkg) → IsInOneOf q (map paths_of_package_files packages)
 in_one_of q pkg [] here lists = absurd here
-in_one_of q pkg (p ∷ packages) (inl is) lists = inl (subst (λ (v : Plain). IsIn q (paths_in v)) is lists)
+in_one_of q pkg (p ∷ packages) (inl is) lists = inl (subst (λ (v : Plain). IsIn q (paths_of_package_files v)) is lists)
 in_one_of q pkg (p ∷ packages) (inr here) lists = inr (in_one_of q pkg packages here lists)
 
 packages_once : (packages : List Plain) → ((pkg : Plain) → IsIn pkg packages → IsSoundPackage Idb pkg) → EachHasDistinctNames (map (λ pkg. map name_of (folders_in pkg)) packages)
-    → EachHasDistinctNames (flat_map (λ pkg. map (λ folder. map name_of (files_in folder)) (folders_in pkg)) packages) → ShareNoName (map paths_in packages)
-    → AreDistinctNames (flat_map paths_in packages)
+    → EachHasDistinctNames (flat_map (λ pkg. map (λ folder. map name_of (files_in folder)) (folders_in pkg)) packages) → ShareNoName (map paths_of_package_files packages)
+    → AreDistinctNames (flat_map paths_of_package_files packages)
 packages_once [] rules folders files apart = tt
 packages_once (pkg ∷ packages) rules folders files apart =
     let files_of : Plain → List (List (List ℕ)) = λ pkg. map (λ folder. map name_of (files_in folder)) (folders_in pkg) in
-    distinct_both (paths_in pkg) (flat_map paths_in packages)
+    distinct_both (paths_of_package_files pkg) (flat_map paths_of_package_files packages)
     (folders_once (folders_in pkg)
     (λ folder h. parts_of_folder folder (each_in (IsSoundFolder Idb) folder (entries_in (entry_in pkg PACKAGE_PATHS)) (rules pkg (inl refl)).folders h))
     folders.0 (distinct_front (files_of pkg) (flat_map files_of packages) files))
     (packages_once packages (λ p h. rules p (inr h)) folders.1 (distinct_after (files_of pkg) (flat_map files_of packages) files) apart.1)
-    (λ q h k. (let found = from-flat_map paths_in q packages k in apart.0 q h (in_one_of q found.0 packages found.1 found.2)))
+    (λ q h k. (let found = from-flat_map paths_of_package_files q packages k in apart.0 q h (in_one_of q found.0 packages found.1 found.2)))
 
-pub database_once : (database : Plain) → IsSoundValue Idb database → AreDistinctNames (flat_map paths_in (entries_at IDB_PACKAGES database))
+pub database_once : (database : Plain) → IsSoundValue Idb database → AreDistinctNames (flat_map paths_of_package_files (entries_at IDB_PACKAGES database))
 database_once database sound =
     packages_once (entries_at IDB_PACKAGES database) (λ pkg h. each_in (IsSoundPackage Idb) pkg (entries_in (entry_in database IDB_PACKAGES)) sound.rules h)
     sound.once.0.folders sound.once.0.files sound.once.1.paths_once
 
 -- ---- the paths of records
 
-folder_paths : (folder : Plain) → map (λ r. r.path) (folder_records folder) ≡ paths_under folder
+folder_paths : (folder : Plain) → map (λ r. r.path) (folder_records folder) ≡ paths_of_folder_files folder
 folder_paths folder = go (files_in folder)
   where
     go : (files : List Plain) → map (λ r. r.path) (map (file_record (name_of folder)) files) ≡ map (λ file. path_of (name_of folder) (name_of file)) files
     go [] = refl
     go (file ∷ files) = ap (λ rest. path_of (name_of folder) (name_of file) ∷ rest) (go files)
 
-package_paths : (folders : List Plain) → map (λ r. r.path) (flat_map folder_records folders) ≡ flat_map paths_under folders
+package_paths : (folders : List Plain) → map (λ r. r.path) (flat_map folder_records folders) ≡ flat_map paths_of_folder_files folders
 package_paths [] = refl
 package_paths (folder ∷ folders) =
     map-append (λ (r : PathAndEntry). r.path) (folder_records folder) (flat_map folder_records folders)
     ∙ (ap (λ paths. paths ++ map (λ r. r.path) (flat_map folder_records folders)) (folder_paths folder)
-    ∙ ap (λ paths. paths_under folder ++ paths) (package_paths folders))
+    ∙ ap (λ paths. paths_of_folder_files folder ++ paths) (package_paths folders))
 
-pub record_paths : (packages : List Plain) → map (λ r. r.path) (database_records packages) ≡ flat_map paths_in packages
+pub record_paths : (packages : List Plain) → map (λ r. r.path) (database_records packages) ≡ flat_map paths_of_package_files packages
 record_paths [] = refl
 record_paths (pkg ∷ packages) =
     map-append (λ (r : PathAndEntry). r.path) (package_records pkg) (database_records packages)
     ∙ (ap (λ paths. paths ++ map (λ r. r.path) (database_records packages)) (package_paths (folders_in pkg))
-    ∙ ap (λ paths. paths_in pkg ++ paths) (record_paths packages))
+    ∙ ap (λ paths. paths_of_package_files pkg ++ paths) (record_paths packages))

@@ -14,7 +14,7 @@ use Rattle.adb_view.specs.Plain.{Plain}
 use Rattle.adb_view.specs.declared.tables.Which.TheVariants.{Idb}
 use Rattle.base_core.specs.Files.{Files}
 use Rattle.base_core.specs.Listed.{AreSortedDistinctNames}
-use Rattle.base_core.specs.Sorted.{sorted_by, with_element}
+use Rattle.base_core.specs.Sorted.{sorted_by, with_element_inserted}
 use Rattle.base_core.proofs.Rising as Names
 use Rattle.base_core.proofs.Rising.{order, pairs_from_rises}
 use Rattle.audit_core.specs.Audit.{FileDifference, path_difference_if_any, difference_from_entry}
@@ -33,12 +33,12 @@ as_in q (name ∷ names) (inr here) = inr (as_in q names here)
 
 -- ---- a sorted list
 
-put_paths : (q : List ℕ) (x : PathAndEntry) (ys : List PathAndEntry) → Names.IsIn q (paths (with_element record_cmp x ys)) → (q ≡ x.path) ⊎ Names.IsIn q (paths ys)
+put_paths : (q : List ℕ) (x : PathAndEntry) (ys : List PathAndEntry) → Names.IsIn q (paths (with_element_inserted record_cmp x ys)) → (q ≡ x.path) ⊎ Names.IsIn q (paths ys)
 put_paths q x [] here = here
 put_paths q x (y ∷ ys) here = go (is_gt (record_cmp x y)) (put_paths q x ys) here
   where
-    go : (b : Bool) → (Names.IsIn q (paths (with_element record_cmp x ys)) → (q ≡ x.path) ⊎ Names.IsIn q (paths ys))
-        → Names.IsIn q (paths (if b then y ∷ with_element record_cmp x ys else x ∷ y ∷ ys)) → (q ≡ x.path) ⊎ Names.IsIn q (paths (y ∷ ys))
+    go : (b : Bool) → (Names.IsIn q (paths (with_element_inserted record_cmp x ys)) → (q ≡ x.path) ⊎ Names.IsIn q (paths ys))
+        → Names.IsIn q (paths (if b then y ∷ with_element_inserted record_cmp x ys else x ∷ y ∷ ys)) → (q ≡ x.path) ⊎ Names.IsIn q (paths (y ∷ ys))
     go true rest (inl is) = inr (inl is)
     go true rest (inr more) = elim (rest more) [ inl is ↦ inl is | inr old ↦ inr (inr old) ]
     go false rest here = here
@@ -59,14 +59,14 @@ order_is : (x y : PathAndEntry) → record_cmp x y ≡ order x.path y.path
 unfolding record_cmp
 order_is x y = refl
 
-rises_put : (x : PathAndEntry) (ys : List PathAndEntry) → Names.Rises (paths ys) → ((q : List ℕ) → Names.IsIn q (paths ys) → q ≡ x.path → ⊥) → Names.Rises (paths (with_element record_cmp x ys))
+rises_put : (x : PathAndEntry) (ys : List PathAndEntry) → Names.Rises (paths ys) → ((q : List ℕ) → Names.IsIn q (paths ys) → q ≡ x.path → ⊥) → Names.Rises (paths (with_element_inserted record_cmp x ys))
 rises_put x [] rises new = (λ q here. absurd here, tt)
 rises_put x (y ∷ ys) rises new = go (order x.path y.path) refl (order_is x y) (rises_put x ys rises.1 (λ q h. new q (inr h)))
   where
-    go : (o : Ordering) → order x.path y.path ≡ o → record_cmp x y ≡ order x.path y.path → Names.Rises (paths (with_element record_cmp x ys)) → Names.Rises (paths (with_element record_cmp x (y ∷ ys)))
-    go o is same rest = subst (λ (b : Ordering). Names.Rises (paths (if is_gt b then y ∷ with_element record_cmp x ys else x ∷ y ∷ ys))) (sym (same ∙ is)) (by o is)
+    go : (o : Ordering) → order x.path y.path ≡ o → record_cmp x y ≡ order x.path y.path → Names.Rises (paths (with_element_inserted record_cmp x ys)) → Names.Rises (paths (with_element_inserted record_cmp x (y ∷ ys)))
+    go o is same rest = subst (λ (b : Ordering). Names.Rises (paths (if is_gt b then y ∷ with_element_inserted record_cmp x ys else x ∷ y ∷ ys))) (sym (same ∙ is)) (by o is)
       where
-        by : (o : Ordering) → order x.path y.path ≡ o → Names.Rises (paths (if is_gt o then y ∷ with_element record_cmp x ys else x ∷ y ∷ ys))
+        by : (o : Ordering) → order x.path y.path ≡ o → Names.Rises (paths (if is_gt o then y ∷ with_element_inserted record_cmp x ys else x ∷ y ∷ ys))
         by Less is = (above x.path y.path (paths ys) is rises, rises)
         by Equal is = absurd (new y.path (inl refl) (sym (exact_bytes x.path y.path is)))
         by Greater is = (λ q here. later x.path y.path (paths ys) is rises q (put_paths q x ys here), rest)

@@ -8,14 +8,14 @@ use Rattle.base_core.specs.Lists.{and_then}
 use Rattle.command_core.specs.declared.operands.Operand.{Operand}
 use Rattle.db_core.specs.Packages.{is_package_named}
 use Rattle.file_guard.specs.AsListed.{file_hash}
-use Rattle.report_core.specs.AuditReports.{manifest_text}
+use Rattle.report_core.specs.AuditReports.{digest_and_path_text}
 use Rattle.report_core.specs.Reports.{report_line}
 use Rattle.report_core.specs.declared.refusal.Refusal.{Refusal}
 use Rattle.report_core.specs.declared.refusal.Refusal.TheVariants.{NotInstalled}
 
 -- the line of a file
 abbrev pub manifest_line : PathAndEntry → List ℕ
-manifest_line r = report_line (manifest_text (file_hash r.entry) r.path)
+manifest_line r = report_line (digest_and_path_text (file_hash r.entry) r.path)
 
 -- the lines of a package's files, in the order of the database
 abbrev pub package_manifest : Plain → List ℕ

@@ -10,7 +10,7 @@ use Rattle.audit_core.specs.declared.comparing.Difference.{Difference}
 use Rattle.audit_core.specs.declared.comparing.Difference.TheVariants.{Changed, Missing}
 use Rattle.file_guard.specs.declared.compare.Comparison.{Comparison}
 
--- the record that is stored so
+-- the record that a stored record means: its path, and its entry decoded from the payload
 abbrev pub record_seen : StoredRecord → PathAndEntry
 record_seen r = record {
   path = r.path;

@@ -2,7 +2,8 @@
 -- `src/records.rt`.
 use Rattle.std.specs.Prelude.{ℕ, List}
 
--- the path of a file, and where its entry is stored: in a payload, at a word
+-- the path of a file, and its entry as it is stored: the payload of a container, and the encoded 32-bit
+-- value (`word`) that stands for the entry there
 pub record StoredRecord : Type 0 where
   pub path : List ℕ
   pub payload : List ℕ

@@ -32,7 +32,7 @@ pub enum Difference {
 /// Compares each file that the packages of a database list with its record, and reports those that
 /// differ: `X PATH` of a file that is missing, `U PATH` of one with other bytes, in byte order of
 /// the paths. Each file is read once, in pieces of 65,536 bytes, and the tree is left as it
-/// is, whatever the answer. It takes a few words for each file that is listed, and the report.
+/// is, whatever the answer. Memory holds a few machine words for each listed file, and the report.
 ///
 /// # Errors
 ///
@@ -67,7 +67,7 @@ fn audit_records<T: Tree>(
         (T.counts tree.old) (T.counts tree.new) result }
 {
     let mut report = Vec::new(alloc);
-    // One piece for all files: to zero one for each small file would take longer than to read it.
+    // One buffer for all files: to zero one for each small file takes longer than to read the file.
     let mut piece = [0; PIECE_LEN];
     for record in records {
         audit_record(alloc, &mut report, record, tree, &mut piece)?;

@@ -14,8 +14,8 @@ ghost use Rattle.package_files.specs.make_info.Reads.{Reads};
 ghost use Rattle.std.specs.List.{flat_map};
 ghost use Rattle.std.specs.Prelude.{◌≡◌, ◌≤◌, ◌↔◌, [], ℕ, List, map};
 
-/// A report of an audit rests on the reads from its first on alone. What a command reads before
-/// them is another matter.
+/// The report of an audit depends only on the reads from its first one on, and not on what the
+/// command reads before them.
 pub fn audits_depend_on_their_own_reads()
     ensures { (read other : Reads) (first : ℕ) (packages : List Plain)
         → ((n : ℕ) (name : List ℕ) → first ≤ n → read n name ≡ other n name)

@@ -48,8 +48,8 @@ impl<'a> Model for Record<'a> {
         ≡ true };
 }
 
-/// The records of all files that the packages of a database list, in byte order of their paths. It
-/// takes a few words for each file, and compares paths as a sort does.
+/// The records of all files that the packages of a database list, in byte order of their paths. A
+/// record takes a few machine words of memory, and the paths are compared as a sort does.
 ///
 /// # Errors
 ///

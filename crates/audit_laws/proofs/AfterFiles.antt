@@ -7,8 +7,8 @@ use Rattle.audit_core.specs.declared.comparing.Difference.{Difference}
 use Rattle.audit_core.specs.declared.comparing.Difference.TheVariants.{Changed, Missing}
 use Rattle.base_core.specs.Files.{Files}
 use Rattle.root_laws.specs.change_files.Fate.{is_protected_path}
-use Rattle.root_laws.specs.change_files.FileChange.{FileChange, added_owner_listing, is_claimed, old_entry, owner_listing}
-use Rattle.root_laws.specs.change_files.FilesAfter.{DatabaseAndWorldAfter, changed_files, apk_new_listing_at, path_of_apk_new_name}
+use Rattle.root_laws.specs.change_files.FileChange.{FileChange, added_owner_listing, is_listed_after_change, old_entry, owner_listing}
+use Rattle.root_laws.specs.change_files.FilesAfter.{DatabaseAndWorldAfter, files_after_change, apk_new_listing_at, path_of_apk_new_name}
 use Rattle.root_laws.specs.change_files.Touched.{IsModifiedConfigFile, is_apk_new_name, is_record_name}
 use Rattle.root_laws.proofs.change_files.Coming.{takes_path}
 use Rattle.root_laws.proofs.change_files.OwnedFiles.{beside_is, claimed_by_owner, coming_is, nobody_beside}
@@ -30,13 +30,13 @@ module _ (change : FileChange) (bytes_of : Listing → List ℕ) (records : Data
   -- ---- of a package that stays
 
   pub stays_so : (l : Listing) (d : Difference) → owner_listing change path ≡ Some l → is_added l.member ≡ false
-      → DiffersFromEntry d l.entry (changed_files change bytes_of records files path) ↔ DiffersFromEntry d l.entry (files path)
+      → DiffersFromEntry d l.entry (files_after_change change bytes_of records files path) ↔ DiffersFromEntry d l.entry (files path)
   stays_so l d owner stays =
-      let same : changed_files change bytes_of records files path ≡ files path = stays_as_it_is change bytes_of records files path l owner stays plain in
+      let same : files_after_change change bytes_of records files path ≡ files path = stays_as_it_is change bytes_of records files path l owner stays plain in
       (subst (DiffersFromEntry d l.entry) same, subst (DiffersFromEntry d l.entry) (sym same))
 
   module _ (l : Listing) (comes : added_owner_listing change path ≡ Some l) where
-    claimed : is_claimed change path ≡ true
+    claimed : is_listed_after_change change path ≡ true
     claimed = claimed_by_owner change path l (coming_is change path l comes).0
 
     not_aside : is_apk_new_name change files path ≡ false
@@ -45,7 +45,7 @@ module _ (change : FileChange) (bytes_of : Listing → List ℕ) (records : Data
         by_laid : (q : List ℕ) → path_of_apk_new_name path ≡ Some q → (o : Option Listing) → apk_new_listing_at change files q ≡ o → is_some o ≡ false
         by_laid q e None laid = refl
         by_laid q e (Some m) laid =
-            absurd (true≢false (sym claimed ∙ (ap (is_claimed change) (beside_is path q e) ∙ nobody_beside change files q m laid)))
+            absurd (true≢false (sym claimed ∙ (ap (is_listed_after_change change) (beside_is path q e) ∙ nobody_beside change files q m laid)))
 
         by_path : (o : Option (List ℕ)) → path_of_apk_new_name path ≡ o → is_some (option_and_then (apk_new_listing_at change files) o) ≡ false
         by_path None e = refl
@@ -110,32 +110,32 @@ module _ (change : FileChange) (bytes_of : Listing → List ℕ) (records : Data
 
     -- ---- after the change
 
-    after_users : (bytes : List ℕ) → IsModifiedConfigFile change files path bytes → changed_files change bytes_of records files path ≡ Some bytes
+    after_users : (bytes : List ℕ) → IsModifiedConfigFile change files path bytes → files_after_change change bytes_of records files path ≡ Some bytes
     after_users bytes own = users_file_is_spared change bytes_of records files path bytes (inr claimed) own not_aside plain
 
-    after_nobodys : Nobodys → changed_files change bytes_of records files path ≡ Some (bytes_of l)
+    after_nobodys : Nobodys → files_after_change change bytes_of records files path ≡ Some (bytes_of l)
     after_nobodys nobodys = takes_its_path change bytes_of records files path l (takes_path change files path l comes nobodys) plain
 
     abbrev Left : Difference → Type 0
     Left d = (d ≡ Changed) × (HasModifiedConfigFile change files path ⊎ (is_as_listed l.entry (bytes_of l) ≡ false))
 
-    pub left_by : (d : Difference) → DiffersFromEntry d l.entry (changed_files change bytes_of records files path) → Left d
+    pub left_by : (d : Difference) → DiffersFromEntry d l.entry (files_after_change change bytes_of records files path) → Left d
     left_by d differs =
         elim users_or_nobodys [
           | inl users ↦ (let (bytes, own) = users in
-              let is = differs_by l.entry (changed_files change bytes_of records files path) bytes d (after_users bytes own) differs in
+              let is = differs_by l.entry (files_after_change change bytes_of records files path) bytes d (after_users bytes own) differs in
               (is.0, inl users))
-          | inr nobodys ↦ (let is = differs_by l.entry (changed_files change bytes_of records files path) (bytes_of l) d (after_nobodys nobodys) differs in
+          | inr nobodys ↦ (let is = differs_by l.entry (files_after_change change bytes_of records files path) (bytes_of l) d (after_nobodys nobodys) differs in
               (is.0, inr is.1))
         ]
 
-    changed_so_far : HasModifiedConfigFile change files path ⊎ (is_as_listed l.entry (bytes_of l) ≡ false) → DiffersFromEntry Changed l.entry (changed_files change bytes_of records files path)
-    changed_so_far (inl (bytes, own)) = changed_by l.entry (changed_files change bytes_of records files path) bytes (after_users bytes own) (own.unlike_new l comes)
+    changed_so_far : HasModifiedConfigFile change files path ⊎ (is_as_listed l.entry (bytes_of l) ≡ false) → DiffersFromEntry Changed l.entry (files_after_change change bytes_of records files path)
+    changed_so_far (inl (bytes, own)) = changed_by l.entry (files_after_change change bytes_of records files path) bytes (after_users bytes own) (own.unlike_new l comes)
     changed_so_far (inr unlike) =
         elim users_or_nobodys [
-          | inl users ↦ (let (bytes, own) = users in changed_by l.entry (changed_files change bytes_of records files path) bytes (after_users bytes own) (own.unlike_new l comes))
-          | inr nobodys ↦ changed_by l.entry (changed_files change bytes_of records files path) (bytes_of l) (after_nobodys nobodys) unlike
+          | inl users ↦ (let (bytes, own) = users in changed_by l.entry (files_after_change change bytes_of records files path) bytes (after_users bytes own) (own.unlike_new l comes))
+          | inr nobodys ↦ changed_by l.entry (files_after_change change bytes_of records files path) (bytes_of l) (after_nobodys nobodys) unlike
         ]
 
-    pub by_left : (d : Difference) → Left d → DiffersFromEntry d l.entry (changed_files change bytes_of records files path)
-    by_left d left = subst (λ (e : Difference). DiffersFromEntry e l.entry (changed_files change bytes_of records files path)) (sym left.0) (changed_so_far left.1)
+    pub by_left : (d : Difference) → Left d → DiffersFromEntry d l.entry (files_after_change change bytes_of records files path)
+    by_left d left = subst (λ (e : Difference). DiffersFromEntry e l.entry (files_after_change change bytes_of records files path)) (sym left.0) (changed_so_far left.1)

@@ -9,7 +9,7 @@ use Rattle.root_laws.specs.adb_copy.Zeros.{without_zeros}
 use Rattle.root_laws.proofs.adb_copy.Entries.{entry_zeros}
 use Rattle.audit_core.specs.adb_fields.FirstPair.{IsIn}
 use Rattle.audit_core.specs.adb_fields.Once.{AreDistinctNames}
-use Rattle.audit_core.specs.adb_fields.Repeated.{entries_at, files_in, folders_in, list_of, name_of, paths_in}
+use Rattle.audit_core.specs.adb_fields.Repeated.{entries_at, files_in, folders_in, list_of, name_of, paths_of_package_files}
 use Rattle.audit_core.proofs.adb_fields.Members.{from-flat_map, from-map, in-flat_map, in-map}
 use Rattle.root_laws.specs.adb_schema.Reserved.{is_reserved}
 use Rattle.root_laws.specs.adb_schema.SoundContainers.{IsSoundValue}
@@ -38,7 +38,7 @@ use Rattle.root_laws.specs.path_claims.Claims.{is_owning_member}
 
 -- what the laws of `db_write` say
 pub record WrittenLaws : Type 0 where
-  pub paths : (members : List Member) (flags : List Bool) → flat_map paths_in (list_of (packages_in_new_database members flags)) ≡ owned_paths members flags
+  pub paths : (members : List Member) (flags : List Bool) → flat_map paths_of_package_files (list_of (packages_in_new_database members flags)) ≡ owned_paths members flags
   pub entries : (members : List Member) (flags : List Bool)
       → map (λ l. l.entry) (member_listings (members_of_kept (list_of (packages_in_new_database members flags)))) ≡ map (λ l. without_zeros l.entry) (owned_listings (member_listings members) flags)
 
@@ -169,7 +169,7 @@ module _ (laws : WrittenLaws) (change : FileChange) (database : Plain) (sound : 
       ∙ (map_twice (λ (r : PathAndEntry). r.entry) listing_record (member_listings (members_of_kept packages)) ∙ laws.entries change.members flags))
 
   once : AreDistinctNames (map (λ l. l.path) owned)
-  once = subst AreDistinctNames (ap (flat_map paths_in) are ∙ laws.paths change.members flags) (database_once database sound)
+  once = subst AreDistinctNames (ap (flat_map paths_of_package_files) are ∙ laws.paths change.members flags) (database_once database sound)
 
   owned_is : (l : Listing) → IsIn l owned → IsIn l (member_listings change.members) × (owner_of_path change.members l.path ≡ Some l.place)
   unfolding owned_flags_of

@@ -7,16 +7,16 @@ use Rattle.adb_view.specs.Plain.{Plain}
 use Rattle.base_core.specs.declared.cause.Cause.{Cause}
 use Rattle.root_laws.specs.candidate_core.Candidates.{Candidate, is_same_id}
 use Rattle.root_laws.specs.change_inputs.Chains.{and_then}
-use Rattle.root_laws.specs.change_inputs.Inputs.{first_index_read}
+use Rattle.root_laws.specs.change_inputs.Inputs.{first_index_read_number}
 use Rattle.root_laws.proofs.change_outcome.Made.{and_then_ok}
-use Rattle.root_laws.specs.change_outcome.MembersAfter.{MemberFound, added_package_by_path, added_member_found, found_package_contents, members_after, found_members, name_after, name_by_change, name_by_selected, member_of_added_name, member_of_removed_name, names_after, kept_member_found}
-use Rattle.root_laws.specs.change_outcome.PackageFiles.{AddedPackage, first_script_of, package_file_of, added_package_or_refusal, package_in_file, scripts_of_change, unless_different, unless_script_number, unless_package_bad, unless_script}
+use Rattle.root_laws.specs.change_outcome.MembersAfter.{MemberFound, added_package_by_path, added_member_found, found_package_contents, members_after, found_members, member_of_name_after, member_of_name_by_change, member_of_name_by_selected, member_of_added_name, member_of_removed_name, names_after, kept_member_found}
+use Rattle.root_laws.specs.change_outcome.PackageFiles.{AddedPackage, first_script_of, package_file_of, added_package_or_refusal, package_in_file, scripts_of_change, unless_different, unless_script_number, unless_package_bad, unless_script_needed}
 use Rattle.audit_core.specs.db_core.Members.{Member, is_added}
 use Rattle.audit_core.specs.db_core.Packages.{is_package_named}
 use Rattle.dep_core.specs.Repositories.{Repository}
-use Rattle.root_laws.specs.file_owners.Replaces.{version_text}
+use Rattle.root_laws.specs.file_owners.Replaces.{package_version_text}
 use Rattle.root_laws.specs.make_info.Reads.{Reads}
-use Rattle.root_laws.specs.package_changes.Changes.{Replacement, change_of_name, is_selected_named, names_before_and_selected, selected_version}
+use Rattle.root_laws.specs.package_changes.Changes.{Replacement, change_of_name, is_candidate_named, names_before_and_selected, candidate_version_text}
 use Rattle.root_laws.specs.pkg_core.Whole.{package_fault}
 use Rattle.root_laws.proofs.pkg_core.Digests.{HasFirstValue}
 use Rattle.report_core.specs.Reports.{Change}
@@ -40,7 +40,7 @@ kept_package r = r
 
 module _ (told : HasFirstValue) (read : Reads) where
   different_ok : (c : Candidate) (pkg p : AddedPackage) → unless_different c pkg ≡ Ok p → p ≡ pkg
-  different_ok c pkg p e = by_tests _ _ _ (is_same_id c.id pkg.id) (bytes_eq c.name (package_name pkg.value)) (bytes_eq (selected_version c) (version_text pkg.value)) e
+  different_ok c pkg p e = by_tests _ _ _ (is_same_id c.id pkg.id) (bytes_eq c.name (package_name pkg.value)) (bytes_eq (candidate_version_text c) (package_version_text pkg.value)) e
     where
       by_tests : (x y z : Refusal) (a b v : Bool) → kept_package (if not a then Err x else if not b then Err y else if not v then Err z else Ok pkg) ≡ Ok p → p ≡ pkg
       by_tests x y z true true true e = (let same : pkg ≡ p = cc in sym same)
@@ -64,7 +64,7 @@ module _ (told : HasFirstValue) (read : Reads) where
       by_read None e = absurd (cc (e))
       by_read (Some file) e = file_ok c file pkg e
 
-  script_ok : {A : Type 0} (no_scripts : Bool) (name : List ℕ) (pkg : Plain) (numbers : List ℕ) (a b : A) → unless_script no_scripts name pkg numbers a ≡ Ok b → a ≡ b
+  script_ok : {A : Type 0} (no_scripts : Bool) (name : List ℕ) (pkg : Plain) (numbers : List ℕ) (a b : A) → unless_script_needed no_scripts name pkg numbers a ≡ Ok b → a ≡ b
   script_ok true name pkg numbers a b e = (cc (e))
   script_ok false name pkg numbers a b e = by_number (first_script_of pkg numbers) e
     where
@@ -76,7 +76,7 @@ module _ (told : HasFirstValue) (read : Reads) where
       → member_of_added_name read repositories no_scripts n name change c ≡ Ok o → IfListed o
   comes_ok repositories no_scripts n name change c o e =
       let pkg = and_then_ok (added_package_by_path read n c (package_file_of repositories c)) (λ pkg.
-      unless_script no_scripts name pkg.value (scripts_of_change change) (Some (added_member_found pkg))) o e in
+      unless_script_needed no_scripts name pkg.value (scripts_of_change change) (Some (added_member_found pkg))) o e in
       subst IfListed (script_ok no_scripts name pkg.0.value (scripts_of_change change) (Some (added_member_found pkg.0)) o pkg.2)
       (λ comes. path_ok n c (package_file_of repositories c) pkg.0 pkg.1)
 
@@ -93,12 +93,12 @@ module _ (told : HasFirstValue) (read : Reads) where
 
   module _ (r : Replacement) (repositories : List Repository) (no_scripts : Bool) where
     selected_ok : (n : ℕ) (name : List ℕ) (change : Change) (old : Option Plain) (new : Option Candidate) (o : Option MemberFound)
-        → name_by_selected read repositories no_scripts n name change old new ≡ Ok o → IfListed o
+        → member_of_name_by_selected read repositories no_scripts n name change old new ≡ Ok o → IfListed o
     selected_ok n name change old None o e = goes_ok no_scripts name change old o e
     selected_ok n name change old (Some c) o e = comes_ok repositories no_scripts n name change c o e
 
     changed_ok : (n : ℕ) (name : List ℕ) (change : Option Change) (old : Option Plain) (new : Option Candidate) (o : Option MemberFound)
-        → name_by_change read repositories no_scripts n name change old new ≡ Ok o → IfListed o
+        → member_of_name_by_change read repositories no_scripts n name change old new ≡ Ok o → IfListed o
     changed_ok n name None old new o e =
         let same : option_map kept_member_found old ≡ o = (let kept : kept_found (option_map kept_member_found old) ≡ kept_found o = e in cc) in
         subst IfListed same (stays_ok old)
@@ -111,19 +111,19 @@ module _ (told : HasFirstValue) (read : Reads) where
     names_ok : (n : ℕ) (names : List (List ℕ)) (fs : List MemberFound) → names_after r read repositories no_scripts n names ≡ Ok fs → AllListed fs
     names_ok n [] fs e = let same : [] ≡ fs = cc in subst AllListed same tt
     names_ok n (name ∷ names) fs e =
-        let first = and_then_ok (name_after r read repositories no_scripts n name) (λ first.
+        let first = and_then_ok (member_of_name_after r read repositories no_scripts n name) (λ first.
         and_then (names_after r read repositories no_scripts (suc n) names) (λ others.
         Ok (cons_option first others))) fs e in
         let others = and_then_ok (names_after r read repositories no_scripts (suc n) names) (λ others. Ok (cons_option first.0 others)) fs first.2 in
         let same : cons_option first.0 others.0 ≡ fs = (let last = others.2 in cc) in
         subst AllListed same
         (one_more first.0 others.0
-        (changed_ok n name (change_of_name r name) (find (is_package_named name) r.before) (find (is_selected_named name) r.selected) first.0 first.1)
+        (changed_ok n name (change_of_name r name) (find (is_package_named name) r.before) (find (is_candidate_named name) r.selected) first.0 first.1)
         (names_ok (suc n) names others.0 others.1))
 
     found_listed : (fs : List MemberFound) → members_after r read repositories no_scripts ≡ Ok fs → AllListed fs
     unfolding members_after
-    found_listed fs e = names_ok (first_index_read + length repositories) (names_before_and_selected r) fs e
+    found_listed fs e = names_ok (first_index_read_number + length repositories) (names_before_and_selected r) fs e
 
     at_place : (fs : List MemberFound) (place : ℕ) (m : Member) → AllListed fs → slice_get (found_members fs) place ≡ Some m → is_added m ≡ true → AreListedContents m.pkg (found_package_contents fs place)
     at_place [] place m are e comes = absurd (cc (e))

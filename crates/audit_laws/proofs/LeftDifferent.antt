@@ -6,8 +6,8 @@ use Rattle.audit_core.specs.adb_fields.FirstPair.{IsIn}
 use Rattle.audit_core.specs.adb_fields.Repeated.{entries_at}
 use Rattle.root_laws.specs.adb_schema.Reserved.{is_reserved}
 use Rattle.root_laws.specs.adb_schema.SoundContainers.{IsSoundContainer, IsSoundValue}
-use Rattle.root_laws.specs.adb_schema.Soundness.{first_fault, payload_in, root_value}
-use Rattle.root_laws.specs.adb_schema.Texts.{is_with_contents}
+use Rattle.root_laws.specs.adb_schema.Soundness.{container_fault_except_contents, payload_in, root_value}
+use Rattle.root_laws.specs.adb_schema.Texts.{is_file_with_contents}
 use Rattle.adb_view.specs.FieldIndexes.{IDB_PACKAGES}
 use Rattle.adb_view.specs.Plain.{Plain}
 use Rattle.adb_view.specs.declared.tables.Which.{Which}
@@ -17,7 +17,7 @@ use Rattle.audit_core.specs.Differences.{IsDifferenceIn, DiffersFromEntry, file_
 use Rattle.base_core.specs.Files.{Files}
 use Rattle.base_core.specs.declared.cause.Cause.{Cause}
 use Rattle.root_laws.specs.change_files.FileChange.{FileChange, added_owner_listing, if_member_added, owner_listing}
-use Rattle.root_laws.specs.change_files.FilesAfter.{DatabaseAndWorldAfter, changed_files, listing_bytes}
+use Rattle.root_laws.specs.change_files.FilesAfter.{DatabaseAndWorldAfter, files_after_change, listing_bytes}
 use Rattle.root_laws.specs.change_files.Touched.{is_record_name}
 use Rattle.root_laws.proofs.change_files.Lists.{IsOneOf, contains_from_one}
 use Rattle.root_laws.proofs.change_files.OwnedFiles.{coming_is}
@@ -37,7 +37,7 @@ use Rattle.audit_core.specs.file_guard.AsListed.{has_target, is_as_listed}
 use Rattle.root_laws.specs.make_info.Reads.{Reads}
 use Rattle.root_laws.specs.package_changes.Changes.{Replacement}
 use Rattle.audit_core.specs.path_clashes.Clash.{NamePair}
-use Rattle.root_laws.specs.pkg_core.Contents.{Contents, expected_contents}
+use Rattle.root_laws.specs.pkg_core.Contents.{Contents, expected_files_of_package}
 use Rattle.root_laws.specs.pkg_core.GoodContents.{AreContentsOf, HaveValidDigestLengths}
 use Rattle.root_laws.proofs.pkg_core.Digests.{HasFirstValue}
 use Rattle.report_core.specs.declared.refusal.Refusal.{Refusal}
@@ -64,14 +64,14 @@ abbrev kept : Database → Result Database Refusal
 kept d = Ok d
 
 container_ok : (file : List ℕ) (packages : List Plain) (bytes : List ℕ) → container_database file ≡ Ok (database_from_parts packages (Some bytes) false)
-    → (first_fault Idb file ≡ None) × (entries_at IDB_PACKAGES (root_value Idb (payload_in file)) ≡ packages)
-container_ok file packages bytes e = by_fault (first_fault Idb file) refl e
+    → (container_fault_except_contents Idb file ≡ None) × (entries_at IDB_PACKAGES (root_value Idb (payload_in file)) ≡ packages)
+container_ok file packages bytes e = by_fault (container_fault_except_contents Idb file) refl e
   where
     there : Database
     there = database_from_parts (entries_at IDB_PACKAGES (root_value Idb (payload_in file))) (Some file) false
 
-    by_fault : (fault : Option Cause) → first_fault Idb file ≡ fault → unless_cause DatabaseBad fault there ≡ Ok (database_from_parts packages (Some bytes) false)
-        → (first_fault Idb file ≡ None) × (entries_at IDB_PACKAGES (root_value Idb (payload_in file)) ≡ packages)
+    by_fault : (fault : Option Cause) → container_fault_except_contents Idb file ≡ fault → unless_cause DatabaseBad fault there ≡ Ok (database_from_parts packages (Some bytes) false)
+        → (container_fault_except_contents Idb file ≡ None) × (entries_at IDB_PACKAGES (root_value Idb (payload_in file)) ≡ packages)
     by_fault None t e = (let same : there ≡ database_from_parts packages (Some bytes) false = (let both : kept there ≡ kept (database_from_parts packages (Some bytes) false) = e in cc) in (t, ap (λ (d : Database). d.packages) same))
     by_fault (Some cause) t e = absurd (cc (e))
 
@@ -113,15 +113,15 @@ module _ (laws : Laws) (command : CommandLine) (read : Reads) (files : Files) (c
   abbrev bytes_of : Listing → List ℕ
   bytes_of = listing_bytes (contents_left left)
 
-  files_are : done.files ≡ changed_files change bytes_of records files
+  files_are : done.files ≡ files_after_change change bytes_of records files
   files_are =
       ap (λ (d : ChangeDone). d.files) made_so.is
-      ∙ ap (λ (fs : List MemberFound). changed_files (file_change s.inputs (wishes_of command) fs) (listing_bytes (found_package_contents fs)) records files) same_found
+      ∙ ap (λ (fs : List MemberFound). files_after_change (file_change s.inputs (wishes_of command) fs) (listing_bytes (found_package_contents fs)) records files) same_found
 
   database_there : done.files database_name ≡ Some made_so.database
   database_there = ap (λ (fs : Files). fs database_name) files_are ∙ database_after change bytes_of records files
 
-  read_back : (first_fault Idb made_so.database ≡ None) × (entries_at IDB_PACKAGES (root_value Idb (payload_in made_so.database)) ≡ packages_left left)
+  read_back : (container_fault_except_contents Idb made_so.database ≡ None) × (entries_at IDB_PACKAGES (root_value Idb (payload_in made_so.database)) ≡ packages_left left)
   read_back =
       let next : Reads = λ n name. done.files name in
       container_ok made_so.database (packages_left left) left.bytes
@@ -145,7 +145,7 @@ module _ (laws : Laws) (command : CommandLine) (read : Reads) (files : Files) (c
       let here = subst (λ (fs : Files). DiffersFromEntry d.difference l.entry (fs path)) files_are differs in
       by_coming (is_added l.member) refl here
     where
-      by_coming : (b : Bool) → is_added l.member ≡ b → DiffersFromEntry d.difference l.entry (changed_files change bytes_of records files path) → ExplainsDifference (contents_left left) change files d l b
+      by_coming : (b : Bool) → is_added l.member ≡ b → DiffersFromEntry d.difference l.entry (files_after_change change bytes_of records files path) → ExplainsDifference (contents_left left) change files d l b
       by_coming false t here =
           subst (λ (q : List ℕ). DiffersFromEntry d.difference l.entry (files q)) (sym at) ((stays_so change bytes_of records files path (plain path l owner) l d.difference owner t).0 here)
       by_coming true t here =
@@ -166,7 +166,7 @@ module _ (laws : Laws) (command : CommandLine) (read : Reads) (files : Files) (c
   -- ---- what was left so differs
 
   differs_so : (l : Listing) (d : FileDifference) → owner_listing change d.path ≡ Some l → (b : Bool) → is_added l.member ≡ b → ExplainsDifference (contents_left left) change files d l b
-      → DiffersFromEntry d.difference l.entry (changed_files change bytes_of records files d.path)
+      → DiffersFromEntry d.difference l.entry (files_after_change change bytes_of records files d.path)
   differs_so l d owner false t why = (stays_so change bytes_of records files d.path (plain d.path l owner) l d.difference owner t).1 why
   differs_so l d owner true t why = by_left change bytes_of records files d.path (plain d.path l owner) l (comes_if change d.path l owner t) d.difference why
 
@@ -188,13 +188,13 @@ some_place l [] here = absurd here
 some_place l (k ∷ ls) (inl is) = (0, ap Some (sym is))
 some_place l (k ∷ ls) (inr later) = let found = some_place l ls later in (suc found.0, found.1)
 
-empty_by : (entry : Plain) (bytes : List ℕ) → ((is_with_contents entry ≡ false → has_target entry ≡ false → is_as_listed entry [] ≡ true) → is_as_listed entry bytes ≡ true) → is_as_listed entry bytes ≡ false → IsEmptyWithOtherDigest entry
-empty_by entry bytes brought unlike = by_tests (is_with_contents entry) refl (has_target entry) refl (is_as_listed entry []) refl
+empty_by : (entry : Plain) (bytes : List ℕ) → ((is_file_with_contents entry ≡ false → has_target entry ≡ false → is_as_listed entry [] ≡ true) → is_as_listed entry bytes ≡ true) → is_as_listed entry bytes ≡ false → IsEmptyWithOtherDigest entry
+empty_by entry bytes brought unlike = by_tests (is_file_with_contents entry) refl (has_target entry) refl (is_as_listed entry []) refl
   where
-    never : (is_with_contents entry ≡ false → has_target entry ≡ false → is_as_listed entry [] ≡ true) → IsEmptyWithOtherDigest entry
+    never : (is_file_with_contents entry ≡ false → has_target entry ≡ false → is_as_listed entry [] ≡ true) → IsEmptyWithOtherDigest entry
     never h = absurd (true≢false (sym (brought h) ∙ unlike))
 
-    by_tests : (a : Bool) → is_with_contents entry ≡ a → (b : Bool) → has_target entry ≡ b → (c : Bool) → is_as_listed entry [] ≡ c → IsEmptyWithOtherDigest entry
+    by_tests : (a : Bool) → is_file_with_contents entry ≡ a → (b : Bool) → has_target entry ≡ b → (c : Bool) → is_as_listed entry [] ≡ c → IsEmptyWithOtherDigest entry
     by_tests true with b target c same = never (λ h g. absurd (true≢false (sym with ∙ h)))
     by_tests false with true target c same = never (λ h g. absurd (true≢false (sym target ∙ g)))
     by_tests false with false target true same = never (λ h g. same)
@@ -202,8 +202,8 @@ empty_by entry bytes brought unlike = by_tests (is_with_contents entry) refl (ha
 
 pub empty_alone :
     HasFirstValue → ((members : List Member) (i : ℕ) (l : Listing) → slice_get (member_listings members) i ≡ Some l → IsListedAt members l)
-    → ((contents : ℕ → List Contents) (members : List Member) (l : Listing) → Contains (member_listings members) l → HaveValidDigestLengths (expected_contents l.member.pkg)
-    → AreContentsOf (expected_contents l.member.pkg) (contents l.place) → (is_with_contents l.entry ≡ false → has_target l.entry ≡ false → is_as_listed l.entry [] ≡ true)
+    → ((contents : ℕ → List Contents) (members : List Member) (l : Listing) → Contains (member_listings members) l → HaveValidDigestLengths (expected_files_of_package l.member.pkg)
+    → AreContentsOf (expected_files_of_package l.member.pkg) (contents l.place) → (is_file_with_contents l.entry ≡ false → has_target l.entry ≡ false → is_as_listed l.entry [] ≡ true)
     → is_as_listed l.entry (listing_bytes contents l) ≡ true)
     → (command : CommandLine) (read : Reads) (chosen : Option (List ℕ)) (done : ChangeDone) (left : IsRootLeft command read chosen done) (path : List ℕ) (l : Listing)
     → added_owner_listing (change_left left) path ≡ Some l → is_as_listed l.entry (listing_bytes (contents_left left) l) ≡ false → IsEmptyWithOtherDigest l.entry

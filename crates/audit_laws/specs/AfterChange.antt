@@ -1,7 +1,7 @@
 -- The files that differ from their records after a change. The rules are in `docs/commands.md`,
 -- "`audit`" and "What a change does with files". Serves the law of `src/laws.rt`.
 use Rattle.std.specs.Prelude.{◌≡◌, ◌⊎◌, ℕ, Bool, true, false, List, [], Option, Some}
-use Rattle.root_laws.specs.adb_schema.Texts.{is_with_contents}
+use Rattle.root_laws.specs.adb_schema.Texts.{is_file_with_contents}
 use Rattle.adb_view.specs.Plain.{Plain}
 use Rattle.audit_core.specs.Audit.{FileDifference}
 use Rattle.audit_core.specs.Differences.{DiffersFromEntry}
@@ -24,7 +24,7 @@ use Rattle.root_laws.specs.RootLeft.{IsRootLeft, database_of_members}
 
 -- an entry of an empty file with the digest of other bytes, which no test of a package compares
 pub record IsEmptyWithOtherDigest (entry : Plain) : Type 0 where
-  pub no_contents : is_with_contents entry ≡ false
+  pub no_contents : is_file_with_contents entry ≡ false
   pub no_link : has_target entry ≡ false
   pub unlike : is_as_listed entry [] ≡ false
 
@@ -40,7 +40,8 @@ abbrev pub ExplainsDifference :
 ExplainsDifference contents change files d l false = DiffersFromEntry d.difference l.entry (files d.path)
 ExplainsDifference contents change files d l true =
     (d.difference ≡ Changed)
-    × (HasModifiedConfigFile change files d.path ⊎ (is_as_listed l.entry (listing_bytes contents l) ≡ false))
+    × (HasModifiedConfigFile change files d.path
+    ⊎ (is_as_listed l.entry (listing_bytes contents l) ≡ false))
 
 -- a file that differs after a change, of the package that owns its path
 pub record IsLeftDifferent (contents : ℕ → List Contents) (change : FileChange) (files : Files)

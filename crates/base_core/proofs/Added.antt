@@ -1,7 +1,7 @@
 -- What a sink has got after several writes.
 use Rattle.std.proofs.Common.{◌≡◌, ℕ, List, [], ◌++◌, take, drop, Option, Some, None, refl, ◌-◌, length, arith, take_all, length-drop, sym, ap, ◌∙◌, append_assoc, append-nil, take-append-drop}
 use Rattle.std.specs.Option.{option_map}
-use Rattle.base_core.specs.Sink.{Adds, AddsPrefix}
+use Rattle.base_core.specs.Sink.{Adds, AddsPrefixToSink}
 
 pub Adds-none : (old : Option (List ℕ)) → Adds old old []
 Adds-none None = refl
@@ -30,7 +30,7 @@ one_more old mid new all rest n h k = record {
 pub ended : (old new : Option (List ℕ)) (all rest : List ℕ) → IsUnderWay old new all rest → rest ≡ [] → Adds old new all
 ended old new all rest h e = h.added ∙ ap (λ a. option_map (λ x. x ++ a) old) (sym (h.whole ∙ ap (λ r. h.front ++ r) e ∙ append-nil h.front))
 
-pub cut : (old mid new : Option (List ℕ)) (all rest : List ℕ) → IsUnderWay old mid all rest → new ≡ mid → AddsPrefix old new all
+pub cut : (old mid new : Option (List ℕ)) (all rest : List ℕ) → IsUnderWay old mid all rest → new ≡ mid → AddsPrefixToSink old new all
 cut old mid new all rest h e = record { front = h.front; rest = rest; whole = h.whole; added = e ∙ h.added }
 
 -- the range behind the first n

@@ -6,7 +6,7 @@ use Rattle.std.proofs.Math.Seq.{take-add, take-append_seam}
 use Rattle.std.proofs.lemmas.List.{length-append, length-drop}
 use Rattle.base_core.specs.Calls.{IfObservable, IsCounted}
 use Rattle.base_core.specs.Faults.{Counts}
-use Rattle.base_core.specs.Read.{HasReadAfter, OnlyReads}
+use Rattle.base_core.specs.Read.{AppendsReadBytes, OnlyReads}
 use Rattle.base_core.specs.Tree.{IsAlwaysAllowed, CanRead, TreeState, files_of}
 use Rattle.base_core.specs.declared.tree.Disk.{Disk}
 use Rattle.base_core.proofs.Counting.{readings_two}
@@ -25,7 +25,7 @@ nothing_told : (history : List TreeState) (name : List ℕ) → IfObservable his
 nothing_told [] name = tt
 nothing_told (v ∷ earlier) name = of_file _ (files_of v name) (λ file is. refl)
 
-pub nothing_after : (history : List TreeState) (name before : List ℕ) → HasReadAfter history name 0 0 before before
+pub nothing_after : (history : List TreeState) (name before : List ℕ) → AppendsReadBytes history name 0 0 before before
 nothing_after history name before = record { read = []; behind = sym (append-nil before); long = refl; told = nothing_told history name }
 
 told_further : (history later : List TreeState) (name : List ℕ) (at n : ℕ) (first more : List ℕ) → later ≡ history
@@ -43,7 +43,7 @@ told_further (v ∷ earlier) later name at n first more same h k =
 
 -- a read that goes on where those before it ended
 pub read_further : (history later : List TreeState) (name : List ℕ) (at n : ℕ) (before mid now : List ℕ) → later ≡ history
-    → HasReadAfter history name 0 at before mid → HasReadAfter later name at n mid now → HasReadAfter history name 0 (at + n) before now
+    → AppendsReadBytes history name 0 at before mid → AppendsReadBytes later name at n mid now → AppendsReadBytes history name 0 (at + n) before now
 read_further history later name at n before mid now same h k = record {
   read = h.read ++ k.read;
   behind = k.behind ∙ (ap (λ (xs : List ℕ). xs ++ k.read) h.behind ∙ append_assoc before h.read k.read);
@@ -61,7 +61,7 @@ of_size (Some file) read n sized h =
 -- a file's size, and then so many of its bytes, are the file
 pub whole_read : (told later : List TreeState) (name : List ℕ) (size : Option ℕ) (n : ℕ) (before now : List ℕ)
     → IfObservable told (λ v. size ≡ option_map length (files_of v name)) → size ≡ Some n → later ≡ told
-    → (h : HasReadAfter later name 0 n before now) → IfObservable told (λ v. Some h.read ≡ files_of v name)
+    → (h : AppendsReadBytes later name 0 n before now) → IfObservable told (λ v. Some h.read ≡ files_of v name)
 whole_read [] later name size n before now sized is same h = tt
 whole_read (v ∷ earlier) later name size n before now sized is same h =
     let told_here : IfSome (files_of v name) (λ file. h.read ≡ take n (drop 0 file)) =
@@ -71,7 +71,7 @@ whole_read (v ∷ earlier) later name size n before now sized is same h =
 -- the same where nothing stood in front
 pub whole_file : (told later : List TreeState) (name : List ℕ) (size : Option ℕ) (n : ℕ) (before now : List ℕ)
     → IfObservable told (λ v. size ≡ option_map length (files_of v name)) → size ≡ Some n → later ≡ told → before ≡ []
-    → HasReadAfter later name 0 n before now → IfObservable told (λ v. Some now ≡ files_of v name)
+    → AppendsReadBytes later name 0 n before now → IfObservable told (λ v. Some now ≡ files_of v name)
 whole_file told later name size n before now sized is same empty h =
     let all : h.read ≡ now = sym (h.behind ∙ ap (λ (xs : List ℕ). xs ++ h.read) empty) in
     subst (λ (bytes : List ℕ). IfObservable told (λ v. Some bytes ≡ files_of v name)) all (whole_read told later name size n before now sized is same h)
@@ -114,7 +114,7 @@ pub added_behind : (history : List TreeState) (name : List ℕ) (at len start en
     → items ≡ take end before ++ replicate some 0 → start ≡ length before → end ≡ start + len → shown ≡ items → length items ≡ end → n ≡ end
     → length into ≡ length shown - start → length room ≡ len
     → IfObservable history (λ v. IfSome (files_of v name) (λ file. into ≡ take (length room) (drop at file)))
-    → HasReadAfter history name at len before (given_back start n shown into items)
+    → AppendsReadBytes history name at len before (given_back start n shown into items)
 added_behind history name at len start end some n before shown room into items filled is ends shows long count fits full told =
     let shown_long : length shown ≡ end = ap length shows ∙ long in
     let front : take start shown ≡ before = ap (take start) shows ∙ front_stays before items start end some filled is (omega arith) in

@@ -9,7 +9,7 @@ use Rattle.std.specs.declared.cmp.Ordering.{Ordering}
 use Rattle.std.specs.declared.cmp.Ordering.TheVariants.{Less, Equal, Greater}
 use Rattle.std.proofs.lemmas.List.Sorted.{IsPermutation-cons, IsPermutation-middle, IsPermutation-refl, IsPermutation-sym, IsPermutation-trans, ranks_by, sorted_far}
 use Rattle.std.proofs.lemmas.Cmp.{on_total}
-use Rattle.base_core.specs.Sorted.{with_element, sorted_by}
+use Rattle.base_core.specs.Sorted.{with_element_inserted, sorted_by}
 
 abbrev pub Each : {X : Type 0} → (X → Type 0) → List X → Type 0
 Each P [] = Unit {0}
@@ -23,9 +23,9 @@ each_either : {X : Type 0} (P : X → Type 0) (b : Bool) (xs ys : List X) → Ea
 each_either P true xs ys h g = h
 each_either P false xs ys h g = g
 
-each_placed : {X : Type 0} (P : X → Type 0) (cmp : X → X → Ordering) (x : X) (ys : List X) → P x → Each P ys → Each P (with_element cmp x ys)
+each_placed : {X : Type 0} (P : X → Type 0) (cmp : X → X → Ordering) (x : X) (ys : List X) → P x → Each P ys → Each P (with_element_inserted cmp x ys)
 each_placed P cmp x [] px h = (px, tt)
-each_placed P cmp x (y ∷ ys) px h = each_either P (is_gt (cmp x y)) (y ∷ with_element cmp x ys) (x ∷ y ∷ ys) (h.0, each_placed P cmp x ys px h.1) (px, h)
+each_placed P cmp x (y ∷ ys) px h = each_either P (is_gt (cmp x y)) (y ∷ with_element_inserted cmp x ys) (x ∷ y ∷ ys) (h.0, each_placed P cmp x ys px h.1) (px, h)
 
 module _ {X : Type 0} (lt : X → X → Bool) (o : IsStrictWeakOrder lt) where
   -- no element comes in front of a smaller one
@@ -153,11 +153,11 @@ module _ {X : Type 0} (cmp : X → X → Ordering) (o : IsTotalOrder cmp) where
   pub gt_is_lt : (x y : X) → is_gt (cmp x y) ≡ is_lt (cmp y x)
   gt_is_lt x y = ap is_gt (o.antisymm x y) ∙ back (cmp y x)
 
-  rises_placed : (x : X) (ys : List X) → Rises (λ x y. is_lt (cmp x y)) ranks ys → Rises (λ x y. is_lt (cmp x y)) ranks (with_element cmp x ys)
+  rises_placed : (x : X) (ys : List X) → Rises (λ x y. is_lt (cmp x y)) ranks ys → Rises (λ x y. is_lt (cmp x y)) ranks (with_element_inserted cmp x ys)
   rises_placed x [] h = (tt, tt)
   rises_placed x (y ∷ ys) h = go (is_gt (cmp x y)) refl (rises_placed x ys h.1)
     where
-      go : (b : Bool) → is_gt (cmp x y) ≡ b → Rises (λ x y. is_lt (cmp x y)) ranks (with_element cmp x ys) → Rises (λ x y. is_lt (cmp x y)) ranks (if b then y ∷ with_element cmp x ys else x ∷ y ∷ ys)
+      go : (b : Bool) → is_gt (cmp x y) ≡ b → Rises (λ x y. is_lt (cmp x y)) ranks (with_element_inserted cmp x ys) → Rises (λ x y. is_lt (cmp x y)) ranks (if b then y ∷ with_element_inserted cmp x ys else x ∷ y ∷ ys)
       go true e r = (each_placed (λ z. is_lt (cmp z y) ≡ false) cmp x ys (ranks.one_way y x (sym (gt_is_lt x y) ∙ e)) h.0, r)
       go false e r =
           let l : is_lt (cmp y x) ≡ false = sym (gt_is_lt x y) ∙ e in
@@ -193,12 +193,12 @@ module _ {X : Type 0} (cmp : X → X → Ordering) (o : IsTotalOrder cmp) where
       go false true ea eb = refl
       go false false ea eb = refl
 
-  stable_placed : (z x : X) (ys : List X) → filter (ties (λ x y. is_lt (cmp x y)) z) (with_element cmp x ys) ≡ filter (ties (λ x y. is_lt (cmp x y)) z) (x ∷ ys)
+  stable_placed : (z x : X) (ys : List X) → filter (ties (λ x y. is_lt (cmp x y)) z) (with_element_inserted cmp x ys) ≡ filter (ties (λ x y. is_lt (cmp x y)) z) (x ∷ ys)
   unfolding kept
   stable_placed z x [] = refl
   stable_placed z x (y ∷ ys) = go (is_gt (cmp x y)) refl (stable_placed z x ys)
     where
-      go : (b : Bool) → is_gt (cmp x y) ≡ b → filter (ties (λ x y. is_lt (cmp x y)) z) (with_element cmp x ys) ≡ filter (ties (λ x y. is_lt (cmp x y)) z) (x ∷ ys) → filter (ties (λ x y. is_lt (cmp x y)) z) (if b then y ∷ with_element cmp x ys else x ∷ y ∷ ys) ≡ filter (ties (λ x y. is_lt (cmp x y)) z) (x ∷ y ∷ ys)
+      go : (b : Bool) → is_gt (cmp x y) ≡ b → filter (ties (λ x y. is_lt (cmp x y)) z) (with_element_inserted cmp x ys) ≡ filter (ties (λ x y. is_lt (cmp x y)) z) (x ∷ ys) → filter (ties (λ x y. is_lt (cmp x y)) z) (if b then y ∷ with_element_inserted cmp x ys else x ∷ y ∷ ys) ≡ filter (ties (λ x y. is_lt (cmp x y)) z) (x ∷ y ∷ ys)
       go true e h = ap (kept (ties (λ x y. is_lt (cmp x y)) z y) y) h ∙ passed z x y (filter (ties (λ x y. is_lt (cmp x y)) z) ys) (sym (gt_is_lt x y) ∙ e)
       go false e h = refl
 
@@ -212,14 +212,14 @@ module _ {X : Type 0} (cmp : X → X → Ordering) (o : IsTotalOrder cmp) where
 
 -- ---- the elements stay
 
-with_same : {X : Type 0} (cmp : X → X → Ordering) (x : X) (ys : List X) → IsPermutation (x ∷ ys) (with_element cmp x ys)
+with_same : {X : Type 0} (cmp : X → X → Ordering) (x : X) (ys : List X) → IsPermutation (x ∷ ys) (with_element_inserted cmp x ys)
 with_same cmp x [] = IsPermutation-refl (x ∷ [])
 with_same cmp x (y ∷ ys) = go (is_gt (cmp x y)) (with_same cmp x ys)
   where
-    go : (b : Bool) → IsPermutation (x ∷ ys) (with_element cmp x ys) → IsPermutation (x ∷ y ∷ ys) (if b then y ∷ with_element cmp x ys else x ∷ y ∷ ys)
+    go : (b : Bool) → IsPermutation (x ∷ ys) (with_element_inserted cmp x ys) → IsPermutation (x ∷ y ∷ ys) (if b then y ∷ with_element_inserted cmp x ys else x ∷ y ∷ ys)
     go true h =
         let moved : IsPermutation (x ∷ y ∷ ys) (y ∷ x ∷ ys) = IsPermutation-sym _ _ (IsPermutation-middle (y ∷ []) x ys) in
-        IsPermutation-trans _ _ _ moved (IsPermutation-cons y (x ∷ ys) (with_element cmp x ys) h)
+        IsPermutation-trans _ _ _ moved (IsPermutation-cons y (x ∷ ys) (with_element_inserted cmp x ys) h)
     go false h = IsPermutation-refl (x ∷ y ∷ ys)
 
 pub sorted_same : {X : Type 0} (cmp : X → X → Ordering) (xs : List X) → IsPermutation xs (sorted_by cmp xs)
@@ -229,17 +229,17 @@ sorted_same cmp (x ∷ xs) =
 
 -- ---- sorted by what is seen of the elements
 
-placed_map : {X Y : Type 0} (f : X → Y) (cmp : Y → Y → Ordering) (x : X) (ys : List X) → map f (with_element (λ a b. cmp (f a) (f b)) x ys) ≡ with_element cmp (f x) (map f ys)
+placed_map : {X Y : Type 0} (f : X → Y) (cmp : Y → Y → Ordering) (x : X) (ys : List X) → map f (with_element_inserted (λ a b. cmp (f a) (f b)) x ys) ≡ with_element_inserted cmp (f x) (map f ys)
 placed_map f cmp x [] = refl
 placed_map f cmp x (y ∷ ys) = go (is_gt (cmp (f x) (f y))) (placed_map f cmp x ys)
   where
-    go : (b : Bool) → map f (with_element (λ a b. cmp (f a) (f b)) x ys) ≡ with_element cmp (f x) (map f ys) → map f (if b then y ∷ with_element (λ a b. cmp (f a) (f b)) x ys else x ∷ y ∷ ys) ≡ (if b then f y ∷ with_element cmp (f x) (map f ys) else f x ∷ f y ∷ map f ys)
+    go : (b : Bool) → map f (with_element_inserted (λ a b. cmp (f a) (f b)) x ys) ≡ with_element_inserted cmp (f x) (map f ys) → map f (if b then y ∷ with_element_inserted (λ a b. cmp (f a) (f b)) x ys else x ∷ y ∷ ys) ≡ (if b then f y ∷ with_element_inserted cmp (f x) (map f ys) else f x ∷ f y ∷ map f ys)
     go true h = ap (λ rest. f y ∷ rest) h
     go false h = refl
 
 in_order_map : {X Y : Type 0} (f : X → Y) (cmp : Y → Y → Ordering) (xs : List X) → map f (sorted_by (λ a b. cmp (f a) (f b)) xs) ≡ sorted_by cmp (map f xs)
 in_order_map f cmp [] = refl
-in_order_map f cmp (x ∷ xs) = placed_map f cmp x (sorted_by (λ a b. cmp (f a) (f b)) xs) ∙ ap (with_element cmp (f x)) (in_order_map f cmp xs)
+in_order_map f cmp (x ∷ xs) = placed_map f cmp x (sorted_by (λ a b. cmp (f a) (f b)) xs) ∙ ap (with_element_inserted cmp (f x)) (in_order_map f cmp xs)
 
 pub sort_seen : {X Y : Type 0} (f : X → Y) (cmp : Y → Y → Ordering) → IsTotalOrder cmp → (xs ys : List X) → IsSortedBy (λ x y. is_lt (cmp (f x) (f y))) ys → IsStableBy (λ x y. is_lt (cmp (f x) (f y))) xs ys → map f ys ≡ sorted_by cmp (map f xs)
 sort_seen f cmp o xs ys up st = ap (map f) (sort_is (λ a b. cmp (f a) (f b)) (on_total f o) xs ys up st) ∙ in_order_map f cmp xs

@@ -1,10 +1,10 @@
 -- What a crash leaves if it may undo any of the changes of names.
 use Rattle.std.proofs.Common.{◌≡◌, ◌⊎◌, inl, inr, ⊎_elim, ℕ, Bool, true, false, cond, List, [], ◌∷◌, Option, None, Some, refl, sym, ap, subst, ◌∙◌}
 use Rattle.std.proofs.lemmas.Bool.{eqb-true, eq-eqb}
-use Rattle.base_core.specs.Crash.{IsCrashImageInOrder, IsCrashImageUnderMap, IsDurableInOrder}
+use Rattle.base_core.specs.Crash.{IsCrashImageIfUndoneNewestFirst, IsCrashImageUnderMap, IsDurableIfUndoneNewestFirst}
 use Rattle.base_core.specs.Files.{Files, NameMap}
 use Rattle.base_core.specs.Lists.{IsIn}
-use Rattle.base_core.specs.Restart.{IsAfterCrashInOrder}
+use Rattle.base_core.specs.Restart.{IsAfterCrashIfUndoneNewestFirst}
 use Rattle.base_core.specs.Tree.{TreeState, IsCurrentOrOlderMap, bytes_of_file_number, files_under_map, files_of}
 use Rattle.base_core.specs.Undone.{IsAfterCrash, IsDurable, MayBeLeftByCrash, IsCrashImage, IsCrashMap, lead_to_same_file, with_change_replayed}
 use Rattle.base_core.proofs.Left.{left_as_read, may_leave_as_read}
@@ -129,11 +129,11 @@ module _ (v w : TreeState) (crash : IsAfterCrash v w) where
 
 -- ---- a crash that undoes only the last changes is a case
 
-pub image_is_left : (v : TreeState) (image : Files) → IsCrashImageInOrder v image → IsCrashImage v image
+pub image_is_left : (v : TreeState) (image : Files) → IsCrashImageIfUndoneNewestFirst v image → IsCrashImage v image
 image_is_left v image (map, among, by) = (map, map_may_be_left v map among, by)
 
-pub crash_is_one : (v w : TreeState) → IsAfterCrashInOrder v w → IsAfterCrash v w
+pub crash_is_one : (v w : TreeState) → IsAfterCrashIfUndoneNewestFirst v w → IsAfterCrash v w
 crash_is_one v w crash = record { left = image_is_left v (files_of w) crash.left; one_map = crash.one_map; synced = crash.synced }
 
-pub order_is_orderly : (depends_on : Files → List ℕ → Type 0) (v : TreeState) → IsDurable depends_on v → IsDurableInOrder depends_on v
+pub order_is_orderly : (depends_on : Files → List ℕ → Type 0) (v : TreeState) → IsDurable depends_on v → IsDurableIfUndoneNewestFirst depends_on v
 order_is_orderly depends_on v order = record { each = λ map among q n rests at. order.each map (map_may_be_left v map among) q n rests at }

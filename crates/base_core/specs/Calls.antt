@@ -2,7 +2,7 @@
 -- "Moments" (the history) and "Misuses, faults and counts".
 use Rattle.std.specs.Prelude.{◌≡◌, ◌⊎◌, List, [], ◌∷◌, Result, OnOk, OnErr}
 use Rattle.base_core.specs.Tree.{TreeState}
-use Rattle.base_core.specs.Faults.{Counts, CountsOnlyRise, HasCause, IsNoFault, saturating_increment}
+use Rattle.base_core.specs.Faults.{Counts, CountsOnlyRise, IsFaultCountedWithCause, CountsNoNewFault, saturating_increment}
 
 -- A tree's history is the list of its states so far, the newest first. It is observable if it is not
 -- empty. A tree whose states nobody can know, such as one over the host's files, has an empty one.
@@ -35,10 +35,11 @@ pub record IsCounted {T E : Type 0} (can : TreeState → Type 0) (history : List
   -- no count falls
   pub goes_on : CountsOnlyRise before now
   -- an error is a counted fault, and has its reason
-  pub cause : OnErr result (HasCause before now)
+  pub cause : OnErr result (IsFaultCountedWithCause before now)
   -- a call that succeeds counts neither a fault nor a lack of memory, and was no misuse
-  pub kept : OnOk result (IsNoFault before now)
+  pub kept : OnOk result (CountsNoNewFault before now)
   pub allowed : OnOk result (IfObservable history can)
   -- exactly the misuses are counted as such
   pub proper : IfObservable history (λ v. can v → now.misuses ≡ before.misuses)
+  -- if the state does not allow the call, one more misuse is counted
   pub misuse : IfObservable history (λ v. (can v → ⊥) → now.misuses ≡ saturating_increment before.misuses)

@@ -4,8 +4,8 @@ use Rattle.std.specs.Prelude.{◌≡◌, ℕ, true, List, ◌++◌, Option, Some
 use Rattle.base_core.specs.Files.{Files, NameMap}
 use Rattle.base_core.specs.Tree.{TreeState, File, IsCurrentOrOlderMap, files_under_map}
 
--- what a crash may leave of the file with a number: a synced file's bytes, and any bytes of another
--- file; nothing if there is no number
+-- what a crash may leave of the file with this number: its bytes if it is synced, and any bytes if
+-- it is not. Without a number (None) there is no file
 abbrev pub CrashMayLeave : (ℕ → File) → Option ℕ → Option (List ℕ) → Type 0
 CrashMayLeave files None bytes = bytes ≡ None
 CrashMayLeave files (Some n) None = ⊥
@@ -15,15 +15,19 @@ CrashMayLeave files (Some n) (Some bytes) = (files n).synced ≡ true → bytes 
 abbrev pub IsCrashImageUnderMap : TreeState → NameMap → Files → Type 0
 IsCrashImageUnderMap v map image = (q : List ℕ) → CrashMayLeave v.files (map q) (image q)
 
--- files that a crash may leave if it undoes only the last changes of names: those by one of the maps
-abbrev pub IsCrashImageInOrder : TreeState → Files → Type 0
-IsCrashImageInOrder v image = (map : NameMap) × IsCurrentOrOlderMap v map × IsCrashImageUnderMap v map image
+-- files that a crash may leave if it undoes only the newest changes of names: their names are those
+-- of the current map or of an older one
+abbrev pub IsCrashImageIfUndoneNewestFirst : TreeState → Files → Type 0
+IsCrashImageIfUndoneNewestFirst v image =
+    (map : NameMap) × IsCurrentOrOlderMap v map × IsCrashImageUnderMap v map image
 
 -- a tree is durable if a crash undoes only the last changes of names: each file that must be durable
 -- is synced, in each map of names. The parameter `depends_on` says which files these are, given the
 -- files of that map: only a crate that can read the journal knows it
-pub record IsDurableInOrder (depends_on : Files → List ℕ → Type 0) (v : TreeState) : Type 0 where
-  pub each : (map : NameMap) → IsCurrentOrOlderMap v map → (q : List ℕ) (n : ℕ) → depends_on (files_under_map v map) q
+pub record IsDurableIfUndoneNewestFirst (depends_on : Files → List ℕ → Type 0)
+    (v : TreeState) : Type 0 where
+  pub each : (map : NameMap) → IsCurrentOrOlderMap v map → (q : List ℕ) (n : ℕ)
+      → depends_on (files_under_map v map) q
       → map q ≡ Some n → (v.files n).synced ≡ true
 
 -- ---- moments, as the states that a history got since it was an older one, the newest first
@@ -32,5 +36,7 @@ pub record IsDurableInOrder (depends_on : Files → List ℕ → Type 0) (v : Tr
 pub record Since (P : TreeState → Type 0) (old new : List TreeState) : Type 0 where
   -- the states that were added, the newest first
   pub added : List TreeState
+  -- the new history is these states before the old history
   pub is : new ≡ added ++ old
+  -- each added state has the property P
   pub each : All P added

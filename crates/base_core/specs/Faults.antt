@@ -2,15 +2,16 @@
 -- rules are in `docs/crash-safety.md`, "Misuses, faults and counts".
 use Rattle.std.specs.Prelude.{◌≡◌, ◌⊎◌, ◌≤◌, ℕ, ◌+◌, ◌-◌, ◌^◌, min, Bool, IsTrue, Result, OnOk, OnErr}
 
--- what a tree or a sink counts of its calls, and whether one may still fail
+-- how many calls of a tree or of a sink failed, and whether a later call may fail for an outside
+-- reason
 pub record Counts : Type 0 where
   -- calls that failed
   pub faults : ℕ
-  -- calls that had to fail; a sink has none
+  -- calls that were misuses, which always fail; a sink has none
   pub misuses : ℕ
   -- calls that failed because the object itself was out of memory
   pub memory_faults : ℕ
-  -- whether a call may still fail for another reason
+  -- whether a later call may fail for an outside reason: neither a misuse nor out of memory
   pub fallible : Bool
 
 -- a count after one more event: one more, but never above 2 ^ 64 - 1
@@ -27,19 +28,20 @@ pub record CountsOnlyRise (before now : Counts) : Type 0 where
   pub faults : before.faults ≤ now.faults
   pub misuses : before.misuses ≤ now.misuses
   pub memory_faults : before.memory_faults ≤ now.memory_faults
-  -- what cannot fail for another reason does not become able to
+  -- `fallible` does not become true again
   pub fallible : IsTrue now.fallible → IsTrue before.fallible
 
 -- a failure was counted, and has its reason: an outside fault, a misuse, or the object was out of
 -- memory
-pub record HasCause (before now : Counts) : Type 0 where
+pub record IsFaultCountedWithCause (before now : Counts) : Type 0 where
+  -- one more fault was counted, unless the count has its largest value
   pub fault : RoseOrIsSaturated before.faults now.faults
   -- an outside fault, which `fallible` allows, a misuse, or the object was out of memory
   pub reason : IsTrue before.fallible ⊎ (RoseOrIsSaturated before.misuses now.misuses
       ⊎ RoseOrIsSaturated before.memory_faults now.memory_faults)
 
 -- between two moments neither a fault nor a lack of memory was counted
-pub record IsNoFault (before now : Counts) : Type 0 where
+pub record CountsNoNewFault (before now : Counts) : Type 0 where
   pub faults : now.faults ≡ before.faults
   pub memory_faults : now.memory_faults ≡ before.memory_faults
 
@@ -48,8 +50,8 @@ pub record FailsWithCause {T E : Type 0} (before now : Counts) (result : Result 
   -- no count falls
   pub goes_on : CountsOnlyRise before now
   -- an error is a counted fault, and has its reason
-  pub cause : OnErr result (HasCause before now)
+  pub cause : OnErr result (IsFaultCountedWithCause before now)
   -- a call that succeeds counts neither a fault nor a lack of memory
-  pub kept : OnOk result (IsNoFault before now)
+  pub kept : OnOk result (CountsNoNewFault before now)
   -- no call of a sink is a misuse
   pub proper : now.misuses ≡ before.misuses

@@ -7,7 +7,7 @@ abbrev pub IsIn : {A : Type 0} → A → List A → Type 0
 IsIn x [] = ⊥
 IsIn x (y ∷ ys) = (x ≡ y) ⊎ IsIn x ys
 
--- the function of a result's value; an error stays as it is
+-- the result of `next` for the value of an Ok; an Err stays as it is
 abbrev pub and_then : {A B E : Type 0} → Result A E → (A → Result B E) → Result B E
 and_then (Ok a) next = next a
 and_then (Err e) next = Err e

@@ -4,7 +4,7 @@ use Rattle.std.specs.Prelude.{◌≡◌, ◌++◌, ℕ, List, length, take, drop
 use Rattle.std.specs.Option.{option_map}
 use Rattle.std.specs.declared.alloc.Global.{Global}
 use Rattle.base_core.specs.Calls.{IfObservable}
-use Rattle.base_core.specs.Faults.{Counts, CountsOnlyRise, HasCause, IsNoFault}
+use Rattle.base_core.specs.Faults.{Counts, CountsOnlyRise, IsFaultCountedWithCause, CountsNoNewFault}
 use Rattle.base_core.specs.Tree.{TreeState, files_of}
 
 -- the bytes that a read found, without their address in memory; None if it found no file
@@ -13,12 +13,15 @@ bytes_in found = option_map (λ bytes. bytes.items) found
 
 -- the read bytes follow the bytes `before`, in the given number; if the tree's history is observable,
 -- they are the bytes of the file under the name from the offset `at` on
-pub record HasReadAfter (history : List TreeState) (name : List ℕ) (at len : ℕ)
+pub record AppendsReadBytes (history : List TreeState) (name : List ℕ) (at len : ℕ)
     (before now : List ℕ) : Type 0 where
   -- what was read
   pub read : List ℕ
+  -- the read bytes follow those that were there before
   pub behind : now ≡ before ++ read
+  -- as many bytes as asked for were read
   pub long : length read ≡ len
+  -- if the file is observable, the read bytes are those of the file from the offset `at` on
   pub told : IfObservable history
       (λ v. IfSome (files_of v name) (λ file. read ≡ take len (drop at file)))
 
@@ -31,10 +34,10 @@ pub record OnlyReads {A E : Type 0} (disk_fault : E) (old new : List TreeState)
   -- no count falls
   pub goes_on : CountsOnlyRise before now
   -- the tree failed only if that has its cause
-  pub disk : IsErrOf result disk_fault → HasCause before now
+  pub disk : IsErrOf result disk_fault → IsFaultCountedWithCause before now
   -- a success adds neither a fault nor a lack of memory
-  pub kept : OnOk result (IsNoFault before now)
+  pub kept : OnOk result (CountsNoNewFault before now)
   -- nor does an error other than `disk_fault`
-  pub others : IfErr result (λ fault. (fault ≡ disk_fault → ⊥) → IsNoFault before now)
+  pub others : IfErr result (λ fault. (fault ≡ disk_fault → ⊥) → CountsNoNewFault before now)
   -- if the history is observable, no call was a misuse
   pub proper : IfObservable old (λ v. now.misuses ≡ before.misuses)

@@ -1,14 +1,14 @@
 -- The tree after a crash, and what holds at a moment given the earlier ones. The rules are in
 -- `docs/crash-safety.md`, "What a crash leaves", and of `HasNamedNewFile` in "Moments".
 use Rattle.std.specs.Prelude.{◌≡◌, ◌⊎◌, ◌≤◌, ℕ, true, List, [], ◌∷◌, ◌++◌, Some}
-use Rattle.base_core.specs.Crash.{IsCrashImageInOrder}
+use Rattle.base_core.specs.Crash.{IsCrashImageIfUndoneNewestFirst}
 use Rattle.base_core.specs.Tree.{TreeState, files_of}
 
 -- `w` is a tree that is found after a crash of `v`: it reads as an image of `v`, and a further crash
 -- would take nothing from it
-pub record IsAfterCrashInOrder (v w : TreeState) : Type 0 where
+pub record IsAfterCrashIfUndoneNewestFirst (v w : TreeState) : Type 0 where
   -- what is read then is what a crash may leave of `v`
-  pub left : IsCrashImageInOrder v (files_of w)
+  pub left : IsCrashImageIfUndoneNewestFirst v (files_of w)
   -- no change of names can be undone any more
   pub one_map : w.older ≡ []
   -- each file that a name leads to is synced
@@ -24,6 +24,7 @@ pub record SinceGivenEarlier (P : List TreeState → TreeState → Type 0)
     (old new : List TreeState) : Type 0 where
   -- the states that were added, the newest first
   pub added : List TreeState
+  -- the new history is these states before the old history
   pub is : new ≡ added ++ old
   pub each : EachMoment P added
 

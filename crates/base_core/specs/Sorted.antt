@@ -4,12 +4,13 @@ use Rattle.std.specs.Prelude.{List, [], ◌∷◌, if◌then◌else◌}
 use Rattle.std.specs.Ordering.{is_gt}
 use Rattle.std.specs.declared.cmp.Ordering.{Ordering}
 
--- a list with one more element, which is put before the first one that it is not greater than
-abbrev pub with_element : {X : Type 0} → (X → X → Ordering) → X → List X → List X
-with_element cmp x [] = x ∷ []
-with_element cmp x (y ∷ ys) = if is_gt (cmp x y) then y ∷ with_element cmp x ys else x ∷ y ∷ ys
+-- a list with `x` inserted before the first element `y` for which `x` is not greater than `y`
+abbrev pub with_element_inserted : {X : Type 0} → (X → X → Ordering) → X → List X → List X
+with_element_inserted cmp x [] = x ∷ []
+with_element_inserted cmp x (y ∷ ys) =
+    if is_gt (cmp x y) then y ∷ with_element_inserted cmp x ys else x ∷ y ∷ ys
 
 -- the elements of a list in this order; equal ones keep their order
 abbrev pub sorted_by : {X : Type 0} → (X → X → Ordering) → List X → List X
 sorted_by cmp [] = []
-sorted_by cmp (x ∷ xs) = with_element cmp x (sorted_by cmp xs)
+sorted_by cmp (x ∷ xs) = with_element_inserted cmp x (sorted_by cmp xs)

@@ -127,6 +127,7 @@ pub record CanCreate (name : List ℕ) (v : TreeState) : Type 0 where
 -- folder of another
 pub record CanRename (from to : List ℕ) (v : TreeState) : Type 0 where
   pub present : IsSome (v.names from)
+  -- the two names differ
   pub apart : from ≢ to
   -- the test does not depend on the file, so 0 serves as its number
   pub folders : HasNoFileAsFolder (put_name (drop_name v.names from) to 0)
@@ -142,12 +143,14 @@ IsCurrentOrOlderMap v map = IsIn map (v.names ∷ v.older)
 -- ^ 64 bytes
 pub record IsWellFormed (v : TreeState) : Type 0 where
   -- finitely many names are present
-  pub finite : (map : NameMap) → IsCurrentOrOlderMap v map → (names : List (List ℕ)) × HasNamesAmong names map
+  pub finite : (map : NameMap) → IsCurrentOrOlderMap v map → (names : List (List ℕ))
+      × HasNamesAmong names map
   -- each is a name
   pub named : (map : NameMap) → IsCurrentOrOlderMap v map → AreNames map
   -- none is a folder of another
   pub folders : (map : NameMap) → IsCurrentOrOlderMap v map → HasNoFileAsFolder map
   -- each leads to a file that was made
-  pub made : (map : NameMap) → IsCurrentOrOlderMap v map → (q : List ℕ) (n : ℕ) → map q ≡ Some n → n < v.made
+  pub made : (map : NameMap) → IsCurrentOrOlderMap v map → (q : List ℕ) (n : ℕ) → map q ≡ Some n
+      → n < v.made
   -- each file has fewer than 2 ^ 64 bytes
   pub bytes : (n : ℕ) → AreFileBytes (v.files n).bytes

@@ -5,15 +5,15 @@ use Rattle.base_core.specs.Files.{Files, NameMap}
 use Rattle.base_core.specs.Tree.{TreeState, files_under_map, files_of}
 use Rattle.base_core.specs.Crash.{IsCrashImageUnderMap}
 
--- two names lead alike: both to the same number, or both to none
+-- whether two entries of maps of names are equal: the same file number, or no number in each
 abbrev pub lead_to_same_file : Option ℕ → Option ℕ → Bool
 lead_to_same_file None None = true
 lead_to_same_file None (Some n) = false
 lead_to_same_file (Some m) None = false
 lead_to_same_file (Some m) (Some n) = m == n
 
--- a map of names with the change from one map to the next newer one: each name at which these differ
--- leads where it does in the newer one
+-- `map` with the change from `old` to `new`, the next newer map: each name at which `old` and `new`
+-- differ leads where it leads in `new`
 abbrev pub with_change_replayed : NameMap → NameMap → NameMap → NameMap
 with_change_replayed old new map q = if lead_to_same_file (old q) (new q) then map q else new q
 
@@ -38,7 +38,8 @@ IsCrashImage v image = (map : NameMap) × IsCrashMap v map × IsCrashImageUnderM
 -- leave. The parameter `depends_on` says which files these are, given the files of that map: only a
 -- crate that can read the journal knows it
 pub record IsDurable (depends_on : Files → List ℕ → Type 0) (v : TreeState) : Type 0 where
-  pub each : (map : NameMap) → IsCrashMap v map → (q : List ℕ) (n : ℕ) → depends_on (files_under_map v map) q
+  pub each : (map : NameMap) → IsCrashMap v map → (q : List ℕ) (n : ℕ)
+      → depends_on (files_under_map v map) q
       → map q ≡ Some n → (v.files n).synced ≡ true
 
 -- `w` is a tree after a crash of `v`, with one map of names, and with each file synced

@@ -2,14 +2,14 @@
 -- bytes, as `write_all` does (its row in the README of this crate).
 use Rattle.std.specs.Prelude.{ℕ, List, Result, OnOk, OnErr}
 use Rattle.base_core.specs.Faults.{FailsWithCause}
-use Rattle.base_core.specs.Sink.{SinkBeforeAndAfter, Gets, GetsPrefix}
+use Rattle.base_core.specs.Sink.{SinkBeforeAndAfter, SinkGets, SinkGetsPrefix}
 
 -- a call has written all these bytes to a sink, or a prefix of them if the sink failed
 pub record Writes {T E : Type 0} (bytes : List ℕ) (sink : SinkBeforeAndAfter)
     (result : Result T E) : Type 0 where
   -- all bytes were written
-  pub ok : OnOk result (Gets sink bytes)
+  pub ok : OnOk result (SinkGets sink bytes)
   -- a prefix of the bytes was written
-  pub err : OnErr result (GetsPrefix sink bytes)
+  pub err : OnErr result (SinkGetsPrefix sink bytes)
   -- the sink failed only if its count of faults rose
   pub cause : FailsWithCause sink.before sink.after result

@@ -3,12 +3,12 @@
 //! `docs/crash-safety.md` says the laws in words: those of a crash in "What a crash leaves", those
 //! of a listing in "A tree at one moment".
 ghost use Rattle.std.specs.Prelude.{◌≡◌, ◌≤◌, ◌++◌, ℕ, List, [], Option, Result, Bool};
-ghost use Rattle.base_core.specs.Crash.{IsCrashImageInOrder, IsCrashImageUnderMap, IsDurableInOrder};
-ghost use Rattle.base_core.specs.Faults.{Counts, CountsOnlyRise, HasCause, IsNoFault};
+ghost use Rattle.base_core.specs.Crash.{IsCrashImageIfUndoneNewestFirst, IsCrashImageUnderMap, IsDurableIfUndoneNewestFirst};
+ghost use Rattle.base_core.specs.Faults.{Counts, CountsOnlyRise, IsFaultCountedWithCause, CountsNoNewFault};
 ghost use Rattle.base_core.specs.Files.{Files, NameMap, AreNamedFiles, HasNamesAmong};
 ghost use Rattle.base_core.specs.Listed.{AreNamesBelow, IsListOf, IsNamesOf};
 ghost use Rattle.base_core.specs.Read.{OnlyReads};
-ghost use Rattle.base_core.specs.Restart.{HasNamedNewFile, IsAfterCrashInOrder};
+ghost use Rattle.base_core.specs.Restart.{HasNamedNewFile, IsAfterCrashIfUndoneNewestFirst};
 ghost use Rattle.base_core.specs.Tree.{TreeState, IsCurrentOrOlderMap, IsWellFormed, files_of, files_under_map, with_names};
 ghost use Rattle.base_core.specs.Undone.{IsAfterCrash, IsDurable, IsCrashImage, IsCrashMap, with_change_replayed};
 
@@ -16,15 +16,15 @@ ghost use Rattle.base_core.specs.Undone.{IsAfterCrash, IsDurable, IsCrashImage, 
 
 /// The files by each map of names, and so the files as read, are among what a crash may leave.
 pub fn a_crash_may_leave_the_files_as_read()
-    ensures read { (v : TreeState) → IsCrashImageInOrder v (files_of v) }
+    ensures read { (v : TreeState) → IsCrashImageIfUndoneNewestFirst v (files_of v) }
     ensures by_map { (v : TreeState) (map : NameMap) → IsCurrentOrOlderMap v map
-        → IsCrashImageInOrder v (files_under_map v map) }
+        → IsCrashImageIfUndoneNewestFirst v (files_under_map v map) }
 {}
 
 /// If crashes undo only the last changes of names, a second one leaves the same files as the first.
 pub fn a_second_crash_in_order_leaves_the_same_files()
-    ensures { (v w : TreeState) → IsAfterCrashInOrder v w → (image : Files)
-        → IsCrashImageInOrder w image
+    ensures { (v w : TreeState) → IsAfterCrashIfUndoneNewestFirst v w → (image : Files)
+        → IsCrashImageIfUndoneNewestFirst w image
         → (q : List ℕ) → image q ≡ files_of w q }
 {}
 
@@ -38,23 +38,28 @@ pub trait Durability {
 /// After a crash that undoes only the last changes of names a tree is durable, whichever files must
 /// be.
 pub fn a_crash_in_order_leaves_a_durable_tree<D: Durability>()
-    ensures { (ignored : List ℕ → Bool) (v w : TreeState) → IsAfterCrashInOrder v w
-        → IsDurableInOrder (D.depends_on ignored) w }
+    ensures { (ignored : List ℕ → Bool) (v w : TreeState) → IsAfterCrashIfUndoneNewestFirst v w
+        → IsDurableIfUndoneNewestFirst (D.depends_on ignored) w }
 {}
 
 /// A crash that undoes only the last changes of names keeps, by one of the maps of a tree that is
 /// durable then, the bytes of each file that must be durable.
 pub fn a_crash_in_order_keeps_the_files_of_a_durable_tree<D: Durability>()
-    ensures { (ignored : List ℕ → Bool) (v : TreeState) → IsDurableInOrder (D.depends_on ignored) v
-        → (map : NameMap) → IsCurrentOrOlderMap v map → (image : Files) → IsCrashImageUnderMap v map image
-        → (q : List ℕ) → D.depends_on ignored (files_under_map v map) q → image q ≡ files_under_map v map q }
+    ensures { (ignored : List ℕ → Bool) (v : TreeState)
+        → IsDurableIfUndoneNewestFirst (D.depends_on ignored) v
+        → (map : NameMap) → IsCurrentOrOlderMap v map → (image : Files)
+        → IsCrashImageUnderMap v map image
+        → (q : List ℕ) → D.depends_on ignored (files_under_map v map) q → image q
+        ≡ files_under_map v map q }
 {}
 
-/// A tree stays durable, if a crash undoes only the last changes, if fewer files must be.
+/// A tree that is durable if crashes undo only the newest changes of names stays so if fewer files
+/// must be durable.
 pub fn a_tree_stays_durable_in_order_if_fewer_files_must_be<D: Durability>()
     ensures { (more fewer : List ℕ → Bool) (v : TreeState)
         → ((files : Files) (q : List ℕ) → D.depends_on fewer files q → D.depends_on more files q)
-        → IsDurableInOrder (D.depends_on more) v → IsDurableInOrder (D.depends_on fewer) v }
+        → IsDurableIfUndoneNewestFirst (D.depends_on more) v
+        → IsDurableIfUndoneNewestFirst (D.depends_on fewer) v }
 {}
 
 // ---- crashes that undo any of the changes
@@ -71,13 +76,14 @@ pub fn a_crash_may_undo_any_changes()
         → IsCrashMap (with_names v names) (with_change_replayed v.names names map) }
 {}
 
-/// A crash that undoes only the last changes, in any number, is a case: each map since the last
-/// sync of the names may be left. So what holds of each crash here holds of each crash there.
+/// A crash that undoes only the newest changes of names, in any number, is a special case: each map
+/// since the last sync of the names may be left. So what holds after every crash that may undo any
+/// changes holds after it too.
 pub fn a_crash_may_undo_the_last_changes()
     ensures map { (v : TreeState) (map : NameMap) → IsCurrentOrOlderMap v map → IsCrashMap v map }
-    ensures image { (v : TreeState) (image : Files) → IsCrashImageInOrder v image
+    ensures image { (v : TreeState) (image : Files) → IsCrashImageIfUndoneNewestFirst v image
         → IsCrashImage v image }
-    ensures crash { (v w : TreeState) → IsAfterCrashInOrder v w → IsAfterCrash v w }
+    ensures crash { (v w : TreeState) → IsAfterCrashIfUndoneNewestFirst v w → IsAfterCrash v w }
 {}
 
 /// Whatever a crash undoes, each name then leads where it led in one of the maps since the last
@@ -92,7 +98,7 @@ pub fn a_crash_leaves_each_name_where_it_led()
 /// A durable tree is durable too if a crash undoes only the last changes of names.
 pub fn a_durable_tree_is_durable_in_order<D: Durability>()
     ensures { (ignored : List ℕ → Bool) (v : TreeState) → IsDurable (D.depends_on ignored) v
-        → IsDurableInOrder (D.depends_on ignored) v }
+        → IsDurableIfUndoneNewestFirst (D.depends_on ignored) v }
 {}
 
 /// A second crash leaves the same files as the first.
@@ -112,7 +118,8 @@ pub fn a_crash_leaves_a_durable_tree<D: Durability>()
 pub fn a_crash_keeps_the_files_of_a_durable_tree<D: Durability>()
     ensures { (ignored : List ℕ → Bool) (v : TreeState) → IsDurable (D.depends_on ignored) v
         → (map : NameMap) → IsCrashMap v map → (image : Files) → IsCrashImageUnderMap v map image
-        → (q : List ℕ) → D.depends_on ignored (files_under_map v map) q → image q ≡ files_under_map v map q }
+        → (q : List ℕ) → D.depends_on ignored (files_under_map v map) q → image q
+        ≡ files_under_map v map q }
 {}
 
 /// A tree stays durable if fewer files must be.
@@ -168,15 +175,18 @@ pub fn the_files_of_a_well_formed_state_are_named_files()
 
 // ---- calls in a row
 
-/// What holds of the counts over each of two calls in a row holds over both. If there is no call,
-/// no count changes.
+/// What holds of the counts over each of two successive calls holds over the two together. If there
+/// is no call, no count changes.
 pub fn counts_of_consecutive_calls_compose()
     ensures goes_on { (a b c : Counts) → CountsOnlyRise a b → CountsOnlyRise b c
         → CountsOnlyRise a c }
-    ensures cause_before { (a b c : Counts) → HasCause a b → CountsOnlyRise b c → HasCause a c }
-    ensures cause_after { (a b c : Counts) → CountsOnlyRise a b → HasCause b c → HasCause a c }
-    ensures no_fault { (a b c : Counts) → IsNoFault a b → IsNoFault b c → IsNoFault a c }
-    ensures stays { (a : Counts) → CountsOnlyRise a a × IsNoFault a a }
+    ensures cause_before { (a b c : Counts) → IsFaultCountedWithCause a b → CountsOnlyRise b c
+        → IsFaultCountedWithCause a c }
+    ensures cause_after { (a b c : Counts) → CountsOnlyRise a b → IsFaultCountedWithCause b c
+        → IsFaultCountedWithCause a c }
+    ensures no_fault { (a b c : Counts) → CountsNoNewFault a b → CountsNoNewFault b c
+        → CountsNoNewFault a c }
+    ensures stays { (a : Counts) → CountsOnlyRise a a × CountsNoNewFault a a }
 {}
 
 /// A sequence of calls that only read only reads, if all but the last succeeded.

@@ -4,7 +4,7 @@ ghost use Rattle.std.specs.Prelude.{◌≡◌, ◌↔◌, ◌<◌, ◌==◌, ◌
 ghost use Rattle.std.specs.List.{list_all};
 ghost use Rattle.std.specs.Str.{is_utf8};
 ghost use Rattle.base_core.specs.Files.{IsFolderOf};
-ghost use Rattle.base_core.specs.Name.{IsName, is_name, is_part, parts_of};
+ghost use Rattle.base_core.specs.Name.{IsName, is_name, is_path_part, path_parts_of};
 
 use std::alloc::{AllocError, Global};
 use std::marker::Model;
@@ -83,9 +83,9 @@ pub fn is_name(bytes: &[u8]) -> bool
 
 /// Whether each part between slashes may be in a name.
 fn has_parts(bytes: &[u8]) -> bool
-    ensures { result ≡ list_all is_part (parts_of bytes.now) }
+    ensures { result ≡ list_all is_path_part (path_parts_of bytes.now) }
 {
-    bytes.split(|b| *b == b'/').all(|part| is_part(part))
+    bytes.split(|b| *b == b'/').all(|part| is_path_part(part))
 }
 
 /// Whether bytes are UTF-8.
@@ -99,8 +99,8 @@ fn is_text(bytes: &[u8]) -> bool
 }
 
 /// Whether a part may be in a name: it is not empty, and neither `.` nor `..`.
-fn is_part(part: &[u8]) -> bool
-    ensures { result ≡ is_part part.now }
+fn is_path_part(part: &[u8]) -> bool
+    ensures { result ≡ is_path_part part.now }
 {
     !part.is_empty() && part != b".".as_slice() && part != b"..".as_slice()
 }

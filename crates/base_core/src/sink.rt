@@ -3,7 +3,7 @@
 //! `Sink` and `write_all` in the README of this crate.
 ghost use Rattle.std.specs.Prelude.{◌≡◌, [], List, ℕ, Option, take, IsOk, IfOk, OnOk, OnErr};
 ghost use Rattle.base_core.specs.Faults.{Counts, FailsWithCause};
-ghost use Rattle.base_core.specs.Sink.{Adds, AddsPrefix, IsWriteCount};
+ghost use Rattle.base_core.specs.Sink.{Adds, AddsPrefixToSink, IsWriteCount};
 
 use thiserror::Error;
 
@@ -42,7 +42,7 @@ pub trait Sink {
 /// `SinkFault` if the sink failed; then a prefix of the bytes was added.
 pub fn write_all<S: Sink>(sink: &mut S, bytes: &[u8]) -> Result<(), SinkFault>
     ensures ok { OnOk result (Adds (S.bytes sink.old) (S.bytes sink.new) bytes.now) }
-    ensures err { OnErr result (AddsPrefix (S.bytes sink.old) (S.bytes sink.new) bytes.now) }
+    ensures err { OnErr result (AddsPrefixToSink (S.bytes sink.old) (S.bytes sink.new) bytes.now) }
     ensures cause { FailsWithCause (S.counts sink.old) (S.counts sink.new) result }
 {
     let mut rest = bytes;

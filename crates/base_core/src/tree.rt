@@ -4,10 +4,10 @@
 ghost use Rattle.std.specs.Prelude.{◌≡◌, ℕ, List, Option, Some, length, take, drop, IfOk, OnOk, IfSome, IsErrOf, All};
 ghost use Rattle.std.specs.Option.{option_map, option_copied};
 ghost use Rattle.base_core.specs.Tree.{TreeState, files_of, after_create, after_append, after_failed_append, after_sync, after_rename, after_remove, after_sync_names, unchanged_after_failed_call, IsAlwaysAllowed, HasName, CanRead, CanCreate, CanRename, IsWellFormed};
-ghost use Rattle.base_core.specs.Faults.{Counts, CountsOnlyRise, HasCause, IsNoFault};
+ghost use Rattle.base_core.specs.Faults.{Counts, CountsOnlyRise, IsFaultCountedWithCause, CountsNoNewFault};
 ghost use Rattle.base_core.specs.Calls.{IsCounted, ChangesHistory, IfObservable};
 ghost use Rattle.base_core.specs.Listed.{AreNamesBelow, IsListOf};
-ghost use Rattle.base_core.specs.Read.{HasReadAfter, OnlyReads, bytes_in};
+ghost use Rattle.base_core.specs.Read.{AppendsReadBytes, OnlyReads, bytes_in};
 ghost use Rattle.base_core.specs.declared.tree.TreeFault.TheVariants.{Memory, Disk as DiskFault};
 
 use crate::name::{Name, Names};
@@ -42,7 +42,7 @@ impl From<Disk> for TreeFault {
 impl From<AllocError> for TreeFault {
     ghost from_gives = { λ _ fault. fault ≡ Memory };
 
-    // Out of memory as the error of such a call.
+    // Out of memory as the error of a call that reads the tree into memory.
     fn from(_: AllocError) -> TreeFault {
         TreeFault::Memory
     }
@@ -69,18 +69,24 @@ pub trait Tree {
 
     /// The file's length in bytes, or None exactly if the name is absent.
     fn size(&mut self, name: &Name) -> Result<Option<u64>, Disk>
+        // The history is unchanged.
         ensures same { history self.new ≡ history self.old }
+        // How the counts change, and which states allow the call.
         ensures counts { IsCounted IsAlwaysAllowed (history self.old) (counts self.old)
             (counts self.new) result }
+        // What is returned, if the history is observable.
         ensures value { IfOk result (λ size. IfObservable (history self.old) (λ v.
             size ≡ option_map length (files_of v name.now))) };
 
     /// Fills the buffer with the file's bytes from `at` on. An absent name, or a read past the
     /// file's end, is a misuse, and a fault.
     fn read_at(&mut self, name: &Name, at: u64, into: &mut [u8]) -> Result<(), Disk>
+        // The history is unchanged.
         ensures same { history self.new ≡ history self.old }
+        // How the counts change, and which states allow the call.
         ensures counts { IsCounted (CanRead name.now at (length into.old)) (history self.old)
             (counts self.old) (counts self.new) result }
+        // What is returned, if the history is observable.
         ensures value { OnOk result (IfObservable (history self.old) (λ v.
             IfSome (files_of v name.now) (λ bytes.
             into.new ≡ take (length into.old) (drop at bytes)))) };
@@ -88,9 +94,11 @@ pub trait Tree {
     /// Makes an empty file, which is not synced. A name that is present, or that would make one
     /// name a folder of another, is a misuse, and a fault.
     fn create(&mut self, name: &Name) -> Result<(), Disk>
+        // Which state is added to the history: on success, and on an error.
         ensures moves { ChangesHistory (CanCreate name.now) (after_create name.now) (after_create
             name.now)
             (history self.old) (history self.new) result }
+        // How the counts change, and which states allow the call.
         ensures counts { IsCounted (CanCreate name.now) (history self.old)
             (counts self.old) (counts self.new) result };
 
@@ -98,17 +106,22 @@ pub trait Tree {
     /// may be unsynced. `Disk` reports an I/O error of the tree. An absent name is a misuse, and a
     /// fault.
     fn append(&mut self, name: &Name, piece: &[u8]) -> Result<(), Disk>
+        // Which state is added to the history: on success, and on an error.
         ensures moves { ChangesHistory (HasName name.now) (after_append name.now piece.now)
             (after_failed_append name.now)
             (history self.old) (history self.new) result }
+        // How the counts change, and which states allow the call.
         ensures counts { IsCounted (HasName name.now) (history self.old)
             (counts self.old) (counts self.new) result };
 
     /// File fsync: no later crash undoes what was written to the file before this call. An absent
     /// name is a misuse, and a fault.
     fn sync(&mut self, name: &Name) -> Result<(), Disk>
-        ensures moves { ChangesHistory (HasName name.now) (after_sync name.now) unchanged_after_failed_call
+        // Which state is added to the history: on success, and on an error.
+        ensures moves { ChangesHistory (HasName name.now)
+            (after_sync name.now) unchanged_after_failed_call
             (history self.old) (history self.new) result }
+        // How the counts change, and which states allow the call.
         ensures counts { IsCounted (HasName name.now) (history self.old)
             (counts self.old) (counts self.new) result };
 
@@ -116,39 +129,53 @@ pub trait Tree {
     /// led to is gone. An absent `from`, the same name twice, or a `to` that would make one name a
     /// folder of another is a misuse, and a fault.
     fn rename(&mut self, from: &Name, to: &Name) -> Result<(), Disk>
+        // Which state is added to the history: on success, and on an error.
         ensures moves { ChangesHistory (CanRename from.now to.now) (after_rename from.now to.now)
             (after_rename from.now to.now) (history self.old) (history self.new) result }
+        // How the counts change, and which states allow the call.
         ensures counts { IsCounted (CanRename from.now to.now) (history self.old)
             (counts self.old) (counts self.new) result };
 
     /// Removes a name. An absent name is no fault, and nothing changes.
     fn remove(&mut self, name: &Name) -> Result<(), Disk>
+        // Which state is added to the history: on success, and on an error.
         ensures moves { ChangesHistory IsAlwaysAllowed (after_remove name.now) (after_remove
             name.now)
             (history self.old) (history self.new) result }
+        // How the counts change, and which states allow the call.
         ensures counts { IsCounted IsAlwaysAllowed (history self.old) (counts self.old)
             (counts self.new) result };
 
     /// Directory fsync: no later crash undoes a change of names made before this call.
     fn sync_names(&mut self) -> Result<(), Disk>
+        // Which state is added to the history: on success, and on an error.
         ensures moves { ChangesHistory IsAlwaysAllowed after_sync_names unchanged_after_failed_call (history
             self.old)
             (history self.new) result }
+        // How the counts change, and which states allow the call.
         ensures counts { IsCounted IsAlwaysAllowed (history self.old) (counts self.old)
             (counts self.new) result };
 
     /// All names below a folder, at any depth, in byte order, each once, even if the history is not
     /// observable. Out of memory is no fault of the tree.
     fn list(&mut self, alloc: Global, folder: &Name) -> Result<Names, TreeFault>
+        // The history is unchanged.
         ensures same { history self.new ≡ history self.old }
+        // No count falls.
         ensures goes_on { CountsOnlyRise (counts self.old) (counts self.new) }
         // A failed tree has its cause; no other answer adds a fault or a lack of memory.
-        ensures disk { IsErrOf result DiskFault → HasCause (counts self.old) (counts self.new) }
-        ensures kept { OnOk result (IsNoFault (counts self.old) (counts self.new)) }
-        ensures memory { IsErrOf result Memory → IsNoFault (counts self.old) (counts self.new) }
+        ensures disk { IsErrOf result DiskFault
+            → IsFaultCountedWithCause (counts self.old) (counts self.new) }
+        // Ok is returned only if no fault was counted.
+        ensures kept { OnOk result (CountsNoNewFault (counts self.old) (counts self.new)) }
+        // Out of memory is no fault of the tree.
+        ensures memory { IsErrOf result Memory
+            → CountsNoNewFault (counts self.old) (counts self.new) }
         ensures proper { (counts self.new).misuses ≡ (counts self.old).misuses }
+        // What is returned, if the history is observable.
         ensures value { IfOk result (λ names.
             IfObservable (history self.old) (λ v. IsListOf folder.now v names)) }
+        // In any case these are names below the folder, in byte order, each once.
         ensures order { IfOk result (λ names. AreNamesBelow folder.now names) };
 
     /// Asks, before a change is committed, whether the tree could later rename a file from the
@@ -157,9 +184,12 @@ pub trait Tree {
     /// are not checked here. Missing folders may be made, since an empty folder is no part of a
     /// state.
     fn check_target(&mut self, name: &Name, source: Option<&Name>) -> Result<(), Disk>
+        // The history is unchanged.
         ensures same { history self.new ≡ history self.old }
+        // How the counts change, and which states allow the call.
         ensures counts { IsCounted IsAlwaysAllowed (history self.old) (counts self.old)
             (counts self.new) result }
+        // Ok is returned only if the tree accepts the target.
         ensures accepted { OnOk result (accepts (option_copied source.entry) name.now) };
 
     /// Each state that is observable is whole: its names are names, finitely many, none a folder of
@@ -211,7 +241,7 @@ pub fn append_file_to<T: Tree>(
 ) -> Result<(), TreeFault>
     requires { IfObservable (T.history tree.old) (λ v.
         Some size ≡ option_map length (files_of v name.now)) }
-    ensures added { OnOk result (HasReadAfter (T.history tree.old) name.now 0 size
+    ensures added { OnOk result (AppendsReadBytes (T.history tree.old) name.now 0 size
         bytes.old.items bytes.new.items) }
     ensures tree { OnlyReads TreeFault.Disk (T.history tree.old) (T.history tree.new)
         (T.counts tree.old) (T.counts tree.new) result }
@@ -235,7 +265,7 @@ fn read_some<T: Tree>(
     bytes: &mut Vec<u8>,
 ) -> Result<(), TreeFault>
     requires { IfObservable (T.history tree.old) (CanRead name.now at len) }
-    ensures added { OnOk result (HasReadAfter (T.history tree.old) name.now at len
+    ensures added { OnOk result (AppendsReadBytes (T.history tree.old) name.now at len
         bytes.old.items bytes.new.items) }
     ensures tree { OnlyReads TreeFault.Disk (T.history tree.old) (T.history tree.new)
         (T.counts tree.old) (T.counts tree.new) result }

@@ -11,7 +11,7 @@ use Rattle.std.specs.declared.cmp.Ordering.TheVariants.{Less, Equal, Greater}
 use Rattle.dep_core.specs.Dependency.{Dependency}
 use Rattle.dep_core.specs.Meets.{constraint_accepts}
 use Rattle.candidate_core.specs.Candidates.{Candidate}
-use Rattle.candidate_core.specs.Matches.{AreRememberedMatchesOf, place_cmp}
+use Rattle.candidate_core.specs.Matches.{AreRememberedMatchesOf, text_place_cmp}
 use Rattle.candidate_core.specs.PackageMatches.{AreMatchesAmong, AreMatchesByVersion, wanted_version_cmp}
 use Rattle.candidate_core.specs.Packages.{candidates_of_packages}
 use Rattle.candidate_core.specs.VersionTexts.{source_text}
@@ -21,9 +21,9 @@ use Rattle.candidate_core.specs.declared.packages.Packages.{Packages}
 use Rattle.candidate_core.proofs.WantedVersions.{same_place}
 
 same_wanted : (a b : ℕ × ℕ × ℕ) → is_eq (wanted_version_cmp a b) ≡ true → (a.0 ≡ b.0) × (a.1 ≡ b.1) × (a.2 ≡ b.2)
-same_wanted a b h = go (place_cmp (a.0, a.1) (b.0, b.1)) refl
+same_wanted a b h = go (text_place_cmp (a.0, a.1) (b.0, b.1)) refl
   where
-    go : (o : Ordering) → place_cmp (a.0, a.1) (b.0, b.1) ≡ o → (a.0 ≡ b.0) × (a.1 ≡ b.1) × (a.2 ≡ b.2)
+    go : (o : Ordering) → text_place_cmp (a.0, a.1) (b.0, b.1) ≡ o → (a.0 ≡ b.0) × (a.1 ≡ b.1) × (a.2 ≡ b.2)
     go Less e = absurd (true≢false (sym h ∙ ap (λ (o : Ordering). is_eq (ordering_then o (nat_cmp a.2 b.2))) e))
     go Greater e = absurd (true≢false (sym h ∙ ap (λ (o : Ordering). is_eq (ordering_then o (nat_cmp a.2 b.2))) e))
     go Equal e =

@@ -17,7 +17,7 @@ use Rattle.adb_view.specs.declared.tables.Kind.TheVariants.{Text}
 use Rattle.dep_core.specs.Dependency.{Dependency}
 use Rattle.dep_core.specs.Meets.{meets}
 use Rattle.candidate_core.specs.Candidates.{Need, dependencies_of, dependency_in, entry, named}
-use Rattle.candidate_core.specs.Matches.{AreMatchesFor, AreRememberedMatchesOf, GivesTextsOfSource, dependency_accepts, place_cmp}
+use Rattle.candidate_core.specs.Matches.{AreMatchesFor, AreRememberedMatchesOf, GivesTextsOfSource, dependency_accepts, text_place_cmp}
 use Rattle.candidate_core.specs.VersionTexts.{HasVersionTextFrom}
 use Rattle.candidate_core.specs.declared.matches.KnownMatches.{KnownMatches}
 use Rattle.candidate_core.specs.declared.packages.Source.{Source}
@@ -50,7 +50,7 @@ pub read_by : (text : ℕ → ℕ → List ℕ) (r : RankedVersion) (source : So
 read_by text r source place of is read =
     text_moved r.version (text_in (value_at (payload_of source.adb) Text r.word)) (text r.source r.word) (ap (λ (k : ℕ). text k r.word) is ∙ of r.word) read
 
-pub same_place : (a b : ℕ × ℕ) → is_eq (place_cmp a b) ≡ true → (a.0 ≡ b.0) × (a.1 ≡ b.1)
+pub same_place : (a b : ℕ × ℕ) → is_eq (text_place_cmp a b) ≡ true → (a.0 ≡ b.0) × (a.1 ≡ b.1)
 same_place a b h = go (nat_cmp a.0 b.0) refl
   where
     go : (o : Ordering) → nat_cmp a.0 b.0 ≡ o → (a.0 ≡ b.0) × (a.1 ≡ b.1)
@@ -63,19 +63,19 @@ same_place a b h = go (nat_cmp a.0 b.0) refl
 
 -- one answer more is kept
 pub answer_inserted : (d : Dependency) (text : ℕ → ℕ → List ℕ) (old new : BTreeMap (ℕ × ℕ) Bool) (k : ℕ × ℕ) (v : Bool)
-    → ((source word : ℕ) (x : Bool) → get place_cmp old (source, word) ≡ Some x → x ≡ dependency_accepts d (Some (text source word)))
-    → ((q : ℕ × ℕ) → get place_cmp new q ≡ cond (is_eq (place_cmp k q)) (Some v) (get place_cmp old q))
+    → ((source word : ℕ) (x : Bool) → get text_place_cmp old (source, word) ≡ Some x → x ≡ dependency_accepts d (Some (text source word)))
+    → ((q : ℕ × ℕ) → get text_place_cmp new q ≡ cond (is_eq (text_place_cmp k q)) (Some v) (get text_place_cmp old q))
     → v ≡ dependency_accepts d (Some (text k.0 k.1))
-    → (source word : ℕ) (x : Bool) → get place_cmp new (source, word) ≡ Some x → x ≡ dependency_accepts d (Some (text source word))
-answer_inserted d text old new k v known updates has source word x at = go (is_eq (place_cmp k (source, word))) refl
+    → (source word : ℕ) (x : Bool) → get text_place_cmp new (source, word) ≡ Some x → x ≡ dependency_accepts d (Some (text source word))
+answer_inserted d text old new k v known updates has source word x at = go (is_eq (text_place_cmp k (source, word))) refl
   where
-    go : (same : Bool) → is_eq (place_cmp k (source, word)) ≡ same → x ≡ dependency_accepts d (Some (text source word))
+    go : (same : Bool) → is_eq (text_place_cmp k (source, word)) ≡ same → x ≡ dependency_accepts d (Some (text source word))
     go true e =
         let key = same_place k (source, word) e in
-        let both : ◌≡◌ {A = Option Bool} (Some v) (Some x) = sym (updates (source, word) ∙ ap (λ (b : Bool). cond b (Some v) (get place_cmp old (source, word))) e) ∙ at in
+        let both : ◌≡◌ {A = Option Bool} (Some v) (Some x) = sym (updates (source, word) ∙ ap (λ (b : Bool). cond b (Some v) (get text_place_cmp old (source, word))) e) ∙ at in
         let value : v ≡ x = cc in
         sym value ∙ (has ∙ (ap (λ (s : ℕ). dependency_accepts d (Some (text s k.1))) key.0 ∙ ap (λ (w : ℕ). dependency_accepts d (Some (text source w))) key.1))
-    go false e = known source word x (sym (updates (source, word) ∙ ap (λ (b : Bool). cond b (Some v) (get place_cmp old (source, word))) e) ∙ at)
+    go false e = known source word x (sym (updates (source, word) ∙ ap (λ (b : Bool). cond b (Some v) (get text_place_cmp old (source, word))) e) ∙ at)
 
 -- if nothing is known, all that is known is right
 pub known_of_nothing : (text : ℕ → ℕ → List ℕ) (need : Need) (known : KnownMatches) → ((t : ℕ → ℕ → List ℕ) (d : Dependency) → AreRememberedMatchesOf t d known) → AreMatchesFor text need known

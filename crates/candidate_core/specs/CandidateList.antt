@@ -23,11 +23,13 @@ candidates_in (Some list) = candidates_of_packages list.packages
 
 -- whether the candidate at a place is the installed package; not if no candidate is there
 abbrev pub is_installed_package_at : Candidate → List Candidate → ℕ → Bool
-is_installed_package_at installed cs place = option_map_or (is_same_package installed) (slice_get cs place) false
+is_installed_package_at installed cs place =
+    option_map_or (is_same_package installed) (slice_get cs place) false
 
 -- the list, with the candidate at a place marked as installed if it is the installed package
 abbrev pub marked_installed_if_same_at : Candidate → ℕ → List Candidate → List Candidate
 marked_installed_if_same_at installed place [] = []
 marked_installed_if_same_at installed zero (c ∷ cs) =
     (if is_same_package installed c then as_installed c else c) ∷ cs
-marked_installed_if_same_at installed (suc place) (c ∷ cs) = c ∷ marked_installed_if_same_at installed place cs
+marked_installed_if_same_at installed (suc place) (c ∷ cs) =
+    c ∷ marked_installed_if_same_at installed place cs

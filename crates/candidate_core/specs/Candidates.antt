@@ -47,11 +47,11 @@ abbrev pub dependencies_in : Plain → List Dependency
 dependencies_in value = dependencies_of (entries_in value)
 
 -- a candidate from its parts
-abbrev pub candidate_by :
+abbrev pub candidate_from_parts :
     Plain → List ℕ → Option (List ℕ) → List ℕ →
     List Dependency → List Dependency → List Dependency →
     ℕ → Option ℕ → Option (List ℕ) → Bool → Candidate
-candidate_by info name version id depends provides install_if priority repository tag installed =
+candidate_from_parts info name version id depends provides install_if priority repository tag installed =
     record {
       info = info;
       name = name;
@@ -69,7 +69,7 @@ candidate_by info name version id depends provides install_if priority repositor
 -- the candidate with this information, of a repository and its tag, installed or not
 abbrev pub candidate_of : Plain → Option ℕ → Option (List ℕ) → Bool → Candidate
 candidate_of info repository tag installed =
-    candidate_by info (text_in (entry_in info INFO_NAME))
+    candidate_from_parts info (text_in (entry_in info INFO_NAME))
     (version_of_text (text_in (entry_in info INFO_VERSION)))
     (text_in (entry_in info INFO_HASHES)) (dependencies_in (entry_in info INFO_DEPENDS))
     (dependencies_in (entry_in info INFO_PROVIDES)) (dependencies_in (entry_in info INFO_INSTALL_IF))
@@ -84,7 +84,7 @@ candidates_of_index repository tag none = []
 candidates_of_index repository tag (more info infos) =
     candidate_of info (Some repository) tag false ∷ candidates_of_index repository tag infos
 
--- whether two ids are the same: both are nonempty, and the shorter is a front of the longer
+-- whether two ids are the same: both are nonempty, and the shorter is a prefix of the longer
 abbrev pub is_same_id : List ℕ → List ℕ → Bool
 is_same_id a b =
     nat_lt 0 (length a)
@@ -135,8 +135,8 @@ need_name (entry d) = d.name
 need_name (named name) = name
 
 -- whether an entry of provides meets a dependency; an entry that is a conflict provides nothing
-abbrev pub is_met_by_entry : Dependency → Dependency → Bool
-is_met_by_entry d p = not p.conflict && meets d p.name p.version
+abbrev pub is_met_by_provides_entry : Dependency → Dependency → Bool
+is_met_by_provides_entry d p = not p.conflict && meets d p.name p.version
 
 -- whether a candidate meets a dependency by its own name and version
 abbrev pub meets_by_own_name : Dependency → Candidate → Bool
@@ -145,7 +145,7 @@ meets_by_own_name d c = meets d c.name c.version
 -- whether a candidate meets a dependency by its own name and version, or by an entry of its
 -- provides
 abbrev pub meets_dependency : Dependency → Candidate → Bool
-meets_dependency d c = meets_by_own_name d c || list_any (is_met_by_entry d) c.provides
+meets_dependency d c = meets_by_own_name d c || list_any (is_met_by_provides_entry d) c.provides
 
 -- whether a candidate meets a need; only a candidate of that name meets the name of an install-if
 abbrev pub meets_need : Need → Candidate → Bool
@@ -157,7 +157,7 @@ meets_need (named name) c = bytes_eq name c.name
 abbrev pub version_meeting_need : Need → Candidate → Option (List ℕ)
 version_meeting_need (entry d) c =
     if meets_by_own_name d c then c.version
-    else option_and_then (λ (p : Dependency). p.version) (find (is_met_by_entry d) c.provides)
+    else option_and_then (λ (p : Dependency). p.version) (find (is_met_by_provides_entry d) c.provides)
 version_meeting_need (named name) c = c.version
 
 -- whether a candidate offers a name: it has the name, or an entry of provides with the name that is no
@@ -169,13 +169,13 @@ offers_name name c =
 
 -- whether an entry of provides occupies the name: it is of the name, has a version and is no
 -- conflict
-abbrev pub entry_occupies : List ℕ → Dependency → Bool
-entry_occupies name p = not p.conflict && (is_some p.version && bytes_eq name p.name)
+abbrev pub is_name_occupied_by_provides_entry : List ℕ → Dependency → Bool
+is_name_occupied_by_provides_entry name p = not p.conflict && (is_some p.version && bytes_eq name p.name)
 
 -- whether a candidate occupies the name, which only one member of a selection may do: it has the name,
 -- or provides it with a version
 abbrev pub occupies_name : List ℕ → Candidate → Bool
-occupies_name name c = bytes_eq name c.name || list_any (entry_occupies name) c.provides
+occupies_name name c = bytes_eq name c.name || list_any (is_name_occupied_by_provides_entry name) c.provides
 
 -- ---- under a world
 

@@ -18,12 +18,12 @@ abbrev pub dependency_accepts : Dependency → Option (List ℕ) → Bool
 dependency_accepts d version = constraint_accepts d.version d.bits version
 
 -- the order of the places of texts: by their sources, and in one source by their words
-abbrev pub place_cmp : ℕ × ℕ → ℕ × ℕ → Ordering
-place_cmp one other = ordering_then (nat_cmp one.0 other.0) (nat_cmp one.1 other.1)
+abbrev pub text_place_cmp : ℕ × ℕ → ℕ × ℕ → Ordering
+text_place_cmp one other = ordering_then (nat_cmp one.0 other.0) (nat_cmp one.1 other.1)
 
 -- this result is remembered for the version that `word` refers to in the source with the index `source`
 abbrev pub IsRememberedMatch : KnownMatches → ℕ → ℕ → Bool → Type 0
-IsRememberedMatch known source word answer = get place_cmp known.answers (source, word) ≡ Some answer
+IsRememberedMatch known source word answer = get text_place_cmp known.answers (source, word) ≡ Some answer
 
 -- each remembered result is whether the dependency accepts the text at its place
 abbrev pub AreRememberedMatchesOf : (ℕ → ℕ → List ℕ) → Dependency → KnownMatches → Type 0

@@ -46,7 +46,8 @@ rank_order_of better (c ∷ cs) = insert_by_rank better c (rank_order_of better 
 -- the options of a need: the candidates that may be selected and meet it, best first
 unfoldable pub options_for : SealedPool → Need → List ℕ
 options_for pool need =
-    rank_order_of (is_better pool need) (places_passing_from 0 (is_eligible_for_need pool need) pool.candidates)
+    rank_order_of (is_better pool need)
+    (places_passing_from 0 (is_eligible_for_need pool need) pool.candidates)
 
 -- each place of the list is better than those after it
 abbrev pub IsSortedBestFirst : (ℕ → ℕ → Bool) → List ℕ → Type 0
@@ -54,7 +55,7 @@ IsSortedBestFirst better [] = Unit {0}
 IsSortedBestFirst better (c ∷ cs) =
     ((d : ℕ) → IsIn d cs → better c d ≡ true) × IsSortedBestFirst better cs
 
--- each place of the list is below those after it
+-- each number of the list is less than those after it
 abbrev pub AreStrictlyIncreasing : List ℕ → Type 0
 AreStrictlyIncreasing [] = Unit {0}
 AreStrictlyIncreasing (c ∷ cs) = ((d : ℕ) → IsIn d cs → c < d) × AreStrictlyIncreasing cs

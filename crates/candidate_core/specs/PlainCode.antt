@@ -22,17 +22,17 @@ first_put_into_second (v ∷ []) = []
 first_put_into_second (v ∷ (w ∷ rest)) = with_element_before_entries v w rest
 
 -- an array as an object with its entries; Null for any other value
-abbrev pub as_object : Plain → Plain
-as_object null = null
-as_object (int n) = null
-as_object (blob b) = null
-as_object (arr vs) = obj vs
-as_object (obj vs) = null
+abbrev pub array_as_object : Plain → Plain
+array_as_object null = null
+array_as_object (int n) = null
+array_as_object (blob b) = null
+array_as_object (arr vs) = obj vs
+array_as_object (obj vs) = null
 
 -- built values, with the first, an array, made an object
 abbrev pub first_as_object : List Plain → List Plain
 first_as_object [] = []
-first_as_object (v ∷ rest) = as_object v ∷ rest
+first_as_object (v ∷ rest) = array_as_object v ∷ rest
 
 -- a step: its kind, and the number and the bytes that it adds. It operates on the values that the steps
 -- after it built
@@ -70,23 +70,23 @@ abbrev mutual
 
 mutual
   -- the steps of a value build the value
-  pub built_again :
+  pub steps_build_value :
       (v : Plain) (steps : List BuildStep) → built (steps_of v steps) ≡ v ∷ built steps
-  built_again null steps = refl
-  built_again (int n) steps = refl
-  built_again (blob b) steps = refl
-  built_again (arr vs) steps = all_built_again vs steps
-  built_again (obj vs) steps = ap first_as_object (all_built_again vs steps)
+  steps_build_value null steps = refl
+  steps_build_value (int n) steps = refl
+  steps_build_value (blob b) steps = refl
+  steps_build_value (arr vs) steps = steps_build_array vs steps
+  steps_build_value (obj vs) steps = ap first_as_object (steps_build_array vs steps)
 
   -- the steps of an array's values build the array
-  pub all_built_again :
+  pub steps_build_array :
       (vs : Plains) (steps : List BuildStep) →
       built (steps_of_all vs steps) ≡ arr vs ∷ built steps
-  all_built_again none steps = refl
-  all_built_again (more v vs) steps =
+  steps_build_array none steps = refl
+  steps_build_array (more v vs) steps =
       ap first_put_into_second
-      (built_again v (steps_of_all vs steps)
-      ∙ ap (λ (z : List Plain). v ∷ z) (all_built_again vs steps))
+      (steps_build_value v (steps_of_all vs steps)
+      ∙ ap (λ (z : List Plain). v ∷ z) (steps_build_array vs steps))
 
 -- the first of some values; Null if there is none
 abbrev pub first_or_null : List Plain → Plain
@@ -97,4 +97,5 @@ first_or_null (v ∷ vs) = v
 abbrev pub plain_code : Coded Plain
 plain_code =
     code_by (List BuildStep) (coded_list (coded× coded_ℕ (coded× coded_ℕ (coded_list coded_ℕ))))
-    (λ v. steps_of v []) (λ steps. first_or_null (built steps)) (λ v. ap first_or_null (built_again v []))
+    (λ v. steps_of v []) (λ steps. first_or_null (built steps))
+    (λ v. ap first_or_null (steps_build_value v []))

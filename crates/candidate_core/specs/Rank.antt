@@ -39,14 +39,14 @@ is_upgraded (listed_names names) name = list_any (bytes_eq name) names
 -- ---- the keys
 
 -- whether world pins the name to the tag: an entry, a conflict too, has both
-abbrev pub is_pinned_to : List Dependency → List ℕ → List ℕ → Bool
-is_pinned_to world name tag =
+abbrev pub is_name_pinned_to_tag : List Dependency → List ℕ → List ℕ → Bool
+is_name_pinned_to_tag world name tag =
     list_any
     (λ (d : Dependency). bytes_eq name d.name && option_map_or (bytes_eq tag) d.tag false) world
 
 -- key 1: whether a candidate is tagged, and world pins its name to its tag
 abbrev pub is_pinned : List Dependency → Candidate → Bool
-is_pinned world c = option_map_or (is_pinned_to world c.name) c.tag false
+is_pinned world c = option_map_or (is_name_pinned_to_tag world c.name) c.tag false
 
 -- key 2: whether a candidate is from a repository without a tag, or from none
 abbrev pub is_untagged : Candidate → Bool
@@ -91,20 +91,21 @@ version_and_priority_cmp need =
     (on (λ (c : Candidate). c.version) greater_version)))
 
 -- keys 9 and 10: the byte-lesser text of the version, and the earlier repository
-abbrev pub text_cmp : Candidate → Candidate → Ordering
-text_cmp =
+abbrev pub version_text_and_repository_cmp : Candidate → Candidate → Ordering
+version_text_and_repository_cmp =
     then_cmp (on (λ (c : Candidate). c.version) (option_cmp bytes_cmp))
     (on (λ (c : Candidate). c.repository) earlier_repository)
 
 -- keys 2 to 10, of two candidates that world pins both, or neither
-abbrev pub unpinned_cmp : UpgradedNames → Need → Candidate → Candidate → Ordering
-unpinned_cmp upgraded need =
-    then_cmp (tag_name_kept_cmp upgraded need) (then_cmp (version_and_priority_cmp need) text_cmp)
+abbrev pub candidate_cmp_after_pinning : UpgradedNames → Need → Candidate → Candidate → Ordering
+candidate_cmp_after_pinning upgraded need =
+    then_cmp (tag_name_kept_cmp upgraded need)
+    (then_cmp (version_and_priority_cmp need) version_text_and_repository_cmp)
 
 -- keys 1 to 10, all but the place: candidates that world pins are first
 abbrev pub candidate_cmp : SealedPool → Need → Candidate → Candidate → Ordering
 candidate_cmp pool need =
-    then_cmp (quality_first (is_pinned pool.world)) (unpinned_cmp pool.upgraded need)
+    then_cmp (quality_first (is_pinned pool.world)) (candidate_cmp_after_pinning pool.upgraded need)
 
 -- ---- places in the list
 
@@ -128,7 +129,7 @@ is_pinned_at pool place = candidate_at_passes pool (is_pinned pool.world) place
 abbrev pub meets_at : SealedPool → ℕ → Need → Bool
 meets_at pool place need = candidate_at_passes pool (meets_need need) place
 
--- the order of two places for a need, by all eleven keys: the earlier place is the last one
+-- the order of two places for a need, by all eleven keys; key 11 is the place, and the earlier one is first
 unfoldable pub rank_cmp : SealedPool → Need → ℕ → ℕ → Ordering
 rank_cmp pool need =
     then_cmp (on (candidate_at pool) (option_cmp (candidate_cmp pool need))) nat_cmp

@@ -26,7 +26,8 @@ offered_from_maps singles lists = record {
 -- the places under the first entry that has the name
 abbrev pub first_entry_under_name : List (List ℕ × List ℕ) → List ℕ → Option (List ℕ)
 first_entry_under_name [] name = None
-first_entry_under_name (e ∷ es) name = if bytes_eq name e.0 then Some e.1 else first_entry_under_name es name
+first_entry_under_name (e ∷ es) name =
+    if bytes_eq name e.0 then Some e.1 else first_entry_under_name es name
 
 -- the places of the candidates that offer a name: those of its list if it has one, else its single one
 abbrev pub places_of_name : Offered → List ℕ → List ℕ

@@ -22,9 +22,9 @@ abbrev pub candidate_value : Shown → Candidate
 candidate_value c = candidate_of (info_value c.info) c.repo (option_copied c.tag) c.installed
 
 -- the need that a value represents which owns its dependency
-abbrev pub need_of : OwnedNeed → Need
-need_of (Entry dep) = entry (dependency dep)
-need_of (Named name) = named name.now
+abbrev pub need_of_owned : OwnedNeed → Need
+need_of_owned (Entry dep) = entry (dependency dep)
+need_of_owned (Named name) = named name.now
 
 -- the need that a value represents which borrows its dependency
 abbrev pub need_of_ref : NeedRef → Need

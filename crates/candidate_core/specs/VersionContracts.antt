@@ -21,7 +21,7 @@ entry_in_source source word = value_at (payload_of source.adb) (Obj Dep) word
 
 -- the word is that of an entry of a list of dependencies: it can be read as one, and obeys the rules of a
 -- dependency if the texts of the source obey theirs
-pub record IsEntryWordOf (source : Source) (word : ℕ) : Type 0 where
+pub record IsDependencyEntryWordOf (source : Source) (word : ℕ) : Type 0 where
   pub sound : is_sound (payload_of source.adb) (Obj Dep) word ≡ true
   pub texts : source.has_sound_texts ≡ true → IsSoundDependency (entry_in_source source word)
 

@@ -7,7 +7,7 @@ ghost use Rattle.std.specs.Prelude.{◌≡◌, ◌&&◌, ◌==◌, false, not, l
 ghost use Rattle.std.specs.List.{list_all, list_any};
 ghost use Rattle.dep_core.specs.Dependency.{Dependency};
 ghost use Rattle.dep_core.specs.Meets.{dependency};
-ghost use Rattle.candidate_core.specs.Candidates.{candidate_of, entry_occupies, is_met_by_entry, is_same_id, is_same_package, is_same_version, meets_by_own_name, meets_dependency, meets_need, occupies_name};
+ghost use Rattle.candidate_core.specs.Candidates.{candidate_of, is_name_occupied_by_provides_entry, is_met_by_provides_entry, is_same_id, is_same_package, is_same_version, meets_by_own_name, meets_dependency, meets_need, occupies_name};
 ghost use Rattle.candidate_core.specs.PackageWords.{IsPackageWordOf, info_in_source};
 ghost use Rattle.candidate_core.specs.Rank.{is_untagged};
 ghost use Rattle.candidate_core.specs.Values.{candidate_value, need_of_ref};
@@ -139,7 +139,7 @@ impl<'a> Details<'a> {
         }
     }
 
-    // The id of the package in its index, or in the database: empty, the whole id, or a front of
+    // The id of the package in its index, or in the database: empty, the whole id, or a prefix of
     // it.
     fn id(&self) -> &'a [u8]
         ensures { result.now ≡ self.now.id }
@@ -332,11 +332,11 @@ fn are_positive(deps: &Deps<'_>) -> bool
 
 // Whether an entry of a candidate's provides occupies a name.
 fn any_occupies(provides: &Deps<'_>, name: &[u8]) -> bool
-    ensures { result ≡ list_any (entry_occupies name.now) provides.now }
+    ensures { result ≡ list_any (is_name_occupied_by_provides_entry name.now) provides.now }
 {
     for i in 0..provides.len() {
         let entry = provides.get(i);
-        if entry_occupies(name, &entry) {
+        if is_name_occupied_by_provides_entry(name, &entry) {
             return true;
         }
     }
@@ -345,8 +345,8 @@ fn any_occupies(provides: &Deps<'_>, name: &[u8]) -> bool
 
 /// Whether an entry of a candidate's provides occupies a name: it is of that name, has a version,
 /// and is no conflict.
-fn entry_occupies(name: &[u8], entry: &Dep<'_>) -> bool
-    ensures { result ≡ entry_occupies name.now (dependency entry.now) }
+fn is_name_occupied_by_provides_entry(name: &[u8], entry: &Dep<'_>) -> bool
+    ensures { result ≡ is_name_occupied_by_provides_entry name.now (dependency entry.now) }
 {
     if entry.conflict {
         return false;
@@ -356,11 +356,11 @@ fn entry_occupies(name: &[u8], entry: &Dep<'_>) -> bool
 
 // Whether an entry of a candidate's provides meets a dependency.
 fn any_meets(provides: &Deps<'_>, dep: &Dep<'_>) -> bool
-    ensures { result ≡ list_any (is_met_by_entry (dependency dep.now)) provides.now }
+    ensures { result ≡ list_any (is_met_by_provides_entry (dependency dep.now)) provides.now }
 {
     for i in 0..provides.len() {
         let entry = provides.get(i);
-        if is_met_by_entry(dep, &entry) {
+        if is_met_by_provides_entry(dep, &entry) {
             return true;
         }
     }
@@ -369,8 +369,8 @@ fn any_meets(provides: &Deps<'_>, dep: &Dep<'_>) -> bool
 
 /// Whether one entry of a candidate's provides meets a dependency; an entry that is a conflict
 /// provides nothing.
-pub(crate) fn is_met_by_entry(dep: &Dep<'_>, entry: &Dep<'_>) -> bool
-    ensures { result ≡ is_met_by_entry (dependency dep.now) (dependency entry.now) }
+pub(crate) fn is_met_by_provides_entry(dep: &Dep<'_>, entry: &Dep<'_>) -> bool
+    ensures { result ≡ is_met_by_provides_entry (dependency dep.now) (dependency entry.now) }
 {
     if entry.conflict {
         return false;

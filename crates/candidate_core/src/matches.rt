@@ -29,7 +29,7 @@ pub struct KnownMatches {
 }
 
 impl KnownMatches {
-    /// Nothing is known.
+    /// No result is remembered yet.
     pub fn new(alloc: Global) -> KnownMatches
         ensures { (text : ℕ → ℕ → List ℕ) (d : Dependency) → AreRememberedMatchesOf text d result }
     {
@@ -78,14 +78,15 @@ impl KnownMatches {
         }
     }
 
-    // Whether a version is wanted, if that is known.
+    // Whether the dependency accepts a version, if that is remembered.
     fn known_answer(&self, found: &RankedVersion<'_>) -> Option<bool>
         ensures { IfSome result (IsRememberedMatch self.now found.now.source found.now.word) }
     {
         self.answers.get(&(found.source, found.word)).copied()
     }
 
-    // Whether a version is wanted, of which that is not known; it is then.
+    // Whether the dependency accepts a version without a remembered result, which is then
+    // remembered.
     fn answer(&mut self, dep: &Dep<'_>, found: &RankedVersion<'_>) -> Result<bool, AllocError>
         requires { is_some found.now.version ≡ true }
         ensures { AnswersAndRemembers (λ text. HasVersionTextFrom text found.now)

@@ -33,7 +33,7 @@ pub struct Source<'a> {
 /// A package of a source.
 #[derive(Clone, Copy)]
 pub struct PackageWord {
-    /// The word of the package's information in the source's payload.
+    /// The word (32-bit value) that refers to the package's information in the source's payload.
     pub word: u32,
     /// The place of the package's source, counted from 0.
     pub source: u32,

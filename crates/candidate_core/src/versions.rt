@@ -8,12 +8,12 @@ ghost use Rattle.std.specs.Str.{bytes_eq};
 ghost use Rattle.adb_view.specs.Values.{entry_in, text_in};
 ghost use Rattle.dep_core.specs.Dependency.{Dependency};
 ghost use Rattle.dep_core.specs.Meets.{dependency};
-ghost use Rattle.candidate_core.specs.Candidates.{dependencies_in, dependency_in, entry, is_met_by_entry, meets_by_own_name, meets_dependency, meets_need, version_of_text, version_meeting_need};
+ghost use Rattle.candidate_core.specs.Candidates.{dependencies_in, dependency_in, entry, is_met_by_provides_entry, meets_by_own_name, meets_dependency, meets_need, version_of_text, version_meeting_need};
 ghost use Rattle.candidate_core.specs.Matches.{AreMatchesIn, GivesTextsOfSource};
 ghost use Rattle.candidate_core.specs.PackageWords.{IsPackageWordOf, info_in_source};
 ghost use Rattle.candidate_core.specs.Packages.{candidate_in_source};
 ghost use Rattle.candidate_core.specs.Values.{need_of_ref};
-ghost use Rattle.candidate_core.specs.VersionContracts.{AnswersAndRemembers, IsDependencyWordOf, IsEntryWordOf, IsVersionReadFrom, entry_in_source};
+ghost use Rattle.candidate_core.specs.VersionContracts.{AnswersAndRemembers, IsDependencyWordOf, IsDependencyEntryWordOf, IsVersionReadFrom, entry_in_source};
 
 use crate::candidate::Details;
 use crate::dependencies::{read_if_sound, read_sound};
@@ -34,7 +34,7 @@ pub struct RankedVersion<'a> {
     pub version: Option<Version<'a>>,
     /// The place of the source that the version's text is read from, counted from 0.
     pub source: u32,
-    /// The word of the version's text in that source.
+    /// The word (32-bit value) that refers to the version's text in that source.
     pub word: u32,
     /// How many of the ranked versions precede this one; 0 before they are ranked.
     pub rank: usize,
@@ -45,7 +45,7 @@ pub struct RankedVersion<'a> {
 pub(crate) struct VersionPlace {
     /// The place of the source that the text is read from, counted from 0.
     pub source: u32,
-    /// The word of the text in that source.
+    /// The word (32-bit value) that refers to the text in that source.
     pub word: u32,
 }
 
@@ -141,8 +141,9 @@ fn provided_version<'a>(
 ) -> RankedVersion<'a>
     requires package { IsPackageWordOf source.now kept.word }
     requires known { AreMatchesIn source.now kept.source (entry (dependency dep.now)) known.now }
-    ensures { IsVersionReadFrom source.now kept.source (option_and_then (λ (p : Dependency). p.version)
-        (find (is_met_by_entry (dependency dep.now))
+    ensures { IsVersionReadFrom source.now kept.source (option_and_then (λ
+        (p : Dependency). p.version)
+        (find (is_met_by_provides_entry (dependency dep.now))
         (dependencies_in (entry_in (info_in_source source.now kept.word) 15)))) result }
 {
     let word = Val::of(kept.word);
@@ -176,7 +177,7 @@ fn is_met_as_known<'a>(
 ) -> bool
     requires entry { IsDependencyWordOf source.now word (dependency found.now) }
     requires known { AreMatchesIn source.now place (entry (dependency dep.now)) known.now }
-    ensures { result ≡ is_met_by_entry (dependency dep.now) (dependency found.now) }
+    ensures { result ≡ is_met_by_provides_entry (dependency dep.now) (dependency found.now) }
 {
     if found.conflict {
         return false;
@@ -221,7 +222,8 @@ pub(crate) fn depends_version_place(
     index: usize,
 ) -> Option<VersionPlace>
     requires { IsPackageWordOf source.now kept.word }
-    ensures { (text : ℕ → ℕ → List ℕ) (d : Dependency) → GivesTextsOfSource source.now kept.source text
+    ensures { (text : ℕ → ℕ → List ℕ) (d : Dependency)
+        → GivesTextsOfSource source.now kept.source text
         → slice_get (dependencies_in (entry_in (info_in_source source.now kept.word) 14)) index
         ≡ Some d → IfSome result (λ place. IfSome d.version (λ version. version
         ≡ text place.source place.word)) }
@@ -255,7 +257,7 @@ pub fn same_version<'a>(version: &Option<Version<'a>>) -> Option<Version<'a>>
 // The dependency of an entry of a list, if it is one; if the source's texts obey their rules, each
 // entry is.
 fn read_entry<'a>(source: &Source<'a>, entry: Val) -> Option<Dep<'a>>
-    requires { IsEntryWordOf source.now entry }
+    requires { IsDependencyEntryWordOf source.now entry }
     ensures { option_map dependency result ≡ dependency_in (entry_in_source source.now entry) }
 {
     let view = DepView::of(source.adb, entry);
@@ -326,7 +328,7 @@ fn own_version_meets(
     known.constraint_accepts(dep, &own_version(source, kept))
 }
 
-// Whether one of its provides meets it.
+// Whether an entry of the package's provides meets the dependency.
 fn any_entry_meets(
     source: &Source<'_>,
     kept: PackageWord,
@@ -335,7 +337,7 @@ fn any_entry_meets(
 ) -> Result<bool, AllocError>
     requires { IsPackageWordOf source.now kept.word }
     ensures { AnswersAndRemembers (GivesTextsOfSource source.now kept.source)
-        (entry (dependency dep.now)) (list_any (is_met_by_entry (dependency dep.now))
+        (entry (dependency dep.now)) (list_any (is_met_by_provides_entry (dependency dep.now))
         (dependencies_in (entry_in (info_in_source source.now kept.word) 15)))
         known.old known.new result }
 {
@@ -351,7 +353,7 @@ fn any_entry_meets(
     Ok(false)
 }
 
-// Whether one of the provides of a package in the source at an index meets it.
+// Whether the entry of provides with a word in the source at an index meets the dependency.
 fn entry_meets<'a>(
     source: &Source<'a>,
     place: u32,
@@ -359,9 +361,9 @@ fn entry_meets<'a>(
     dep: &Dep<'_>,
     known: &mut KnownMatches,
 ) -> Result<bool, AllocError>
-    requires { IsEntryWordOf source.now word }
+    requires { IsDependencyEntryWordOf source.now word }
     ensures { AnswersAndRemembers (GivesTextsOfSource source.now place)
-        (entry (dependency dep.now)) (list_any (is_met_by_entry (dependency dep.now))
+        (entry (dependency dep.now)) (list_any (is_met_by_provides_entry (dependency dep.now))
         (option_to_list (dependency_in (entry_in_source source.now word))))
         known.old known.new result }
 {
@@ -371,7 +373,7 @@ fn entry_meets<'a>(
     }
 }
 
-// Whether the dependency of such an entry meets it.
+// Whether the entry of provides `found`, which has this word in the source, meets the dependency.
 fn found_entry_meets<'a>(
     source: &Source<'a>,
     place: u32,
@@ -382,7 +384,8 @@ fn found_entry_meets<'a>(
 ) -> Result<bool, AllocError>
     requires { IsDependencyWordOf source.now word (dependency found) }
     ensures { AnswersAndRemembers (GivesTextsOfSource source.now place)
-        (entry (dependency dep.now)) (is_met_by_entry (dependency dep.now) (dependency found.entry))
+        (entry (dependency dep.now)) (is_met_by_provides_entry (dependency dep.now)
+        (dependency found.entry))
         known.old known.new result }
 {
     if found.conflict {

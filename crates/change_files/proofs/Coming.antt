@@ -6,11 +6,11 @@ use Rattle.std.specs.Str.{is_utf8}
 use Rattle.std.proofs.lemmas.Bool.{and_from, and_parts, not_from_false, or_parts, not-false}
 use Rattle.adb_view.specs.Plain.{Plain}
 use Rattle.base_core.specs.Files.{Files}
-use Rattle.base_core.specs.Name.{IsName, is_name, is_part, parts_of}
+use Rattle.base_core.specs.Name.{IsName, is_name, is_path_part, path_parts_of}
 use Rattle.file_owners.specs.db_core.Members.{Listing}
 use Rattle.file_guard.specs.AsListed.{do_entries_agree, is_as_listed}
-use Rattle.change_files.specs.Fate.{AddedFileFate, agrees_with_old_entry, apk_new_name, fate_of_protected_file, fate_with_file_found, fate_of, gives_way, goes_aside, goes_in, is_as_old_entry_lists, is_protected_path}
-use Rattle.change_files.specs.FileChange.{FileChange, added_owner_listing, is_claimed, old_entry}
+use Rattle.change_files.specs.Fate.{AddedFileFate, agrees_with_old_entry, apk_new_name, fate_if_user_modified_file, fate_with_file_found, fate_of, gives_way, goes_aside, goes_in, is_as_old_entry_lists, is_protected_path}
+use Rattle.change_files.specs.FileChange.{FileChange, added_owner_listing, is_listed_after_change, old_entry}
 use Rattle.change_files.specs.FilesAfter.{if_written_as_apk_new, if_written_in_place, apk_new_listing_at, path_of_apk_new_name, listing_written_under_name}
 use Rattle.std.specs.Option.{option_or}
 use Rattle.change_files.specs.Touched.{DiffersFromOldEntry, IsModifiedConfigFile}
@@ -45,7 +45,7 @@ nobodys_fate change files path l comes nobodys = fate_at change files path l com
     by_file None present = refl
     by_file (Some bytes) present = by_tests (not (is_protected_path path) || (is_as_listed l.entry bytes || is_as_old_entry_lists (old_entry change path) bytes)) refl
       where
-        by_tests : (b : Bool) → (not (is_protected_path path) || (is_as_listed l.entry bytes || is_as_old_entry_lists (old_entry change path) bytes)) ≡ b → (if b then goes_in else fate_of_protected_file change path l.entry) ≡ goes_in
+        by_tests : (b : Bool) → (not (is_protected_path path) || (is_as_listed l.entry bytes || is_as_old_entry_lists (old_entry change path) bytes)) ≡ b → (if b then goes_in else fate_if_user_modified_file change path l.entry) ≡ goes_in
         by_tests true tests = refl
         by_tests false tests = absurd (nobodys bytes (users_file change files path bytes l comes present tests))
 
@@ -61,7 +61,7 @@ takes_path change files path l comes nobodys =
 name_is_short : (bytes : List ℕ) → IsName bytes → nat_le (length bytes) 1024 ≡ true
 unfolding is_name
 name_is_short bytes named =
-    let a = and_parts _ (list_all is_part (parts_of bytes)) named in
+    let a = and_parts _ (list_all is_path_part (path_parts_of bytes)) named in
     let b = and_parts _ (is_utf8 bytes) a.0 in
     let c = and_parts _ (not (list_any (λ x. x == 0) bytes)) b.0 in
     (and_parts (nat_lt 0 (length bytes)) (nat_le (length bytes) 1024) c.0).1
@@ -74,30 +74,30 @@ new_disagrees change path entry differs = by_entry (old_entry change path) diffe
     by_entry (Some old) differs = differs old refl
 
 pub lies_beside : (change : FileChange) (files : Files) (path bytes : List ℕ) (l : Listing) → added_owner_listing change path ≡ Some l → IsModifiedConfigFile change files path bytes → DiffersFromOldEntry change path l.entry
-    → IsName (apk_new_name path) → is_claimed change (apk_new_name path) ≡ false → apk_new_listing_at change files path ≡ Some l
+    → IsName (apk_new_name path) → is_listed_after_change change (apk_new_name path) ≡ false → apk_new_listing_at change files path ≡ Some l
 lies_beside change files path bytes l comes own differs named free =
-    let tests : (not (agrees_with_old_entry (old_entry change path) l.entry) && (nat_le (length (apk_new_name path)) 1024 && not (is_claimed change (apk_new_name path)))) ≡ true =
-    and_from (not (agrees_with_old_entry (old_entry change path) l.entry)) (nat_le (length (apk_new_name path)) 1024 && not (is_claimed change (apk_new_name path)))
+    let tests : (not (agrees_with_old_entry (old_entry change path) l.entry) && (nat_le (length (apk_new_name path)) 1024 && not (is_listed_after_change change (apk_new_name path)))) ≡ true =
+    and_from (not (agrees_with_old_entry (old_entry change path) l.entry)) (nat_le (length (apk_new_name path)) 1024 && not (is_listed_after_change change (apk_new_name path)))
     (not_from_false (agrees_with_old_entry (old_entry change path) l.entry) (new_disagrees change path l.entry differs))
-    (and_from (nat_le (length (apk_new_name path)) 1024) (not (is_claimed change (apk_new_name path))) (name_is_short (apk_new_name path) named)
-    (not_from_false (is_claimed change (apk_new_name path)) free)) in
+    (and_from (nat_le (length (apk_new_name path)) 1024) (not (is_listed_after_change change (apk_new_name path))) (name_is_short (apk_new_name path) named)
+    (not_from_false (is_listed_after_change change (apk_new_name path)) free)) in
     ap (option_and_then (λ l. if_written_as_apk_new l (fate_of change files l))) comes
     ∙ ap (if_written_as_apk_new l) (users_fate change files path bytes l own comes ∙ ap (λ (b : Bool). if b then goes_aside else gives_way) tests)
 
 -- an entry that goes aside differs from the one before
-new_entry : (change : FileChange) (path : List ℕ) (entry : Plain) → fate_of_protected_file change path entry ≡ goes_aside → DiffersFromOldEntry change path entry
+new_entry : (change : FileChange) (path : List ℕ) (entry : Plain) → fate_if_user_modified_file change path entry ≡ goes_aside → DiffersFromOldEntry change path entry
 new_entry change path entry aside old is = by_tests (do_entries_agree old entry) refl
   where
     by_tests : (b : Bool) → do_entries_agree old entry ≡ b → do_entries_agree old entry ≡ false
     by_tests false agrees = agrees
     by_tests true agrees =
-        let way : fate_of_protected_file change path entry ≡ gives_way =
-        ap (λ (b : Bool). if not b && (nat_le (length (apk_new_name path)) 1024 && not (is_claimed change (apk_new_name path))) then goes_aside else gives_way)
+        let way : fate_if_user_modified_file change path entry ≡ gives_way =
+        ap (λ (b : Bool). if not b && (nat_le (length (apk_new_name path)) 1024 && not (is_listed_after_change change (apk_new_name path))) then goes_aside else gives_way)
         (ap (λ (o : Option Plain). agrees_with_old_entry o entry) is ∙ agrees) in
         absurd (cc)
 
 pub beside_users_file : (change : FileChange) (files : Files) (path : List ℕ) (l : Listing) → apk_new_listing_at change files path ≡ Some l
-    → ((bytes : List ℕ) × IsModifiedConfigFile change files path bytes) × DiffersFromOldEntry change path l.entry × (is_claimed change (apk_new_name path) ≡ false)
+    → ((bytes : List ℕ) × IsModifiedConfigFile change files path bytes) × DiffersFromOldEntry change path l.entry × (is_listed_after_change change (apk_new_name path) ≡ false)
 beside_users_file change files path l laid =
     let (comes, aside) = aside_found change files path l laid in
     let (own, differs) = by_file comes (files path) refl (sym (fate_at change files path l comes) ∙ aside) in
@@ -108,14 +108,14 @@ beside_users_file change files path l laid =
     by_file comes None present aside = absurd (cc)
     by_file comes (Some bytes) present aside = by_tests (not (is_protected_path path) || (is_as_listed l.entry bytes || is_as_old_entry_lists (old_entry change path) bytes)) refl aside
       where
-        by_tests : (b : Bool) → (not (is_protected_path path) || (is_as_listed l.entry bytes || is_as_old_entry_lists (old_entry change path) bytes)) ≡ b → (if b then goes_in else fate_of_protected_file change path l.entry) ≡ goes_aside
+        by_tests : (b : Bool) → (not (is_protected_path path) || (is_as_listed l.entry bytes || is_as_old_entry_lists (old_entry change path) bytes)) ≡ b → (if b then goes_in else fate_if_user_modified_file change path l.entry) ≡ goes_aside
             → ((bytes : List ℕ) × IsModifiedConfigFile change files path bytes) × DiffersFromOldEntry change path l.entry
         by_tests true tests aside = absurd (cc)
         by_tests false tests aside = ((bytes, users_file change files path bytes l comes present tests), new_entry change path l.entry aside)
 
 -- ---- under the name beside it
 
-pub no_owner : (change : FileChange) (name : List ℕ) → is_claimed change name ≡ false → added_owner_listing change name ≡ None
+pub no_owner : (change : FileChange) (name : List ℕ) → is_listed_after_change change name ≡ false → added_owner_listing change name ≡ None
 no_owner change name free = by_owner (added_owner_listing change name) refl
   where
     by_owner : (o : Option Listing) → added_owner_listing change name ≡ o → o ≡ None

@@ -11,28 +11,28 @@ use Rattle.std.proofs.lemmas.Map.Lookups.{exact_bytes}
 use Rattle.std.proofs.lemmas.Slice.Eq.{bytes_eq-Decides}
 use Rattle.base_core.proofs.Rising.{IsIn, Rises, order}
 use Rattle.base_core.specs.ByteOrder.{bytes_cmp}
-use Rattle.base_core.specs.Sorted.{sorted_by, with_element}
+use Rattle.base_core.specs.Sorted.{sorted_by, with_element_inserted}
 use Rattle.base_core.proofs.Sorting.{Each, rises_in_order, ranks}
 use Rattle.base_core.proofs.Sorting as sorting
 use Rattle.change_files.specs.PlanLists.{sorted_distinct_names, prepend_unless_repeated, without_repeats}
 
 -- ---- sorted
 
-pub in_with : (q x : List ℕ) (ys : List (List ℕ)) → (q ≡ x) ⊎ IsIn q ys → IsIn q (with_element bytes_cmp x ys)
+pub in_with : (q x : List ℕ) (ys : List (List ℕ)) → (q ≡ x) ⊎ IsIn q ys → IsIn q (with_element_inserted bytes_cmp x ys)
 in_with q x [] h = h
 in_with q x (y ∷ ys) h = by_test (is_gt (bytes_cmp x y)) (in_with q x ys) h
   where
-    by_test : (b : Bool) → ((q ≡ x) ⊎ IsIn q ys → IsIn q (with_element bytes_cmp x ys)) → (q ≡ x) ⊎ IsIn q (y ∷ ys) → IsIn q (if b then y ∷ with_element bytes_cmp x ys else x ∷ y ∷ ys)
+    by_test : (b : Bool) → ((q ≡ x) ⊎ IsIn q ys → IsIn q (with_element_inserted bytes_cmp x ys)) → (q ≡ x) ⊎ IsIn q (y ∷ ys) → IsIn q (if b then y ∷ with_element_inserted bytes_cmp x ys else x ∷ y ∷ ys)
     by_test true f (inl is) = inr (f (inl is))
     by_test true f (inr (inl is)) = inl is
     by_test true f (inr (inr more)) = inr (f (inr more))
     by_test false f h = h
 
-pub from_with : (q x : List ℕ) (ys : List (List ℕ)) → IsIn q (with_element bytes_cmp x ys) → (q ≡ x) ⊎ IsIn q ys
+pub from_with : (q x : List ℕ) (ys : List (List ℕ)) → IsIn q (with_element_inserted bytes_cmp x ys) → (q ≡ x) ⊎ IsIn q ys
 from_with q x [] h = h
 from_with q x (y ∷ ys) h = by_test (is_gt (bytes_cmp x y)) (from_with q x ys) h
   where
-    by_test : (b : Bool) → (IsIn q (with_element bytes_cmp x ys) → (q ≡ x) ⊎ IsIn q ys) → IsIn q (if b then y ∷ with_element bytes_cmp x ys else x ∷ y ∷ ys) → (q ≡ x) ⊎ IsIn q (y ∷ ys)
+    by_test : (b : Bool) → (IsIn q (with_element_inserted bytes_cmp x ys) → (q ≡ x) ⊎ IsIn q ys) → IsIn q (if b then y ∷ with_element_inserted bytes_cmp x ys else x ∷ y ∷ ys) → (q ≡ x) ⊎ IsIn q (y ∷ ys)
     by_test true f (inl is) = inr (inl is)
     by_test true f (inr more) = elim (f more) [ inl is ↦ inl is | inr old ↦ inr (inr old) ]
     by_test false f h = h

@@ -12,8 +12,8 @@ use Rattle.base_core.proofs.Rising.{IsIn}
 use Rattle.file_owners.specs.db_core.Members.{Listing, Member, listings_of_path, is_added, member_listings}
 use Rattle.file_owners.specs.Owners.{owner_of_path}
 use Rattle.file_guard.specs.AsListed.{is_as_listed}
-use Rattle.change_files.specs.Fate.{AddedFileFate, agrees_with_old_entry, apk_new_name, fate_of_protected_file, fate_with_file_found, fate_of, gives_way, goes_aside, goes_in, is_as_old_entry_lists, is_protected_path}
-use Rattle.change_files.specs.FileChange.{FileChange, added_owner_listing, if_member_added, is_claimed, old_entry, old_listings, owner_listing}
+use Rattle.change_files.specs.Fate.{AddedFileFate, agrees_with_old_entry, apk_new_name, fate_if_user_modified_file, fate_with_file_found, fate_of, gives_way, goes_aside, goes_in, is_as_old_entry_lists, is_protected_path}
+use Rattle.change_files.specs.FileChange.{FileChange, added_owner_listing, if_member_added, is_listed_after_change, old_entry, old_listings, owner_listing}
 use Rattle.change_files.specs.FilesAfter.{if_written_as_apk_new, if_written_in_place, apk_new_listing_at, path_of_apk_new_name, listing_written_under_name, listing_written_in_place}
 use Rattle.std.specs.Option.{option_or}
 use Rattle.change_files.specs.NamesAfter.{added_paths}
@@ -47,8 +47,8 @@ owner_is change path l e =
     let claim = claim_is change.members path l found.0 in
     record { of_path = claim.1; listed = claim.0; place = found.1 }
 
-pub claimed_by_owner : (change : FileChange) (path : List ℕ) (l : Listing) → IsOwner change path l → is_claimed change path ≡ true
-unfolding is_claimed
+pub claimed_by_owner : (change : FileChange) (path : List ℕ) (l : Listing) → IsOwner change path l → is_listed_after_change change path ≡ true
+unfolding is_listed_after_change
 claimed_by_owner change path l owner =
     any_passes (λ l. bytes_eq l.path path) (member_listings change.members) l owner.listed ((bytes_eq-Decides l.path path).1 owner.of_path)
 
@@ -113,8 +113,8 @@ pub aside_found : (change : FileChange) (files : Files) (path : List ℕ) (l : L
 aside_found change files path l e = only_aside (added_owner_listing change path) (fate_of change files) l e
 
 -- beside a file nothing is laid under a name that a package lists
-free_beside : (change : FileChange) (path : List ℕ) (entry : Plain) → fate_of_protected_file change path entry ≡ goes_aside → is_claimed change (apk_new_name path) ≡ false
-free_beside change path entry e = by_tests (not (agrees_with_old_entry (old_entry change path) entry)) (nat_le (length (apk_new_name path)) 1024) (is_claimed change (apk_new_name path)) e
+free_beside : (change : FileChange) (path : List ℕ) (entry : Plain) → fate_if_user_modified_file change path entry ≡ goes_aside → is_listed_after_change change (apk_new_name path) ≡ false
+free_beside change path entry e = by_tests (not (agrees_with_old_entry (old_entry change path) entry)) (nat_le (length (apk_new_name path)) 1024) (is_listed_after_change change (apk_new_name path)) e
   where
     by_tests : (a b claimed : Bool) → (if a && (b && not claimed) then goes_aside else gives_way) ≡ goes_aside → claimed ≡ false
     by_tests a b false e = refl
@@ -122,20 +122,20 @@ free_beside change path entry e = by_tests (not (agrees_with_old_entry (old_entr
     by_tests true false true e = absurd (cc)
     by_tests false b true e = absurd (cc)
 
-free_by : (change : FileChange) (path : List ℕ) (entry : Plain) (found : Option (List ℕ)) → fate_with_file_found change path entry found ≡ goes_aside → is_claimed change (apk_new_name path) ≡ false
+free_by : (change : FileChange) (path : List ℕ) (entry : Plain) (found : Option (List ℕ)) → fate_with_file_found change path entry found ≡ goes_aside → is_listed_after_change change (apk_new_name path) ≡ false
 free_by change path entry None e = absurd (cc)
 free_by change path entry (Some bytes) e = by_test (not (is_protected_path path) || (is_as_listed entry bytes || is_as_old_entry_lists (old_entry change path) bytes)) e
   where
-    by_test : (b : Bool) → (if b then goes_in else fate_of_protected_file change path entry) ≡ goes_aside → is_claimed change (apk_new_name path) ≡ false
+    by_test : (b : Bool) → (if b then goes_in else fate_if_user_modified_file change path entry) ≡ goes_aside → is_listed_after_change change (apk_new_name path) ≡ false
     by_test true e = absurd (cc)
     by_test false e = free_beside change path entry e
 
-pub nobody_beside : (change : FileChange) (files : Files) (path : List ℕ) (l : Listing) → apk_new_listing_at change files path ≡ Some l → is_claimed change (apk_new_name path) ≡ false
+pub nobody_beside : (change : FileChange) (files : Files) (path : List ℕ) (l : Listing) → apk_new_listing_at change files path ≡ Some l → is_listed_after_change change (apk_new_name path) ≡ false
 unfolding fate_of
 nobody_beside change files path l e =
     let (comes, fate) = aside_found change files path l e in
     let (owner, coming) = coming_is change path l comes in
-    subst (λ (q : List ℕ). is_claimed change (apk_new_name q) ≡ false) owner.of_path (free_by change l.path l.entry (files l.path) fate)
+    subst (λ (q : List ℕ). is_listed_after_change change (apk_new_name q) ≡ false) owner.of_path (free_by change l.path l.entry (files l.path) fate)
 
 -- ---- names beside paths
 

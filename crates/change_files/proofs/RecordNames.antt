@@ -5,10 +5,10 @@ use Rattle.std.specs.Str.{bytes_eq}
 use Rattle.base_core.specs.Files.{Files}
 use Rattle.file_owners.specs.db_core.Members.{Listing}
 use Rattle.change_files.specs.FileChange.{FileChange}
-use Rattle.change_files.specs.FilesAfter.{DatabaseAndWorldAfter, bytes_after, changed_files, database_name, is_removed, text_database_name, world_bytes_after, world_name, listing_written_under_name}
+use Rattle.change_files.specs.FilesAfter.{DatabaseAndWorldAfter, bytes_after, files_after_change, database_name, is_removed, text_database_name, world_bytes_after, world_name, listing_written_under_name}
 
-pub database_after : (change : FileChange) (bytes_of : Listing → List ℕ) (records : DatabaseAndWorldAfter) (files : Files) → changed_files change bytes_of records files database_name ≡ Some records.database
-unfolding changed_files
+pub database_after : (change : FileChange) (bytes_of : Listing → List ℕ) (records : DatabaseAndWorldAfter) (files : Files) → files_after_change change bytes_of records files database_name ≡ Some records.database
+unfolding files_after_change
 database_after change bytes_of records files = refl
 
 world_written : (world : List ℕ) (old : Option (List ℕ)) → (world ≢ []) ⊎ IsSome old → world_bytes_after world old ≡ Some world
@@ -18,19 +18,19 @@ world_written [] (Some old) h = refl
 world_written (b ∷ world) old h = refl
 
 pub world_after : (change : FileChange) (bytes_of : Listing → List ℕ) (records : DatabaseAndWorldAfter) (files : Files) → (records.world ≢ []) ⊎ IsSome (files world_name)
-    → changed_files change bytes_of records files world_name ≡ Some records.world
-unfolding changed_files
+    → files_after_change change bytes_of records files world_name ≡ Some records.world
+unfolding files_after_change
 world_after change bytes_of records files h = world_written records.world (files world_name) h
 
 pub no_world_after : (change : FileChange) (bytes_of : Listing → List ℕ) (records : DatabaseAndWorldAfter) (files : Files) → records.world ≡ [] → files world_name ≡ None
-    → changed_files change bytes_of records files world_name ≡ None
-unfolding changed_files
+    → files_after_change change bytes_of records files world_name ≡ None
+unfolding files_after_change
 no_world_after change bytes_of records files empty none =
     ap (λ (world : List ℕ). world_bytes_after world (files world_name)) empty ∙ ap (world_bytes_after []) none
 
 pub no_text_after : (change : FileChange) (bytes_of : Listing → List ℕ) (records : DatabaseAndWorldAfter) (files : Files) → records.takes_text_over ≡ true
-    → changed_files change bytes_of records files text_database_name ≡ None
-unfolding changed_files
+    → files_after_change change bytes_of records files text_database_name ≡ None
+unfolding files_after_change
 no_text_after change bytes_of records files taken =
     let after : Option (List ℕ) = bytes_after bytes_of (listing_written_under_name change files text_database_name) (is_removed change files text_database_name) (files text_database_name) in
     ap (λ (b : Bool). if b && bytes_eq text_database_name text_database_name then None else after) taken

@@ -5,7 +5,7 @@ use Rattle.std.specs.List.{filter, list_all, starts_with}
 use Rattle.std.specs.Str.{bytes_eq}
 use Rattle.std.proofs.lemmas.Bool.{and_from, and_parts, false_from_ne_true, or_cases, or_left, or_right}
 use Rattle.std.proofs.lemmas.Slice.Eq.{bytes_eq-Decides}
-use Rattle.file_guard.specs.adb_schema.Reserved.{is_at_or_below, is_below_any, is_reserved, reserved_names}
+use Rattle.file_guard.specs.adb_schema.Reserved.{is_at_or_below, is_at_or_below_any_of, is_reserved, reserved_names}
 use Rattle.base_core.specs.Files.{Files}
 use Rattle.base_core.proofs.Rising.{IsIn}
 use Rattle.file_owners.specs.db_core.Members.{Listing}
@@ -77,13 +77,13 @@ below_before_dot top p plain h =
       | inr starts ↦ or_right (bytes_eq p top) (starts_with nat_eq p (top ++ codes "/")) (starts_before_dot (top ++ codes "/") p (codes "apk-new") front starts)
     ]
 
-below_any_before_dot : (tops : List (List ℕ)) (p : List ℕ) → list_all is_plain tops ≡ true → is_below_any tops (apk_new_name p) ≡ true → is_below_any tops p ≡ true
+below_any_before_dot : (tops : List (List ℕ)) (p : List ℕ) → list_all is_plain tops ≡ true → is_at_or_below_any_of tops (apk_new_name p) ≡ true → is_at_or_below_any_of tops p ≡ true
 below_any_before_dot [] p plain h = h
 below_any_before_dot (top ∷ tops) p plain h =
     let (this, others) = and_parts (is_plain top) (list_all is_plain tops) plain in
-    elim (or_cases (is_at_or_below top (apk_new_name p)) (is_below_any tops (apk_new_name p)) h) [
-      | inl here ↦ or_left (is_at_or_below top p) (is_below_any tops p) (below_before_dot top p this here)
-      | inr more ↦ or_right (is_at_or_below top p) (is_below_any tops p) (below_any_before_dot tops p others more)
+    elim (or_cases (is_at_or_below top (apk_new_name p)) (is_at_or_below_any_of tops (apk_new_name p)) h) [
+      | inl here ↦ or_left (is_at_or_below top p) (is_at_or_below_any_of tops p) (below_before_dot top p this here)
+      | inr more ↦ or_right (is_at_or_below top p) (is_at_or_below_any_of tops p) (below_any_before_dot tops p others more)
     ]
 
 unreserved_beside : (path : List ℕ) → is_reserved path ≡ false → is_reserved (apk_new_name path) ≡ false

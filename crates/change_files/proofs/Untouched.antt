@@ -7,9 +7,9 @@ use Rattle.adb_view.specs.Plain.{Plain}
 use Rattle.base_core.specs.Files.{Files}
 use Rattle.file_owners.specs.db_core.Members.{Listing, is_added}
 use Rattle.file_guard.specs.AsListed.{is_as_listed}
-use Rattle.change_files.specs.Fate.{agrees_with_old_entry, apk_new_name, fate_of_protected_file, fate_with_file_found, fate_of, gives_way, goes_aside, goes_in, is_as_old_entry_lists, is_protected_path}
-use Rattle.change_files.specs.FileChange.{FileChange, added_owner_listing, is_claimed, old_entry, owner_listing, was_listed}
-use Rattle.change_files.specs.FilesAfter.{DatabaseAndWorldAfter, bytes_after, changed_files, database_name, if_written_in_place, is_modified_from_entry, is_modified_file_kept, is_no_longer_listed, is_removed, is_written, apk_new_listing_at, is_modified_config_to_keep, path_of_apk_new_name, text_database_name, world_bytes_after, world_name, listing_written_under_name, listing_written_in_place}
+use Rattle.change_files.specs.Fate.{agrees_with_old_entry, apk_new_name, fate_if_user_modified_file, fate_with_file_found, fate_of, gives_way, goes_aside, goes_in, is_as_old_entry_lists, is_protected_path}
+use Rattle.change_files.specs.FileChange.{FileChange, added_owner_listing, is_listed_after_change, old_entry, owner_listing, was_listed}
+use Rattle.change_files.specs.FilesAfter.{DatabaseAndWorldAfter, bytes_after, files_after_change, database_name, if_written_in_place, is_modified_from_entry, is_modified_file_kept, is_no_longer_listed, is_removed, is_written, apk_new_listing_at, is_modified_config_to_keep, path_of_apk_new_name, text_database_name, world_bytes_after, world_name, listing_written_under_name, listing_written_in_place}
 use Rattle.change_files.specs.NamesAfter.{added_paths}
 use Rattle.change_files.specs.Touched.{IsModifiedConfigFile, is_apk_new_name, is_added_path, is_record_name}
 use Rattle.change_files.proofs.Lists.{any_name}
@@ -18,8 +18,8 @@ use Rattle.change_files.proofs.OwnedFiles.{beside_is, claimed_by_owner, coming_i
 -- ---- the bytes under a name
 
 pub changed_so : (change : FileChange) (bytes_of : Listing → List ℕ) (records : DatabaseAndWorldAfter) (files : Files) (name : List ℕ) → is_record_name records name ≡ false
-    → changed_files change bytes_of records files name ≡ bytes_after bytes_of (listing_written_under_name change files name) (is_removed change files name) (files name)
-unfolding changed_files
+    → files_after_change change bytes_of records files name ≡ bytes_after bytes_of (listing_written_under_name change files name) (is_removed change files name) (files name)
+unfolding files_after_change
 changed_so change bytes_of records files name other =
     let (database, behind) = or_parts (bytes_eq name database_name) (bytes_eq name world_name || (records.takes_text_over && bytes_eq name text_database_name)) other in
     let (world, text) = or_parts (bytes_eq name world_name) (records.takes_text_over && bytes_eq name text_database_name) behind in
@@ -29,7 +29,7 @@ changed_so change bytes_of records files name other =
     ∙ ap (λ (b : Bool). if b then None else after) text)
 
 untouched : (change : FileChange) (bytes_of : Listing → List ℕ) (records : DatabaseAndWorldAfter) (files : Files) (name : List ℕ) → listing_written_under_name change files name ≡ None → is_removed change files name ≡ false → is_record_name records name ≡ false
-    → changed_files change bytes_of records files name ≡ files name
+    → files_after_change change bytes_of records files name ≡ files name
 untouched change bytes_of records files name none stays other =
     changed_so change bytes_of records files name other
     ∙ (ap (λ (o : Option Listing). bytes_after bytes_of o (is_removed change files name) (files name)) none
@@ -37,10 +37,10 @@ untouched change bytes_of records files name none stays other =
 
 -- ---- what is left over
 
-claimed_not_left : (change : FileChange) (files : Files) (path : List ℕ) → is_claimed change path ≡ true → is_no_longer_listed change files path ≡ false
+claimed_not_left : (change : FileChange) (files : Files) (path : List ℕ) → is_listed_after_change change path ≡ true → is_no_longer_listed change files path ≡ false
 claimed_not_left change files path claimed =
-    and_right (was_listed change path) (not (is_claimed change path) && not (is_written change files path))
-    (and_left (not (is_claimed change path)) (not (is_written change files path)) (not_from_true (is_claimed change path) claimed))
+    and_right (was_listed change path) (not (is_listed_after_change change path) && not (is_written change files path))
+    (and_left (not (is_listed_after_change change path)) (not (is_written change files path)) (not_from_true (is_listed_after_change change path) claimed))
 
 removed_left : (change : FileChange) (files : Files) (path : List ℕ) → is_no_longer_listed change files path ≡ false → is_removed change files path ≡ false
 unfolding is_removed
@@ -48,19 +48,19 @@ removed_left change files path e = and_left (is_no_longer_listed change files pa
 
 never_listed : (change : FileChange) (files : Files) (name : List ℕ) → was_listed change name ≡ false → is_removed change files name ≡ false
 never_listed change files name never =
-    removed_left change files name (and_left (was_listed change name) (not (is_claimed change name) && not (is_written change files name)) never)
+    removed_left change files name (and_left (was_listed change name) (not (is_listed_after_change change name) && not (is_written change files name)) never)
 
 -- it was listed before, no package lists it now, and nothing is written there
 pub record IsLeftOver (change : FileChange) (files : Files) (path : List ℕ) : Type 0 where
   pub listed : was_listed change path ≡ true
-  pub unclaimed : is_claimed change path ≡ false
+  pub unclaimed : is_listed_after_change change path ≡ false
   pub unwritten : is_written change files path ≡ false
 
 pub left_over_is : (change : FileChange) (files : Files) (path : List ℕ) → is_no_longer_listed change files path ≡ true → IsLeftOver change files path
 left_over_is change files path e =
-    let (listed, behind) = and_parts (was_listed change path) (not (is_claimed change path) && not (is_written change files path)) e in
-    let (unclaimed, unwritten) = and_parts (not (is_claimed change path)) (not (is_written change files path)) behind in
-    record { listed = listed; unclaimed = not-true (is_claimed change path) unclaimed; unwritten = not-true (is_written change files path) unwritten }
+    let (listed, behind) = and_parts (was_listed change path) (not (is_listed_after_change change path) && not (is_written change files path)) e in
+    let (unclaimed, unwritten) = and_parts (not (is_listed_after_change change path)) (not (is_written change files path)) behind in
+    record { listed = listed; unclaimed = not-true (is_listed_after_change change path) unclaimed; unwritten = not-true (is_written change files path) unwritten }
 
 pub removed_is : (change : FileChange) (files : Files) (path : List ℕ) → is_removed change files path ≡ true → IsLeftOver change files path × (is_modified_config_to_keep change path (files path) (old_entry change path) ≡ false)
 unfolding is_removed
@@ -81,13 +81,13 @@ not_some (Some l) e = absurd (true≢false e)
 -- ---- the file of a package that comes, and one that goes
 
 pub takes_its_path : (change : FileChange) (bytes_of : Listing → List ℕ) (records : DatabaseAndWorldAfter) (files : Files) (name : List ℕ) (l : Listing) → listing_written_under_name change files name ≡ Some l → is_record_name records name ≡ false
-    → changed_files change bytes_of records files name ≡ Some (bytes_of l)
+    → files_after_change change bytes_of records files name ≡ Some (bytes_of l)
 takes_its_path change bytes_of records files name l written other =
     changed_so change bytes_of records files name other
     ∙ ap (λ (o : Option Listing). bytes_after bytes_of o (is_removed change files name) (files name)) written
 
 pub is_gone : (change : FileChange) (bytes_of : Listing → List ℕ) (records : DatabaseAndWorldAfter) (files : Files) (name : List ℕ) → is_removed change files name ≡ true → is_record_name records name ≡ false
-    → changed_files change bytes_of records files name ≡ None
+    → files_after_change change bytes_of records files name ≡ None
 is_gone change bytes_of records files name gone other =
     let (left, never) = removed_is change files name gone in
     changed_so change bytes_of records files name other
@@ -101,7 +101,7 @@ may_stay_unremoved change files name stays =
     (not_from_true (is_modified_config_to_keep change name (files name) (old_entry change name)) stays)
 
 pub is_spared : (change : FileChange) (bytes_of : Listing → List ℕ) (records : DatabaseAndWorldAfter) (files : Files) (name : List ℕ) → is_modified_file_kept change files name ≡ true → is_record_name records name ≡ false
-    → changed_files change bytes_of records files name ≡ files name
+    → files_after_change change bytes_of records files name ≡ files name
 is_spared change bytes_of records files name kept other =
     let (left, stays) = kept_is change files name kept in
     untouched change bytes_of records files name (not_some (listing_written_under_name change files name) left.unwritten) (may_stay_unremoved change files name stays) other
@@ -109,7 +109,7 @@ is_spared change bytes_of records files name kept other =
 -- ---- the file of a package that stays
 
 -- nothing is laid beside another file under a name that a package lists
-claimed_not_beside : (change : FileChange) (files : Files) (name : List ℕ) → is_claimed change name ≡ true → is_apk_new_name change files name ≡ false
+claimed_not_beside : (change : FileChange) (files : Files) (name : List ℕ) → is_listed_after_change change name ≡ true → is_apk_new_name change files name ≡ false
 claimed_not_beside change files name claimed = by_path (path_of_apk_new_name name) refl
   where
     by_path : (o : Option (List ℕ)) → path_of_apk_new_name name ≡ o → is_some (option_and_then (apk_new_listing_at change files) o) ≡ false
@@ -119,8 +119,8 @@ claimed_not_beside change files name claimed = by_path (path_of_apk_new_name nam
         by_listing : (o : Option Listing) → apk_new_listing_at change files path ≡ o → is_some o ≡ false
         by_listing None laid = refl
         by_listing (Some l) laid =
-            let free : is_claimed change (apk_new_name path) ≡ false = nobody_beside change files path l laid in
-            absurd (true≢false (sym claimed ∙ (ap (is_claimed change) (beside_is name path e) ∙ free)))
+            let free : is_listed_after_change change (apk_new_name path) ≡ false = nobody_beside change files path l laid in
+            absurd (true≢false (sym claimed ∙ (ap (is_listed_after_change change) (beside_is name path e) ∙ free)))
 
 no_owner_comes : (change : FileChange) (files : Files) (path : List ℕ) → added_owner_listing change path ≡ None → listing_written_in_place change files path ≡ None
 no_owner_comes change files path none = ap (option_and_then (λ l. if_written_in_place l (fate_of change files l))) none
@@ -135,7 +135,7 @@ left_where_it_stays change files path l owner =
     removed_left change files path (claimed_not_left change files path (claimed_by_owner change path l (owner_is change path l owner)))
 
 pub stays_as_it_is : (change : FileChange) (bytes_of : Listing → List ℕ) (records : DatabaseAndWorldAfter) (files : Files) (path : List ℕ) (l : Listing) → owner_listing change path ≡ Some l → is_added l.member ≡ false → is_record_name records path ≡ false
-    → changed_files change bytes_of records files path ≡ files path
+    → files_after_change change bytes_of records files path ≡ files path
 stays_as_it_is change bytes_of records files path l owner stays other =
     untouched change bytes_of records files path (unwritten_where_it_stays change files path l owner stays) (left_where_it_stays change files path l owner) other
 
@@ -148,7 +148,7 @@ unlike_old change path bytes differs = by_entry (old_entry change path) differs
     by_entry None differs = refl
     by_entry (Some entry) differs = differs entry refl
 
-pub users_fate : (change : FileChange) (files : Files) (path bytes : List ℕ) (l : Listing) → IsModifiedConfigFile change files path bytes → added_owner_listing change path ≡ Some l → fate_of change files l ≡ fate_of_protected_file change path l.entry
+pub users_fate : (change : FileChange) (files : Files) (path bytes : List ℕ) (l : Listing) → IsModifiedConfigFile change files path bytes → added_owner_listing change path ≡ Some l → fate_of change files l ≡ fate_if_user_modified_file change path l.entry
 unfolding fate_of
 users_fate change files path bytes l own comes =
     let (owner, coming) = coming_is change path l comes in
@@ -157,7 +157,7 @@ users_fate change files path bytes l own comes =
     (or_from (is_as_listed l.entry bytes) (is_as_old_entry_lists (old_entry change path) bytes) (own.unlike_new l comes) (unlike_old change path bytes own.unlike_old)) in
     ap (λ (q : List ℕ). fate_with_file_found change q l.entry (files q)) owner.of_path
     ∙ (ap (fate_with_file_found change path l.entry) own.present
-    ∙ ap (λ (b : Bool). if b then goes_in else fate_of_protected_file change path l.entry) test)
+    ∙ ap (λ (b : Bool). if b then goes_in else fate_if_user_modified_file change path l.entry) test)
 
 never_in : (l : Listing) (b : Bool) → if_written_in_place l (if b then goes_aside else gives_way) ≡ None
 never_in l true = refl
@@ -171,9 +171,9 @@ users_file_not_taken change files path bytes own = by_owner (added_owner_listing
     by_owner (Some l) comes =
         ap (option_and_then (λ l. if_written_in_place l (fate_of change files l))) comes
         ∙ (ap (if_written_in_place l) (users_fate change files path bytes l own comes)
-        ∙ never_in l (not (agrees_with_old_entry (old_entry change path) l.entry) && (nat_le (length (apk_new_name path)) 1024 && not (is_claimed change (apk_new_name path)))))
+        ∙ never_in l (not (agrees_with_old_entry (old_entry change path) l.entry) && (nat_le (length (apk_new_name path)) 1024 && not (is_listed_after_change change (apk_new_name path)))))
 
-users_file_stays : (change : FileChange) (files : Files) (path bytes : List ℕ) → (change.purge ≡ false) ⊎ (is_claimed change path ≡ true) → IsModifiedConfigFile change files path bytes → is_removed change files path ≡ false
+users_file_stays : (change : FileChange) (files : Files) (path bytes : List ℕ) → (change.purge ≡ false) ⊎ (is_listed_after_change change path ≡ true) → IsModifiedConfigFile change files path bytes → is_removed change files path ≡ false
 users_file_stays change files path bytes (inr claimed) own = removed_left change files path (claimed_not_left change files path claimed)
 users_file_stays change files path bytes (inl no_purge) own = by_entry (old_entry change path) refl
   where
@@ -187,8 +187,8 @@ users_file_stays change files path bytes (inl no_purge) own = by_entry (old_entr
         (ap (λ (found : Option (List ℕ)). is_modified_config_to_keep change path found (old_entry change path)) own.present
         ∙ (ap (is_modified_config_to_keep change path (Some bytes)) e ∙ stays))
 
-pub users_file_is_spared : (change : FileChange) (bytes_of : Listing → List ℕ) (records : DatabaseAndWorldAfter) (files : Files) (path bytes : List ℕ) → (change.purge ≡ false) ⊎ (is_claimed change path ≡ true) → IsModifiedConfigFile change files path bytes → is_apk_new_name change files path ≡ false → is_record_name records path ≡ false
-    → changed_files change bytes_of records files path ≡ Some bytes
+pub users_file_is_spared : (change : FileChange) (bytes_of : Listing → List ℕ) (records : DatabaseAndWorldAfter) (files : Files) (path bytes : List ℕ) → (change.purge ≡ false) ⊎ (is_listed_after_change change path ≡ true) → IsModifiedConfigFile change files path bytes → is_apk_new_name change files path ≡ false → is_record_name records path ≡ false
+    → files_after_change change bytes_of records files path ≡ Some bytes
 users_file_is_spared change bytes_of records files path bytes unpurged own beside other =
     untouched change bytes_of records files path (not_written change files path (users_file_not_taken change files path bytes own) beside) (users_file_stays change files path bytes unpurged own) other
     ∙ own.present
@@ -203,7 +203,7 @@ no_owner change path never = by_owner (added_owner_listing change path) refl
     by_owner (Some l) e = absurd (true≢false (sym (any_name path (added_paths change.members) (in_coming_paths change path l e)) ∙ never))
 
 pub others_stay : (change : FileChange) (bytes_of : Listing → List ℕ) (records : DatabaseAndWorldAfter) (files : Files) (name : List ℕ) → was_listed change name ≡ false → is_added_path change name ≡ false → is_apk_new_name change files name ≡ false → is_record_name records name ≡ false
-    → changed_files change bytes_of records files name ≡ files name
+    → files_after_change change bytes_of records files name ≡ files name
 others_stay change bytes_of records files name never_before never_now beside other =
     untouched change bytes_of records files name
     (not_written change files name (no_owner_comes change files name (no_owner change name never_now)) beside)

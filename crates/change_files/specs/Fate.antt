@@ -6,26 +6,27 @@ use Rattle.adb_view.specs.Plain.{Plain}
 use Rattle.base_core.specs.Files.{Files}
 use Rattle.file_owners.specs.db_core.Members.{Listing}
 use Rattle.file_guard.specs.AsListed.{do_entries_agree, is_as_listed}
-use Rattle.change_files.specs.FileChange.{FileChange, is_claimed, old_entry}
+use Rattle.change_files.specs.FileChange.{FileChange, is_listed_after_change, old_entry}
 
 -- whether a path is a protected configuration file, which the user may change: it is below `etc/`
 abbrev pub is_protected_path : List ℕ → Bool
 is_protected_path path = starts_with nat_eq path (codes "etc/")
 
--- the ending of the name of a new file that is laid beside one that the user changed
+-- the ending of the name under which a new file is written beside a file that the user modified
 abbrev pub apk_new_ending : List ℕ
 apk_new_ending = codes ".apk-new"
 
--- the name under which a new file is laid beside one that the user changed
+-- the name under which a new file is written beside the file under `path` that the user modified
 abbrev pub apk_new_name : List ℕ → List ℕ
 apk_new_name path = path ++ apk_new_ending
 
--- whether the package before has the same file there; false if the path was not listed before
+-- whether the old entry of a path describes the same bytes as the new entry; false if there is no
+-- old entry
 abbrev pub agrees_with_old_entry : Option Plain → Plain → Bool
 agrees_with_old_entry None entry = false
 agrees_with_old_entry (Some old) entry = do_entries_agree old entry
 
--- whether bytes are as the package before lists them; false if the path was not listed before
+-- whether bytes are as the old entry of a path lists them; false if there is no old entry
 abbrev pub is_as_old_entry_lists : Option Plain → List ℕ → Bool
 is_as_old_entry_lists None bytes = false
 is_as_old_entry_lists (Some old) bytes = is_as_listed old bytes
@@ -36,30 +37,32 @@ pub data AddedFileFate : Type 0 where
   goes_in : AddedFileFate
   -- the user's file is kept, and the new one is not installed
   gives_way : AddedFileFate
-  -- the user's file is kept, and the new one is laid beside it
+  -- the user's file is kept, and the new one is written beside it with the ending `.apk-new`
   goes_aside : AddedFileFate
 
 -- how many bytes a name may have at most
 abbrev pub most_name_bytes : ℕ
 most_name_bytes = 1024
 
--- What is done with a file if the user changed the file under its path. It is laid beside that one if
--- it differs from what was listed before, no package lists the name beside, and that is not too long
--- for a name.
-abbrev pub fate_of_protected_file : FileChange → List ℕ → Plain → AddedFileFate
-fate_of_protected_file change path entry =
+-- The fate of an added file if the user modified the file under its path. It is written beside that
+-- file, with the ending `.apk-new`, if its entry differs from the old one. The name with this
+-- ending must not be listed by a package, and must not be too long.
+abbrev pub fate_if_user_modified_file : FileChange → List ℕ → Plain → AddedFileFate
+fate_if_user_modified_file change path entry =
     if not (agrees_with_old_entry (old_entry change path) entry)
-    && (nat_le (length (apk_new_name path)) most_name_bytes && not (is_claimed change (apk_new_name path)))
+    && (nat_le (length (apk_new_name path)) most_name_bytes
+    && not (is_listed_after_change change (apk_new_name path)))
     then goes_aside else gives_way
 
--- What is done with an added file, given the file under its path. The user changed a protected file if
--- its bytes are neither those of the new entry nor those of the old one.
+-- The fate of an added file, given the file found under its path. The user modified a protected
+-- file if its bytes are neither those of the new entry nor those of the old one.
 abbrev pub fate_with_file_found : FileChange → List ℕ → Plain → Option (List ℕ) → AddedFileFate
 fate_with_file_found change path entry None = goes_in
 fate_with_file_found change path entry (Some bytes) =
-    if not (is_protected_path path) || (is_as_listed entry bytes || is_as_old_entry_lists (old_entry change path) bytes)
-    then goes_in else fate_of_protected_file change path entry
+    if not (is_protected_path path)
+    || (is_as_listed entry bytes || is_as_old_entry_lists (old_entry change path) bytes)
+    then goes_in else fate_if_user_modified_file change path entry
 
--- what is done with a file whose member is added and owns its path
+-- the fate of a listed file whose member is added and owns its path
 unfoldable pub fate_of : FileChange → Files → Listing → AddedFileFate
 fate_of change files l = fate_with_file_found change l.path l.entry (files l.path)

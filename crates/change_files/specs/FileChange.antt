@@ -19,7 +19,7 @@ pub record FileChange : Type 0 where
 unfoldable pub old_listings : FileChange → List Listing
 old_listings change = member_listings (map member_of_kept change.old)
 
--- the entry of the old packages for a path; no two of them list it
+-- the entry for a path in the packages before the change; no two of them list one path
 unfoldable pub old_entry : FileChange → List ℕ → Option Plain
 old_entry change path =
     option_map (λ l. l.entry) (find (λ l. bytes_eq l.path path) (old_listings change))
@@ -31,8 +31,8 @@ was_listed change path = is_some (old_entry change path)
 -- ---- after
 
 -- whether a package after lists the path
-unfoldable pub is_claimed : FileChange → List ℕ → Bool
-is_claimed change path = list_any (λ l. bytes_eq l.path path) (member_listings change.members)
+unfoldable pub is_listed_after_change : FileChange → List ℕ → Bool
+is_listed_after_change change path = list_any (λ l. bytes_eq l.path path) (member_listings change.members)
 
 -- the file by which the member that owns a path lists it
 unfoldable pub owner_listing : FileChange → List ℕ → Option Listing
@@ -40,7 +40,8 @@ owner_listing change path =
     option_and_then (λ place. find (λ l. l.place == place) (listings_of_path change.members path))
     (owner_of_path change.members path)
 
--- a file, if its member is added: that of a kept package is not written
+-- a listed file, if its member is added; None if the member is kept, since the files of kept
+-- packages are not written
 abbrev pub if_member_added : Option Listing → Option Listing
 if_member_added None = None
 if_member_added (Some l) = if is_added l.member then Some l else None

@@ -10,45 +10,49 @@ use Rattle.file_guard.specs.pkg_core.Contents as Packages
 use Rattle.file_guard.specs.AsListed.{has_target, is_as_listed, link_bytes}
 pub use Rattle.root_names.specs.RootNames.{database_name, text_database_name, world_name}
 use Rattle.change_files.specs.Fate.{AddedFileFate, apk_new_ending, fate_of, gives_way, goes_aside, goes_in, is_protected_path}
-use Rattle.change_files.specs.FileChange.{FileChange, added_owner_listing, is_claimed, old_entry, was_listed}
+use Rattle.change_files.specs.FileChange.{FileChange, added_owner_listing, is_listed_after_change, old_entry, was_listed}
 
 -- ---- what is written
 
--- the file, if it takes its path
+-- the listed file, if its fate is to be written under its path
 abbrev pub if_written_in_place : Listing → AddedFileFate → Option Listing
 if_written_in_place l goes_in = Some l
 if_written_in_place l gives_way = None
 if_written_in_place l goes_aside = None
 
--- the file, if it is laid beside another
+-- the listed file, if its fate is to be written beside another file as `.apk-new`
 abbrev pub if_written_as_apk_new : Listing → AddedFileFate → Option Listing
 if_written_as_apk_new l goes_in = None
 if_written_as_apk_new l gives_way = None
 if_written_as_apk_new l goes_aside = Some l
 
--- the file that takes this path, if one does
+-- the listed file that is written under this path, if there is one
 abbrev pub listing_written_in_place : FileChange → Files → List ℕ → Option Listing
 listing_written_in_place change files path =
     option_and_then (λ l. if_written_in_place l (fate_of change files l)) (added_owner_listing change path)
 
--- the file that is laid beside the one under this path, if one is
+-- the listed file that is written as `.apk-new` beside the file under this path, if there is one
 abbrev pub apk_new_listing_at : FileChange → Files → List ℕ → Option Listing
 apk_new_listing_at change files path =
-    option_and_then (λ l. if_written_as_apk_new l (fate_of change files l)) (added_owner_listing change path)
+    option_and_then (λ l. if_written_as_apk_new l (fate_of change files l))
+    (added_owner_listing change path)
 
--- the path beside which a file of this name would be laid: the name without the ending
+-- the path of the file beside which a file with this name ending in `.apk-new` is written: the name
+-- without the ending; None without the ending
 abbrev pub path_of_apk_new_name : List ℕ → Option (List ℕ)
 path_of_apk_new_name name =
     if ends_with nat_eq name apk_new_ending then Some (take (length name - length apk_new_ending) name)
     else None
 
--- the file whose contents this name gets, if one is written there
+-- the listed file that is written under this name, as its path or as the `.apk-new` name of
+-- another, if there is one
 unfoldable pub listing_written_under_name : FileChange → Files → List ℕ → Option Listing
 listing_written_under_name change files name =
     option_or (listing_written_in_place change files name)
     (option_and_then (apk_new_listing_at change files) (path_of_apk_new_name name))
 
--- whether a file of a package is written under this name, be it its path or the name beside another
+-- whether a file of a package is written under this name, as its path or as the `.apk-new` name of
+-- another
 abbrev pub is_written : FileChange → Files → List ℕ → Bool
 is_written change files name = is_some (listing_written_under_name change files name)
 
@@ -69,17 +73,20 @@ is_modified_config_to_keep change path bytes (Some entry) =
 -- whether a path was listed before, and now no package lists it and nothing is written there
 abbrev pub is_no_longer_listed : FileChange → Files → List ℕ → Bool
 is_no_longer_listed change files path =
-    was_listed change path && (not (is_claimed change path) && not (is_written change files path))
+    was_listed change path &&
+    (not (is_listed_after_change change path) && not (is_written change files path))
 
 -- whether the user's file is kept under a path although its package is removed
 unfoldable pub is_modified_file_kept : FileChange → Files → List ℕ → Bool
 is_modified_file_kept change files path =
-    is_no_longer_listed change files path && is_modified_config_to_keep change path (files path) (old_entry change path)
+    is_no_longer_listed change files path
+    && is_modified_config_to_keep change path (files path) (old_entry change path)
 
 -- whether a change removes the file under a path, if there is one
 unfoldable pub is_removed : FileChange → Files → List ℕ → Bool
 is_removed change files path =
-    is_no_longer_listed change files path && not (is_modified_config_to_keep change path (files path) (old_entry change path))
+    is_no_longer_listed change files path
+    && not (is_modified_config_to_keep change path (files path) (old_entry change path))
 
 -- ---- the contents of an added file
 
@@ -98,15 +105,15 @@ world_bytes_after [] None = None
 world_bytes_after [] (Some old) = Some []
 world_bytes_after (b ∷ bytes) old = Some (b ∷ bytes)
 
--- The file of a name that is none of the records: the bytes of the file that is written there, or
--- nothing if it is removed, or what it had before.
+-- The bytes after a change under a name that is not the database, the world or the text database:
+-- those of the file that is written there; nothing if the file is removed; otherwise the old ones.
 abbrev pub bytes_after : (Listing → List ℕ) → Option Listing → Bool → Option (List ℕ) → Option (List ℕ)
 bytes_after bytes_of (Some l) is_gone old = Some (bytes_of l)
 bytes_after bytes_of None true old = None
 bytes_after bytes_of None false old = old
 
--- the results of a change other than the files of packages: the bytes of the new database and of the
--- new world, and whether a text database was converted
+-- the results of a change apart from the files of packages: the bytes of the new database and of
+-- the new world, and whether a text database was converted
 pub record DatabaseAndWorldAfter : Type 0 where
   pub database : List ℕ
   pub world : List ℕ
@@ -114,8 +121,8 @@ pub record DatabaseAndWorldAfter : Type 0 where
 
 -- The files after a change: the new database and world; no converted text database; the added files; no
 -- removed file; and all others as before.
-unfoldable pub changed_files : FileChange → (Listing → List ℕ) → DatabaseAndWorldAfter → Files → Files
-changed_files change bytes_of records files name =
+unfoldable pub files_after_change : FileChange → (Listing → List ℕ) → DatabaseAndWorldAfter → Files → Files
+files_after_change change bytes_of records files name =
     if bytes_eq name database_name then Some records.database
     else if bytes_eq name world_name then world_bytes_after records.world (files name)
     else if records.takes_text_over && bytes_eq name text_database_name then None

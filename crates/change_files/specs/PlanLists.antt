@@ -43,7 +43,7 @@ pub record FileWrite : Type 0 where
   pub folder : ℕ
   pub file : ℕ
 
--- the write of a package's file under a name: its path, or the name beside it
+-- the write of a listed file under a name, which is its path or its `.apk-new` name
 abbrev pub write_to : List ℕ → Listing → FileWrite
 write_to name l = record { name = name; member = l.place; folder = l.folder; file = l.file }
 
@@ -59,9 +59,10 @@ removals_of change files = filter (is_removed change files) (sorted_distinct_nam
 
 -- the paths at which the user's file is kept, in byte order
 unfoldable pub kept_paths_of : FileChange → Files → List (List ℕ)
-kept_paths_of change files = filter (is_modified_file_kept change files) (sorted_distinct_names (old_paths change))
+kept_paths_of change files =
+    filter (is_modified_file_kept change files) (sorted_distinct_names (old_paths change))
 
--- the paths beside which a file is laid, in byte order
+-- the paths beside which an `.apk-new` file is written, in byte order
 unfoldable pub paths_with_apk_new_file : FileChange → Files → List (List ℕ)
 paths_with_apk_new_file change files =
     filter (λ path. is_some (apk_new_listing_at change files path))

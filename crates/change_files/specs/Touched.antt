@@ -1,6 +1,6 @@
--- Classes of names for the laws: those of the records, of files beside others, and of added packages.
--- (This is not *touched* of `docs/names.md`.) It serves the laws of `src/laws.rt`; the rules are in
--- `docs/commands.md`, "What a change does with files".
+-- Classes of names for the laws: those of the database and world, of `.apk-new` files, and of added
+-- packages. (This is not *touched* of `docs/names.md`.) It serves the laws of `src/laws.rt`; the
+-- rules are in `docs/commands.md`, "What a change does with files".
 use Rattle.std.specs.Prelude.{◌≡◌, ℕ, Bool, true, false, ◌&&◌, ◌||◌, List, Some, is_some, option_and_then, bytes_eq}
 use Rattle.std.specs.List.{list_any}
 use Rattle.base_core.specs.Files.{Files}
@@ -19,7 +19,7 @@ is_record_name records name =
     bytes_eq name database_name
     || (bytes_eq name world_name || (records.takes_text_over && bytes_eq name text_database_name))
 
--- whether a file is laid beside another one under this name
+-- whether this name is that of an `.apk-new` file that is written
 abbrev pub is_apk_new_name : FileChange → Files → List ℕ → Bool
 is_apk_new_name change files name =
     is_some (option_and_then (apk_new_listing_at change files) (path_of_apk_new_name name))
@@ -31,10 +31,14 @@ is_added_path change path = list_any (bytes_eq path) (added_paths change.members
 -- configuration that the user changed: the file under a protected path is neither as an added package
 -- lists it nor as a package listed it before
 pub record IsModifiedConfigFile (change : FileChange) (files : Files) (path bytes : List ℕ) : Type 0 where
+  -- the path is protected: it is below `etc/`
   pub guarded : is_protected_path path ≡ true
+  -- the file exists and has these bytes
   pub present : files path ≡ Some bytes
+  -- if an added package owns the path, its entry does not describe these bytes
   pub unlike_new : (l : Listing) → added_owner_listing change path ≡ Some l
       → is_as_listed l.entry bytes ≡ false
+  -- if a package listed the path before, its entry does not describe these bytes
   pub unlike_old : (entry : Plain) → old_entry change path ≡ Some entry
       → is_as_listed entry bytes ≡ false
 
@@ -43,8 +47,10 @@ abbrev pub DiffersFromOldEntry : FileChange → List ℕ → Plain → Type 0
 DiffersFromOldEntry change path entry =
     (old : Plain) → old_entry change path ≡ Some old → do_entries_agree old entry ≡ false
 
--- what is written under a name, as an element of the plan
+-- a write is an element of the plan: a listed file is written under its name
 pub record IsPlannedWrite (change : FileChange) (files : Files) (write : FileWrite) : Type 0 where
   pub listing : Listing
+  -- this listing is written under the name of the write
   pub written : listing_written_under_name change files write.name ≡ Some listing
+  -- the write is that of this listing
   pub shown : write ≡ write_to write.name listing

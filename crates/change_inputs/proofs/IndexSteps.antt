@@ -9,7 +9,7 @@ use Rattle.std.specs.Option.{option_map}
 use Rattle.std.specs.Result.{IsErrAnd}
 use Rattle.std.specs.declared.alloc.Global.{Global}
 use Rattle.std.proofs.lemmas.Bool.{and_parts}
-use Rattle.db_core.specs.adb_schema.Soundness.{first_fault}
+use Rattle.db_core.specs.adb_schema.Soundness.{container_fault_except_contents}
 use Rattle.adb_view.specs.declared.tables.Which.TheVariants.{Index}
 use Rattle.adb_view.specs.Plain.{Plain}
 use Rattle.base_core.specs.Tree.{TreeState, files_of}
@@ -160,11 +160,11 @@ in_list files i v bytes lt at is =
     slice_get-map (λ (file : Vec ℕ Global). file.items) files i
     ∙ (ap (option_map (λ (file : Vec ℕ Global). file.items)) (slice_get_read files (length files) i v refl lt at) ∙ ap Some (sym is))
 
-pub passes_at : (bs : List (List ℕ)) (i : ℕ) (b : List ℕ) → are_indexes bs ≡ true → slice_get bs i ≡ Some b → first_fault Index b ≡ None
+pub passes_at : (bs : List (List ℕ)) (i : ℕ) (b : List ℕ) → are_indexes bs ≡ true → slice_get bs i ≡ Some b → container_fault_except_contents Index b ≡ None
 passes_at [] i b all at = absurd (cc)
 passes_at (x ∷ bs) zero b all at =
     let same : x ≡ b = cc in
-    subst (λ y. first_fault Index y ≡ None) same (none_of (first_fault Index x) (and_parts (is_index x) (are_indexes bs) all).0)
+    subst (λ y. container_fault_except_contents Index y ≡ None) same (none_of (container_fault_except_contents Index x) (and_parts (is_index x) (are_indexes bs) all).0)
 passes_at (x ∷ bs) (suc i) b all at = passes_at bs i b (and_parts (is_index x) (are_indexes bs) all).1 at
 
 pub seen_at : (bs : List (List ℕ)) (i : ℕ) (b : List ℕ) → slice_get bs i ≡ Some b → slice_get (map index_of_file bs) i ≡ Some (index_of_file b)
@@ -218,5 +218,5 @@ pub all_seen : (n : ℕ) (bs : List (List ℕ)) → are_indexes bs ≡ true → 
 all_seen n [] all = refl
 all_seen n (b ∷ bs) all =
     let both = and_parts (is_index b) (are_indexes bs) all in
-    ap (λ fault. and_then (unless_cause (IndexBad n) fault (index_of_file b)) (λ index. and_then (indexes_in_files (n + 1) bs) (λ indexes. Ok (index ∷ indexes)))) (none_of (first_fault Index b) both.0)
+    ap (λ fault. and_then (unless_cause (IndexBad n) fault (index_of_file b)) (λ index. and_then (indexes_in_files (n + 1) bs) (λ indexes. Ok (index ∷ indexes)))) (none_of (container_fault_except_contents Index b) both.0)
     ∙ ap (λ (r : Result (List Plain) Refusals.Refusal). and_then r (λ indexes. Ok (index_of_file b ∷ indexes))) (all_seen (n + 1) bs both.1)

@@ -8,7 +8,8 @@ use Rattle.report_core.specs.declared.refusal.Refusal as Refusals
 use Rattle.change_inputs.specs.declared.root.Refused.{Refused}
 use Rattle.change_inputs.specs.declared.root.Refused.TheVariants.{Disk, Memory, Refusal}
 
--- a result, seen by a view, is the value of a definition; out of memory says nothing about it
+-- the result of a call, mapped by `view`, is the wanted value or the wanted refusal. It is no I/O error,
+-- and out of memory says nothing of what is wanted.
 abbrev pub Agrees :
     {A B : Type 0} → (A → B) → Result A Refused → Result B Refusals.Refusal → Type 0
 Agrees view (Ok x) wanted = wanted ≡ Ok (view x)
@@ -16,7 +17,7 @@ Agrees view (Err (Refusal refusal)) wanted = wanted ≡ Err refusal
 Agrees view (Err Disk) wanted = ⊥
 Agrees view (Err Memory) wanted = Unit {0}
 
--- *Agrees* of a call that reads a tree, which may have failed
+-- *Agrees* for a call that reads a tree: an I/O error says nothing of what is wanted either
 abbrev pub AgreesUnlessDisk :
     {A B : Type 0} → (A → B) → Result A Refused → Result B Refusals.Refusal → Type 0
 AgreesUnlessDisk view (Ok x) wanted = wanted ≡ Ok (view x)

@@ -24,8 +24,8 @@ candidates_of_repositories_from n (repository ∷ repositories) (index ∷ index
 abbrev pub installed_candidate : Plain → Candidate
 installed_candidate pkg = candidate_of (entry_in pkg PACKAGE_INFO) None None true
 
--- candidates with the installed packages, in the database's order: one that an index has counts as
--- installed, and another is added
+-- the candidates with the installed packages, in the database's order: a package that an index has is
+-- marked as installed, and any other is appended
 abbrev pub with_all_installed : List Candidate → List Plain → List Candidate
 with_all_installed candidates [] = candidates
 with_all_installed candidates (pkg ∷ packages) =

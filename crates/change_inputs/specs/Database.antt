@@ -3,7 +3,7 @@
 -- tests in `docs/formats.md`, "Tests of a container".
 use Rattle.std.specs.Prelude.{ℕ, Bool, true, false, List, [], Option, Some, None, Result, Ok, Err}
 use Rattle.db_core.specs.adb_fields.Repeated.{entries_at}
-use Rattle.db_core.specs.adb_schema.Soundness.{first_fault, payload_in, root_value}
+use Rattle.db_core.specs.adb_schema.Soundness.{container_fault_except_contents, payload_in, root_value}
 use Rattle.adb_view.specs.FieldIndexes.{IDB_PACKAGES}
 use Rattle.adb_view.specs.declared.tables.Which.TheVariants.{Idb}
 use Rattle.adb_view.specs.Plain.{Plain}
@@ -29,7 +29,7 @@ database_from_parts packages file from_text =
 -- the database in a container, or the first test that the container fails
 abbrev pub container_database : List ℕ → Result Database Refusal
 container_database file =
-    unless_cause DatabaseBad (first_fault Idb file)
+    unless_cause DatabaseBad (container_fault_except_contents Idb file)
     (database_from_parts (entries_at IDB_PACKAGES (root_value Idb (payload_in file))) (Some file) false)
 
 -- the database in the payload of a text database, or why there is none
@@ -45,13 +45,13 @@ payload_database (Err Memory) = Err NoDatabase
 abbrev pub text_database : List ℕ → Result Database Refusal
 text_database text = payload_database (payload_of_text text)
 
--- the database if there is none: one without packages, if it may be begun
+-- the database of a root that has none: one without packages, if it may be created (`--initdb`)
 abbrev pub empty_database_if_allowed : Bool → Result Database Refusal
 empty_database_if_allowed true = Ok (database_from_parts [] None false)
 empty_database_if_allowed false = Err NoDatabase
 
--- the database of a root, given what is found under its two names, of which the text is used last, and
--- whether one may be begun
+-- the database of a root, given what is found under its two names, and whether one may be created
+-- (`may_begin`); the text database is used only if there is no other
 abbrev pub root_database : Bool → Option (List ℕ) → Option (List ℕ) → Result Database Refusal
 root_database may_begin (Some file) text = container_database file
 root_database may_begin None (Some text) = text_database text

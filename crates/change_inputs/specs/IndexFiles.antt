@@ -3,7 +3,7 @@
 use Rattle.std.specs.Prelude.{ℕ, Bool, List, Vec, map, is_none}
 use Rattle.std.specs.List.{list_all}
 use Rattle.std.specs.declared.alloc.Global.{Global}
-use Rattle.db_core.specs.adb_schema.Soundness.{first_fault, payload_in, root_value}
+use Rattle.db_core.specs.adb_schema.Soundness.{container_fault_except_contents, payload_in, root_value}
 use Rattle.adb_view.specs.declared.tables.Which.TheVariants.{Index}
 use Rattle.adb_view.specs.Plain.{Plain}
 
@@ -13,7 +13,7 @@ bytes_of_each files = map (λ file. file.items) files
 
 -- whether a file passes all tests of an index
 abbrev pub is_index : List ℕ → Bool
-is_index file = is_none (first_fault Index file)
+is_index file = is_none (container_fault_except_contents Index file)
 
 -- whether each of several files passes all tests of an index
 abbrev pub are_indexes : List (List ℕ) → Bool

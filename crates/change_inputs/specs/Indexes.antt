@@ -2,14 +2,14 @@
 -- "`add` and `del`" (what is read and refused) and "Error lines"; the tests in `docs/formats.md`,
 -- "Tests of a container".
 use Rattle.std.specs.Prelude.{ℕ, ◌+◌, List, [], ◌∷◌, Option, Some, None, Result, Ok, Err}
-use Rattle.db_core.specs.adb_schema.Soundness.{first_fault, payload_in, root_value}
+use Rattle.db_core.specs.adb_schema.Soundness.{container_fault_except_contents, payload_in, root_value}
 use Rattle.adb_view.specs.declared.tables.Which.TheVariants.{Index}
 use Rattle.adb_view.specs.Plain.{Plain}
 use Rattle.report_core.specs.declared.refusal.Refusal.{Refusal}
 use Rattle.report_core.specs.declared.refusal.Refusal.TheVariants.{IndexBad, IndexMissing}
 use Rattle.change_inputs.specs.Chains.{and_then, unless_cause}
 
--- the file of the index of repository n, unless it is absent
+-- the index file of repository n, or the refusal of an absent one
 abbrev pub index_file : ℕ → Option (List ℕ) → Result (List ℕ) Refusal
 index_file n None = Err (IndexMissing n)
 index_file n (Some file) = Ok file
@@ -25,7 +25,8 @@ index_files_from n (f ∷ found) =
 -- the value of the index of repository n, or why its file is none
 abbrev pub index_in_file : ℕ → List ℕ → Result Plain Refusal
 index_in_file n file =
-    unless_cause (IndexBad n) (first_fault Index file) (root_value Index (payload_in file))
+    unless_cause (IndexBad n) (container_fault_except_contents Index file)
+    (root_value Index (payload_in file))
 
 -- the values of all indexes, or the first file that is no index; the first of these repositories
 -- has this number

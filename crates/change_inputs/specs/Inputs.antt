@@ -25,9 +25,9 @@ pub record Root : Type 0 where
   pub repositories : List Repository
 
 -- a root by the contents of its files; the new world is what the command makes of the world
-abbrev pub root_by :
+abbrev pub root_from_parts :
     CommandLine → Database → List ℕ → List Dependency → List Repository → Root
-root_by command database text world repositories = record {
+root_from_parts command database text world repositories = record {
   database = database;
   world_text = text;
   world = world;
@@ -47,7 +47,7 @@ root_found command file text world_file repositories_file =
     and_then
     (root_repositories command.flags.allow_untrusted (found_text_or_empty repositories_file))
     (λ repositories.
-    Ok (root_by command database (found_text_or_empty world_file) world repositories))))
+    Ok (root_from_parts command database (found_text_or_empty world_file) world repositories))))
 
 -- all that a change reads: the contents of a root's files, and the value of each repository's index
 pub record Inputs : Type 0 where
@@ -61,25 +61,25 @@ inputs_from_parts root indexes = record { root = root; indexes = indexes }
 -- ---- the numbers of the reads
 
 -- each read of a root has a number, counted from 0: the database is first
-abbrev pub database_read : ℕ
-database_read = 0
+abbrev pub database_read_number : ℕ
+database_read_number = 0
 
--- the number of the read of the text database; it has one even if there is another database, and does
--- not count then
-abbrev pub text_database_read : ℕ
-text_database_read = 1
+-- the number of the read of the text database; what it finds does not matter if there is another
+-- database
+abbrev pub text_database_read_number : ℕ
+text_database_read_number = 1
 
 -- the number of the read of world, after both databases
-abbrev pub world_read : ℕ
-world_read = 2
+abbrev pub world_read_number : ℕ
+world_read_number = 2
 
 -- the number of the read of `etc/apk/repositories`
-abbrev pub repositories_read : ℕ
-repositories_read = 3
+abbrev pub repositories_read_number : ℕ
+repositories_read_number = 3
 
 -- the number of the first read of an index: there is one for each repository
-abbrev pub first_index_read : ℕ
-first_index_read = 4
+abbrev pub first_index_read_number : ℕ
+first_index_read_number = 4
 
 -- what reads find under the paths of repositories; the read of the first one has this number
 abbrev pub index_reads_from : Reads → ℕ → List Repository → List (Option (List ℕ))
@@ -92,20 +92,20 @@ index_reads_from read n (repository ∷ repositories) =
 -- the database of a root alone, given what reads find, for a command
 abbrev pub database_for : CommandLine → Reads → Result Database Refusal
 database_for command read =
-    root_database command.flags.initdb (read database_read database_name)
-    (read text_database_read text_database_name)
+    root_database command.flags.initdb (read database_read_number database_name)
+    (read text_database_read_number text_database_name)
 
 -- a root, given what reads find, for a command
 abbrev pub root_for : CommandLine → Reads → Result Root Refusal
 root_for command read =
-    root_found command (read database_read database_name)
-    (read text_database_read text_database_name) (read world_read world_name)
-    (read repositories_read repositories_name)
+    root_found command (read database_read_number database_name)
+    (read text_database_read_number text_database_name) (read world_read_number world_name)
+    (read repositories_read_number repositories_name)
 
 -- the indexes, given what reads find
 abbrev pub indexes_of : Reads → List Repository → Result (List Plain) Refusal
 indexes_of read repositories =
-    root_indexes (index_reads_from read first_index_read repositories)
+    root_indexes (index_reads_from read first_index_read_number repositories)
 
 -- the inputs of a command that changes what is installed, or its first refusal
 unfoldable pub inputs_of : CommandLine → Reads → Result Inputs Refusal

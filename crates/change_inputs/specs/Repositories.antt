@@ -1,19 +1,19 @@
 -- The repositories of a root, whose indexes are read. The rules are in `docs/formats.md`,
--- "Repositories", and for leave in `docs/commands.md`, "Words", `--allow-untrusted`.
+-- "Repositories", and for the permission in `docs/commands.md`, "Words", `--allow-untrusted`.
 use Rattle.std.specs.Prelude.{ℕ, Bool, true, false, List, [], ◌∷◌, Result, Ok, Err}
 use Rattle.dep_core.specs.Repositories.{Repository, repositories_of}
 use Rattle.report_core.specs.declared.refusal.Refusal.{Refusal}
 use Rattle.report_core.specs.declared.refusal.Refusal.TheVariants.{RepositoriesBad, Untrusted}
 use Rattle.change_inputs.specs.Chains.{and_then, refused_as}
 
--- the repositories that may be read: since signatures are not checked, any are read only with leave
+-- the repositories, if there are none or `--allow-untrusted` permits them, since signatures are not checked
 abbrev pub if_untrusted_allowed : Bool → List Repository → Result (List Repository) Refusal
 if_untrusted_allowed is_allowed [] = Ok []
 if_untrusted_allowed true (repository ∷ repositories) = Ok (repository ∷ repositories)
 if_untrusted_allowed false (repository ∷ repositories) = Err Untrusted
 
--- the repositories of a root, by the text of their file and whether there is leave, or their
--- refusal
+-- the repositories of a root, given whether `--allow-untrusted` permits them and the text of their file;
+-- or their refusal
 abbrev pub root_repositories : Bool → List ℕ → Result (List Repository) Refusal
 root_repositories is_allowed text =
     and_then (refused_as RepositoriesBad (repositories_of text)) (if_untrusted_allowed is_allowed)

@@ -3,7 +3,7 @@
 //! `docs/formats.md`, "Tests of a container".
 ghost use Rattle.db_core.specs.adb_fields.ListValue.{list_value};
 ghost use Rattle.db_core.specs.adb_fields.Repeated.{list_of};
-ghost use Rattle.db_core.specs.adb_schema.Soundness.{first_fault, payload_fault, payload_in, root_value};
+ghost use Rattle.db_core.specs.adb_schema.Soundness.{container_fault_except_contents, payload_fault, payload_in, root_value};
 ghost use Rattle.db_core.specs.adb_schema.Views.{idb_value};
 ghost use Rattle.adb_view.specs.Values.{entries_in};
 ghost use Rattle.adb_view.specs.declared.tables.Which.TheVariants as Tables;
@@ -31,7 +31,7 @@ pub(crate) struct DatabaseContainer {
     /// The bytes of the whole file.
     pub(crate) file: Vec<u8>,
     // No test of the file as a database fails, so its payload is sound too.
-    ghost passed: { is_none (first_fault Tables.Idb file.items) ≡ true },
+    ghost passed: { is_none (container_fault_except_contents Tables.Idb file.items) ≡ true },
     ghost sound: { is_none (payload_fault Tables.Idb (payload_in file.items)) ≡ true },
 }
 

@@ -8,7 +8,7 @@ ghost use Rattle.db_core.specs.adb_schema.Views.{index_value};
 ghost use Rattle.adb_view.specs.Values.{is_sound};
 ghost use Rattle.adb_view.specs.declared.tables.Kind.TheVariants as Kinds;
 ghost use Rattle.adb_view.specs.declared.tables.Which.TheVariants as Tables;
-ghost use Rattle.adb_view.specs.Head.{head_fault, root_of};
+ghost use Rattle.adb_view.specs.Head.{payload_head_fault, root_word_of_payload};
 ghost use Rattle.base_core.specs.Read.{OnlyReads, bytes_in};
 ghost use Rattle.change_inputs.specs.Answers.{Agrees, AgreesUnlessDisk, AreFilesFoundInTree, IsFileFoundInTree};
 ghost use Rattle.change_inputs.specs.IndexFiles.{are_indexes, bytes_of_each, index_of_file, is_index};
@@ -74,8 +74,9 @@ impl IndexFiles {
 
 // The index in a payload whose head, root and texts were tested.
 fn open_payload(payload: &[u8]) -> IndexView<'_>
-    requires head { is_none (head_fault payload.now) ≡ true }
-    requires sound { is_sound payload.now (Kinds.Obj Tables.Index) (root_of payload.now) ≡ true }
+    requires head { is_none (payload_head_fault payload.now) ≡ true }
+    requires sound { is_sound payload.now (Kinds.Obj Tables.Index)
+        (root_word_of_payload payload.now) ≡ true }
     requires texts { is_none (text_fault Tables.Index (root_value Tables.Index payload.now))
         ≡ true }
     ensures { index_value result ≡ root_value Tables.Index payload.now }
@@ -127,7 +128,8 @@ fn read_index_file<T: Tree>(
     path: &Name,
     tree: &mut T,
 ) -> Result<Vec<u8>, Refused>
-    ensures found { (found : Option (List ℕ)) × IsFileFoundInTree (T.history tree.old) path.now found
+    ensures found { (found : Option (List ℕ))
+        × IsFileFoundInTree (T.history tree.old) path.now found
         × AgreesUnlessDisk (λ file. file.items) result (index_file number found) }
     ensures tree { OnlyReads Refused.Disk (T.history tree.old) (T.history tree.new)
         (T.counts tree.old) (T.counts tree.new) result }
@@ -154,12 +156,12 @@ fn test_index_file(alloc: Global, number: u64, file: &[u8]) -> Result<(), Refuse
 }
 
 /// The repositories of a root, given what was found under the name of their list. They are read
-/// only with leave, since signatures are not checked.
+/// only if `--allow-untrusted` permits it, since signatures are not checked.
 ///
 /// # Errors
 ///
-/// `RepositoriesBad` with the first bad line; `Untrusted` if there is one and no leave. Or
-/// `Memory`.
+/// `RepositoriesBad` with the first bad line; `Untrusted` if there is a repository and no
+/// permission. Or `Memory`.
 pub(crate) fn repositories_of(
     alloc: Global,
     is_allowed: bool,
@@ -178,7 +180,8 @@ pub(crate) fn repositories_of(
 
 // Refuses repositories that may not be read, if there are any.
 fn if_untrusted_allowed(is_allowed: bool, repositories: Repos) -> Result<Repos, Refused>
-    ensures { Agrees (λ repositories. repositories) result (if_untrusted_allowed is_allowed repositories) }
+    ensures { Agrees (λ repositories. repositories) result
+        (if_untrusted_allowed is_allowed repositories) }
 {
     if !is_allowed && !repositories.is_empty() {
         return Err(Refused::Refusal(Refusal::Untrusted));

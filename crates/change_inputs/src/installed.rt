@@ -36,7 +36,7 @@ impl Installed {
         command: &Command,
         tree: &mut T,
     ) -> Result<Installed, Refused>
-        // It is the database of some contents at each read: of the tree's, if its files are
+        // The result is that of some contents at each read: of the tree's, if its files are
         // observable.
         ensures found { IsExplainedBySomeReads (T.history tree.old) (λ read.
             AgreesUnlessDisk installed_seen result (database_for command.now read)) }

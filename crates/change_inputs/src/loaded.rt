@@ -153,10 +153,10 @@ impl Loaded {
     // The candidates of the indexes, then those of the database, up to the most that a pool can
     // have.
     fn candidates(&self, alloc: Global) -> Result<Pool<'_>, PoolFault>
-        // They are all candidates, if they are not too many.
+        // The pool has all candidates of the inputs, if they are not too many.
         ensures ok { IfOk result (λ pool. pool ≡ candidates_of (inputs_seen self.now)) }
         ensures fits { IfOk result (λ pool. length pool ≤ MOST_CANDIDATES) }
-        // They are refused only for their count, or if out of memory.
+        // The candidates are refused only for their count, or if memory runs out.
         ensures fault { IfErr result (λ fault.
             IsPoolFault fault (length (candidates_of (inputs_seen self.now)))) }
     {

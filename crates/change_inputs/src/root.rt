@@ -4,13 +4,13 @@
 
 ghost use Rattle.base_core.specs.Read.{OnlyReads, bytes_in};
 ghost use Rattle.change_inputs.specs.Answers.{Agrees, IsDiskOrMemoryFailure, IsFileFoundInTree};
-ghost use Rattle.change_inputs.specs.Inputs.{root_found, Inputs, first_index_read, inputs_of};
+ghost use Rattle.change_inputs.specs.Inputs.{root_found, Inputs, first_index_read_number, inputs_of};
 ghost use Rattle.change_inputs.specs.RootFiles.{AreRootFilesInTree};
 ghost use Rattle.change_inputs.specs.Seen.{root_seen};
 ghost use Rattle.root_names.specs.RootNames.{database_name, text_database_name};
 ghost use Rattle.std.specs.Prelude.{◌≡◌, IfErr, IfOk, None, OnOk, ◌<◌, ◌+◌, ℕ, List, Ok, length};
 ghost use Rattle.db_core.specs.adb_schema.ReadFaults.{IsReadFault};
-ghost use Rattle.db_core.specs.adb_schema.Soundness.{first_fault, payload_fault, payload_in};
+ghost use Rattle.db_core.specs.adb_schema.Soundness.{container_fault_except_contents, payload_fault, payload_in};
 ghost use Rattle.command_core.specs.Command.{CommandLine};
 ghost use Rattle.package_files.specs.make_info.Reads.{Reads};
 
@@ -80,10 +80,10 @@ pub(crate) fn read_databases<T: Tree>(
     alloc: Global,
     tree: &mut T,
 ) -> Result<(Option<Vec<u8>>, Option<Vec<u8>>), Refused>
-    // If the tree's files are observable, the database is there.
+    // If the tree's files are observable, the database that is found is the file under its name.
     ensures database { IfOk result (λ found.
         IsFileFoundInTree (T.history tree.old) database_name (bytes_in found.0)) }
-    // So does the text database, which counts only if there is no other.
+    // So is the text database, which counts only if there is no other.
     ensures text_database { IfOk result (λ found. bytes_in found.0 ≡ None
         → IsFileFoundInTree (T.history tree.old) text_database_name (bytes_in found.1)) }
     // Nothing is refused here.
@@ -140,7 +140,7 @@ pub(crate) fn read_file<T: Tree>(
     tree: &mut T,
     name: &Name,
 ) -> Result<Option<Vec<u8>>, Refused>
-    // If the tree's files are observable, it is the one there.
+    // If the tree's files are observable, the result is the file under the name.
     ensures found { IfOk result (λ found.
         IsFileFoundInTree (T.history tree.old) name.now (bytes_in found)) }
     // Nothing is refused here.
@@ -154,9 +154,10 @@ pub(crate) fn read_file<T: Tree>(
 /// Tests a file completely, as a container with this table at its root.
 pub(crate) fn test_file(alloc: Global, file: &[u8], which: Which) -> Result<(), ReadFault>
     // A refusal has the first test that the file fails.
-    ensures bad { IfErr result (λ fault. IsReadFault fault (first_fault which file.now)) }
-    ensures passed { OnOk result (first_fault which file.now ≡ None) }
-    // Then its payload passes the tests of a payload too.
+    ensures bad { IfErr result (λ fault. IsReadFault fault
+        (container_fault_except_contents which file.now)) }
+    ensures passed { OnOk result (container_fault_except_contents which file.now ≡ None) }
+    // If the file passes, its payload passes the tests of a payload too.
     ensures sound { OnOk result (payload_fault which (payload_in file.now) ≡ None) }
 {
     read_adb(alloc, file, which)?;
@@ -207,7 +208,7 @@ impl From<TreeFault> for Refused {
 pub fn inputs_depend_on_their_own_reads()
     ensures { (command : CommandLine) (read other : Reads) (inputs : Inputs)
         → inputs_of command read ≡ Ok inputs
-        → ((n : ℕ) (name : List ℕ) → n < first_index_read + length inputs.root.repositories
+        → ((n : ℕ) (name : List ℕ) → n < first_index_read_number + length inputs.root.repositories
         → read n name ≡ other n name)
         → inputs_of command other ≡ Ok inputs }
 {}

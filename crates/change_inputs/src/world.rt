@@ -43,7 +43,8 @@ pub(crate) fn worlds_of(
     ensures read { Agrees (λ worlds. worlds.before) result
         (root_world (found_text_or_empty (bytes_in found))) }
     // The file's text is kept: with it a change finds out whether world differs.
-    ensures text { IfOk result (λ worlds. worlds.text.items ≡ found_text_or_empty (bytes_in found)) }
+    ensures text { IfOk result (λ worlds. worlds.text.items
+        ≡ found_text_or_empty (bytes_in found)) }
     // World after is what the command makes of it.
     ensures after { IfOk result (λ worlds.
         worlds.after ≡ new_world command.now.applet command.now.operands worlds.before) }
@@ -103,7 +104,7 @@ fn add_operands(operands: &Operands, world: &mut World) -> Result<(), AllocError
 }
 
 // Inserts an operand, replacing the entry of its name. Each operand of `add` is a dependency, by
-// the grammar of words.
+// the grammar of the command line.
 fn add_operand(operand: &Operand, world: &mut World) -> Result<(), AllocError>
     ensures { OnOk result (world.new ≡ world_with_operand operand.now world.old) }
 {

@@ -17,7 +17,7 @@ use Rattle.package_changes.proofs.change_files.Lists.{any_name}
 use Rattle.package_changes.proofs.change_files.PlanNames.{removals_hold, written_or_removed, writes_hold, some_listing}
 use Rattle.package_changes.proofs.change_files.Reserved.{written_unreserved}
 use Rattle.change_inputs.specs.Inputs.{Inputs}
-use Rattle.change_outcome.specs.ChangeOutcome.{actions_of, is_absent_or_different, name_if_needed, written_record_names}
+use Rattle.change_outcome.specs.ChangeOutcome.{intent_of_change, is_absent_or_different, name_if_needed, names_of_written_database_and_world}
 use Rattle.journal_core.specs.journal_intent.FreeNames.{HasFreeDistinctNames, IsNoneOf, IsOneOf}
 use Rattle.journal_core.specs.journal_intent.Intent.{Intent}
 use Rattle.journal_core.specs.journal_intent.IntentValue.{intent_of_lists}
@@ -38,7 +38,7 @@ not_in q names none here = true≢false (sym (any_name q names here) ∙ none)
 
 module _ (inputs : Inputs) (change : FileChange) (files : Files) (records : DatabaseAndWorldAfter) where
   abbrev actions : Intent
-  actions = actions_of inputs change files records
+  actions = intent_of_change inputs change files records
 
   abbrev plan_writes : List (List ℕ)
   plan_writes = map (λ w. w.name) (file_writes_of change files)
@@ -50,7 +50,7 @@ module _ (inputs : Inputs) (change : FileChange) (files : Files) (records : Data
   world_write = name_if_needed (not (bytes_eq inputs.root.world_text records.world)) world_name
 
   abbrev own_writes : List (List ℕ)
-  own_writes = written_record_names inputs records
+  own_writes = names_of_written_database_and_world inputs records
 
   abbrev text_removal : List (List ℕ)
   text_removal = name_if_needed records.takes_text_over text_database_name

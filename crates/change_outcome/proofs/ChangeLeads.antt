@@ -11,7 +11,7 @@ use Rattle.base_core.proofs.Rising.{IsIn}
 use Rattle.base_core.proofs.Listed.{in_both}
 use Rattle.base_core.proofs.AtName.{name_cases}
 use Rattle.package_changes.specs.change_files.FileChange.{FileChange}
-use Rattle.package_changes.specs.change_files.FilesAfter.{DatabaseAndWorldAfter, bytes_after, changed_files, database_name, is_removed, is_written, text_database_name, world_bytes_after, world_name, listing_written_under_name}
+use Rattle.package_changes.specs.change_files.FilesAfter.{DatabaseAndWorldAfter, bytes_after, files_after_change, database_name, is_removed, is_written, text_database_name, world_bytes_after, world_name, listing_written_under_name}
 use Rattle.package_changes.specs.change_files.Touched.{is_record_name}
 use Rattle.package_changes.proofs.change_files.InOrder.{in_left, in_right}
 use Rattle.package_changes.proofs.change_files.RecordNames.{database_after, no_text_after, world_after}
@@ -19,12 +19,12 @@ use Rattle.package_changes.proofs.change_files.Reserved.{records_reserved}
 use Rattle.package_changes.proofs.change_files.Untouched.{changed_so, is_gone, takes_its_path, not_some}
 use Rattle.change_inputs.specs.Inputs.{Inputs}
 use Rattle.change_inputs.specs.World.{found_text_or_empty}
-use Rattle.change_outcome.specs.ChangeOutcome.{actions_of, has_actions, is_absent_or_different, name_if_needed, new_records, written_record_names}
+use Rattle.change_outcome.specs.ChangeOutcome.{intent_of_change, has_actions, is_absent_or_different, name_if_needed, new_records, names_of_written_database_and_world}
 use Rattle.db_write.specs.db_core.Members.{Listing}
 use Rattle.journal_core.specs.Staged.{IsEmptyStage}
 use Rattle.journal_core.specs.journal_intent.FreeNames.{IsNoneOf, IsOneOf}
 use Rattle.journal_core.specs.journal_intent.Intent.{Intent}
-use Rattle.change_outcome.specs.Leading.{LeadsTo}
+use Rattle.change_outcome.specs.Leading.{ActionsLeadToFiles}
 use Rattle.change_outcome.specs.Premises.{HasNoReservedPath, IsRootOfFiles}
 use Rattle.change_outcome.proofs.ActionNames.{free_names, from_removals, from_writes, if_needed, needed, none_removed, none_written, removed_free, written_free}
 
@@ -54,7 +54,7 @@ module _ (inputs : Inputs) (change : FileChange) (bytes_of : Listing → List �
   records = new_records inputs database
 
   abbrev actions : Intent
-  actions = actions_of inputs change files records
+  actions = intent_of_change inputs change files records
 
   abbrev database_write : List (List ℕ)
   database_write = name_if_needed (is_absent_or_different inputs.root.database.file records.database) database_name
@@ -63,21 +63,21 @@ module _ (inputs : Inputs) (change : FileChange) (bytes_of : Listing → List �
   world_write = name_if_needed (not (bytes_eq inputs.root.world_text records.world)) world_name
 
   abbrev after : Files
-  after = changed_files change bytes_of records files
+  after = files_after_change change bytes_of records files
 
   -- ---- all else stays
 
-  kept_database : (q : List ℕ) → (IsIn q (written_record_names inputs records) → ⊥) → q ≡ database_name → after q ≡ files q
+  kept_database : (q : List ℕ) → (IsIn q (names_of_written_database_and_world inputs records) → ⊥) → q ≡ database_name → after q ≡ files q
   kept_database q none is =
       ap after is ∙ (database_after change bytes_of records files
       ∙ (sym (sym root.database ∙ same_file inputs.root.database.file records.database (false_from_ne_true (is_absent_or_different inputs.root.database.file records.database) (λ other. none (in_left q database_write world_write (if_needed (is_absent_or_different inputs.root.database.file records.database) database_name q is other)))))
       ∙ sym (ap files is)))
 
   world_by : after world_name ≡ world_bytes_after records.world (files world_name)
-  unfolding changed_files
+  unfolding files_after_change
   world_by = refl
 
-  kept_world : (q : List ℕ) → (IsIn q (written_record_names inputs records) → ⊥) → q ≡ world_name → after q ≡ files q
+  kept_world : (q : List ℕ) → (IsIn q (names_of_written_database_and_world inputs records) → ⊥) → q ≡ world_name → after q ≡ files q
   kept_world q none is =
       ap after is ∙ (world_by
       ∙ (same_world (files world_name) records.world (sym root.world ∙ (bytes_eq-Decides inputs.root.world_text records.world).0 (same (bytes_eq inputs.root.world_text records.world) refl))
@@ -137,7 +137,7 @@ module _ (inputs : Inputs) (change : FileChange) (bytes_of : Listing → List �
         by_listing (Some l) is e =
             some_there (after q) (bytes_of l) (takes_its_path change bytes_of records files q l is (unreserved_no_record q (written_free inputs change files records free q written)))
 
-    record_there : (q : List ℕ) → IsIn q (written_record_names inputs records) → IsSome (after q)
+    record_there : (q : List ℕ) → IsIn q (names_of_written_database_and_world inputs records) → IsSome (after q)
     record_there q here =
         elim (in_both q database_write world_write here) [
           | inl own ↦ (let is = needed (is_absent_or_different inputs.root.database.file records.database) database_name q own in some_there (after q) records.database (ap after is.0 ∙ database_after change bytes_of records files))
@@ -157,7 +157,7 @@ module _ (inputs : Inputs) (change : FileChange) (bytes_of : Listing → List �
           | inr text ↦ ap after text.0 ∙ no_text_after change bytes_of records files text.1
         ]
 
-    pub leads : IsEmptyStage files → length actions.writes < 2 ^ 63 → LeadsTo actions.removals actions.writes files after
+    pub leads : IsEmptyStage files → length actions.writes < 2 ^ 63 → ActionsLeadToFiles actions.removals actions.writes files after
     leads empty few = record {
       free = free_names inputs change files records free;
       few = few;

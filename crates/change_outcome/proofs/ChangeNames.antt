@@ -3,7 +3,7 @@ use Rattle.std.proofs.Common.{◌≡◌, inl, inr, ◌&&◌, ◌<◌, ℕ, zero,
 use Rattle.std.specs.Prelude.{not}
 use Rattle.std.specs.Str.{bytes_eq}
 use Rattle.db_write.specs.adb_schema.Reserved.{is_intent_or_stage_name}
-use Rattle.db_write.specs.adb_schema.Rules.{is_changeable_name}
+use Rattle.db_write.specs.adb_schema.Rules.{is_name_allowed_in_intent}
 use Rattle.base_core.specs.Files.{Files}
 use Rattle.base_core.specs.Name.{IsName, is_name}
 use Rattle.base_core.proofs.Rising.{IsIn, Rises, in_at, order, not_itself}
@@ -14,7 +14,7 @@ use Rattle.package_changes.specs.change_files.FilesAfter.{DatabaseAndWorldAfter}
 use Rattle.package_changes.proofs.change_files.InOrder.{order_rises}
 use Rattle.package_changes.proofs.change_files.Lists.{any_name}
 use Rattle.change_inputs.specs.Inputs.{Inputs}
-use Rattle.change_outcome.specs.ChangeOutcome.{actions_of}
+use Rattle.change_outcome.specs.ChangeOutcome.{intent_of_change}
 use Rattle.journal_core.specs.journal_intent.Intent.{AreChangeNames, Intent}
 use Rattle.change_outcome.specs.Premises.{HasNoReservedPath}
 use Rattle.change_outcome.proofs.ActionNames.{never_both, removal_outside, write_outside}
@@ -68,10 +68,10 @@ both_true false b x y = absurd (true≢false (sym x))
 
 module _ (inputs : Inputs) (change : FileChange) (files : Files) (records : DatabaseAndWorldAfter) (free : HasNoReservedPath change) where
   abbrev actions : Intent
-  actions = actions_of inputs change files records
+  actions = intent_of_change inputs change files records
 
   module _ (removals_named : All IsName actions.removals) (writes_named : All IsName actions.writes) where
-    one_change_name : (q : List ℕ) → IsIn q (actions.removals ++ actions.writes) → is_changeable_name q ≡ true
+    one_change_name : (q : List ℕ) → IsIn q (actions.removals ++ actions.writes) → is_name_allowed_in_intent q ≡ true
     one_change_name q here =
         elim (in_both q actions.removals actions.writes here) [
           | inl gone ↦ both_true (is_name q) (is_intent_or_stage_name q) (in_all IsName actions.removals removals_named q gone) (removal_outside inputs change files records free q (any_name q actions.removals gone))
@@ -80,7 +80,7 @@ module _ (inputs : Inputs) (change : FileChange) (files : Files) (records : Data
 
     pub change_names : AreChangeNames (actions.removals ++ actions.writes)
     change_names = record {
-      each = all_by (λ name. is_changeable_name name ≡ true) (actions.removals ++ actions.writes) one_change_name;
+      each = all_by (λ name. is_name_allowed_in_intent name ≡ true) (actions.removals ++ actions.writes) one_change_name;
       once = pairs_apart (actions.removals ++ actions.writes)
           (apart_both actions.removals actions.writes (apart_rising actions.removals (order_rises _)) (apart_rising actions.writes (order_rises _))
           (λ q gone wrote. never_both inputs change files records free q (any_name q actions.writes wrote) (any_name q actions.removals gone)));

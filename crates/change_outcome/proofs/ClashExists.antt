@@ -13,7 +13,7 @@ use Rattle.package_changes.specs.change_files.NamesAfter.{added_paths, counts_as
 use Rattle.package_changes.proofs.change_files.InOrder.{in_left, in_map, in_right}
 use Rattle.package_changes.proofs.change_files.OwnedFiles.{aside_found, beside_is, in_coming_paths}
 use Rattle.db_write.specs.db_core.Members.{Listing}
-use Rattle.package_changes.specs.path_clashes.Clash.{IsClash, NameChange, NamePair, is_name_after, precedes_pair}
+use Rattle.package_changes.specs.path_clashes.Clash.{IsClash, NameChange, NamePair, is_present_after_change, precedes_pair}
 use Rattle.package_changes.specs.path_clashes.FirstClash.{IsFirstClashOrNone}
 use Rattle.package_changes.specs.path_clashes.NearName.{IsClashIfSome, IsNoEarlierClash}
 use Rattle.package_changes.proofs.path_clashes.PairOrder.{pairs_chain, pairs_one_way}
@@ -45,10 +45,10 @@ is_folder (x ∷ p) (y ∷ q) = by_first (eqb y x) refl (is_folder p q)
 -- ---- whether a pair is a clash
 
 is_clash : (change : NameChange) (files : Files) (pair : NamePair) → IsClash change files pair ⊎ (IsClash change files pair → ⊥)
-is_clash change files pair = by_folder (is_folder pair.path pair.other) (is_name_after change files pair.path) refl (is_name_after change files pair.other) refl (change.counts_as_written pair.path || change.counts_as_written pair.other) refl
+is_clash change files pair = by_folder (is_folder pair.path pair.other) (is_present_after_change change files pair.path) refl (is_present_after_change change files pair.other) refl (change.counts_as_written pair.path || change.counts_as_written pair.other) refl
   where
-    by_folder : IsFolderOf pair.path pair.other ⊎ (IsFolderOf pair.path pair.other → ⊥) → (a : Bool) → is_name_after change files pair.path ≡ a
-        → (b : Bool) → is_name_after change files pair.other ≡ b → (c : Bool) → (change.counts_as_written pair.path || change.counts_as_written pair.other) ≡ c
+    by_folder : IsFolderOf pair.path pair.other ⊎ (IsFolderOf pair.path pair.other → ⊥) → (a : Bool) → is_present_after_change change files pair.path ≡ a
+        → (b : Bool) → is_present_after_change change files pair.other ≡ b → (c : Bool) → (change.counts_as_written pair.path || change.counts_as_written pair.other) ≡ c
         → IsClash change files pair ⊎ (IsClash change files pair → ⊥)
     by_folder (inr never) a x b y c z = inr (λ clash. never clash.folder)
     by_folder (inl folder) false x b y c z = inr (λ clash. true_false (sym clash.path_after ∙ x))
@@ -155,7 +155,7 @@ in_all_pairs p q (x ∷ paths) names (inl is) there =
     among_left (record { path = p; other = q }) (pairs_with x names) (all_pairs paths names) (subst (λ (y : List ℕ). IsAmongPairs (record { path = p; other = q }) (pairs_with y names)) is (in_pairs_with p q names there))
 in_all_pairs p q (x ∷ paths) names (inr more) there = among_right (record { path = p; other = q }) (pairs_with x names) (all_pairs paths names) (in_all_pairs p q paths names more there)
 
-first_of_all : (change : NameChange) (files : Files) (names : List (List ℕ)) → ((q : List ℕ) → is_name_after change files q ≡ true → IsIn q names) → (found : Option NamePair) × IsFirstClashOrNone change files found
+first_of_all : (change : NameChange) (files : Files) (names : List (List ℕ)) → ((q : List ℕ) → is_present_after_change change files q ≡ true → IsIn q names) → (found : Option NamePair) × IsFirstClashOrNone change files found
 first_of_all change files names all = by_found (first_among change files (all_pairs names names))
   where
     at_pair : (pair : NamePair) → IsClash change files pair → IsAmongPairs pair (all_pairs names names)
@@ -201,7 +201,7 @@ module _ (change : FileChange) (files : Files) (within : List (List ℕ)) (finit
         | inr beside ↦ beside_in q (path_of_apk_new_name q) refl beside
       ]
 
-  after_in : (q : List ℕ) → is_name_after (name_change change files) files q ≡ true → IsIn q names
+  after_in : (q : List ℕ) → is_present_after_change (name_change change files) files q ≡ true → IsIn q names
   after_in q there =
       elim (or_cases (is_some (files q) && not ((name_change change files).does_release q)) (counts_as_written change files q) there) [
         | inl present_files ↦ in_left q within written (name_of_any q within (finite q (and_parts (is_some (files q)) (not ((name_change change files).does_release q)) present_files).0))

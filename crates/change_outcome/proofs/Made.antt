@@ -7,7 +7,7 @@ use Rattle.package_changes.specs.change_files.NamesAfter.{name_change}
 use Rattle.package_changes.specs.change_files.PlanLists.{first_reserved_path}
 use Rattle.change_inputs.specs.Chains.{and_then}
 use Rattle.change_inputs.specs.Inputs.{Inputs}
-use Rattle.change_outcome.specs.ChangeOutcome.{ChangeDone, ChangeWishes, IsClashFound, IsClashOfChange, actions_of, change_done, change_members, change_or_refusal, change_with_members, file_change, new_records, touched_paths, unless_clash, unless_contested, or_result_too_large, unless_overflow, unless_reserved_path, unless_too_large}
+use Rattle.change_outcome.specs.ChangeOutcome.{ChangeDone, ChangeWishes, IsClashFound, IsClashOfChange, intent_of_change, change_done, members_after_change, change_or_refusal, change_with_members, file_change, new_records, touched_paths, unless_clash, unless_contested, or_result_too_large, unless_overflow, unless_reserved_path, unless_too_large}
 use Rattle.change_outcome.specs.MembersAfter.{MemberFound}
 use Rattle.change_outcome.specs.Triggers.{unless_trigger_due}
 use Rattle.db_write.specs.db_core.Members.{Member}
@@ -56,7 +56,7 @@ overflow_ok None x a e = (refl, cc (e))
 overflow_ok (Some counts) x a e = absurd (cc (e))
 
 module _ (inputs : Inputs) (r : Replacement) (wishes : ChangeWishes) (read : Reads) (clash : Option NamePair) (files : Files) (done : ChangeDone) where
-  with_found : (found : List MemberFound) → change_members inputs r wishes read ≡ Ok found → change_with_members inputs r wishes clash files found ≡ Ok done → IsChangeMade inputs r wishes read clash files done
+  with_found : (found : List MemberFound) → members_after_change inputs r wishes read ≡ Ok found → change_with_members inputs r wishes clash files found ≡ Ok done → IsChangeMade inputs r wishes read clash files done
   with_found found are e =
       let change : FileChange = file_change inputs wishes found in
       let reserved = unreserved_ok (first_reserved_path change.members) (unless_clash clash (unless_contested change.members (first_contested_path_of_members change.members)
@@ -67,9 +67,9 @@ module _ (inputs : Inputs) (r : Replacement) (wishes : ChangeWishes) (read : Rea
       (and_then (unless_trigger_due wishes.no_scripts (touched_paths change files) change.members) (λ is_allowed. unless_too_large inputs r wishes found files)) done clashes.1 in
       let triggers = and_then_ok (unless_trigger_due wishes.no_scripts (touched_paths change files) change.members) (λ is_allowed. unless_too_large inputs r wishes found files) done contested.1 in
       let large = and_then_ok (or_result_too_large (database_of change.members (owned_flags_of change.members))) (λ database.
-      unless_overflow (overflow_of (value_of_intent (actions_of inputs change files (new_records inputs database))))
+      unless_overflow (overflow_of (value_of_intent (intent_of_change inputs change files (new_records inputs database))))
       (change_done inputs r wishes found files (new_records inputs database))) done triggers.2 in
-      let over = overflow_ok (overflow_of (value_of_intent (actions_of inputs change files (new_records inputs large.0))))
+      let over = overflow_ok (overflow_of (value_of_intent (intent_of_change inputs change files (new_records inputs large.0))))
       (change_done inputs r wishes found files (new_records inputs large.0)) done large.2 in
       record {
         found = found;
@@ -86,7 +86,7 @@ module _ (inputs : Inputs) (r : Replacement) (wishes : ChangeWishes) (read : Rea
   pub made : change_or_refusal inputs r wishes read clash files ≡ Ok done → IsChangeMade inputs r wishes read clash files done
   unfolding change_or_refusal
   made e =
-      let found = and_then_ok (change_members inputs r wishes read) (change_with_members inputs r wishes clash files) done e in
+      let found = and_then_ok (members_after_change inputs r wishes read) (change_with_members inputs r wishes clash files) done e in
       with_found found.0 found.1 found.2
 
   pub leaves_files : IsChangeMade inputs r wishes read clash files done → IsRootOfFiles files inputs.root → done.commits ≡ false → done.files ≡ files
@@ -117,7 +117,7 @@ found_once inputs wishes files (Err refusal) a b one other = one ∙ sym other
 
 pub clash_once : (inputs : Inputs) (r : Replacement) (wishes : ChangeWishes) (read : Reads) (files : Files) (a b : Option NamePair)
     → IsClashOfChange inputs r wishes read files a → IsClashOfChange inputs r wishes read files b → a ≡ b
-clash_once inputs r wishes read files a b one other = found_once inputs wishes files (change_members inputs r wishes read) a b one other
+clash_once inputs r wishes read files a b one other = found_once inputs wishes files (members_after_change inputs r wishes read) a b one other
 
 clash_of_found : (inputs : Inputs) (wishes : ChangeWishes) (within : List (List ℕ)) (files : Files) → HasNamesAmong within files → (members : Result (List MemberFound) Refusal) → (clash : Option NamePair) × IsClashFound inputs wishes files members clash
 clash_of_found inputs wishes within files finite (Ok found) = clash_exists (file_change inputs wishes found) files within finite
@@ -125,4 +125,4 @@ clash_of_found inputs wishes within files finite (Err refusal) = (None, refl)
 
 pub a_clash_found : (inputs : Inputs) (r : Replacement) (wishes : ChangeWishes) (read : Reads) (within : List (List ℕ)) (files : Files) → HasNamesAmong within files
     → (clash : Option NamePair) × IsClashOfChange inputs r wishes read files clash
-a_clash_found inputs r wishes read within files finite = clash_of_found inputs wishes within files finite (change_members inputs r wishes read)
+a_clash_found inputs r wishes read within files finite = clash_of_found inputs wishes within files finite (members_after_change inputs r wishes read)

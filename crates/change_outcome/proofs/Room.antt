@@ -10,7 +10,7 @@ use Rattle.db_write.specs.adb_schema.Reserved.{is_at_or_below, is_reserved}
 use Rattle.base_core.specs.Files.{Files, IsFolderOf}
 use Rattle.base_core.proofs.Rising.{IsIn}
 use Rattle.package_changes.specs.change_files.FileChange.{FileChange}
-use Rattle.package_changes.specs.change_files.FilesAfter.{DatabaseAndWorldAfter, bytes_after, changed_files, database_name, is_removed, apk_new_listing_at, path_of_apk_new_name, text_database_name, world_name, listing_written_under_name, listing_written_in_place}
+use Rattle.package_changes.specs.change_files.FilesAfter.{DatabaseAndWorldAfter, bytes_after, files_after_change, database_name, is_removed, apk_new_listing_at, path_of_apk_new_name, text_database_name, world_name, listing_written_under_name, listing_written_in_place}
 use Rattle.std.specs.Option.{option_or}
 use Rattle.package_changes.specs.change_files.NamesAfter.{added_paths, counts_as_written, name_change}
 use Rattle.package_changes.specs.change_files.PlanLists.{first_reserved_path}
@@ -22,7 +22,7 @@ use Rattle.db_write.specs.db_core.Members.{Listing}
 use Rattle.journal_core.specs.Staged.{AreJournalPathsFree, AreStagingPathsFree, IsEmptyStage, IsPresentOrOfJournal}
 use Rattle.journal_core.specs.journal_intent.FreeNames.{IsUsedByJournal}
 use Rattle.journal_core.specs.journal_intent.Intent.{intent_name, is_staged, stage_name}
-use Rattle.package_changes.specs.path_clashes.Clash.{HasNoClash, is_name_after}
+use Rattle.package_changes.specs.path_clashes.Clash.{HasNoClash, is_present_after_change}
 use Rattle.package_changes.proofs.path_clashes.FolderLike.{folder_like}
 use Rattle.change_outcome.proofs.FreeNames.{name_of_any}
 
@@ -169,21 +169,21 @@ module _ (change : FileChange) (bytes_of : Listing → List ℕ) (records : Data
   stays_absent true o absent = refl
   stays_absent false o absent = absent
 
-  reserved_absent : (q : List ℕ) → is_reserved q ≡ true → is_record_name records q ≡ false → files q ≡ None → changed_files change bytes_of records files q ≡ None
+  reserved_absent : (q : List ℕ) → is_reserved q ≡ true → is_record_name records q ≡ false → files q ≡ None → files_after_change change bytes_of records files q ≡ None
   reserved_absent q reserved other absent =
       changed_so change bytes_of records files q other
       ∙ (ap (λ (o : Option Listing). bytes_after bytes_of o (is_removed change files q) (files q)) (unwritten q reserved (listing_written_under_name change files q) refl)
       ∙ stays_absent (is_removed change files q) (files q) absent)
 
-  pub no_intent : files intent_name ≡ None → changed_files change bytes_of records files intent_name ≡ None
+  pub no_intent : files intent_name ≡ None → files_after_change change bytes_of records files intent_name ≡ None
   no_intent absent = reserved_absent intent_name refl (intent_no_record records) absent
 
 module _ (change : FileChange) (bytes_of : Listing → List ℕ) (records : DatabaseAndWorldAfter) (files : Files) (none : first_reserved_path change.members ≡ None) (stage : AreStagingPathsFree files) (apart : HasNoClash (name_change change files) files) where
   abbrev after : Files
-  after = changed_files change bytes_of records files
+  after = files_after_change change bytes_of records files
 
   abbrev is_after : List ℕ → Bool
-  is_after = is_name_after (name_change change files) files
+  is_after = is_present_after_change (name_change change files) files
 
   -- a name after the change stands, or counts as written
   stands_or_counts : (q : List ℕ) → is_after q ≡ true → IsSome (files q) ⊎ (counts_as_written change files q ≡ true)

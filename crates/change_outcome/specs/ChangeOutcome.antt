@@ -7,7 +7,7 @@ use Rattle.adb_view.specs.Values.{entry_in, int_in}
 use Rattle.db_write.specs.adb_write.Canonical.{PayloadCounts, overflow_of}
 use Rattle.base_core.specs.Files.{Files}
 use Rattle.package_changes.specs.change_files.FileChange.{FileChange}
-use Rattle.package_changes.specs.change_files.FilesAfter.{DatabaseAndWorldAfter, changed_files, listing_bytes}
+use Rattle.package_changes.specs.change_files.FilesAfter.{DatabaseAndWorldAfter, files_after_change, listing_bytes}
 use Rattle.package_changes.specs.change_files.NamesAfter.{name_change}
 use Rattle.package_changes.specs.change_files.PlanLists.{paths_with_apk_new_file, file_writes_of, first_reserved_path, kept_paths_of, sorted_distinct_names, removals_of}
 use Rattle.change_inputs.specs.Chains.{and_then}
@@ -24,7 +24,7 @@ use Rattle.package_changes.specs.Report.{still_needed_lines}
 use Rattle.package_changes.specs.path_claims.Claims.{ContestedPath}
 use Rattle.package_changes.specs.path_clashes.Clash.{NamePair}
 use Rattle.package_changes.specs.path_clashes.FirstClash.{IsFirstClashOrNone}
-use Rattle.report_core.specs.Reports.{change_lines, report_line, sum_text}
+use Rattle.report_core.specs.Reports.{change_lines, report_line, bytes_and_package_count_text}
 use Rattle.report_core.specs.declared.refusal.Refusal.{Refusal}
 use Rattle.report_core.specs.declared.refusal.Refusal.TheVariants.{Owned, PathClash, Reserved, ResultTooLarge}
 use Rattle.root_names.specs.RootNames.{database_name, text_database_name, world_name}
@@ -41,7 +41,7 @@ pub record ChangeWishes : Type 0 where
 
 -- ---- the files
 
--- the change of files, given the packages that were found
+-- what a change does with files, given the packages after it that were found
 abbrev pub file_change : Inputs → ChangeWishes → List MemberFound → FileChange
 file_change inputs wishes found = record {
   old = inputs.root.database.packages;
@@ -78,7 +78,7 @@ abbrev pub or_result_too_large : {A : Type 0} → Result A PayloadCounts → Res
 or_result_too_large (Ok a) = Ok a
 or_result_too_large (Err counts) = Err (ResultTooLarge counts.0 counts.1)
 
--- *or_result_too_large* of a value, given only the counts
+-- the value, unless there are counts that exceed a limit of the writer: then they are refused
 abbrev pub unless_overflow : {A : Type 0} → Option PayloadCounts → A → Result A Refusal
 unless_overflow None a = Ok a
 unless_overflow (Some counts) a = Err (ResultTooLarge counts.0 counts.1)
@@ -88,7 +88,7 @@ abbrev pub is_absent_or_different : Option (List ℕ) → List ℕ → Bool
 is_absent_or_different None bytes = true
 is_absent_or_different (Some old) bytes = not (bytes_eq old bytes)
 
--- what the change does to the database and to world
+-- the database and world after a change, given the bytes of the new database
 abbrev pub new_records : Inputs → List ℕ → DatabaseAndWorldAfter
 new_records inputs database = record {
   database = database;
@@ -103,8 +103,8 @@ name_if_needed false name = []
 
 -- the names of the database and of world, each if it is written: world if its text differs; an absent
 -- file counts as empty
-abbrev pub written_record_names : Inputs → DatabaseAndWorldAfter → List (List ℕ)
-written_record_names inputs records =
+abbrev pub names_of_written_database_and_world : Inputs → DatabaseAndWorldAfter → List (List ℕ)
+names_of_written_database_and_world inputs records =
     name_if_needed (is_absent_or_different inputs.root.database.file records.database) database_name
     ++ name_if_needed (not (bytes_eq inputs.root.world_text records.world)) world_name
 
@@ -113,12 +113,12 @@ written_record_names inputs records =
 -- The intent (journal entry) of a change: the names that it removes, and those that it writes, each in
 -- byte order. A converted text database is removed with the files; the database and world are written
 -- with them, if they differ.
-abbrev pub actions_of : Inputs → FileChange → Files → DatabaseAndWorldAfter → Intent
-actions_of inputs change files records = record {
+abbrev pub intent_of_change : Inputs → FileChange → Files → DatabaseAndWorldAfter → Intent
+intent_of_change inputs change files records = record {
   removals = sorted_distinct_names (removals_of change files
       ++ name_if_needed records.takes_text_over text_database_name);
   writes = sorted_distinct_names (map (λ w. w.name) (file_writes_of change files)
-      ++ written_record_names inputs records);
+      ++ names_of_written_database_and_world inputs records);
 }
 
 -- The bytes of a file, or none. For each write, the bytes are staged that the files afterwards have
@@ -133,12 +133,13 @@ has_actions actions = not (length actions.removals == 0) || not (length actions.
 -- ---- the report
 
 -- the bytes that a package takes when it is installed, by its information
-abbrev pub member_size : Member → ℕ
-member_size m = int_in (entry_in (entry_in m.pkg PACKAGE_INFO) INFO_INSTALLED_SIZE)
+abbrev pub member_installed_size : Member → ℕ
+member_installed_size m = int_in (entry_in (entry_in m.pkg PACKAGE_INFO) INFO_INSTALLED_SIZE)
 
 -- the last line of a report: how many bytes and packages are installed
 abbrev pub member_sum_line : List Member → List ℕ
-member_sum_line members = report_line (sum_text (sum_by member_size members) (length members))
+member_sum_line members =
+    report_line (bytes_and_package_count_text (sum_by member_installed_size members) (length members))
 
 -- the files whose folders may have a trigger: those of packages that a change has written and removed
 abbrev pub touched_paths : FileChange → Files → List (List ℕ)
@@ -166,8 +167,8 @@ change_done inputs r wishes found files records =
     let change = file_change inputs wishes found in
     record {
       report = change_report r wishes change files;
-      files = changed_files change (listing_bytes (found_package_contents found)) records files;
-      commits = has_actions (actions_of inputs change files records);
+      files = files_after_change change (listing_bytes (found_package_contents found)) records files;
+      commits = has_actions (intent_of_change inputs change files records);
     }
 
 -- a change that is made, unless a limit of the writer is exceeded, first by the database and then by
@@ -178,7 +179,7 @@ unless_too_large inputs r wishes found files =
     let change = file_change inputs wishes found in
     and_then (or_result_too_large (database_of change.members (owned_flags_of change.members))) (λ database.
     let records = new_records inputs database in
-    let actions = actions_of inputs change files records in
+    let actions = intent_of_change inputs change files records in
     unless_overflow (overflow_of (value_of_intent actions))
     (change_done inputs r wishes found files records))
 
@@ -196,9 +197,9 @@ change_with_members inputs r wishes clash files found =
     (λ is_allowed. unless_too_large inputs r wishes found files))))
 
 -- the packages after a change, or the first refusal of one
-abbrev pub change_members :
+abbrev pub members_after_change :
     Inputs → Replacement → ChangeWishes → Reads → Result (List MemberFound) Refusal
-change_members inputs r wishes read =
+members_after_change inputs r wishes read =
     members_after r read inputs.root.repositories wishes.no_scripts
 
 -- A selection replaces the packages before: the result of the change, or its first refusal.
@@ -206,14 +207,14 @@ unfoldable pub change_or_refusal :
     Inputs → Replacement → ChangeWishes → Reads → Option NamePair → Files
     → Result ChangeDone Refusal
 change_or_refusal inputs r wishes read clash files =
-    and_then (change_members inputs r wishes read)
+    and_then (members_after_change inputs r wishes read)
     (change_with_members inputs r wishes clash files)
 
 -- ---- the first clash
 
 -- The first clash of the names after a change, if the packages after it are found; otherwise there is
 -- none. `files` decide whether configuration is kept or a file is laid beside it; names clash among the
--- `present_files` ones.
+-- `present_files`.
 abbrev pub IsClashFoundAmong :
     Inputs → ChangeWishes → Files → Files → Result (List MemberFound) Refusal → Option NamePair
     → Type 0
@@ -225,7 +226,7 @@ IsClashFoundAmong inputs wishes files present_files (Err refusal) clash = clash 
 abbrev pub IsClashOfChangeAmong :
     Inputs → Replacement → ChangeWishes → Reads → Files → Files → Option NamePair → Type 0
 IsClashOfChangeAmong inputs r wishes read files present_files clash =
-    IsClashFoundAmong inputs wishes files present_files (change_members inputs r wishes read) clash
+    IsClashFoundAmong inputs wishes files present_files (members_after_change inputs r wishes read) clash
 
 -- *IsClashFoundAmong* for one set of files, as on a tree whose files are observable
 abbrev pub IsClashFound :

@@ -6,13 +6,13 @@ use Rattle.journal_core.specs.Staged.{IsEmptyStage}
 use Rattle.journal_core.specs.journal_intent.FreeNames.{HasFreeDistinctNames, IsNoneOf, IsOneOf}
 use Rattle.journal_core.specs.journal_intent.IntentValue.{intent_of_lists}
 
--- a change has fewer writes than this, so that their number and the next one have 64 bits
+-- a change has fewer writes than this limit, so that their number plus 1 fits into 64 bits
 abbrev pub write_limit : ℕ
 write_limit = 2 ^ 63
 
 -- if these names are removed and written, and the others are unchanged, the files are `after`; the
 -- names are free, nothing is staged before, and the writes are below their limit
-pub record LeadsTo (removals writes : List (List ℕ)) (files after : Files) : Type 0 where
+pub record ActionsLeadToFiles (removals writes : List (List ℕ)) (files after : Files) : Type 0 where
   pub free : HasFreeDistinctNames (intent_of_lists removals writes)
   pub few : length writes < write_limit
   pub empty : IsEmptyStage files

@@ -5,7 +5,7 @@ use Rattle.db_write.specs.adb_write.Canonical.{overflow_of}
 use Rattle.base_core.specs.Files.{Files}
 use Rattle.package_changes.specs.change_files.PlanLists.{first_reserved_path}
 use Rattle.change_inputs.specs.Inputs.{Inputs}
-use Rattle.change_outcome.specs.ChangeOutcome.{ChangeDone, ChangeWishes, actions_of, change_done, change_members, file_change, new_records}
+use Rattle.change_outcome.specs.ChangeOutcome.{ChangeDone, ChangeWishes, intent_of_change, change_done, members_after_change, file_change, new_records}
 use Rattle.change_outcome.specs.MembersAfter.{MemberFound, found_members}
 use Rattle.db_write.specs.NewDatabase.{database_of}
 use Rattle.package_changes.specs.file_owners.Owners.{first_contested_path_of_members, owned_flags_of}
@@ -17,15 +17,22 @@ use Rattle.package_changes.specs.path_clashes.Clash.{NamePair}
 -- the packages after a change are found, it passes each test, and this is its result
 pub record IsChangeMade (inputs : Inputs) (r : Replacement) (wishes : ChangeWishes) (read : Reads)
     (clash : Option NamePair) (files : Files) (done : ChangeDone) : Type 0 where
+  -- the packages after the change
   pub found : List MemberFound
-  pub members : change_members inputs r wishes read ≡ Ok found
+  pub members : members_after_change inputs r wishes read ≡ Ok found
+  -- no added package lists a reserved path
   pub unreserved : first_reserved_path (found_members found) ≡ None
+  -- no name after the change is a folder of another
   pub no_clash : clash ≡ None
+  -- each path has an owner
   pub uncontested : first_contested_path_of_members (found_members found) ≡ None
+  -- the bytes of the new database, which exceeds no limit of the writer
   pub database : List ℕ
   pub new_database : database_of (found_members found) (owned_flags_of (found_members found))
       ≡ Ok database
-  pub fits : (let actions = actions_of inputs (file_change inputs wishes found) files
+  -- the journal entry (intent) exceeds no limit of the writer
+  pub fits : (let actions = intent_of_change inputs (file_change inputs wishes found) files
       (new_records inputs database) in
       overflow_of (value_of_intent actions) ≡ None)
+  -- the result
   pub is : done ≡ change_done inputs r wishes found files (new_records inputs database)

@@ -5,17 +5,17 @@ use Rattle.std.specs.Option.{option_map_or}
 use Rattle.std.specs.List.{cons_option, find}
 use Rattle.adb_view.specs.Plain.{Plain}
 use Rattle.change_inputs.specs.Chains.{and_then}
-use Rattle.change_inputs.specs.Inputs.{first_index_read}
+use Rattle.change_inputs.specs.Inputs.{first_index_read_number}
 use Rattle.db_write.specs.db_core.Members.{Member, member_of_added, member_of_kept}
 use Rattle.db_write.specs.db_core.Packages.{is_package_named}
 use Rattle.dep_core.specs.Repositories.{Repository}
 use Rattle.change_inputs.specs.make_info.Reads.{Reads}
-use Rattle.package_changes.specs.Changes.{Replacement, change_of_name, is_selected_named, names_before_and_selected}
+use Rattle.package_changes.specs.Changes.{Replacement, change_of_name, is_candidate_named, names_before_and_selected}
 use Rattle.db_write.specs.pkg_core.Contents.{Contents}
 use Rattle.change_inputs.specs.candidate_core.Candidates.{Candidate}
 use Rattle.report_core.specs.Reports.{Change}
 use Rattle.report_core.specs.declared.refusal.Refusal.{Refusal}
-use Rattle.change_outcome.specs.PackageFiles.{AddedPackage, package_file_of, added_package_or_refusal, scripts_of_change, unless_script}
+use Rattle.change_outcome.specs.PackageFiles.{AddedPackage, package_file_of, added_package_or_refusal, scripts_of_change, unless_script_needed}
 
 -- a package after the change; and for an added one its file, and the contents of its files
 pub record MemberFound : Type 0 where
@@ -47,7 +47,8 @@ abbrev pub member_of_added_name :
     → Result (Option MemberFound) Refusal
 member_of_added_name read repositories no_scripts n name change c =
     and_then (added_package_by_path read n c (package_file_of repositories c)) (λ pkg.
-    unless_script no_scripts name pkg.value (scripts_of_change change) (Some (added_member_found pkg)))
+    unless_script_needed no_scripts name pkg.value (scripts_of_change change)
+    (Some (added_member_found pkg)))
 
 -- a removed package: it is no member any more, unless one of its scripts would have to run, which
 -- refuses the change
@@ -55,44 +56,44 @@ abbrev pub member_of_removed_name :
     Bool → List ℕ → Change → Option Plain → Result (Option MemberFound) Refusal
 member_of_removed_name no_scripts name change None = Ok None
 member_of_removed_name no_scripts name change (Some pkg) =
-    unless_script no_scripts name pkg (scripts_of_change change) None
+    unless_script_needed no_scripts name pkg (scripts_of_change change) None
 
 -- the result for a name that changes: with a selected candidate its package is added, otherwise removed
-abbrev pub name_by_selected :
+abbrev pub member_of_name_by_selected :
     Reads → List Repository → Bool → ℕ → List ℕ → Change → Option Plain → Option Candidate
     → Result (Option MemberFound) Refusal
-name_by_selected read repositories no_scripts n name change before None =
+member_of_name_by_selected read repositories no_scripts n name change before None =
     member_of_removed_name no_scripts name change before
-name_by_selected read repositories no_scripts n name change before (Some c) =
+member_of_name_by_selected read repositories no_scripts n name change before (Some c) =
     member_of_added_name read repositories no_scripts n name change c
 
--- the result for a name, a member or none, given the change of its package; without a change it is
--- kept. `n` is the number of the read of its file
-abbrev pub name_by_change :
+-- the result for a name, a member or none, given the change of its package; without a change the package
+-- is kept. `n` is the number of the read of the package's file
+abbrev pub member_of_name_by_change :
     Reads → List Repository → Bool → ℕ → List ℕ → Option Change → Option Plain
     → Option Candidate → Result (Option MemberFound) Refusal
-name_by_change read repositories no_scripts n name None before selected =
+member_of_name_by_change read repositories no_scripts n name None before selected =
     Ok (option_map kept_member_found before)
-name_by_change read repositories no_scripts n name (Some change) before selected =
-    name_by_selected read repositories no_scripts n name change before selected
+member_of_name_by_change read repositories no_scripts n name (Some change) before selected =
+    member_of_name_by_selected read repositories no_scripts n name change before selected
 
 -- the result for a name after a change: a package that changes is as its file has it, another is as
 -- before
-abbrev pub name_after :
+abbrev pub member_of_name_after :
     Replacement → Reads → List Repository → Bool → ℕ → List ℕ
     → Result (Option MemberFound) Refusal
-name_after r read repositories no_scripts n name =
-    name_by_change read repositories no_scripts n name (change_of_name r name)
-    (find (is_package_named name) r.before) (find (is_selected_named name) r.selected)
+member_of_name_after r read repositories no_scripts n name =
+    member_of_name_by_change read repositories no_scripts n name (change_of_name r name)
+    (find (is_package_named name) r.before) (find (is_candidate_named name) r.selected)
 
--- the results for names in byte order, or the first refusal; each name has a number for a read, and
--- that of the first of these names is given
+-- the members of names in byte order, or the first refusal; each name has a read of its own, and `n` is
+-- the number of the read of the first name
 abbrev pub names_after :
     Replacement → Reads → List Repository → Bool → ℕ → List (List ℕ)
     → Result (List MemberFound) Refusal
 names_after r read repositories no_scripts n [] = Ok []
 names_after r read repositories no_scripts n (name ∷ names) =
-    and_then (name_after r read repositories no_scripts n name) (λ first.
+    and_then (member_of_name_after r read repositories no_scripts n name) (λ first.
     and_then (names_after r read repositories no_scripts (suc n) names) (λ others.
     Ok (cons_option first others)))
 
@@ -100,7 +101,7 @@ names_after r read repositories no_scripts n (name ∷ names) =
 unfoldable pub members_after :
     Replacement → Reads → List Repository → Bool → Result (List MemberFound) Refusal
 members_after r read repositories no_scripts =
-    names_after r read repositories no_scripts (first_index_read + length repositories)
+    names_after r read repositories no_scripts (first_index_read_number + length repositories)
     (names_before_and_selected r)
 
 -- the members alone of the packages that are found

@@ -10,16 +10,16 @@ use Rattle.adb_view.specs.Plain.{Plain}
 use Rattle.base_core.specs.declared.cause.Cause.{Cause}
 use Rattle.db_write.specs.adb_fields.Repeated.{package_name}
 use Rattle.dep_core.specs.Repositories.{Repository}
-use Rattle.package_changes.specs.file_owners.Replaces.{version_text}
-use Rattle.package_changes.specs.Changes.{selected_version}
+use Rattle.package_changes.specs.file_owners.Replaces.{package_version_text}
+use Rattle.package_changes.specs.Changes.{candidate_version_text}
 use Rattle.db_write.specs.pkg_core.Contents.{Contents, contents_in}
-use Rattle.db_write.specs.pkg_core.Whole.{files_in_file, package_fault, package_id}
+use Rattle.db_write.specs.pkg_core.Whole.{files_read_from_package, package_fault, package_id}
 use Rattle.change_inputs.specs.candidate_core.Candidates.{Candidate, is_same_id}
 use Rattle.report_core.specs.Numbers.{NAME_FIELD, VERSION_FIELD, HASHES_FIELD, PRE_INSTALL_SCRIPT, POST_INSTALL_SCRIPT, PRE_DEINSTALL_SCRIPT, POST_DEINSTALL_SCRIPT, PRE_UPGRADE_SCRIPT, POST_UPGRADE_SCRIPT}
 use Rattle.report_core.specs.Reports.{Change, Downgrade, Install, Purge, Reinstall, Replace, Upgrade}
 use Rattle.report_core.specs.declared.refusal.Refusal.{Refusal}
 use Rattle.report_core.specs.declared.refusal.Refusal.TheVariants.{PackageBad, PackageDiffers, PackageMissing, ScriptNeeded}
-use Rattle.root_names.specs.PackagePath.{path_if_name, package_path}
+use Rattle.root_names.specs.PackagePath.{path_if_valid_name, package_path}
 
 -- ---- its path
 
@@ -28,16 +28,16 @@ use Rattle.root_names.specs.PackagePath.{path_if_name, package_path}
 abbrev pub path_beside_index : List ℕ → List ℕ → Option Repository → Option (List ℕ)
 path_beside_index name version None = None
 path_beside_index name version (Some repository) =
-    path_if_name (package_path repository.path name version)
+    path_if_valid_name (package_path repository.path name version)
 
--- The name of a candidate's file. Repositories count from 1. A package of none has no file.
+-- The name of a candidate's file. Repositories count from 1. A candidate of no repository has no file.
 abbrev pub package_file_of : List Repository → Candidate → Option (List ℕ)
 package_file_of repositories c = by_number c.repository
   where
     by_number : Option ℕ → Option (List ℕ)
     by_number None = None
     by_number (Some n) =
-        path_beside_index c.name (selected_version c) (slice_get repositories (n - 1))
+        path_beside_index c.name (candidate_version_text c) (slice_get repositories (n - 1))
 
 -- ---- its tests
 
@@ -55,7 +55,7 @@ package_in_file file = record {
   file = file;
   value = root_value Tables.Package (payload_in file);
   id = package_id file;
-  contents = contents_in (files_in_file file);
+  contents = contents_in (files_read_from_package file);
 }
 
 -- a package, unless it is not the candidate's: first its identity is compared, then its name, then
@@ -63,23 +63,23 @@ package_in_file file = record {
 abbrev pub unless_different : Candidate → AddedPackage → Result AddedPackage Refusal
 unless_different c pkg =
     if not (is_same_id c.id pkg.id)
-    then Err (PackageDiffers c.name (selected_version c) HASHES_FIELD c.id pkg.id)
+    then Err (PackageDiffers c.name (candidate_version_text c) HASHES_FIELD c.id pkg.id)
     else if not (bytes_eq c.name (package_name pkg.value))
-    then Err (PackageDiffers c.name (selected_version c) NAME_FIELD c.name (package_name pkg.value))
-    else if not (bytes_eq (selected_version c) (version_text pkg.value))
-    then Err (PackageDiffers c.name (selected_version c) VERSION_FIELD (selected_version c)
-    (version_text pkg.value))
+    then Err (PackageDiffers c.name (candidate_version_text c) NAME_FIELD c.name (package_name pkg.value))
+    else if not (bytes_eq (candidate_version_text c) (package_version_text pkg.value))
+    then Err (PackageDiffers c.name (candidate_version_text c) VERSION_FIELD (candidate_version_text c)
+    (package_version_text pkg.value))
     else Ok pkg
 
 -- the package, unless a test of its file fails
 abbrev pub unless_package_bad :
     Candidate → Option Cause → AddedPackage → Result AddedPackage Refusal
 unless_package_bad c None pkg = unless_different c pkg
-unless_package_bad c (Some cause) pkg = Err (PackageBad c.name (selected_version c) cause)
+unless_package_bad c (Some cause) pkg = Err (PackageBad c.name (candidate_version_text c) cause)
 
 -- the package of a candidate, given what is found under the name of its file, or why it is refused
 abbrev pub added_package_or_refusal : Candidate → Option (List ℕ) → Result AddedPackage Refusal
-added_package_or_refusal c None = Err (PackageMissing c.name (selected_version c))
+added_package_or_refusal c None = Err (PackageMissing c.name (candidate_version_text c))
 added_package_or_refusal c (Some file) = unless_package_bad c (package_fault file) (package_in_file file)
 
 -- ---- scripts
@@ -125,7 +125,7 @@ unless_script_number name None a = Ok a
 unless_script_number name (Some number) a = Err (ScriptNeeded name number)
 
 -- a value, unless one of these scripts of a package would have to run, and scripts may not be left out
-abbrev pub unless_script :
+abbrev pub unless_script_needed :
     {A : Type 0} → Bool → List ℕ → Plain → List ℕ → A → Result A Refusal
-unless_script true name pkg numbers a = Ok a
-unless_script false name pkg numbers a = unless_script_number name (first_script_of pkg numbers) a
+unless_script_needed true name pkg numbers a = Ok a
+unless_script_needed false name pkg numbers a = unless_script_number name (first_script_of pkg numbers) a

@@ -2,7 +2,7 @@
 -- which triggers are due; the line under what is reported.
 use Rattle.std.specs.Prelude.{ℕ, ◌==◌, Bool, true, false, ◌&&◌, if◌then◌else◌, List, [], ◌∷◌, length, map, codes, Result, Ok, Err, bytes_eq}
 use Rattle.std.specs.List.{filter, flat_map, list_any}
-use Rattle.base_core.specs.Name.{parts_of}
+use Rattle.base_core.specs.Name.{path_parts_of}
 use Rattle.db_write.specs.adb_fields.Repeated.{entries_at, package_name}
 use Rattle.adb_view.specs.FieldIndexes.{PACKAGE_TRIGGERS}
 use Rattle.adb_view.specs.Values.{text_in}
@@ -11,10 +11,10 @@ use Rattle.package_changes.specs.change_files.PlanLists.{sorted_distinct_names}
 use Rattle.db_write.specs.db_core.Members.{Member, member_name}
 use Rattle.dep_core.specs.LeadingSlash.{without_slash}
 use Rattle.change_inputs.specs.package_files.Folders.{folder_of}
-use Rattle.report_core.specs.Reports.{report_line, trigger_text}
+use Rattle.report_core.specs.Reports.{report_line, trigger_due_text}
 use Rattle.report_core.specs.declared.refusal.Refusal.{Refusal}
 use Rattle.report_core.specs.declared.refusal.Refusal.TheVariants.{TriggerNeeded}
-use Rattle.star_patterns.specs.Patterns.{is_matched}
+use Rattle.star_patterns.specs.Patterns.{is_whole_text_matched}
 use Rattle.change_outcome.specs.PackageFiles.{has_script_of}
 use Rattle.report_core.specs.Numbers.{TRIGGER_SCRIPT}
 
@@ -26,14 +26,14 @@ are_parts_matched [] [] = true
 are_parts_matched [] (part ∷ parts) = false
 are_parts_matched (p ∷ patterns) [] = false
 are_parts_matched (p ∷ patterns) (part ∷ parts) =
-    is_matched p part && are_parts_matched patterns parts
+    is_whole_text_matched p part && are_parts_matched patterns parts
 
 -- Whether a pattern matches a folder. One leading `/` of a pattern is dropped. Only the pattern `/`
 -- matches the root folder, which has the empty name.
 unfoldable pub is_folder_matched : List ℕ → List ℕ → Bool
 is_folder_matched folder pattern =
     if length folder == 0 then bytes_eq pattern (codes "/")
-    else are_parts_matched (parts_of (without_slash pattern)) (parts_of folder)
+    else are_parts_matched (path_parts_of (without_slash pattern)) (path_parts_of folder)
 
 -- the patterns of the folders that a package watches
 abbrev pub patterns_of : Plain → List (List ℕ)
@@ -56,7 +56,7 @@ folders_of_paths paths = sorted_distinct_names (map folder_of paths)
 
 -- the line that says that the package's trigger is due for the folder
 abbrev pub due_trigger_line : Plain → List ℕ → List ℕ
-due_trigger_line pkg folder = report_line (trigger_text (package_name pkg) folder)
+due_trigger_line pkg folder = report_line (trigger_due_text (package_name pkg) folder)
 
 -- a line for each of the folders for which the package's trigger is due
 abbrev pub due_trigger_lines : List (List ℕ) → Plain → List ℕ

@@ -5,9 +5,9 @@ ghost use Rattle.std.specs.Prelude.{◌≡◌, ◌<◌, ◌++◌, ℕ, false, Li
 ghost use Rattle.base_core.specs.Files.{Files, HasNamesAmong};
 ghost use Rattle.base_core.specs.Name.{IsName};
 ghost use Rattle.package_changes.specs.change_files.FileChange.{FileChange};
-ghost use Rattle.package_changes.specs.change_files.FilesAfter.{DatabaseAndWorldAfter, changed_files};
+ghost use Rattle.package_changes.specs.change_files.FilesAfter.{DatabaseAndWorldAfter, files_after_change};
 ghost use Rattle.change_inputs.specs.Inputs.{Inputs, inputs_of};
-ghost use Rattle.change_outcome.specs.ChangeOutcome.{ChangeDone, ChangeWishes, IsClashOfChange, actions_of, bytes_or_empty_under, change_or_refusal, has_actions, new_records};
+ghost use Rattle.change_outcome.specs.ChangeOutcome.{ChangeDone, ChangeWishes, IsClashOfChange, intent_of_change, bytes_or_empty_under, change_or_refusal, has_actions, new_records};
 ghost use Rattle.command_core.specs.Command.{CommandLine};
 ghost use Rattle.db_write.specs.db_core.Members.{Listing};
 ghost use Rattle.journal_core.specs.Recovery.{files_after_actions};
@@ -17,7 +17,7 @@ ghost use Rattle.journal_core.specs.journal_intent.IntentValue.{intent_of_lists}
 ghost use Rattle.change_inputs.specs.make_info.Reads.{Reads};
 ghost use Rattle.package_changes.specs.Changes.{Replacement};
 ghost use Rattle.package_changes.specs.path_clashes.Clash.{NamePair};
-ghost use Rattle.change_outcome.specs.Leading.{LeadsTo, write_limit};
+ghost use Rattle.change_outcome.specs.Leading.{ActionsLeadToFiles, write_limit};
 ghost use Rattle.change_outcome.specs.Made.{IsChangeMade};
 ghost use Rattle.change_outcome.specs.Premises.{HasNoReservedPath, IsRootOfFiles};
 
@@ -32,12 +32,12 @@ pub fn what_is_read_of_a_root_is_in_the_tree()
 
 // ---- what is done
 
-/// The actions of two lists lead to given files, if these have a file under each name that is
-/// written, none under one that is removed, and otherwise the files before; and if exactly the
-/// bytes that the files have there are staged for each write.
+/// Removing the names of one list and writing those of another leads to given files. These must
+/// have a file under each written name, none under a removed name, and the files before elsewhere.
+/// For each write, exactly the bytes of the given file must be staged.
 pub fn actions_lead_to_given_files()
     ensures { (removals writes : List (List ℕ)) (files after : Files)
-        → LeadsTo removals writes files after
+        → ActionsLeadToFiles removals writes files after
         → files_after_actions (intent_of_lists removals writes)
         (files_with_staged 1 (map (bytes_or_empty_under after) writes) files) ≡ after }
 {}
@@ -49,8 +49,8 @@ pub fn the_actions_of_a_change_lead_to_its_files()
         (database : List ℕ) (files : Files)
         → HasNoReservedPath change → IsRootOfFiles files inputs.root → IsEmptyStage files
         → let records = new_records inputs database in
-        let actions = actions_of inputs change files records in
-        let after = changed_files change bytes_of records files in
+        let actions = intent_of_change inputs change files records in
+        let after = files_after_change change bytes_of records files in
         length actions.writes < write_limit
         → files_after_actions actions
         (files_with_staged 1 (map (bytes_or_empty_under after) actions.writes) files) ≡ after }
@@ -59,9 +59,10 @@ pub fn the_actions_of_a_change_lead_to_its_files()
 /// The names that a change removes and writes are names that a change may have, and none is
 /// repeated.
 pub fn the_names_of_a_change_may_be_changed()
-    ensures { (inputs : Inputs) (change : FileChange) (files : Files) (records : DatabaseAndWorldAfter)
+    ensures { (inputs : Inputs) (change : FileChange) (files : Files)
+        (records : DatabaseAndWorldAfter)
         → HasNoReservedPath change
-        → let actions = actions_of inputs change files records in
+        → let actions = intent_of_change inputs change files records in
         All IsName actions.removals → All IsName actions.writes
         → AreChangeNames (actions.removals ++ actions.writes) }
 {}
@@ -71,8 +72,8 @@ pub fn a_change_that_writes_nothing_leaves_the_files()
     // Of the files of its definition.
     ensures actions { (inputs : Inputs) (change : FileChange) (bytes_of : Listing → List ℕ)
         (database : List ℕ) (files : Files) → IsRootOfFiles files inputs.root
-        → has_actions (actions_of inputs change files (new_records inputs database)) ≡ false
-        → changed_files change bytes_of (new_records inputs database) files ≡ files }
+        → has_actions (intent_of_change inputs change files (new_records inputs database)) ≡ false
+        → files_after_change change bytes_of (new_records inputs database) files ≡ files }
     // Of the change's result.
     ensures done { (inputs : Inputs) (r : Replacement) (wishes : ChangeWishes) (read : Reads)
         (clash : Option NamePair) (files : Files) (done : ChangeDone)
@@ -91,8 +92,8 @@ pub fn a_change_that_is_made_passes_each_test()
         → IsChangeMade inputs r wishes read clash files done }
 {}
 
-/// If the paths of a stage are free before a change, they are free after it, for each later change.
-/// And a change adds no intent (journal entry).
+/// If the paths of the journal entry (intent) and of staged files are free before a change, they are
+/// free after it, for each later change. And a change leaves no new journal entry.
 pub fn a_change_keeps_paths_free()
     ensures room { (inputs : Inputs) (r : Replacement) (wishes : ChangeWishes) (read : Reads)
         (clash : Option NamePair) (files : Files) (done : ChangeDone)
@@ -107,12 +108,12 @@ pub fn a_change_keeps_paths_free()
 
 /// A change has one first clash of names, or none, over files under finitely many names.
 pub fn a_change_has_a_first_clash_or_none()
-    // There is no second one.
+    // A change has at most one such result.
     ensures one { (inputs : Inputs) (r : Replacement) (wishes : ChangeWishes) (read : Reads)
         (files : Files) (a b : Option NamePair)
         → IsClashOfChange inputs r wishes read files a
         → IsClashOfChange inputs r wishes read files b → a ≡ b }
-    // There is one, if a property of all names can be decided.
+    // It has one, if all names of the files are among the list `within`.
     ensures exists { (inputs : Inputs) (r : Replacement) (wishes : ChangeWishes) (read : Reads)
         (within : List (List ℕ)) (files : Files) → HasNamesAmong within files
         → (clash : Option NamePair) × IsClashOfChange inputs r wishes read files clash }

@@ -1,6 +1,6 @@
 //! Whether a pattern of a trigger matches a folder. The rule is in `docs/commands.md`,
 //! "`add` and `del`", which triggers are due: the sentences on patterns.
-ghost use Rattle.base_core.specs.Name.{parts_of};
+ghost use Rattle.base_core.specs.Name.{path_parts_of};
 ghost use Rattle.change_outcome.specs.Triggers.{are_parts_matched, is_folder_matched};
 ghost use Rattle.make_package.specs.package_files.Folders.{is_slash};
 ghost use Rattle.std.specs.Prelude.{◌≡◌, count_by};
@@ -22,7 +22,7 @@ pub(crate) fn is_folder_matched(folder: &[u8], pattern: &[u8]) -> bool
 
 /// Whether a pattern and a folder have as many parts, and each part of the folder is matched.
 fn are_parts_matched(pattern: &[u8], folder: &[u8]) -> bool
-    ensures { result ≡ are_parts_matched (parts_of pattern.now) (parts_of folder.now) }
+    ensures { result ≡ are_parts_matched (path_parts_of pattern.now) (path_parts_of folder.now) }
 {
     if count_slashes(pattern) != count_slashes(folder) {
         return false;

@@ -3,7 +3,7 @@
 
 ghost use Rattle.base_core.specs.Files.{Files};
 ghost use Rattle.own_core.specs.change_files.FileChange.{FileChange};
-ghost use Rattle.change_outcome.specs.ChangeOutcome.{ChangeWishes, change_report, member_size, member_sum_line};
+ghost use Rattle.change_outcome.specs.ChangeOutcome.{ChangeWishes, change_report, member_installed_size, member_sum_line};
 ghost use Rattle.change_outcome.specs.Triggers.{trigger_lines};
 ghost use Rattle.change_report.specs.Reported.{IsReportedOf, replacement_reported};
 ghost use Rattle.change_outcome.specs.db_core.Seen.{members_of};
@@ -98,7 +98,7 @@ pub(crate) fn push_member_sum(report: &mut Report, members: &Members<'_>) -> Res
 /// The bytes that the packages take when they are installed, by their installed sizes. A u128 can
 /// hold the sum of any number of them.
 fn installed_bytes(members: &Members<'_>) -> u128
-    ensures { result ≡ sum_by member_size (members_of members.now) }
+    ensures { result ≡ sum_by member_installed_size (members_of members.now) }
 {
     let mut sum: u128 = 0;
     for i in 0..members.len() {
@@ -110,7 +110,8 @@ fn installed_bytes(members: &Members<'_>) -> u128
 /// The installed size of the package at a place, counted from 0.
 fn size_at(members: &Members<'_>, i: usize) -> u64
     requires { i < length (members_of members.now) }
-    ensures { option_map member_size (slice_get (members_of members.now) i) ≡ Some result }
+    ensures { option_map member_installed_size (slice_get (members_of members.now) i)
+        ≡ Some result }
 {
     members.view(i).info().installed_size()
 }

@@ -16,10 +16,10 @@ use Rattle.command_core.specs.declared.values.ValueRule.{ValueRule}
 use Rattle.command_core.specs.Applets.{required_option_letter, operand_rule}
 use Rattle.command_core.specs.Sound.{may_have_flags, value_rules, IsValidCommand, are_allowed_operands, is_count_within_limit, may_both_be_given, are_allowed_values, is_allowed_value, rule_for}
 use Rattle.command_core.specs.Command.{CommandLine}
-use Rattle.command_core.specs.Files.{is_file, is_output_argument}
+use Rattle.command_core.specs.Files.{is_file_argument, is_output_argument}
 use Rattle.command_core.specs.Named.{are_files}
 use Rattle.command_core.specs.Operands.{is_operand_of_kind}
-use Rattle.command_core.specs.Values.{first_value, is_given, is_script, is_required_value_missing}
+use Rattle.command_core.specs.Values.{first_value, is_given, is_script_argument, is_required_value_missing}
 use Rattle.command_core.proofs.Entries.{found_passes}
 
 pub record HasParts (c : CommandLine) : Type 0 where
@@ -81,12 +81,12 @@ output_by Mkpkg text h = h
 output_by Mkndx text h = h
 output_by applet text h = absurd (cc)
 
-pub folder_by : (applet : Applet) (text : List ℕ) → is_allowed_value (rule_for (value_rules applet) FILES) text ≡ true → is_file text ≡ true
+pub folder_by : (applet : Applet) (text : List ℕ) → is_allowed_value (rule_for (value_rules applet) FILES) text ≡ true → is_file_argument text ≡ true
 folder_by Mkpkg text h = h
 folder_by Mkndx text h = absurd (cc)
 folder_by applet text h = absurd (cc)
 
-pub script_by : (applet : Applet) (text : List ℕ) → is_allowed_value (rule_for (value_rules applet) SCRIPT) text ≡ true → is_script text ≡ true
+pub script_by : (applet : Applet) (text : List ℕ) → is_allowed_value (rule_for (value_rules applet) SCRIPT) text ≡ true → is_script_argument text ≡ true
 script_by Mkpkg text h = h
 script_by Mkndx text h = absurd (cc)
 script_by applet text h = absurd (cc)

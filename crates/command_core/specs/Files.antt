@@ -9,18 +9,20 @@ use Rattle.dep_core.specs.LeadingSlash.{without_slash}
 abbrev pub without_dot_slash : List ℕ → List ℕ
 without_dot_slash text = if bytes_eq (take 2 text) (codes "./") then drop 2 text else text
 
--- whether a text names a file
-abbrev pub is_file : List ℕ → Bool
-is_file text = is_name (without_dot_slash text)
+-- whether a text names a file: without one leading `./` it is a valid name. Whether the file exists does
+-- not matter
+abbrev pub is_file_argument : List ℕ → Bool
+is_file_argument text = is_name (without_dot_slash text)
 
 -- the longest path of a file that is made, in bytes: its scratch name, the path with `.apk-tmp` after
 -- it, has eight bytes more, and a name at most 1,024
 abbrev pub most_output_path_bytes : ℕ
 most_output_path_bytes = 1016
 
--- whether a text names a file that may be written
+-- whether a text names a file that may be written: without one leading `./` it has at most 1,016 bytes
 abbrev pub is_output_argument : List ℕ → Bool
-is_output_argument text = is_file text && nat_le (length (without_dot_slash text)) most_output_path_bytes
+is_output_argument text =
+    is_file_argument text && nat_le (length (without_dot_slash text)) most_output_path_bytes
 
 -- whether a text is a path, as `info --who-owns` takes one: one leading `/` is dropped, and the rest is
 -- a name

@@ -6,12 +6,12 @@ use Rattle.std.specs.List.{list_all}
 use Rattle.command_core.specs.declared.operands.Operand.{Operand}
 use Rattle.command_core.specs.declared.values.OptionValue.{OptionValue}
 use Rattle.command_core.specs.declared.values.TheConstants.{SCRIPT}
-use Rattle.command_core.specs.Files.{is_file, without_dot_slash}
+use Rattle.command_core.specs.Files.{is_file_argument, without_dot_slash}
 use Rattle.command_core.specs.Values.{script_file}
 
 -- the name of the file that a text names; None if it names none
 abbrev pub file_name : List ℕ → Option (List ℕ)
-file_name text = if is_file text then Some (without_dot_slash text) else None
+file_name text = if is_file_argument text then Some (without_dot_slash text) else None
 
 -- the name of the file that an operand is, without a leading `./`
 abbrev pub operand_file : Operand → List ℕ
@@ -19,7 +19,7 @@ operand_file operand = without_dot_slash operand.text
 
 -- whether each operand can name a file
 abbrev pub are_files : List Operand → Bool
-are_files operands = list_all (λ (o : Operand). is_file o.text) operands
+are_files operands = list_all (λ (o : Operand). is_file_argument o.text) operands
 
 -- the part of a value of the option with this letter that may name a file: the part of a script after
 -- the first `:`, and all of any other value

@@ -11,7 +11,7 @@ use Rattle.command_core.specs.declared.operands.Operand.{Operand}
 use Rattle.command_core.specs.declared.operands.OperandKind.{OperandKind}
 use Rattle.command_core.specs.declared.operands.OperandKind.TheVariants.{File, Any, Dependency, DependencyName, PackageName, Path, Number, Pattern}
 use Rattle.command_core.specs.declared.operands.OperandRule.{OperandRule}
-use Rattle.command_core.specs.Files.{is_file, is_path_argument}
+use Rattle.command_core.specs.Files.{is_file_argument, is_path_argument}
 
 -- the operand that a word at a place is; places count from 1
 abbrev pub operand_at : ℕ → List ℕ → Operand
@@ -44,7 +44,7 @@ is_pattern text = nat_lt 0 (length text) && list_all is_ascii_graphic text
 
 -- whether a text can be an operand of this kind
 abbrev pub is_operand_of_kind : OperandKind → List ℕ → Bool
-is_operand_of_kind File text = is_file text
+is_operand_of_kind File text = is_file_argument text
 is_operand_of_kind Any text = true
 is_operand_of_kind Dependency text = is_some (dependency_of text)
 is_operand_of_kind DependencyName text = is_dep_name text
@@ -55,19 +55,19 @@ is_operand_of_kind Pattern text = is_pattern text
 
 -- ---- rules
 
--- the rule of a number of operands of a kind, or more
+-- the rule that takes this number of operands of a kind, or more
 abbrev pub at_least : ℕ → OperandKind → OperandRule
 at_least least kind = record { kind = kind; least = least; most = None }
 
--- the rule of no more than a number of operands of a kind
+-- the rule that takes at most this number of operands of a kind
 abbrev pub at_most : ℕ → OperandKind → OperandRule
 at_most most kind = record { kind = kind; least = 0; most = Some most }
 
--- the rule of just a number of operands of a kind
+-- the rule that takes exactly this number of operands of a kind
 abbrev pub exactly : ℕ → OperandKind → OperandRule
 exactly count kind = record { kind = kind; least = count; most = Some count }
 
--- whether one more operand may follow some, by the most that there may be and how many precede it
+-- whether one more operand is allowed, by the limit (None: no limit) and the number of operands before it
 abbrev pub allows_one_more : Option ℕ → ℕ → Bool
 allows_one_more None before = true
 allows_one_more (Some most) before = nat_lt before most

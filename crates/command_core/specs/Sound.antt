@@ -15,7 +15,7 @@ use Rattle.command_core.specs.Applets.{required_option_letter, operand_rule}
 use Rattle.command_core.specs.Command.{CommandLine}
 use Rattle.command_core.specs.Flags.{has_flag, kinds, no_flags, with_flag}
 use Rattle.command_core.specs.Operands.{is_operand_of_kind}
-use Rattle.command_core.specs.Values.{compression_rule, description_rule, excludes, files_rule, info_rule, is_value, is_required_value_missing, output_rule, script_rule, trigger_rule}
+use Rattle.command_core.specs.Values.{compression_rule, description_rule, excludes, files_rule, info_rule, is_value_of_kind, is_required_value_missing, output_rule, script_rule, trigger_rule}
 
 -- ---- flags
 
@@ -92,7 +92,7 @@ rule_for rules letter = find (λ (rule : ValueRule). rule.letter == letter) rule
 -- whether a text may be a value of an option with this rule; None: there is no such option
 abbrev pub is_allowed_value : Option ValueRule → List ℕ → Bool
 is_allowed_value None text = false
-is_allowed_value (Some rule) text = is_value rule.kind text
+is_allowed_value (Some rule) text = is_value_of_kind rule.kind text
 
 -- whether two values of one option exclude each other, by the option's rule
 abbrev pub are_exclusive_values : Option ValueRule → List ℕ → List ℕ → Bool

@@ -8,11 +8,12 @@ use Rattle.command_core.specs.declared.values.TheConstants.{COMPRESSION, DESCRIP
 use Rattle.command_core.specs.declared.values.ValueKind.{ValueKind}
 use Rattle.command_core.specs.declared.values.ValueKind.TheVariants.{Any, Nonempty, File, Output, Uncompressed, Script}
 use Rattle.command_core.specs.declared.values.ValueRule.{ValueRule}
-use Rattle.command_core.specs.Files.{is_file, is_output_argument}
+use Rattle.command_core.specs.Files.{is_file_argument, is_output_argument}
 
 -- the value of an option with this letter, at the place of its word
-abbrev pub option_value : ℕ → ℕ → List ℕ → OptionValue
-option_value place letter text = record { place = place; letter = letter; text = text }
+abbrev pub option_value_from_place_and_letter : ℕ → ℕ → List ℕ → OptionValue
+option_value_from_place_and_letter place letter text =
+    record { place = place; letter = letter; text = text }
 
 -- the first value that the option with a letter was given
 abbrev pub first_value : ℕ → List OptionValue → Option OptionValue
@@ -43,20 +44,20 @@ abbrev pub script_file : List ℕ → List ℕ
 script_file text = after_first (λ b. b == colon) text
 
 -- whether a text is TYPE:FILE
-abbrev pub is_script : List ℕ → Bool
-is_script text =
-    list_any (λ t. bytes_eq t (script_type text)) script_types && is_file (script_file text)
+abbrev pub is_script_argument : List ℕ → Bool
+is_script_argument text =
+    list_any (λ t. bytes_eq t (script_type text)) script_types && is_file_argument (script_file text)
 
 -- ---- kinds
 
 -- whether a text may be a value of a kind
-abbrev pub is_value : ValueKind → List ℕ → Bool
-is_value Any text = true
-is_value Nonempty text = nat_lt 0 (length text)
-is_value File text = is_file text
-is_value Output text = is_output_argument text
-is_value Uncompressed text = bytes_eq text (codes "none")
-is_value Script text = is_script text
+abbrev pub is_value_of_kind : ValueKind → List ℕ → Bool
+is_value_of_kind Any text = true
+is_value_of_kind Nonempty text = nat_lt 0 (length text)
+is_value_of_kind File text = is_file_argument text
+is_value_of_kind Output text = is_output_argument text
+is_value_of_kind Uncompressed text = bytes_eq text (codes "none")
+is_value_of_kind Script text = is_script_argument text
 
 -- whether two values of an option of some kind exclude each other: of scripts, those of one type do
 abbrev pub excludes : ValueKind → List ℕ → List ℕ → Bool

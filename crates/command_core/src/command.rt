@@ -21,7 +21,7 @@ pub enum Applet {
     Upgrade,
     /// Reinstall packages as they are.
     Fix,
-    /// Tell of installed packages.
+    /// Print which packages are installed, or what they have.
     Info,
     /// Test containers.
     Verify,
@@ -85,7 +85,7 @@ pub enum Flag {
 pub struct Flags {
     /// `--allow-untrusted`: repositories are read though nobody checks who signed them.
     pub allow_untrusted: bool,
-    /// `--no-scripts`: changes are made though scripts of theirs are not run.
+    /// `--no-scripts`: changes are made, but the scripts of packages are not run.
     pub no_scripts: bool,
     /// `--initdb` of `add`: a root without a package database gets one.
     pub initdb: bool,
@@ -266,7 +266,8 @@ impl Model for Command {
     ghost view = { λ c. command_from_parts c.applet c.flags c.operands c.values c.behind };
 
     ghost invariant = { λ c.
-        IsTrue (is_valid_command (command_from_parts c.applet c.flags c.operands c.values c.behind)) };
+        IsTrue (is_valid_command
+        (command_from_parts c.applet c.flags c.operands c.values c.behind)) };
 }
 
 impl Command {
@@ -278,7 +279,8 @@ impl Command {
         values: Values,
         behind: u32,
     ) -> Command
-        requires { IsTrue (is_valid_command (command_from_parts applet flags operands values behind)) }
+        requires { IsTrue (is_valid_command
+            (command_from_parts applet flags operands values behind)) }
         ensures { result ≡ command_from_parts applet flags operands values behind }
     {
         Command {

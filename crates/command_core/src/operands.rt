@@ -4,17 +4,17 @@
 
 ghost use Rattle.std.specs.Prelude.{◌≡◌, ◌<◌, ◌==◌, ◌++◌, ◌∷◌, [], IfOk, IsTrue, None, OnErr, OnOk, Some, length, slice_get, ℕ};
 ghost use Rattle.std.specs.Option.{option_map};
-ghost use Rattle.command_core.specs.Files.{without_dot_slash, is_file, is_output_argument};
+ghost use Rattle.command_core.specs.Files.{without_dot_slash, is_file_argument, is_output_argument};
 ghost use Rattle.command_core.specs.Named.{file_name, are_files, operand_file};
 ghost use Rattle.command_core.specs.Operands.{at_least, at_most, exactly, first_refused_operand, allows_one_more, is_operand_of_kind, operand_at, takes};
 ghost use Rattle.command_core.specs.Applets.{required_option_letter, operand_rule};
 ghost use Rattle.command_core.specs.Sound.{value_rules, IsValidCommand, are_allowed_operands, are_allowed_values, is_allowed_value, rule_for};
 ghost use Rattle.command_core.specs.Command.{CommandLine};
-ghost use Rattle.command_core.specs.Values.{first_value, is_given, is_script};
+ghost use Rattle.command_core.specs.Values.{first_value, is_given, is_script_argument};
 ghost use Rattle.command_core.specs.declared.operands.OperandRule.{OperandRule};
 ghost use Rattle.command_core.specs.declared.values.OptionValue.{OptionValue};
 
-use crate::texts::{is_demo_number, is_file, is_path_argument, is_pattern, read_file};
+use crate::texts::{is_demo_number, is_file_argument, is_path_argument, is_pattern, read_file};
 use crate::values::{FILES, OUTPUT, SCRIPT};
 use base_core::{Name, Text};
 use dep_core::{is_dep_name, is_package_name, read_dep};
@@ -48,7 +48,7 @@ impl OperandKind {
         ensures { result ≡ is_operand_of_kind self text.now }
     {
         match self {
-            OperandKind::File => is_file(text),
+            OperandKind::File => is_file_argument(text),
             OperandKind::Any => true,
             OperandKind::Dependency => read_dep(text).is_some(),
             OperandKind::DependencyName => is_dep_name(text),
@@ -153,7 +153,7 @@ pub struct Operand {
 #[derive(Drop)]
 struct OperandEntry {
     operand: Operand,
-    // Read at once, so that lending it wants no memory.
+    // Read when the operand is added, so that lending it allocates no memory.
     file: Option<Name>,
 }
 
@@ -268,7 +268,7 @@ pub fn values_are_of_their_kind()
     ensures output { (c : CommandLine) (v : OptionValue) → IsValidCommand c →
         first_value OUTPUT c.values ≡ Some v → IsTrue (is_output_argument v.text) }
     ensures folder { (c : CommandLine) (v : OptionValue) → IsValidCommand c →
-        first_value FILES c.values ≡ Some v → IsTrue (is_file v.text) }
+        first_value FILES c.values ≡ Some v → IsTrue (is_file_argument v.text) }
     ensures script { (c : CommandLine) (i : ℕ) (v : OptionValue) → IsValidCommand c →
-        slice_get c.values i ≡ Some v → v.letter ≡ SCRIPT → IsTrue (is_script v.text) }
+        slice_get c.values i ≡ Some v → v.letter ≡ SCRIPT → IsTrue (is_script_argument v.text) }
 {}

@@ -5,10 +5,10 @@ ghost use Rattle.std.specs.Prelude.{◌≡◌, ◌==◌, IfOk, drop};
 ghost use Rattle.std.specs.Char.{is_ascii_digit, is_ascii_graphic};
 ghost use Rattle.std.specs.List.{list_all, list_any, position};
 ghost use Rattle.std.specs.Str.{bytes_eq};
-ghost use Rattle.command_core.specs.Files.{is_file, is_output_argument, is_path_argument, without_dot_slash};
+ghost use Rattle.command_core.specs.Files.{is_file_argument, is_output_argument, is_path_argument, without_dot_slash};
 ghost use Rattle.command_core.specs.Named.{file_name};
 ghost use Rattle.command_core.specs.Operands.{has_zero_in_front, is_decimal, is_demo_number, is_pattern};
-ghost use Rattle.command_core.specs.Values.{colon, is_script, script_file, script_type, script_types};
+ghost use Rattle.command_core.specs.Values.{colon, is_script_argument, script_file, script_type, script_types};
 
 use base_core::{Name, is_name};
 use dep_core::without_slash;
@@ -45,8 +45,8 @@ pub fn without_dot_slash(text: &[u8]) -> &[u8]
 }
 
 /// Whether a text is a file: a path below the root, after one optional `./`.
-pub(crate) fn is_file(text: &[u8]) -> bool
-    ensures { result ≡ is_file text.now }
+pub(crate) fn is_file_argument(text: &[u8]) -> bool
+    ensures { result ≡ is_file_argument text.now }
 {
     is_name(without_dot_slash(text))
 }
@@ -62,7 +62,7 @@ pub(crate) fn read_file(alloc: Global, text: &[u8]) -> Result<Option<Name>, Allo
 pub(crate) fn is_output_argument(text: &[u8]) -> bool
     ensures { result ≡ is_output_argument text.now }
 {
-    if !is_file(text) {
+    if !is_file_argument(text) {
         return false;
     }
     without_dot_slash(text).len() <= LONGEST_OUTPUT
@@ -76,13 +76,13 @@ pub(crate) fn is_path_argument(text: &[u8]) -> bool
 }
 
 /// Whether a text is TYPE:FILE, with the type of a package's script.
-pub(crate) fn is_script(text: &[u8]) -> bool
-    ensures { result ≡ is_script text.now }
+pub(crate) fn is_script_argument(text: &[u8]) -> bool
+    ensures { result ≡ is_script_argument text.now }
 {
     if !is_script_type(script_type(text)) {
         return false;
     }
-    is_file(script_file(text))
+    is_file_argument(script_file(text))
 }
 
 // Whether a text is the type of a package's script.

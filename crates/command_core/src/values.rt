@@ -2,12 +2,14 @@
 //! are in `docs/commands.md`, "Words", the table of options, the rows with a value.
 ghost use Rattle.std.specs.Prelude.{◌≡◌, ◌<◌, ◌==◌, ◌++◌, ◌∷◌, [], IfOk, IfSome, IsTrue, OnErr, OnOk, Some, length, not, slice_get};
 ghost use Rattle.std.specs.Option.{option_map};
-ghost use Rattle.command_core.specs.Files.{is_file, without_dot_slash};
+ghost use Rattle.command_core.specs.Files.{is_file_argument, without_dot_slash};
 ghost use Rattle.command_core.specs.Named.{file_name, file_in, file_part_of_value};
-ghost use Rattle.command_core.specs.Values.{excludes, is_excluded_by_earlier_value, is_given, is_single_and_given, is_value, script_file, script_type, option_value, first_value};
+ghost use Rattle.command_core.specs.Values.{excludes, is_excluded_by_earlier_value, is_given, is_single_and_given, is_value_of_kind, script_file, script_type, option_value_from_place_and_letter, first_value};
 ghost use Rattle.command_core.specs.declared.values.OptionValue.{OptionValue};
 
-use crate::texts::{is_file, is_output_argument, is_script, read_file, script_file, script_type};
+use crate::texts::{
+    is_file_argument, is_output_argument, is_script_argument, read_file, script_file, script_type,
+};
 use base_core::{Name, Text};
 use std::alloc::{AllocError, Global};
 use std::marker::Model;
@@ -59,15 +61,15 @@ pub enum ValueKind {
 impl ValueKind {
     /// Whether a text is a value of this kind.
     pub fn has(self, text: &[u8]) -> bool
-        ensures { result ≡ is_value self text.now }
+        ensures { result ≡ is_value_of_kind self text.now }
     {
         match self {
             ValueKind::Any => true,
             ValueKind::Nonempty => !text.is_empty(),
-            ValueKind::File => is_file(text),
+            ValueKind::File => is_file_argument(text),
             ValueKind::Output => is_output_argument(text),
             ValueKind::Uncompressed => text == b"none".as_slice(),
-            ValueKind::Script => is_script(text),
+            ValueKind::Script => is_script_argument(text),
         }
     }
 
@@ -107,7 +109,7 @@ impl OptionValue {
 #[derive(Drop)]
 struct ValueEntry {
     value: OptionValue,
-    // Read at once, so that lending it wants no memory.
+    // Read when the value is added, so that lending it allocates no memory.
     file: Option<Name>,
 }
 
@@ -147,7 +149,8 @@ impl Values {
     /// Adds a value of the option with a letter, which is in the word at a place. A call that fails
     /// changes nothing.
     pub fn push(&mut self, place: u32, letter: u8, text: &[u8]) -> Result<(), AllocError>
-        ensures ok { OnOk result (self.new ≡ self.old ++ option_value place letter text.now ∷ []) }
+        ensures ok { OnOk result (self.new ≡ self.old
+            ++ option_value_from_place_and_letter place letter text.now ∷ []) }
         ensures err { OnErr result (self.new ≡ self.old) }
     {
         let file = read_value_file(self.alloc, letter, text)?;
@@ -225,9 +228,10 @@ impl Values {
     pub fn first_file(&self, letter: u8) -> Option<&Name>
         requires letter { IsTrue (not (letter == SCRIPT)) }
         requires file { IfSome (first_value letter self.now)
-            (λ value. IsTrue (is_file value.text)) }
+            (λ value. IsTrue (is_file_argument value.text)) }
         ensures { option_map (λ name. name.now) result
-            ≡ option_map (λ value. without_dot_slash value.text) (first_value letter self.entry.now) }
+            ≡ option_map (λ value. without_dot_slash value.text)
+            (first_value letter self.entry.now) }
     {
         match self.first_entry(letter) {
             Some(entry) => entry.file.as_ref(),
@@ -240,7 +244,7 @@ impl Values {
     pub fn script_file(&self, i: usize) -> &Name
         requires here { i < length self.now }
         requires script { IfSome (slice_get self.now i)
-            (λ value. value.letter ≡ SCRIPT × IsTrue (is_file (script_file value.text))) }
+            (λ value. value.letter ≡ SCRIPT × IsTrue (is_file_argument (script_file value.text))) }
         ensures { option_map (λ value. without_dot_slash (script_file value.text))
             (slice_get self.now i) ≡ Some result.now }
     {

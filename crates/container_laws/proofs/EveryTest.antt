@@ -3,9 +3,9 @@ use Rattle.std.proofs.Common.{◌≡◌, ◌↔◌, ◌⊎◌, inl, inr, ℕ, ze
 use Rattle.std.specs.Prelude.{slice_get, if◌then◌else◌, ◌||◌, nat_lt, ◌-◌}
 use Rattle.std.specs.Option.{option_or}
 use Rattle.std.proofs.lemmas.Bool.{eqb-true}
-use Rattle.adb_block.specs.Framing.{HeadFields, Step, block, ended, failed, head_of, kind_of_number, next_step, step_by_head, step_by_order, step_by_size}
+use Rattle.adb_block.specs.Framing.{HeadFields, Step, block, ended, failed, block_head_fields, kind_of_number, next_step, step_by_head, step_by_order, step_by_size}
 use Rattle.adb_block.specs.Header.{header_of}
-use Rattle.adb_block.specs.Piece.{Piece, may_be_next_kind, least_payload}
+use Rattle.adb_block.specs.Piece.{Piece, may_be_next_kind, least_payload_len}
 use Rattle.adb_block.specs.Reading.{Reading, done, fault, more, block_stream_after_step, block_stream_from_offset, block_stream_from}
 use Rattle.adb_block.specs.ReaderPosition.{first_block_position}
 use Rattle.adb_block.specs.declared.block.BlockKind.{BlockKind}
@@ -13,7 +13,7 @@ use Rattle.pkg_core.specs.adb_schema.Soundness.{blocks_fault, file_fault_after_h
 use Rattle.pkg_core.specs.adb_schema.declared.read.TheConstants.{PACKAGE_WORD, INDEX_WORD, IDB_WORD, INTENT_WORD}
 use Rattle.pkg_core.specs.adb_fields.Repeated.{repeated_fault}
 use Rattle.pkg_core.specs.adb_schema.Texts.{text_fault}
-use Rattle.adb_view.specs.Head.{head_fault, root_of}
+use Rattle.adb_view.specs.Head.{payload_head_fault, root_word_of_payload}
 use Rattle.adb_view.specs.Schema.{shape_of}
 use Rattle.adb_view.specs.Walk.{shape_fault}
 use Rattle.adb_view.specs.declared.tables.Kind.TheVariants.{Obj}
@@ -39,7 +39,7 @@ either_goes_on false s t f g = g
 size_goes_on : (at : ℕ) (bytes : List ℕ) (head : HeadFields) (kind : BlockKind) → IsNoEnd (step_by_size at bytes head kind)
 size_goes_on at bytes head kind =
     either_goes_on (nat_lt head.raw head.len || nat_lt (length bytes) head.raw) _ _ (λ e. absurd cc)
-    (either_goes_on (nat_lt (head.raw - head.len) (least_payload kind)) _ _ (λ e. absurd cc) (λ e. absurd cc))
+    (either_goes_on (nat_lt (head.raw - head.len) (least_payload_len kind)) _ _ (λ e. absurd cc) (λ e. absurd cc))
 
 order_goes_on : (at : ℕ) (bytes : List ℕ) (head : HeadFields) (kind : Option BlockKind) → IsNoEnd (step_by_order None at bytes head kind)
 order_goes_on at bytes head None e = absurd cc
@@ -53,7 +53,7 @@ head_goes_on at bytes (Some head) e = order_goes_on at bytes head (kind_of_numbe
 first_goes_on : (at : ℕ) (bytes : List ℕ) → IsNoEnd (next_step None at bytes)
 unfolding next_step
 first_goes_on at bytes =
-    either_goes_on (eqb (length bytes) 0) _ _ (λ e. absurd cc) (head_goes_on at bytes (head_of bytes))
+    either_goes_on (eqb (length bytes) 0) _ _ (λ e. absurd cc) (head_goes_on at bytes (block_head_fields bytes))
 
 by_step : (at : ℕ) (further : Piece → ℕ → Reading) (s : Step) → IsNoEnd s → block_stream_after_step at further s ≡ done → ⊥
 by_step at further ended on e = on refl
@@ -123,7 +123,7 @@ by_reading : (which : Which) (r : Reading) → (r ≡ done → ⊥) → blocks_f
 by_reading which done on e = absurd (on refl)
 by_reading which (fault c) on e = absurd cc
 by_reading which (more b at r) on e =
-    (b, at, r, refl, none_fails (tests_of_values which b.payload r) (sym (five (head_fault b.payload) (shape_fault b.payload (shape_of (Obj which)) (root_of b.payload)) (text_fault which (root_value which b.payload)) (repeated_fault which (root_value which b.payload)) (fault_of_further_blocks which (root_value which b.payload) r)) ∙ e))
+    (b, at, r, refl, none_fails (tests_of_values which b.payload r) (sym (five (payload_head_fault b.payload) (shape_fault b.payload (shape_of (Obj which)) (root_word_of_payload b.payload)) (text_fault which (root_value which b.payload)) (repeated_fault which (root_value which b.payload)) (fault_of_further_blocks which (root_value which b.payload) r)) ∙ e))
 
 by_table : (file : List ℕ) (schema : ℕ) (which : Which) → header_of file ≡ Ok schema → table_of_schema schema ≡ Some which → container_fault_of_table which file ≡ None → PassesEveryTest file
 unfolding container_fault_of_table
@@ -161,7 +161,7 @@ accepted file p =
     let values = tests_of_values p.which p.first.payload p.behind in
     let blocks : blocks_fault (fault_of_further_blocks p.which) p.which (block_stream_from (first_block_position p.schema file)) ≡ None =
     ap (blocks_fault (fault_of_further_blocks p.which) p.which) p.blocks
-    ∙ five (head_fault p.first.payload) (shape_fault p.first.payload (shape_of (Obj p.which)) (root_of p.first.payload)) (text_fault p.which (root_value p.which p.first.payload)) (repeated_fault p.which (root_value p.which p.first.payload))
+    ∙ five (payload_head_fault p.first.payload) (shape_fault p.first.payload (shape_of (Obj p.which)) (root_word_of_payload p.first.payload)) (text_fault p.which (root_value p.which p.first.payload)) (repeated_fault p.which (root_value p.which p.first.payload))
     (fault_of_further_blocks p.which (root_value p.which p.first.payload) p.behind)
     ∙ each_holds values p.each in
     ap (container_fault_after_header file) p.header

@@ -14,22 +14,26 @@ use Rattle.adb_view.specs.Schema.{shape_of}
 use Rattle.adb_view.specs.Walk.{shape_fault}
 use Rattle.adb_view.specs.declared.tables.Kind.TheVariants.{Obj}
 use Rattle.adb_view.specs.declared.tables.Which.{Which}
-use Rattle.adb_view.specs.Head.{head_fault, root_of}
+use Rattle.adb_view.specs.Head.{payload_head_fault, root_word_of_payload}
 use Rattle.container_laws.specs.HeaderFaults.{IsHeaderFault}
 use Rattle.pkg_core.specs.Whole.{fault_of_further_blocks, table_of_schema}
 
--- the fault of tests in their order: one test has it, and no test before that has one
+-- the cause is that of the first failed test: the test at `place`, counted from 0, fails with it, and
+-- no test before fails
 pub record IsFirstFailing (tests : List (Option Cause)) (c : Cause) : Type 0 where
+  -- the index of the failed test, counted from 0
   pub place : ℕ
+  -- this test fails with the cause
   pub fails : slice_get tests place ≡ Some (Some c)
+  -- no test before it fails
   pub before : (j : ℕ) → j < place → slice_get tests j ≡ Some None
 
 -- the tests of the values and of the blocks after them: the head of the payload, the shapes, the texts,
 -- repeated names, the further blocks
 abbrev pub tests_of_values : Which → List ℕ → Reading → List (Option Cause)
 tests_of_values which payload behind =
-    head_fault payload
-    ∷ (shape_fault payload (shape_of (Obj which)) (root_of payload)
+    payload_head_fault payload
+    ∷ (shape_fault payload (shape_of (Obj which)) (root_word_of_payload payload)
     ∷ (text_fault which (root_value which payload)
     ∷ (repeated_fault which (root_value which payload)
     ∷ (fault_of_further_blocks which (root_value which payload) behind ∷ []))))
@@ -64,13 +68,22 @@ IsContainerFault file c =
 -- A file passes every test of a container: it has a header with one of the four schemas, and a first
 -- block; no test of the values and of the blocks after them fails
 pub record PassesEveryTest (file : List ℕ) : Type 0 where
+  -- the schema of the file
   pub schema : ℕ
+  -- the header has this schema
   pub header : header_of file ≡ Ok schema
+  -- the table of its root
   pub which : Which
+  -- it is the table of the schema
   pub root : table_of_schema schema ≡ Some which
+  -- the first block
   pub first : Piece
+  -- the offset of the first block
   pub at : ℕ
+  -- the blocks after it
   pub behind : Reading
+  -- these are the blocks of the file
   pub blocks : block_stream_from (first_block_position schema file) ≡ more first at behind
+  -- no test of the values and of the further blocks fails
   pub each : (i : ℕ) (test : Option Cause)
       → slice_get (tests_of_values which first.payload behind) i ≡ Some test → test ≡ None

@@ -13,8 +13,8 @@ ghost use Rattle.container_laws.specs.TestsInOrder.{IsContainerFault, IsFaultOfT
 ghost use Rattle.pkg_core.specs.Whole.{container_fault, container_fault_of_table};
 ghost use Rattle.std.specs.Prelude.{◌≡◌, ◌↔◌, ℕ, Err, List, Some, None};
 
-/// The fault that is reported of a header: no four bytes, else a compressed container, else no
-/// container, else no eight bytes.
+/// The fault that is reported of a header: fewer than four bytes, else a compressed container, else
+/// no container, else fewer than eight bytes.
 pub fn the_first_fault_of_a_header_is_reported()
     ensures { (file : List ℕ) (c : Cause) → header_of file ≡ Err c → IsHeaderFault file c }
 {}

@@ -8,7 +8,7 @@ use Rattle.std.proofs.lemmas.List.{length-append}
 use Rattle.std.proofs.lemmas.List.Folds.{list_all-append, list_all-map, list_any-append}
 use Rattle.std.proofs.lemmas.Str.{IsUtf8-append, IsUtf8-from_ascii, IsUtf8-from_is_utf8, is_utf8-from_IsUtf8}
 use Rattle.std.proofs.lemmas.Str.Ascii.{IsAscii-cons, IsAscii-nil}
-use Rattle.base_core.specs.Name.{IsName, is_name, is_part, parts_of}
+use Rattle.base_core.specs.Name.{IsName, is_name, is_path_part, path_parts_of}
 use Rattle.base_core.proofs.NameParts.{split_slash}
 use Rattle.adb_view.specs.Plain.{Plain, Plains, none, more}
 use Rattle.adb_view.specs.Shaped.{Each}
@@ -16,9 +16,9 @@ use Rattle.adb_view.specs.Values.{entries_in, entry_in}
 use Rattle.adb_view.specs.declared.tables.Which.{Which}
 use Rattle.adb_view.specs.declared.tables.Which.TheVariants.{Idb}
 use Rattle.pkg_core.specs.adb_fields.Paths.{path_of}
-use Rattle.pkg_core.specs.adb_fields.Repeated.{files_in, folders_in, list_of, name_of, paths_in, paths_under}
+use Rattle.pkg_core.specs.adb_fields.Repeated.{files_in, folders_in, list_of, name_of, paths_of_package_files, paths_of_folder_files}
 use Rattle.pkg_core.specs.adb_schema.Reserved.{is_reserved}
-use Rattle.pkg_core.specs.adb_schema.Rules.{is_file_name, is_folder_name, is_one_part}
+use Rattle.pkg_core.specs.adb_schema.Rules.{is_file_name_in_folder, is_folder_name, is_one_part}
 use Rattle.pkg_core.specs.adb_schema.SoundValues.{IsSoundFileOf, IsSoundFolder, IsSoundPackage}
 use Rattle.db_core.specs.EntrySeen.{member_of_entry}
 use Rattle.db_core.specs.Members.{Member, is_added, listings_of_member, listings_of_members_from, listings_in_folder, listings_in_folders, member_listings, member_of_kept}
@@ -39,21 +39,21 @@ utf8_joined a b e f =
 joined_name : (a b : List ℕ) → is_name a ≡ true → is_name b ≡ true → nat_le (length (a ++ 47 ∷ b)) 1024 ≡ true → is_name (a ++ 47 ∷ b) ≡ true
 unfolding is_name
 joined_name a b first second short =
-    let a1 = and_parts _ (list_all is_part (parts_of a)) first in
+    let a1 = and_parts _ (list_all is_path_part (path_parts_of a)) first in
     let a2 = and_parts _ (is_utf8 a) a1.0 in
     let a3 = and_parts _ (not (list_any (λ x. x == 0) a)) a2.0 in
-    let b1 = and_parts _ (list_all is_part (parts_of b)) second in
+    let b1 = and_parts _ (list_all is_path_part (path_parts_of b)) second in
     let b2 = and_parts _ (is_utf8 b) b1.0 in
     let b3 = and_parts _ (not (list_any (λ x. x == 0) b)) b2.0 in
-    and_from _ (list_all is_part (parts_of (a ++ 47 ∷ b)))
+    and_from _ (list_all is_path_part (path_parts_of (a ++ 47 ∷ b)))
     (and_from _ (is_utf8 (a ++ 47 ∷ b))
     (and_from _ (not (list_any (λ x. x == 0) (a ++ 47 ∷ b)))
     (and_from (nat_lt 0 (length (a ++ 47 ∷ b))) (nat_le (length (a ++ 47 ∷ b)) 1024) (lt-ltb 0 (length (a ++ 47 ∷ b)) (omega (arith, length-append a (47 ∷ b)))) short)
     (ap not (list_any-append (λ x. x == 0) a (47 ∷ b)) ∙ none_true (list_any (λ x. x == 0) a) (47 == 0) (list_any (λ x. x == 0) b) a3.1 refl b3.1))
     (utf8_joined a b a2.1 b2.1))
-    (ap (list_all is_part) (split_slash a b) ∙ (list_all-append is_part (parts_of a) (parts_of b) ∙ and_from (list_all is_part (parts_of a)) (list_all is_part (parts_of b)) a1.1 b1.1))
+    (ap (list_all is_path_part) (split_slash a b) ∙ (list_all-append is_path_part (path_parts_of a) (path_parts_of b) ∙ and_from (list_all is_path_part (path_parts_of a)) (list_all is_path_part (path_parts_of b)) a1.1 b1.1))
 
-path_named : (folder name : List ℕ) → is_folder_name folder ≡ true → is_file_name folder name ≡ true → is_name (path_of folder name) ≡ true
+path_named : (folder name : List ℕ) → is_folder_name folder ≡ true → is_file_name_in_folder folder name ≡ true → is_name (path_of folder name) ≡ true
 path_named [] name h file = (and_parts (is_name name) (not (list_any (λ b. b == 47) name)) (and_parts (is_one_part name) (nat_le (length (path_of [] name)) 1024) file).0).0
 path_named (b ∷ folder) name h file =
     let parts = and_parts (is_one_part name) (nat_le (length (path_of (b ∷ folder) name)) 1024) file in
@@ -67,20 +67,20 @@ module _ (p : List ℕ → Bool) (root : Which)
   files_pass folder h none each = refl
   files_pass folder h (more v vs) each = and_from (p (path_of folder (name_of v))) _ (file_passes folder v h each.0) (files_pass folder h vs each.1)
 
-  folders_pass : (vs : Plains) → Each (IsSoundFolder root) vs → list_all p (flat_map paths_under (list_of vs)) ≡ true
+  folders_pass : (vs : Plains) → Each (IsSoundFolder root) vs → list_all p (flat_map paths_of_folder_files (list_of vs)) ≡ true
   folders_pass none each = refl
   folders_pass (more v vs) each =
-      list_all-append p (paths_under v) (flat_map paths_under (list_of vs))
-      ∙ and_from (list_all p (paths_under v)) (list_all p (flat_map paths_under (list_of vs)))
+      list_all-append p (paths_of_folder_files v) (flat_map paths_of_folder_files (list_of vs))
+      ∙ and_from (list_all p (paths_of_folder_files v)) (list_all p (flat_map paths_of_folder_files (list_of vs)))
       (files_pass (name_of v) each.0.name (entries_in (entry_in v 2)) each.0.files)
       (folders_pass vs each.1)
 
-  package_passes : (v : Plain) → IsSoundPackage root v → list_all p (paths_in v) ≡ true
+  package_passes : (v : Plain) → IsSoundPackage root v → list_all p (paths_of_package_files v) ≡ true
   package_passes v is = folders_pass (entries_in (entry_in v 1)) is.folders
 
-  packages_pass : (vs : Plains) → Each (IsSoundPackage root) vs → list_all (λ v. list_all p (paths_in v)) (list_of vs) ≡ true
+  packages_pass : (vs : Plains) → Each (IsSoundPackage root) vs → list_all (λ v. list_all p (paths_of_package_files v)) (list_of vs) ≡ true
   packages_pass none each = refl
-  packages_pass (more v vs) each = and_from (list_all p (paths_in v)) (list_all (λ v. list_all p (paths_in v)) (list_of vs)) (package_passes v each.0) (packages_pass vs each.1)
+  packages_pass (more v vs) each = and_from (list_all p (paths_of_package_files v)) (list_all (λ v. list_all p (paths_of_package_files v)) (list_of vs)) (package_passes v each.0) (packages_pass vs each.1)
 
 file_named : (root : Which) (folder : List ℕ) (v : Plain) → is_folder_name folder ≡ true → IsSoundFileOf root folder v → is_name (path_of folder (name_of v)) ≡ true
 file_named root folder v h file = path_named folder (name_of v) h file.name
@@ -121,25 +121,25 @@ module _ (q : Member → List ℕ → Bool) where
   in_folder m place folder i above [] = refl
   in_folder m place folder i above (e ∷ es) = ap (λ b. q m (path_of above (name_of e)) && b) (in_folder m place folder (i + 1) above es)
 
-  in_folders : (m : Member) (place i : ℕ) (folders : List Plain) → list_all (λ l. q l.member l.path) (listings_in_folders m place i folders) ≡ list_all (q m) (flat_map paths_under folders)
+  in_folders : (m : Member) (place i : ℕ) (folders : List Plain) → list_all (λ l. q l.member l.path) (listings_in_folders m place i folders) ≡ list_all (q m) (flat_map paths_of_folder_files folders)
   in_folders m place i [] = refl
   in_folders m place i (f ∷ fs) =
       list_all-append (λ l. q l.member l.path) (listings_in_folder m place i 1 (name_of f) (files_in f)) (listings_in_folders m place (i + 1) fs)
       ∙ ((λ j. in_folder m place i 1 (name_of f) (files_in f) j && in_folders m place (i + 1) fs j)
-      ∙ sym (list_all-append (q m) (paths_under f) (flat_map paths_under fs)))
+      ∙ sym (list_all-append (q m) (paths_of_folder_files f) (flat_map paths_of_folder_files fs)))
 
-  in_members : (place : ℕ) (ms : List Member) → list_all (λ l. q l.member l.path) (listings_of_members_from place ms) ≡ list_all (λ m. list_all (q m) (paths_in m.pkg)) ms
+  in_members : (place : ℕ) (ms : List Member) → list_all (λ l. q l.member l.path) (listings_of_members_from place ms) ≡ list_all (λ m. list_all (q m) (paths_of_package_files m.pkg)) ms
   in_members place [] = refl
   in_members place (m ∷ ms) =
       list_all-append (λ l. q l.member l.path) (listings_of_member place m) (listings_of_members_from (place + 1) ms)
       ∙ (λ j. in_folders m place 1 (folders_in m.pkg) j && in_members (place + 1) ms j)
 
-  all_pass : (ms : List Member) → list_all (λ m. list_all (q m) (paths_in m.pkg)) ms ≡ true → All (λ l. q l.member l.path ≡ true) (member_listings ms)
+  all_pass : (ms : List Member) → list_all (λ m. list_all (q m) (paths_of_package_files m.pkg)) ms ≡ true → All (λ l. q l.member l.path ≡ true) (member_listings ms)
   unfolding member_listings
   all_pass ms h k d l = passes_at (λ l. q l.member l.path) (listings_of_members_from 0 ms) (in_members 0 ms ∙ h) k d l
 
-packages_all_pass : (p : List ℕ → Bool) (pkgs : List Plain) → list_all (λ v. list_all p (paths_in v)) pkgs ≡ true → All (λ l. p l.path ≡ true) (member_listings (map member_of_kept pkgs))
-packages_all_pass p pkgs h = all_pass (λ m. p) (map member_of_kept pkgs) (list_all-map (λ (m : Member). list_all p (paths_in m.pkg)) member_of_kept pkgs ∙ h)
+packages_all_pass : (p : List ℕ → Bool) (pkgs : List Plain) → list_all (λ v. list_all p (paths_of_package_files v)) pkgs ≡ true → All (λ l. p l.path ≡ true) (member_listings (map member_of_kept pkgs))
+packages_all_pass p pkgs h = all_pass (λ m. p) (map member_of_kept pkgs) (list_all-map (λ (m : Member). list_all p (paths_of_package_files m.pkg)) member_of_kept pkgs ∙ h)
 
 pub packages_named : (pkgs : List Plain) → list_all lists_only_valid_names pkgs ≡ true → All (λ l. IsName l.path) (member_listings (map member_of_kept pkgs))
 packages_named pkgs h = packages_all_pass is_name pkgs h
@@ -172,12 +172,12 @@ paths_free true [] h = refl
 paths_free true (path ∷ paths) h = paths_free true paths h
 paths_free false paths h = h
 
-members_free : (ms : List Member) → list_all is_added_or_lists_no_reserved ms ≡ true → list_all (λ m. list_all (comes_or_free m) (paths_in m.pkg)) ms ≡ true
+members_free : (ms : List Member) → list_all is_added_or_lists_no_reserved ms ≡ true → list_all (λ m. list_all (comes_or_free m) (paths_of_package_files m.pkg)) ms ≡ true
 unfolding comes_or_free
 members_free [] h = refl
 members_free (m ∷ ms) h =
     let parts = and_parts (is_added_or_lists_no_reserved m) (list_all is_added_or_lists_no_reserved ms) h in
-    and_from _ _ (paths_free (is_added m) (paths_in m.pkg) parts.0) (members_free ms parts.1)
+    and_from _ _ (paths_free (is_added m) (paths_of_package_files m.pkg) parts.0) (members_free ms parts.1)
 
 pub stays_unreserved : (es : List Kept) → list_all (λ e. is_added_or_lists_no_reserved (member_of_entry e)) es ≡ true → All (λ l. is_added l.member ≡ false → is_reserved l.path ≡ false) (member_listings (map member_of_entry es))
 unfolding comes_or_free

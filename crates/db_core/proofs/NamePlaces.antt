@@ -12,7 +12,7 @@ use Rattle.std.proofs.lemmas.Cmp.{nat_list_cmp_total, on_total, tied_itself}
 use Rattle.std.proofs.lemmas.List.{get_or-map, length-map}
 use Rattle.std.proofs.lemmas.List.Sorted.{sorted_far}
 use Rattle.base_core.specs.ByteOrder.{bytes_cmp, precedes}
-use Rattle.base_core.specs.Sorted.{sorted_by, with_element}
+use Rattle.base_core.specs.Sorted.{sorted_by, with_element_inserted}
 use Rattle.base_core.proofs.Sorting.{Each, Rises, ranks, rises_sorted, sorted_up}
 use Rattle.adb_view.specs.Plain.{Plain, Plains, none, more}
 use Rattle.adb_view.specs.Values.{count_of, nth}
@@ -73,13 +73,13 @@ cond_swap : (a b : Bool) (x y : NameWithPlace) (r : Option NameWithPlace) → (a
 cond_swap true b x y r f = ap (λ t. cond t (Some y) (Some x)) (f refl)
 cond_swap false b x y r f = refl
 
-found_put : (q : List ℕ) (x : NameWithPlace) (ys : List NameWithPlace) → find (is_named q) (with_element placed_name_cmp x ys) ≡ cond (is_named q x) (Some x) (find (is_named q) ys)
+found_put : (q : List ℕ) (x : NameWithPlace) (ys : List NameWithPlace) → find (is_named q) (with_element_inserted placed_name_cmp x ys) ≡ cond (is_named q x) (Some x) (find (is_named q) ys)
 unfolding placed_name_cmp
 found_put q x [] = refl
 found_put q x (y ∷ ys) = go (is_gt (placed_name_cmp x y)) refl (found_put q x ys)
   where
-    go : (t : Bool) → is_gt (placed_name_cmp x y) ≡ t → find (is_named q) (with_element placed_name_cmp x ys) ≡ cond (is_named q x) (Some x) (find (is_named q) ys)
-        → find (is_named q) (if t then y ∷ with_element placed_name_cmp x ys else x ∷ y ∷ ys) ≡ cond (is_named q x) (Some x) (cond (is_named q y) (Some y) (find (is_named q) ys))
+    go : (t : Bool) → is_gt (placed_name_cmp x y) ≡ t → find (is_named q) (with_element_inserted placed_name_cmp x ys) ≡ cond (is_named q x) (Some x) (find (is_named q) ys)
+        → find (is_named q) (if t then y ∷ with_element_inserted placed_name_cmp x ys else x ∷ y ∷ ys) ≡ cond (is_named q x) (Some x) (cond (is_named q y) (Some y) (find (is_named q) ys))
     go true g r = ap (λ o. cond (is_named q y) (Some y) o) r ∙ cond_swap (is_named q x) (is_named q y) x y (find (is_named q) ys) (after_other x.name y.name q g)
     go false g r = refl
 

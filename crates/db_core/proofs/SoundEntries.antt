@@ -13,7 +13,7 @@ use Rattle.adb_view.specs.declared.tables.Which.TheVariants.{Idb, Package}
 use Rattle.db_core.specs.EntrySeen.{member_of_entry}
 use Rattle.db_core.specs.Members.{Member}
 use Rattle.db_core.specs.Packages.{packages_of_database_value}
-use Rattle.db_core.specs.SoundMembers.{AreOfSoundContainers, IsOfSoundContainer, IsOfSoundDatabase, IsOfSoundPackage, IsSoundDatabaseIfAny}
+use Rattle.db_core.specs.SoundMembers.{AreOfSoundContainers, IsOfSoundContainer, IsOfSoundDatabase, IsSoundPackageAndDigest, IsSoundDatabaseIfAny}
 use Rattle.db_core.proofs.ListedNames.{Kept}
 
 no_some : {X : Type 0} (x : X) → None ≡ Some x → ⊥
@@ -39,7 +39,7 @@ stays_sound database i pkg at sound = ∥∥₁_map {B = IsOfSoundDatabase pkg} 
 
 pub comes_sound : (pkg value : Plain) (id payload : List ℕ) → pkg ≡ value → id ≡ sha256 payload → IsSoundValue Package value → IsNormal value → ∥ IsOfSoundContainer pkg (Some id) ∥₁
 comes_sound pkg value id payload is digest sound normal =
-    ∣ subst (λ v. IsOfSoundPackage v id) (sym is) (record { sound = sound; normal = normal; digest = ap is_digest_length (ap length digest ∙ length-sha256 payload) }) ∣₁
+    ∣ subst (λ v. IsSoundPackageAndDigest v id) (sym is) (record { sound = sound; normal = normal; digest = ap is_digest_length (ap length digest ∙ length-sha256 payload) }) ∣₁
 
 -- ---- one more
 

@@ -9,8 +9,8 @@ use Rattle.adb_view.specs.declared.tables.Kind.TheVariants.{Obj}
 use Rattle.adb_view.specs.declared.tables.Which.TheVariants.{Package}
 use Rattle.db_core.specs.Members.{Member}
 
--- the member of a payload, a word in it and an id: the word leads to the package, and a kept one has no
--- id
+-- the member that an entry represents: a payload, the word of the package in it, and an id, which a
+-- kept package does not have
 abbrev pub member_of_entry : List ℕ × ℕ × Option (List ℕ) → Member
 member_of_entry e = record { pkg = value_at e.0 (Obj Package) e.1; id = e.2 }
 

@@ -46,7 +46,7 @@ is_after_members name [] = true
 is_after_members name (m ∷ []) = precedes (member_name m) name
 is_after_members name (m ∷ n ∷ members) = is_after_members name (n ∷ members)
 
--- whether a place is the one that was found, if one was
+-- whether the place `i` is the found one; false if none was found
 abbrev pub is_found_place : ℕ → Option ℕ → Bool
 is_found_place i None = false
 is_found_place i (Some found) = found == i
@@ -95,7 +95,8 @@ listings_of_member place m = listings_in_folders m place 1 (folders_in m.pkg)
 -- the listings of members, the first of which has this place
 abbrev pub listings_of_members_from : ℕ → List Member → List Listing
 listings_of_members_from place [] = []
-listings_of_members_from place (m ∷ members) = listings_of_member place m ++ listings_of_members_from (place + 1) members
+listings_of_members_from place (m ∷ members) =
+    listings_of_member place m ++ listings_of_members_from (place + 1) members
 
 -- all files that members list: member by member, folder by folder
 unfoldable pub member_listings : List Member → List Listing

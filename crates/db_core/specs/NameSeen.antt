@@ -3,6 +3,6 @@
 use Rattle.db_core.specs.NamePlaces.{NameWithPlace}
 use Rattle.db_core.specs.declared.name_places.NamePlace.{NamePlace}
 
--- a name with its place as contracts see it: the text in place of a slice
+-- the name and the place of a `NamePlace`; its name is a slice, here a list
 abbrev pub name_seen : NamePlace → NameWithPlace
 name_seen n = record { name = n.name.now; place = n.place }

@@ -8,7 +8,7 @@ use Rattle.adb_view.specs.Plain.{Plain}
 use Rattle.adb_view.specs.FieldIndexes.{IDB_PACKAGES, INFO_HASHES, PACKAGE_INFO}
 use Rattle.adb_view.specs.Values.{entry_in, text_in}
 use Rattle.pkg_core.specs.adb_schema.Reserved.{is_reserved}
-use Rattle.pkg_core.specs.adb_fields.Repeated.{entries_at, package_name, paths_in}
+use Rattle.pkg_core.specs.adb_fields.Repeated.{entries_at, package_name, paths_of_package_files}
 use Rattle.db_core.specs.Members.{Member, is_added}
 
 -- whether a package has a name
@@ -21,15 +21,15 @@ installed_id pkg = text_in (entry_in (entry_in pkg PACKAGE_INFO) INFO_HASHES)
 
 -- whether a package lists a file with this path
 abbrev pub lists_path : List ℕ → Plain → Bool
-lists_path path pkg = list_any (bytes_eq path) (paths_in pkg)
+lists_path path pkg = list_any (bytes_eq path) (paths_of_package_files pkg)
 
 -- whether each path that a package lists is a name
 abbrev pub lists_only_valid_names : Plain → Bool
-lists_only_valid_names pkg = list_all is_name (paths_in pkg)
+lists_only_valid_names pkg = list_all is_name (paths_of_package_files pkg)
 
 -- whether no path that a package lists is reserved
 abbrev pub lists_no_reserved_path : Plain → Bool
-lists_no_reserved_path pkg = list_all (λ path. not (is_reserved path)) (paths_in pkg)
+lists_no_reserved_path pkg = list_all (λ path. not (is_reserved path)) (paths_of_package_files pkg)
 
 -- whether a member is added, or lists no reserved path: a package may list one, a database may not
 abbrev pub is_added_or_lists_no_reserved : Member → Bool

@@ -22,7 +22,7 @@ pub record IsOfSoundDatabase (pkg : Plain) : Type 0 where
   pub listed : IsIn pkg (entries_at IDB_PACKAGES database)
 
 -- a package is the value of a sound package, whose id is a digest
-pub record IsOfSoundPackage (pkg : Plain) (id : List ℕ) : Type 0 where
+pub record IsSoundPackageAndDigest (pkg : Plain) (id : List ℕ) : Type 0 where
   pub sound : IsSoundValue Package pkg
   pub normal : IsNormal pkg
   pub digest : is_digest_length (length id) ≡ true
@@ -36,7 +36,7 @@ IsSoundDatabaseIfAny (Some database) = IsSoundValue Idb database × IsNormal dat
 -- its id, from a container of its own
 abbrev pub IsOfSoundContainer : Plain → Option (List ℕ) → Type 0
 IsOfSoundContainer pkg None = IsOfSoundDatabase pkg
-IsOfSoundContainer pkg (Some id) = IsOfSoundPackage pkg id
+IsOfSoundContainer pkg (Some id) = IsSoundPackageAndDigest pkg id
 
 -- each of some members is from a sound container
 abbrev pub AreOfSoundContainers : List Member → Type 0

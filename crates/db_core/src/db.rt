@@ -5,7 +5,7 @@
 ghost use Rattle.pkg_core.specs.adb_fields.ListValue.{list_value};
 ghost use Rattle.pkg_core.specs.adb_fields.Repeated.{entries_at, list_of};
 ghost use Rattle.pkg_core.specs.adb_schema.ReadFaults.{IsReadFault};
-ghost use Rattle.pkg_core.specs.adb_schema.Soundness.{first_fault, payload_fault, payload_in, root_value};
+ghost use Rattle.pkg_core.specs.adb_schema.Soundness.{container_fault_except_contents, payload_fault, payload_in, root_value};
 ghost use Rattle.pkg_core.specs.adb_schema.Views.{idb_value, package_value};
 ghost use Rattle.adb_view.specs.FieldIndexes.{IDB_PACKAGES};
 ghost use Rattle.adb_view.specs.Values.{count_of, entries_in, entry_in, is_sound};
@@ -13,7 +13,7 @@ ghost use Rattle.adb_view.specs.declared.tables.Kind.TheVariants as Kinds;
 ghost use Rattle.adb_view.specs.declared.tables.Which.{Which};
 ghost use Rattle.adb_view.specs.declared.tables.Which.TheVariants as Tables;
 ghost use Rattle.adb_view.specs.Adb.{payload_of};
-ghost use Rattle.adb_view.specs.Head.{head_fault, root_of};
+ghost use Rattle.adb_view.specs.Head.{payload_head_fault, root_word_of_payload};
 ghost use Rattle.db_core.specs.EntrySeen.{payload_of_database};
 ghost use Rattle.db_core.specs.NamePlaces.{placed_names_in_order};
 ghost use Rattle.db_core.specs.NameSeen.{name_seen};
@@ -45,8 +45,10 @@ pub struct Db<'a> {
     ghost by_name: { map name_seen names.items
         ≡ placed_names_in_order (packages_of_database_value (option_map idb_value idb)) },
     // Each path that a package lists is a name, and none is reserved.
-    ghost named: { list_all lists_only_valid_names (packages_of_database_value (option_map idb_value idb)) ≡ true },
-    ghost free: { list_all lists_no_reserved_path (packages_of_database_value (option_map idb_value idb)) ≡ true },
+    ghost named: { list_all lists_only_valid_names (packages_of_database_value
+        (option_map idb_value idb)) ≡ true },
+    ghost free: { list_all lists_no_reserved_path (packages_of_database_value
+        (option_map idb_value idb)) ≡ true },
     // The database passed all tests: its value is sound.
     ghost sound: { ∥ IsSoundDatabaseIfAny (option_map idb_value idb) ∥₁ },
 }
@@ -74,8 +76,10 @@ impl<'a> Db<'a> {
     /// `Bad` with the cause of the first test that fails, or `Memory`.
     pub fn read(alloc: Global, bytes: &'a [u8]) -> Result<Db<'a>, ReadFault>
         ensures bad { IfErr result
-            (λ fault. IsReadFault fault (first_fault Tables.Idb bytes.entry.now)) }
-        ensures sound { IfOk result (λ _. first_fault Tables.Idb bytes.entry.now ≡ None) }
+            (λ fault. IsReadFault fault
+            (container_fault_except_contents Tables.Idb bytes.entry.now)) }
+        ensures sound { IfOk result
+            (λ _. container_fault_except_contents Tables.Idb bytes.entry.now ≡ None) }
         ensures packages { IfOk result (λ db. packages_of db
             ≡ entries_at IDB_PACKAGES (root_value Tables.Idb (payload_in bytes.entry.now))) }
     {
@@ -185,9 +189,9 @@ pub(crate) fn package_of_database<'a>(idb: &Option<IdbView<'a>>, i: usize) -> Pa
 }
 
 /// The payload of a file that passed its tests.
-#[tactic(auto, unfolding(adb_schema::specs::Soundness::first_fault, adb_schema::specs::Soundness::payload_in))]
+#[tactic(auto, unfolding(adb_schema::specs::Soundness::container_fault_except_contents, adb_schema::specs::Soundness::payload_in))]
 pub fn payload_in(file: &[u8]) -> &[u8]
-    requires { (which : Which) × (first_fault which file.now ≡ None) }
+    requires { (which : Which) × (container_fault_except_contents which file.now ≡ None) }
     ensures { result.now ≡ payload_in file.entry.now }
 {
     // The file passes all tests, so it has a first block.
@@ -212,8 +216,9 @@ pub fn open_idb(payload: &[u8]) -> IdbView<'_>
 
 /// The view of the database in a payload whose head and root pass their tests.
 fn open_root(payload: &[u8]) -> IdbView<'_>
-    requires head { is_none (head_fault payload.now) ≡ true }
-    requires sound { is_sound payload.now (Kinds.Obj Tables.Idb) (root_of payload.now) ≡ true }
+    requires head { is_none (payload_head_fault payload.now) ≡ true }
+    requires sound { is_sound payload.now (Kinds.Obj Tables.Idb)
+        (root_word_of_payload payload.now) ≡ true }
     ensures { idb_value result ≡ root_value Tables.Idb payload.now }
 {
     // The head passes its test, by the contract.

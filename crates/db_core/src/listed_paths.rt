@@ -4,7 +4,7 @@
 //! (`docs/commands.md`, "`info`").
 ghost use Rattle.pkg_core.specs.adb_fields.ListValue.{list_value};
 ghost use Rattle.pkg_core.specs.adb_fields.Paths.{path_of};
-ghost use Rattle.pkg_core.specs.adb_fields.Repeated.{list_of, name_of, paths_under};
+ghost use Rattle.pkg_core.specs.adb_fields.Repeated.{list_of, name_of, paths_of_folder_files};
 ghost use Rattle.pkg_core.specs.adb_schema.Views.{dir_value};
 ghost use Rattle.adb_view.specs.Values.{count_of, entries_in, entry_in};
 ghost use Rattle.std.specs.List.{flat_map, list_any};
@@ -15,7 +15,7 @@ use pkg_core::{DirInfo, FileInfo, List};
 /// Whether one of some folders lists a file with this path.
 pub(crate) fn is_path_listed<'a>(folders: &List<'a, DirInfo<'a>>, path: &[u8]) -> bool
     ensures { result ≡ list_any (bytes_eq path.now)
-        (flat_map paths_under (list_of (entries_in (list_value folders.now)))) }
+        (flat_map paths_of_folder_files (list_of (entries_in (list_value folders.now)))) }
 {
     for i in 0..folders.len() {
         if is_path_in_folder(folders, i, path) {
@@ -29,7 +29,7 @@ pub(crate) fn is_path_listed<'a>(folders: &List<'a, DirInfo<'a>>, path: &[u8]) -
 fn is_path_in_folder<'a>(folders: &List<'a, DirInfo<'a>>, i: usize, path: &[u8]) -> bool
     requires { i < count_of (entries_in (list_value folders.now)) }
     ensures { result ≡ list_any (bytes_eq path.now)
-        (paths_under (entry_in (list_value folders.now) i)) }
+        (paths_of_folder_files (entry_in (list_value folders.now) i)) }
 {
     // Never so, by the contract; `len` says that a list has less than 2^32 entries.
     if i >= folders.len() {

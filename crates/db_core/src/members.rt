@@ -62,11 +62,13 @@ pub struct Members<'a> {
     /// The packages, in byte order of their names.
     pub(crate) entries: Vec<PackageWithId<'a>>,
     // The packages are in byte order of their names, each name once.
-    ghost in_order: { AreSortedDistinctNames (map (λ e. member_name (member_of_entry e)) entries.items) },
+    ghost in_order: { AreSortedDistinctNames (map (λ e. member_name
+        (member_of_entry e)) entries.items) },
     // There are no more packages than there may be.
     ghost few: { length entries.items ≤ MOST_MEMBERS },
     // Each path that a package lists is a name; a kept package lists no reserved path.
-    ghost named: { list_all (λ e. lists_only_valid_names (member_of_entry e).pkg) entries.items ≡ true },
+    ghost named: { list_all (λ e. lists_only_valid_names (member_of_entry e).pkg) entries.items
+        ≡ true },
     ghost free: { list_all (λ e. is_added_or_lists_no_reserved (member_of_entry e)) entries.items
         ≡ true },
     // The packages are from sound containers.
@@ -119,7 +121,8 @@ impl<'a> Members<'a> {
         requires behind { (pkg : Plain) → slice_get (packages_of_old_database self.old) i ≡ Some pkg
             → is_after_members (package_name pkg) (members_of self.old) ≡ true }
         requires few { length (members_of self.old) < MOST_MEMBERS }
-        ensures ok { OnOk result ((pkg : Plain) → slice_get (packages_of_old_database self.old) i ≡ Some pkg
+        ensures ok { OnOk result ((pkg : Plain)
+            → slice_get (packages_of_old_database self.old) i ≡ Some pkg
             → members_of self.new ≡ members_of self.old ++ member_of_kept pkg ∷ []) }
         ensures err { OnErr result (members_of self.new ≡ members_of self.old) }
         ensures before { packages_of_old_database self.new ≡ packages_of_old_database self.old }

@@ -1,7 +1,7 @@
 -- What a package keeps in a new database, and that no integer in it is 0.
 use Rattle.std.proofs.Common.{◌≡◌, ◌≢◌, ℕ, Bool, true, false, List, [], ◌∷◌, map, drop, Ok, refl, ap, sym, ◌∙◌, arith}
 use Rattle.std.specs.Prelude.{unwrap_or}
-use Rattle.adb_view.specs.Plain.{Plain, int, blob, obj, Plains, none, more, arr_value, blob_or_null, obj_value}
+use Rattle.adb_view.specs.Plain.{Plain, int, blob, obj, Plains, none, more, array_or_null, blob_or_null, trimmed_object_or_null}
 use Rattle.adb_view.specs.Values.{entries_in, entry_in, int_in, text_in}
 use Rattle.adb_view.specs.declared.tables.Which.TheVariants.{Idb}
 use Rattle.adb_copy.specs.adb_fields.Repeated.{entries_at, files_in, folders_in, list_of, name_of}
@@ -96,25 +96,25 @@ each_free count value h (x ∷ xs) flags = λ j. more (h x flags j) (each_free c
 folder_free : (d : Plain) (flags : List Bool) → without_zeros (folder_in_new_database d flags) ≡ folder_in_new_database d flags
 unfolding without_zeros
 folder_free d flags =
-    zeros_obj (more (blob_or_null (name_of d)) (more (without_zeros (entry_in d 1)) (more (arr_value (owned_entries (files_in d) flags)) none)))
-    ∙ (λ j. obj_value (more (zeros_twice (blob (name_of d)) j) (more (zeros_twice (entry_in d 1) j)
-    (more ((zeros_arr (owned_entries (files_in d) flags) ∙ ap arr_value (owned_free (files_in d) flags)) j) none))))
+    zeros_obj (more (blob_or_null (name_of d)) (more (without_zeros (entry_in d 1)) (more (array_or_null (owned_entries (files_in d) flags)) none)))
+    ∙ (λ j. trimmed_object_or_null (more (zeros_twice (blob (name_of d)) j) (more (zeros_twice (entry_in d 1) j)
+    (more ((zeros_arr (owned_entries (files_in d) flags) ∙ ap array_or_null (owned_free (files_in d) flags)) j) none))))
 
 package_free : (m : Member) (flags : List Bool) → without_zeros (package_in_new_database m flags) ≡ package_in_new_database m flags
 unfolding without_zeros info_with_id_and_size
 package_free m flags =
     let info : Plain = entry_in m.pkg 0 in
     let with_id : Plains = with_value_at_index 12 (int (int_in (entry_in info 12))) (with_value_at_index 2 (blob (unwrap_or m.id (text_in (entry_in info 2)))) (entries_in info)) in
-    zeros_obj (more (info_in_new_database m.id info) (more (arr_value (folders_in_new_database (folders_in m.pkg) flags)) (more (without_zeros (entry_in m.pkg 2)) (more (without_zeros (entry_in m.pkg 3)) (more (int_or_null (int_in (entry_in m.pkg 4))) none)))))
-    ∙ (λ j. obj_value (more (zeros_twice (obj with_id) j)
-    (more ((zeros_arr (folders_in_new_database (folders_in m.pkg) flags) ∙ ap arr_value (each_free file_count folder_in_new_database folder_free (folders_in m.pkg) flags)) j)
+    zeros_obj (more (info_in_new_database m.id info) (more (array_or_null (folders_in_new_database (folders_in m.pkg) flags)) (more (without_zeros (entry_in m.pkg 2)) (more (without_zeros (entry_in m.pkg 3)) (more (int_or_null (int_in (entry_in m.pkg 4))) none)))))
+    ∙ (λ j. trimmed_object_or_null (more (zeros_twice (obj with_id) j)
+    (more ((zeros_arr (folders_in_new_database (folders_in m.pkg) flags) ∙ ap array_or_null (each_free file_count folder_in_new_database folder_free (folders_in m.pkg) flags)) j)
     (more (zeros_twice (entry_in m.pkg 2) j) (more (zeros_twice (entry_in m.pkg 3) j) (more (zeros_twice (int (int_in (entry_in m.pkg 4))) j) none))))))
 
 database_free : (members : List Member) (flags : List Bool) → without_zeros (database_value members flags) ≡ database_value members flags
 unfolding without_zeros database_value
 database_free members flags =
-    zeros_obj (more (arr_value (packages_in_new_database members flags)) none)
-    ∙ (λ j. obj_value (more ((zeros_arr (packages_in_new_database members flags) ∙ ap arr_value (each_free member_file_count package_in_new_database package_free members flags)) j) none))
+    zeros_obj (more (array_or_null (packages_in_new_database members flags)) none)
+    ∙ (λ j. trimmed_object_or_null (more ((zeros_arr (packages_in_new_database members flags) ∙ ap array_or_null (each_free member_file_count package_in_new_database package_free members flags)) j) none))
 
 -- ---- written again
 

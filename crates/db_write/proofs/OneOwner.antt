@@ -4,7 +4,7 @@ use Rattle.std.specs.List.{flat_map}
 use Rattle.adb_view.specs.Plain.{Plain}
 use Rattle.adb_copy.specs.adb_fields.FirstPair.{IsIn}
 use Rattle.adb_copy.specs.adb_fields.Once.{ShareNoName, IsInOneOf}
-use Rattle.adb_copy.specs.adb_fields.Repeated.{files_in, folders_in, list_of, name_of, paths_in}
+use Rattle.adb_copy.specs.adb_fields.Repeated.{files_in, folders_in, list_of, name_of, paths_of_package_files}
 use Rattle.db_core.specs.Members.{Listing, Member, listings_of_member, listings_of_members_from, listings_in_folder, listings_in_folders, member_listings}
 use Rattle.db_write.specs.NewDatabase.{member_file_count, packages_in_new_database}
 use Rattle.db_core.specs.OwnedListings.{owned_listings}
@@ -80,7 +80,7 @@ with_path path (l ∷ ls) (inr h) = let (k, here, is) = with_path path ls h in (
 
 -- ---- the packages
 
-apart_from : (place : ℕ) (members : List Member) (flags : List Bool) → HaveAtMostOneOwner (owned_listings (listings_of_members_from place members) flags) → ShareNoName (map paths_in (list_of (packages_in_new_database members flags)))
+apart_from : (place : ℕ) (members : List Member) (flags : List Bool) → HaveAtMostOneOwner (owned_listings (listings_of_members_from place members) flags) → ShareNoName (map paths_of_package_files (list_of (packages_in_new_database members flags)))
 apart_from place [] flags one = tt
 apart_from place (m ∷ members) flags one =
     let own : List Listing = owned_listings (listings_of_member place m) flags in
@@ -92,7 +92,7 @@ apart_from place (m ∷ members) flags one =
     let both : HaveAtMostOneOwner (own ++ others) = subst HaveAtMostOneOwner joined one in (
       λ path here there.
           (let (l, l_in, l_is) = with_path path own (subst (IsIn path) (package_owned m place flags) here) in
-          let (k, k_in, k_is) = with_path path others (subst (IsIn path) (members_owned (place + 1) members left) (in_one paths_in path (list_of (packages_in_new_database members left)) there)) in
+          let (k, k_in, k_is) = with_path path others (subst (IsIn path) (members_owned (place + 1) members left) (in_one paths_of_package_files path (list_of (packages_in_new_database members left)) there)) in
           let same : l.place ≡ k.place = both l k (in_front l own others l_in) (in_back k own others k_in) (l_is ∙ sym k_is) in
           let first : l.place ≡ place = at_folders m place 1 (folders_in m.pkg) l (owned_in (listings_of_member place m) flags l l_in) in
           let behind : place + 1 ≤ k.place = at_or_behind (place + 1) members k (owned_in (listings_of_members_from (place + 1) members) left k k_in) in
@@ -100,6 +100,6 @@ apart_from place (m ∷ members) flags one =
       apart_from (place + 1) members left (λ l k a b e. both l k (in_back l own others a) (in_back k own others b) e),
     )
 
-pub owned_apart : (members : List Member) (flags : List Bool) → HaveAtMostOneOwner (owned_listings (member_listings members) flags) → ShareNoName (map paths_in (list_of (packages_in_new_database members flags)))
+pub owned_apart : (members : List Member) (flags : List Bool) → HaveAtMostOneOwner (owned_listings (member_listings members) flags) → ShareNoName (map paths_of_package_files (list_of (packages_in_new_database members flags)))
 unfolding member_listings
 owned_apart members flags one = apart_from 0 members flags one

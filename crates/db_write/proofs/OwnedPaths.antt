@@ -2,10 +2,10 @@
 use Rattle.std.proofs.Common.{◌≡◌, ℕ, ◌+◌, Bool, true, false, List, [], ◌∷◌, ◌++◌, map, drop, length, refl, ap, sym, ◌∙◌}
 use Rattle.std.proofs.lemmas.List.{map-append}
 use Rattle.std.specs.List.{flat_map}
-use Rattle.adb_view.specs.Plain.{Plain, Plains, none, more, arr_value, blob_or_null}
+use Rattle.adb_view.specs.Plain.{Plain, Plains, none, more, array_or_null, blob_or_null}
 use Rattle.adb_view.specs.Values.{entries_in, entry_in, int_in, text_in}
 use Rattle.adb_copy.specs.adb_fields.Paths.{path_of}
-use Rattle.adb_copy.specs.adb_fields.Repeated.{files_in, folders_in, list_of, name_of, paths_in, paths_under}
+use Rattle.adb_copy.specs.adb_fields.Repeated.{files_in, folders_in, list_of, name_of, paths_of_package_files, paths_of_folder_files}
 use Rattle.adb_copy.specs.Zeros.{int_or_null, without_zeros}
 use Rattle.adb_view.proofs.ValueEntries.{entries_arr, nth_obj, text_blob}
 use Rattle.adb_copy.proofs.WithoutZeros.{text_zeros}
@@ -50,14 +50,14 @@ files_owned m place folder i above (f ∷ files) [] = refl
 files_owned m place folder i above (f ∷ files) (true ∷ flags) = λ j. path_of above (name_zeros f j) ∷ files_owned m place folder (i + 1) above files flags j
 files_owned m place folder i above (f ∷ files) (false ∷ flags) = files_owned m place folder (i + 1) above files flags
 
-folder_owned : (m : Member) (place i : ℕ) (d : Plain) (flags : List Bool) → paths_under (folder_in_new_database d flags) ≡ paths_of (listings_in_folder m place i 1 (name_of d) (files_in d)) flags
+folder_owned : (m : Member) (place i : ℕ) (d : Plain) (flags : List Bool) → paths_of_folder_files (folder_in_new_database d flags) ≡ paths_of (listings_in_folder m place i 1 (name_of d) (files_in d)) flags
 folder_owned m place i d flags =
-    let fields : Plains = more (blob_or_null (name_of d)) (more (without_zeros (entry_in d 1)) (more (arr_value (owned_entries (files_in d) flags)) none)) in
+    let fields : Plains = more (blob_or_null (name_of d)) (more (without_zeros (entry_in d 1)) (more (array_or_null (owned_entries (files_in d) flags)) none)) in
     let name : name_of (folder_in_new_database d flags) ≡ name_of d = ap text_in (nth_obj fields 0) ∙ text_blob (name_of d) in
     let files : files_in (folder_in_new_database d flags) ≡ list_of (owned_entries (files_in d) flags) = ap (λ v. list_of (entries_in v)) (nth_obj fields 2) ∙ ap list_of (entries_arr (owned_entries (files_in d) flags)) in
     (λ j. map (λ file. path_of (name j) (name_of file)) (files j)) ∙ files_owned m place i 1 (name_of d) (files_in d) flags
 
-folders_owned : (m : Member) (place i : ℕ) (ds : List Plain) (flags : List Bool) → flat_map paths_under (list_of (folders_in_new_database ds flags)) ≡ paths_of (listings_in_folders m place i ds) flags
+folders_owned : (m : Member) (place i : ℕ) (ds : List Plain) (flags : List Bool) → flat_map paths_of_folder_files (list_of (folders_in_new_database ds flags)) ≡ paths_of (listings_in_folders m place i ds) flags
 folders_owned m place i [] flags = refl
 folders_owned m place i (d ∷ ds) flags =
     (λ j. folder_owned m place i d flags j ++ folders_owned m place (i + 1) ds (drop (file_count d) flags) j)
@@ -65,20 +65,20 @@ folders_owned m place i (d ∷ ds) flags =
 
 -- ---- packages
 
-pub package_owned : (m : Member) (place : ℕ) (flags : List Bool) → paths_in (package_in_new_database m flags) ≡ paths_of (listings_of_member place m) flags
+pub package_owned : (m : Member) (place : ℕ) (flags : List Bool) → paths_of_package_files (package_in_new_database m flags) ≡ paths_of (listings_of_member place m) flags
 package_owned m place flags =
     let folders : folders_in (package_in_new_database m flags) ≡ list_of (folders_in_new_database (folders_in m.pkg) flags) =
-    ap (λ v. list_of (entries_in v)) (nth_obj (more (info_in_new_database m.id (entry_in m.pkg 0)) (more (arr_value (folders_in_new_database (folders_in m.pkg) flags))
+    ap (λ v. list_of (entries_in v)) (nth_obj (more (info_in_new_database m.id (entry_in m.pkg 0)) (more (array_or_null (folders_in_new_database (folders_in m.pkg) flags))
     (more (without_zeros (entry_in m.pkg 2)) (more (without_zeros (entry_in m.pkg 3)) (more (int_or_null (int_in (entry_in m.pkg 4))) none))))) 1)
     ∙ ap list_of (entries_arr (folders_in_new_database (folders_in m.pkg) flags)) in
-    ap (flat_map paths_under) folders ∙ folders_owned m place 1 (folders_in m.pkg) flags
+    ap (flat_map paths_of_folder_files) folders ∙ folders_owned m place 1 (folders_in m.pkg) flags
 
-pub members_owned : (place : ℕ) (members : List Member) (flags : List Bool) → flat_map paths_in (list_of (packages_in_new_database members flags)) ≡ paths_of (listings_of_members_from place members) flags
+pub members_owned : (place : ℕ) (members : List Member) (flags : List Bool) → flat_map paths_of_package_files (list_of (packages_in_new_database members flags)) ≡ paths_of (listings_of_members_from place members) flags
 members_owned place [] flags = refl
 members_owned place (m ∷ members) flags =
     (λ j. package_owned m place flags j ++ members_owned (place + 1) members (drop (member_file_count m) flags) j)
     ∙ sym (paths_joined (listings_of_member place m) (listings_of_members_from (place + 1) members) (member_file_count m) flags (in_folders m place 1 (folders_in m.pkg)))
 
-pub all_owned_listed : (members : List Member) (flags : List Bool) → flat_map paths_in (list_of (packages_in_new_database members flags)) ≡ owned_paths members flags
+pub all_owned_listed : (members : List Member) (flags : List Bool) → flat_map paths_of_package_files (list_of (packages_in_new_database members flags)) ≡ owned_paths members flags
 unfolding member_listings
 all_owned_listed members flags = members_owned 0 members flags

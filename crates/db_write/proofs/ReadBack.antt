@@ -6,13 +6,13 @@ use Rattle.adb_block.specs.Header.{header_of}
 use Rattle.adb_block.specs.AllBlocks.{blocks_of}
 use Rattle.adb_block.specs.Container.{Spells}
 use Rattle.adb_block.specs.Piece.{Piece}
-use Rattle.adb_view.specs.Plain.{Plain, none, more, arr_value}
+use Rattle.adb_view.specs.Plain.{Plain, none, more, array_or_null}
 use Rattle.adb_view.specs.Values.{entries_in}
 use Rattle.adb_view.specs.declared.tables.Which.{Which}
 use Rattle.adb_view.specs.declared.tables.Which.TheVariants.{Idb, Package}
 use Rattle.adb_copy.specs.adb_fields.Repeated.{entries_at, list_of}
 use Rattle.adb_sound.specs.adb_schema.SoundContainers.{IsSoundContainer}
-use Rattle.adb_sound.specs.adb_schema.Soundness.{first_fault, payload_in, root_value, schema_word}
+use Rattle.adb_sound.specs.adb_schema.Soundness.{container_fault_except_contents, payload_in, root_value, schema_word}
 use Rattle.adb_sound.specs.adb_schema.declared.read.TheConstants.{IDB_WORD}
 use Rattle.adb_sound.specs.adb_write.Size.{size_of}
 use Rattle.adb_sound.specs.adb_write.Canonical.{MOST_BYTES, PayloadCounts, canonical, empty_layout, write, or_overflow, overflow_of, payload_or_overflow}
@@ -49,7 +49,7 @@ is_sound law members flags bytes root h =
 pub packages_in : (members : List Member) (flags : List Bool) → entries_at 0 (database_value members flags) ≡ list_of (packages_in_new_database members flags)
 unfolding database_value
 packages_in members flags =
-    ap (λ v. list_of (entries_in v)) (nth_obj (more (arr_value (packages_in_new_database members flags)) none) 0) ∙ ap list_of (entries_arr (packages_in_new_database members flags))
+    ap (λ v. list_of (entries_in v)) (nth_obj (more (array_or_null (packages_in_new_database members flags)) none) 0) ∙ ap list_of (entries_arr (packages_in_new_database members flags))
 
 pub is_read_back : Back → (members : List Member) (flags : List Bool) (bytes : List ℕ) → IsRootOf Idb (database_value members flags) → database_of members flags ≡ Ok bytes
     → entries_at 0 (root_value Idb (payload_in bytes)) ≡ list_of (packages_in_new_database members flags)
@@ -70,13 +70,13 @@ database_header spelled read v fits =
     (read (file_of IDB_WORD (canonical v)) IDB_WORD (adb_piece (canonical v) ∷ [])
     (spelled IDB_WORD (canonical v) (lit< tt) (payload_long (write v empty_layout).0 (write v empty_layout).1) fits)).0
 
-whole_is_first : (file : List ℕ) → header_of file ≡ Ok IDB_WORD → container_fault file ≡ None → first_fault Idb file ≡ None
-unfolding container_fault container_fault_of_table first_fault
+whole_is_first : (file : List ℕ) → header_of file ≡ Ok IDB_WORD → container_fault file ≡ None → container_fault_except_contents Idb file ≡ None
+unfolding container_fault container_fault_of_table container_fault_except_contents
 whole_is_first file header sound = sym (ap (container_fault_after_header file) header) ∙ sound
 
 pub is_sound_database : Spelled → ReadAs → Sound → (members : List Member) (flags : List Bool) (bytes : List ℕ) → IsRootOf Idb (database_value members flags) → database_of members flags ≡ Ok bytes → IsSoundContainer Idb bytes
 is_sound_database spelled read law members flags bytes root h =
-    subst (λ (file : List ℕ). first_fault Idb file ≡ None) (is_file members flags bytes h)
+    subst (λ (file : List ℕ). container_fault_except_contents Idb file ≡ None) (is_file members flags bytes h)
     (whole_is_first (file_of IDB_WORD (canonical (database_value members flags))) (database_header spelled read (database_value members flags) root.fits)
     (law Idb IDB_WORD (database_value members flags) refl not_package root))
 

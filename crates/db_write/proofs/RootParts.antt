@@ -1,7 +1,7 @@
 -- The value of a new database is normal and has its shape, part by part.
 use Rattle.std.proofs.Common.{ℕ, Bool, true, false, List, [], ◌∷◌, drop, Option}
 use Rattle.std.specs.Prelude.{unwrap_or}
-use Rattle.adb_view.specs.Plain.{Plain, Plains, int, blob, none, more, arr_value, blob_or_null, IsNormal, AreNormal}
+use Rattle.adb_view.specs.Plain.{Plain, Plains, int, blob, none, more, array_or_null, blob_or_null, IsNormal, AreNormal}
 use Rattle.adb_view.specs.Shaped.{Each, HasShape, IsArrayOrNullOf, HaveShapes}
 use Rattle.adb_view.specs.Schema.{shape_of, shapes_of, table}
 use Rattle.adb_view.specs.Values.{entries_in, entry_in, int_in, text_in}
@@ -53,14 +53,14 @@ members_enter (m ∷ members) h = (member_enters m.pkg m.id h.0, members_enter m
 -- ---- what is written of a folder, of a package and of a database
 
 abbrev pub fields_of_folder : Plain → List Bool → Plains
-fields_of_folder d flags = more (blob_or_null (name_of d)) (more (without_zeros (entry_in d 1)) (more (arr_value (owned_entries (files_in d) flags)) none))
+fields_of_folder d flags = more (blob_or_null (name_of d)) (more (without_zeros (entry_in d 1)) (more (array_or_null (owned_entries (files_in d) flags)) none))
 
 abbrev pub fields_of_package : Member → List Bool → Plains
-fields_of_package m flags = more (info_in_new_database m.id (entry_in m.pkg 0)) (more (arr_value (folders_in_new_database (folders_in m.pkg) flags))
+fields_of_package m flags = more (info_in_new_database m.id (entry_in m.pkg 0)) (more (array_or_null (folders_in_new_database (folders_in m.pkg) flags))
     (more (without_zeros (entry_in m.pkg 2)) (more (without_zeros (entry_in m.pkg 3)) (more (int_or_null (int_in (entry_in m.pkg 4))) none))))
 
 abbrev pub fields_of_database : List Member → List Bool → Plains
-fields_of_database members flags = more (arr_value (packages_in_new_database members flags)) none
+fields_of_database members flags = more (array_or_null (packages_in_new_database members flags)) none
 
 -- ---- normal
 

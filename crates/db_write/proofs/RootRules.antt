@@ -5,16 +5,16 @@ use Rattle.std.specs.List.{flat_map}
 use Rattle.version_core.specs.Order.{is_version}
 use Rattle.dep_core.specs.Dependency.{is_dep_name, is_package_name}
 use Rattle.dep_core.specs.Value.{is_match_number, is_version_or_empty}
-use Rattle.adb_view.specs.Plain.{Plain, int, blob, Plains, none, more, arr_value}
+use Rattle.adb_view.specs.Plain.{Plain, int, blob, Plains, none, more, array_or_null}
 use Rattle.adb_view.specs.Shaped.{Each, HasShape, IsArrayOrNullOf}
 use Rattle.adb_view.specs.Schema.{shape_of, shapes_of, table}
 use Rattle.adb_view.specs.Values.{entries_in, entry_in, int_in, text_in}
 use Rattle.adb_view.specs.declared.tables.Kind.TheVariants.{Obj}
 use Rattle.adb_view.specs.declared.tables.Which.TheVariants as Tables
 use Rattle.adb_copy.specs.adb_fields.Paths.{path_of}
-use Rattle.adb_copy.specs.adb_fields.Repeated.{files_in, folders_in, list_of, name_of, paths_in, paths_under}
+use Rattle.adb_copy.specs.adb_fields.Repeated.{files_in, folders_in, list_of, name_of, paths_of_package_files, paths_of_folder_files}
 use Rattle.adb_sound.specs.adb_schema.Reserved.{is_reserved}
-use Rattle.adb_sound.specs.adb_schema.Rules.{is_digest_length_or_none, is_file_name, is_folder_name, is_link_target_or_none}
+use Rattle.adb_sound.specs.adb_schema.Rules.{is_digest_length_or_none, is_file_name_in_folder, is_folder_name, is_link_target_or_none}
 use Rattle.adb_sound.specs.adb_schema.SoundValues.{IsSoundFileOf, IsSoundFolder, IsSoundInformation, IsSoundPackage, IsSoundDependency, KeepsRules}
 use Rattle.adb_copy.specs.Zeros.{all_without_zeros, info_with_id_and_size, with_value_at_index, without_zeros}
 use Rattle.adb_copy.proofs.Shapes.{entries_shape, nth_shape}
@@ -103,7 +103,7 @@ free_back (x ∷ xs) ys h = free_back xs ys h.1
 
 file_kept : (above : List ℕ) (v : Plain) → IsFileUnder above v → is_reserved (path_of above (name_of (without_zeros v))) ≡ false → IsSoundFileOf Tables.Idb above (without_zeros v)
 file_kept above v h free = record {
-  name = ap (is_file_name above) (name_zeros v) ∙ h.name;
+  name = ap (is_file_name_in_folder above) (name_zeros v) ∙ h.name;
   listed = ap not free;
   hash = ap (λ (t : List ℕ). is_digest_length_or_none (length t)) (ap text_in (entry_zeros v 4) ∙ text_zeros (entry_in v 4)) ∙ h.hash;
   target = ap is_link_target_or_none (ap text_in (entry_zeros v 5) ∙ text_zeros (entry_in v 5)) ∙ h.target;
@@ -116,7 +116,7 @@ files_kept above (more v vs) [] h free = tt
 files_kept above (more v vs) (true ∷ flags) h free = (file_kept above v h.0 free.0, files_kept above vs flags h.1 free.1)
 files_kept above (more v vs) (false ∷ flags) h free = files_kept above vs flags h.1 free
 
-folder_kept : (d : Plain) (flags : List Bool) → IsFolderAnywhere d → NoneReserved (paths_under (folder_in_new_database d flags)) → IsSoundFolder Tables.Idb (folder_in_new_database d flags)
+folder_kept : (d : Plain) (flags : List Bool) → IsFolderAnywhere d → NoneReserved (paths_of_folder_files (folder_in_new_database d flags)) → IsSoundFolder Tables.Idb (folder_in_new_database d flags)
 folder_kept d flags h free =
     let owned : Plains = owned_entries (files_in d) flags in
     let paths : NoneReserved (map (λ file. path_of (name_of d) (name_of file)) (list_of owned)) =
@@ -129,35 +129,35 @@ folder_kept d flags h free =
           (subst (Each (IsSoundFileOf Tables.Idb (name_of d))) (sym (folder_files d flags)) files);
     }
 
-folders_kept : (vs : Plains) (flags : List Bool) → Each IsFolderAnywhere vs → NoneReserved (flat_map paths_under (list_of (folders_in_new_database (list_of vs) flags))) → Each (IsSoundFolder Tables.Idb) (folders_in_new_database (list_of vs) flags)
+folders_kept : (vs : Plains) (flags : List Bool) → Each IsFolderAnywhere vs → NoneReserved (flat_map paths_of_folder_files (list_of (folders_in_new_database (list_of vs) flags))) → Each (IsSoundFolder Tables.Idb) (folders_in_new_database (list_of vs) flags)
 folders_kept none flags h free = tt
 folders_kept (more d ds) flags h free =
-    let others : List (List ℕ) = flat_map paths_under (list_of (folders_in_new_database (list_of ds) (drop (file_count d) flags))) in (
-      folder_kept d flags h.0 (free_front (paths_under (folder_in_new_database d flags)) others free),
-      folders_kept ds (drop (file_count d) flags) h.1 (free_back (paths_under (folder_in_new_database d flags)) others free),
+    let others : List (List ℕ) = flat_map paths_of_folder_files (list_of (folders_in_new_database (list_of ds) (drop (file_count d) flags))) in (
+      folder_kept d flags h.0 (free_front (paths_of_folder_files (folder_in_new_database d flags)) others free),
+      folders_kept ds (drop (file_count d) flags) h.1 (free_back (paths_of_folder_files (folder_in_new_database d flags)) others free),
     )
 
 -- ---- packages
 
-package_kept : (m : Member) (flags : List Bool) → IsOfSoundContainer m.pkg m.id → NoneReserved (paths_in (package_in_new_database m flags)) → IsSoundPackage Tables.Idb (package_in_new_database m flags)
+package_kept : (m : Member) (flags : List Bool) → IsOfSoundContainer m.pkg m.id → NoneReserved (paths_of_package_files (package_in_new_database m flags)) → IsSoundPackage Tables.Idb (package_in_new_database m flags)
 unfolding shape_of HasShape
 package_kept m flags from free =
     let h : MayEnter m.pkg = member_enters m.pkg m.id from in
     let info : HasShape (shape_of (Obj Tables.PkgInfo)) (entry_in m.pkg 0) =
     nth_shape (shapes_of (table Tables.Package)) (entries_in m.pkg) 0 (entries_shape 7 (shapes_of (table Tables.Package)) m.pkg h.shape) in
-    let paths : NoneReserved (flat_map paths_under (list_of (folders_in_new_database (folders_in m.pkg) flags))) =
-    subst (λ (vs : Plains). NoneReserved (flat_map paths_under (list_of vs))) (package_folders m flags) free in
+    let paths : NoneReserved (flat_map paths_of_folder_files (list_of (folders_in_new_database (folders_in m.pkg) flags))) =
+    subst (λ (vs : Plains). NoneReserved (flat_map paths_of_folder_files (list_of vs))) (package_folders m flags) free in
     record {
       info = subst (IsSoundInformation Tables.Idb) (sym (package_info m flags)) (info_kept m.id (entry_in m.pkg 0) info m.pkg from h.info);
       folders = subst (Each (IsSoundFolder Tables.Idb)) (sym (package_folders m flags)) (folders_kept (entries_in (entry_in m.pkg 1)) flags h.folders paths);
     }
 
-packages_kept : (members : List Member) (flags : List Bool) → AreOfSoundContainers members → NoneReserved (flat_map paths_in (list_of (packages_in_new_database members flags))) → Each (IsSoundPackage Tables.Idb) (packages_in_new_database members flags)
+packages_kept : (members : List Member) (flags : List Bool) → AreOfSoundContainers members → NoneReserved (flat_map paths_of_package_files (list_of (packages_in_new_database members flags))) → Each (IsSoundPackage Tables.Idb) (packages_in_new_database members flags)
 packages_kept [] flags h free = tt
 packages_kept (m ∷ members) flags h free =
-    let others : List (List ℕ) = flat_map paths_in (list_of (packages_in_new_database members (drop (member_file_count m) flags))) in (
-      package_kept m flags h.0 (free_front (paths_in (package_in_new_database m flags)) others free),
-      packages_kept members (drop (member_file_count m) flags) h.1 (free_back (paths_in (package_in_new_database m flags)) others free),
+    let others : List (List ℕ) = flat_map paths_of_package_files (list_of (packages_in_new_database members (drop (member_file_count m) flags))) in (
+      package_kept m flags h.0 (free_front (paths_of_package_files (package_in_new_database m flags)) others free),
+      packages_kept members (drop (member_file_count m) flags) h.1 (free_back (paths_of_package_files (package_in_new_database m flags)) others free),
     )
 
 -- ---- the database
@@ -165,5 +165,5 @@ packages_kept (m ∷ members) flags h free =
 pub rules_kept : (members : List Member) (flags : List Bool) → AreOfSoundContainers members → NoneReserved (owned_paths members flags) → KeepsRules Tables.Idb (database_value members flags)
 unfolding database_value
 rules_kept members flags h free =
-    subst (Each (IsSoundPackage Tables.Idb)) (sym (ap entries_in (nth_obj (more (arr_value (packages_in_new_database members flags)) none) 0) ∙ entries_arr (packages_in_new_database members flags)))
+    subst (Each (IsSoundPackage Tables.Idb)) (sym (ap entries_in (nth_obj (more (array_or_null (packages_in_new_database members flags)) none) 0) ∙ entries_arr (packages_in_new_database members flags)))
     (packages_kept members flags h (subst NoneReserved (sym (all_owned_listed members flags)) free))

@@ -14,19 +14,19 @@ use Rattle.adb_copy.specs.adb_fields.FirstPair.{IsIn}
 use Rattle.adb_copy.specs.adb_fields.Once.{EachHasDistinctNames, AreDistinctNames, HaveNoRepeatInside}
 use Rattle.adb_copy.specs.adb_fields.Repeated.{entries_at, files_in, folders_in, list_of, name_of}
 use Rattle.adb_copy.proofs.adb_fields.Distinct.{distinct_front}
-use Rattle.adb_sound.specs.adb_schema.Rules.{is_digest_length, is_digest_length_or_none, is_file_name, is_folder_name, is_link_target_or_none}
+use Rattle.adb_sound.specs.adb_schema.Rules.{is_digest_length, is_digest_length_or_none, is_file_name_in_folder, is_folder_name, is_link_target_or_none}
 use Rattle.adb_sound.specs.adb_schema.SoundValues.{IsSoundFileOf, IsSoundFolder, IsSoundInformation, IsSoundPackage}
-use Rattle.adb_sound.specs.adb_schema.Texts.{is_with_contents, needs_hash}
+use Rattle.adb_sound.specs.adb_schema.Texts.{is_file_with_contents, needs_file_hash}
 use Rattle.adb_sound.specs.adb_schema.SoundContainers.{IsSoundContainer, IsSoundValue}
 use Rattle.adb_sound.specs.adb_schema.Soundness.{payload_in, root_value}
 use Rattle.adb_copy.proofs.Shapes.{entries_shape, nth_shape}
-use Rattle.db_core.specs.SoundMembers.{IsOfSoundContainer, IsOfSoundDatabase, IsOfSoundPackage}
+use Rattle.db_core.specs.SoundMembers.{IsOfSoundContainer, IsOfSoundDatabase, IsSoundPackageAndDigest}
 use Rattle.db_write.proofs.Unchanged.{array_entries}
 use Rattle.adb_copy.proofs.WithoutZeros.{HasInts, each_ints, entries_ints, normal_ints, nth_ints}
 
 -- a file of a folder with this name, in whichever container it stands
 pub record IsFileUnder (folder : List ℕ) (v : Plain) : Type 0 where
-  pub name : is_file_name folder (name_of v) ≡ true
+  pub name : is_file_name_in_folder folder (name_of v) ≡ true
   pub hash : is_digest_length_or_none (length (text_in (entry_in v 4))) ≡ true
   pub target : is_link_target_or_none (text_in (entry_in v 5)) ≡ true
 
@@ -79,7 +79,7 @@ digest_or_none n e = or_right _ (is_digest_length n) e
 file_under : (root : Which) (folder : List ℕ) (v : Plain) → IsSoundFileOf root folder v → IsFileUnder folder v
 file_under root folder v h = record {
   name = h.name;
-  hash = hash_or_none (needs_hash root (is_with_contents v)) (length (text_in (entry_in v 4))) h.hash;
+  hash = hash_or_none (needs_file_hash root (is_file_with_contents v)) (length (text_in (entry_in v 4))) h.hash;
   target = h.target;
 }
 
@@ -101,7 +101,7 @@ of_package v h = record {
 
 -- ---- by the container
 
-package_enters : (pkg : Plain) (id : List ℕ) → IsOfSoundPackage pkg id → MayEnter pkg
+package_enters : (pkg : Plain) (id : List ℕ) → IsSoundPackageAndDigest pkg id → MayEnter pkg
 package_enters pkg id h =
     let rules : IsSoundPackage Tables.Package pkg = h.sound.rules in
     let once : HaveNoRepeatInside (pkg ∷ []) = h.sound.once in

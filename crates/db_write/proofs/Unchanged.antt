@@ -1,6 +1,6 @@
 -- Where nothing changes, the value is written as it was, without zeros.
 use Rattle.std.proofs.Common.{◌≡◌, ℕ, suc, zero, ◌-◌, ◌≤◌, Bool, true, List, [], ◌∷◌, map, drop, replicate, None, Ok, refl, ap, sym, ◌∙◌, subst, arith}
-use Rattle.adb_view.specs.Plain.{Plain, null, int, blob, arr, obj, Plains, none, more, blob_or_null, arr_value, obj_value}
+use Rattle.adb_view.specs.Plain.{Plain, null, int, blob, arr, obj, Plains, none, more, blob_or_null, array_or_null, trimmed_object_or_null}
 use Rattle.adb_view.specs.Shaped.{Each, HasShape, IsArrayOrNullOf}
 use Rattle.adb_view.specs.Schema.{shape_of, shapes_of, table}
 use Rattle.adb_view.specs.Values.{count_of, entries_in, entry_in, int_in, text_in}
@@ -65,8 +65,8 @@ folder_same v m h enough =
     let files : IsArrayOrNullOf (HasShape (shape_of (Kinds.Obj Tables.File))) (entry_in v 2) = nth_shape (shapes_of (table Tables.Dir)) (entries_in v) 2 (entries_shape 5 (shapes_of (table Tables.Dir)) v h) in
     let owned : owned_entries (files_in v) (replicate m true) ≡ all_without_zeros (entries_in (entry_in v 2)) =
     owned_all (entries_in (entry_in v 2)) m (omega (arith, enough, count-listed (entries_in (entry_in v 2)))) in
-    ap (λ fs. obj_value (more (blob_or_null (name_of v)) (more (without_zeros (entry_in v 1)) (more fs none))))
-    (ap arr_value owned ∙ sym (zeros_array (HasShape (shape_of (Kinds.Obj Tables.File))) (entry_in v 2) files))
+    ap (λ fs. trimmed_object_or_null (more (blob_or_null (name_of v)) (more (without_zeros (entry_in v 1)) (more fs none))))
+    (ap array_or_null owned ∙ sym (zeros_array (HasShape (shape_of (Kinds.Obj Tables.File))) (entry_in v 2) files))
     ∙ object_written 5 (shapes_of (table Tables.Dir)) v h
 
 -- ---- packages
@@ -89,8 +89,8 @@ package_same v m h enough =
     ap (λ ds. folders_in_new_database ds (replicate m true)) (sym (map_same listed))
     ∙ each_all file_count folder_in_new_database (λ d. d) (HasShape (shape_of (Kinds.Obj Tables.Dir))) folder_same (entries_in (entry_in v 1)) m (array_entries (HasShape (shape_of (Kinds.Obj Tables.Dir))) (entry_in v 1) folders)
     (subst (λ ds. total_of file_count ds ≤ m) (sym (map_same listed)) enough) in
-    (λ j. obj_value (more (info_same (entry_in v 0) info j)
-    (more ((ap arr_value all ∙ sym (zeros_array (HasShape (shape_of (Kinds.Obj Tables.Dir))) (entry_in v 1) folders)) j)
+    (λ j. trimmed_object_or_null (more (info_same (entry_in v 0) info j)
+    (more ((ap array_or_null all ∙ sym (zeros_array (HasShape (shape_of (Kinds.Obj Tables.Dir))) (entry_in v 1) folders)) j)
     (more (without_zeros (entry_in v 2)) (more (without_zeros (entry_in v 3)) (more (int_or_null (int_in (entry_in v 4))) none))))))
     ∙ object_written 7 (shapes_of (table Tables.Package)) v h
 
@@ -104,7 +104,7 @@ database_same v h =
     let all : packages_in_new_database members (all_owned members) ≡ all_without_zeros (entries_in (entry_in v 0)) =
     each_all member_file_count package_in_new_database member_of_kept (HasShape (shape_of (Kinds.Obj Tables.Package))) package_same (entries_in (entry_in v 0)) (total_of member_file_count members)
     (array_entries (HasShape (shape_of (Kinds.Obj Tables.Package))) (entry_in v 0) packages) (omega arith) in
-    ap (λ ps. obj_value (more ps none)) (ap arr_value all ∙ sym (zeros_array (HasShape (shape_of (Kinds.Obj Tables.Package))) (entry_in v 0) packages))
+    ap (λ ps. trimmed_object_or_null (more ps none)) (ap array_or_null all ∙ sym (zeros_array (HasShape (shape_of (Kinds.Obj Tables.Package))) (entry_in v 0) packages))
     ∙ object_written 9 (shapes_of (table Tables.Idb)) v h
 
 pub bytes_same : (v : Plain) (payload : List ℕ) → HasShape (shape_of (Kinds.Obj Tables.Idb)) v → without_zeros v ≡ v → payload_or_overflow v ≡ Ok payload

@@ -3,7 +3,7 @@
 -- The rules are in `docs/formats.md`, "The database after a change"; the fields in "Schemas", tables 5,
 -- 7 and 9.
 use Rattle.std.specs.Prelude.{ℕ, ◌+◌, Bool, true, false, List, [], ◌∷◌, Option, length, drop, unwrap_or, Result, Ok, Err}
-use Rattle.adb_view.specs.Plain.{Plain, Plains, none, more, blob_or_null, arr_value, obj_value}
+use Rattle.adb_view.specs.Plain.{Plain, Plains, none, more, blob_or_null, array_or_null, trimmed_object_or_null}
 use Rattle.adb_view.specs.FieldIndexes.{DIR_ACL, INFO_FILE_SIZE, INFO_HASHES, PACKAGE_INFO, PACKAGE_REPLACES_PRIORITY, PACKAGE_SCRIPTS, PACKAGE_TRIGGERS}
 use Rattle.adb_view.specs.Values.{entry_in, int_in, text_in}
 use Rattle.adb_copy.specs.adb_fields.Repeated.{name_of, folders_in, files_in}
@@ -45,8 +45,9 @@ file_count folder = length (files_in folder)
 -- a folder in the new database: its name, its access list, and those of its files whose flag is set
 abbrev pub folder_in_new_database : Plain → List Bool → Plain
 folder_in_new_database folder flags =
-    obj_value (more (blob_or_null (name_of folder)) (more (without_zeros (entry_in folder DIR_ACL))
-    (more (arr_value (owned_entries (files_in folder) flags)) none)))
+    trimmed_object_or_null (more (blob_or_null (name_of folder))
+    (more (without_zeros (entry_in folder DIR_ACL))
+    (more (array_or_null (owned_entries (files_in folder) flags)) none)))
 
 -- the folders of a package in the new database; each takes as many flags as it has files
 abbrev pub folders_in_new_database : List Plain → List Bool → Plains
@@ -68,21 +69,23 @@ info_in_new_database id info =
 -- priority in replacing
 abbrev pub package_in_new_database : Member → List Bool → Plain
 package_in_new_database m flags =
-    obj_value (more (info_in_new_database m.id (entry_in m.pkg PACKAGE_INFO))
-    (more (arr_value (folders_in_new_database (folders_in m.pkg) flags))
+    trimmed_object_or_null (more (info_in_new_database m.id (entry_in m.pkg PACKAGE_INFO))
+    (more (array_or_null (folders_in_new_database (folders_in m.pkg) flags))
     (more (without_zeros (entry_in m.pkg PACKAGE_SCRIPTS))
     (more (without_zeros (entry_in m.pkg PACKAGE_TRIGGERS))
     (more (int_or_null (int_in (entry_in m.pkg PACKAGE_REPLACES_PRIORITY))) none)))))
 
 -- the packages of the new database, each with the flags of its own files
 abbrev pub packages_in_new_database : List Member → List Bool → Plains
-packages_in_new_database members flags = each_by_flags member_file_count package_in_new_database members flags
+packages_in_new_database members flags =
+    each_by_flags member_file_count package_in_new_database members flags
 
 -- ---- the database
 
 -- the value of the new database
 unfoldable pub database_value : List Member → List Bool → Plain
-database_value members flags = obj_value (more (arr_value (packages_in_new_database members flags)) none)
+database_value members flags =
+    trimmed_object_or_null (more (array_or_null (packages_in_new_database members flags)) none)
 
 -- the file of a database with this payload, unless the payload exceeds a limit of the writer
 abbrev pub database_container : Result (List ℕ) PayloadCounts → Result (List ℕ) PayloadCounts

@@ -11,7 +11,7 @@ ghost use Rattle.adb_view.specs.declared.tables.Which.TheVariants as Tables;
 ghost use Rattle.adb_copy.specs.adb_values.Drafts.{draft_with};
 ghost use Rattle.adb_view.specs.Adb.{payload_of};
 ghost use Rattle.adb_view.specs.Entries.{array_entries};
-ghost use Rattle.adb_view.specs.Plain.{arr_value};
+ghost use Rattle.adb_view.specs.Plain.{array_or_null};
 ghost use Rattle.db_write.specs.NewDatabase.{file_count, folder_in_new_database, folders_in_new_database, owned_entries, total_of};
 ghost use Rattle.std.specs.Prelude.{◌≡◌, ◌<◌, true, false, OnOk, Some, drop, length, slice_get, unwrap_or};
 
@@ -31,9 +31,11 @@ pub(crate) fn write_folders(
 ) -> Result<(), AllocError>
     requires sound { is_sound (payload_of adb) (Kinds.Obj Tables.Package) pkg ≡ true }
     requires known { AreRememberedBlobsOfDraft (payload_of adb) draft.old known.old }
-    ensures folders { OnOk result (draft.new ≡ draft_with (arr_value (folders_in_new_database (folders_in
+    ensures folders { OnOk result (draft.new
+        ≡ draft_with (array_or_null (folders_in_new_database (folders_in
         (value_at (payload_of adb.entry) (Kinds.Obj Tables.Package) pkg)) flags.now)) draft.old) }
-    ensures known { OnOk result (AreRememberedBlobsOfDraft (payload_of adb.entry) draft.new known.new) }
+    ensures known { OnOk result (AreRememberedBlobsOfDraft
+        (payload_of adb.entry) draft.new known.new) }
 {
     let folders = objects_field(adb, Which::Package, pkg, PACKAGE_PATHS, Which::Dir);
     write_folder_list(draft, adb, known, folders, flags)
@@ -60,10 +62,12 @@ fn write_folder_list<'a>(
     requires sound { are_all_sound (payload_of adb) (Kinds.Obj Tables.Dir) (array_entries folders)
         ≡ true }
     requires known { AreRememberedBlobsOfDraft (payload_of adb) draft.old known.old }
-    ensures folders { OnOk result (draft.new ≡ draft_with (arr_value (folders_in_new_database (list_of
+    ensures folders { OnOk result (draft.new
+        ≡ draft_with (array_or_null (folders_in_new_database (list_of
         (entries_in (array_at (payload_of adb.entry) (Kinds.Obj Tables.Dir)
         (array_entries folders.entry)))) flags.now)) draft.old) }
-    ensures known { OnOk result (AreRememberedBlobsOfDraft (payload_of adb.entry) draft.new known.new) }
+    ensures known { OnOk result (AreRememberedBlobsOfDraft
+        (payload_of adb.entry) draft.new known.new) }
 {
     draft.open_list()?;
     let mut left = flags;
@@ -119,7 +123,8 @@ fn write_folder(
     requires known { AreRememberedBlobsOfDraft (payload_of adb) draft.old known.old }
     ensures folder { OnOk result (draft.new ≡ draft_with (folder_in_new_database
         (value_at (payload_of adb.entry) (Kinds.Obj Tables.Dir) folder) flags.now) draft.old) }
-    ensures known { OnOk result (AreRememberedBlobsOfDraft (payload_of adb.entry) draft.new known.new) }
+    ensures known { OnOk result (AreRememberedBlobsOfDraft
+        (payload_of adb.entry) draft.new known.new) }
 {
     draft.open_list()?;
     known.write_field(draft, adb, Which::Dir, folder, DIR_NAME)?;
@@ -141,10 +146,11 @@ fn write_files<'a>(
     requires sound { are_all_sound (payload_of adb) (Kinds.Obj Tables.File) (array_entries files)
         ≡ true }
     requires known { AreRememberedBlobsOfDraft (payload_of adb) draft.old known.old }
-    ensures files { OnOk result (draft.new ≡ draft_with (arr_value (owned_entries (list_of
+    ensures files { OnOk result (draft.new ≡ draft_with (array_or_null (owned_entries (list_of
         (entries_in (array_at (payload_of adb.entry) (Kinds.Obj Tables.File)
         (array_entries files.entry)))) flags.now)) draft.old) }
-    ensures known { OnOk result (AreRememberedBlobsOfDraft (payload_of adb.entry) draft.new known.new) }
+    ensures known { OnOk result (AreRememberedBlobsOfDraft
+        (payload_of adb.entry) draft.new known.new) }
 {
     draft.open_list()?;
     for i in 0..files.len() {

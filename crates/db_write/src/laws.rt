@@ -4,7 +4,7 @@
 //! "The installed database" (the conditions on owned files).
 ghost use Rattle.adb_copy.specs.Zeros.{without_zeros};
 ghost use Rattle.adb_copy.specs.adb_fields.FirstPair.{IsIn};
-ghost use Rattle.adb_copy.specs.adb_fields.Repeated.{entries_at, folders_in, list_of, name_of, paths_in};
+ghost use Rattle.adb_copy.specs.adb_fields.Repeated.{entries_at, folders_in, list_of, name_of, paths_of_package_files};
 ghost use Rattle.adb_sound.specs.adb_schema.Rules.{is_digest_length};
 ghost use Rattle.adb_sound.specs.adb_schema.SoundContainers.{IsSoundContainer};
 ghost use Rattle.adb_sound.specs.adb_schema.Soundness.{payload_in, root_value};
@@ -90,7 +90,8 @@ pub fn packages_of_sound_containers_may_be_members()
 /// their order.
 pub fn a_database_lists_the_owned_files()
     ensures { (members : List Member) (flags : List Bool)
-        → flat_map paths_in (list_of (packages_in_new_database members flags)) ≡ owned_paths members flags }
+        → flat_map paths_of_package_files (list_of (packages_in_new_database members flags))
+        ≡ owned_paths members flags }
 {}
 
 /// A database that is read and written with nothing changed has the same value, in which an integer
@@ -127,7 +128,8 @@ pub fn a_package_keeps_its_information()
 /// even if no file of them is owned.
 pub fn a_package_keeps_its_folders()
     ensures names { (m : Member) (flags : List Bool)
-        → map name_of (folders_in (package_in_new_database m flags)) ≡ map name_of (folders_in m.pkg) }
+        → map name_of (folders_in (package_in_new_database m flags))
+        ≡ map name_of (folders_in m.pkg) }
     ensures acls { (m : Member) (flags : List Bool)
         → map (λ folder. entry_in folder DIR_ACL) (folders_in (package_in_new_database m flags))
         ≡ map (λ folder. without_zeros (entry_in folder DIR_ACL)) (folders_in m.pkg) }

@@ -8,7 +8,7 @@ ghost use Rattle.adb_view.specs.declared.tables.Kind.TheVariants as Kinds;
 ghost use Rattle.adb_view.specs.declared.tables.Which.TheVariants as Tables;
 ghost use Rattle.adb_copy.specs.adb_values.Drafts.{draft_with};
 ghost use Rattle.adb_view.specs.Adb.{payload_of};
-ghost use Rattle.adb_view.specs.Plain.{arr_value};
+ghost use Rattle.adb_view.specs.Plain.{array_or_null};
 ghost use Rattle.db_core.specs.Members.{Member};
 ghost use Rattle.db_core.specs.Seen.{members_of, payload_of_old_database};
 ghost use Rattle.db_write.specs.NewDatabase.{info_in_new_database, member_file_count, package_in_new_database, packages_in_new_database};
@@ -37,7 +37,8 @@ pub(crate) fn write_packages(
     flags: &[bool],
 ) -> Result<(), AllocError>
     ensures { OnOk result (draft.new
-        ≡ draft_with (arr_value (packages_in_new_database (members_of members.now) flags.now)) draft.old) }
+        ≡ draft_with (array_or_null (packages_in_new_database
+        (members_of members.now) flags.now)) draft.old) }
 {
     let mut known = KnownTexts::new(alloc);
     draft.open_list()?;
@@ -72,10 +73,12 @@ fn write_member(
     flags: &[bool],
 ) -> Result<(), AllocError>
     requires within { i < length (members_of members.now) }
-    requires known { AreRememberedBlobsOfDraft (payload_of_old_database members.now) draft.old known.old }
+    requires known { AreRememberedBlobsOfDraft
+        (payload_of_old_database members.now) draft.old known.old }
     ensures value { OnOk result ((m : Member) → slice_get (members_of members.now) i ≡ Some m
         → draft.new ≡ draft_with (package_in_new_database m flags.now) draft.old) }
-    ensures known { OnOk result (AreRememberedBlobsOfDraft (payload_of_old_database members.now) draft.new known.new) }
+    ensures known { OnOk result (AreRememberedBlobsOfDraft
+        (payload_of_old_database members.now) draft.new known.new) }
 {
     let view = members.view(i);
     let adb = view.adb();
@@ -104,7 +107,8 @@ fn write_package(
     ensures value { OnOk result (draft.new ≡ draft_with (package_in_new_database
         (record { pkg = value_at (payload_of adb.entry) (Kinds.Obj Tables.Package) pkg; id = id })
         flags.now) draft.old) }
-    ensures known { OnOk result (AreRememberedBlobsOfDraft (payload_of adb.entry) draft.new known.new) }
+    ensures known { OnOk result (AreRememberedBlobsOfDraft
+        (payload_of adb.entry) draft.new known.new) }
 {
     draft.open_list()?;
     write_member_info(draft, adb, known, pkg, id)?;
@@ -132,7 +136,8 @@ fn write_member_info(
     ensures info { OnOk result (draft.new ≡ draft_with (info_in_new_database id (entry_in
         (value_at (payload_of adb.entry) (Kinds.Obj Tables.Package) pkg) PACKAGE_INFO))
         draft.old) }
-    ensures known { OnOk result (AreRememberedBlobsOfDraft (payload_of adb.entry) draft.new known.new) }
+    ensures known { OnOk result (AreRememberedBlobsOfDraft
+        (payload_of adb.entry) draft.new known.new) }
 {
     let info = field_word(adb, Which::Package, pkg, PACKAGE_INFO);
     let own = hash_field(adb, Which::PkgInfo, info, INFO_HASHES);

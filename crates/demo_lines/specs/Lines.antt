@@ -8,19 +8,20 @@ use Rattle.std.specs.Prelude.{ℕ, zero, suc, ◌+◌, ◌*◌, ◌/◌, ◌%◌
 abbrev pub digit_zero : ℕ
 digit_zero = 48
 
--- the digit of i at a unit, as 100 for hundreds, in ASCII
-abbrev pub digit_at : ℕ → ℕ → ℕ
-digit_at unit i = digit_zero + i / unit % 10
+-- the ASCII code of one decimal digit of i: for the unit 100 that of the hundreds
+abbrev pub digit_at_unit : ℕ → ℕ → ℕ
+digit_at_unit unit i = digit_zero + i / unit % 10
 
 -- the name of package i: `p` and i in five digits
 abbrev pub demo_name : ℕ → List ℕ
 demo_name i =
     codes "p"
-    ++ (digit_at 10000 i ∷ digit_at 1000 i ∷ digit_at 100 i ∷ digit_at 10 i ∷ digit_at 1 i ∷ [])
+    ++ (digit_at_unit 10000 i ∷ digit_at_unit 1000 i ∷ digit_at_unit 100 i ∷ digit_at_unit 10 i
+    ∷ digit_at_unit 1 i ∷ [])
 
 -- the version of package i: `1.A-rB`, where A is i modulo 7, and B is i modulo 3
 abbrev pub demo_version : ℕ → List ℕ
-demo_version i = codes "1." ++ (digit_at 1 (i % 7) ∷ codes "-r" ++ (digit_at 1 (i % 3) ∷ []))
+demo_version i = codes "1." ++ (digit_at_unit 1 (i % 7) ∷ codes "-r" ++ (digit_at_unit 1 (i % 3) ∷ []))
 
 -- the folder with the files of package i
 abbrev pub demo_folder : ℕ → List ℕ
@@ -35,8 +36,8 @@ abbrev pub demo_text : ℕ → List ℕ
 demo_text i = demo_name i ++ codes "\n"
 
 -- the path of package i, in the folder of the index
-abbrev pub demo_package : ℕ → List ℕ
-demo_package i = demo_folder i ++ codes "-" ++ demo_version i ++ codes ".apk"
+abbrev pub demo_package_path : ℕ → List ℕ
+demo_package_path i = demo_folder i ++ codes "-" ++ demo_version i ++ codes ".apk"
 
 -- ---- the command lines
 
@@ -49,36 +50,37 @@ depends_words i =
 -- the words that make package i
 abbrev pub mkpkg_words : ℕ → List (List ℕ)
 mkpkg_words i =
-    codes "mkpkg" ∷ codes "-F" ∷ demo_folder i ∷ codes "-o" ∷ demo_package i
+    codes "mkpkg" ∷ codes "-F" ∷ demo_folder i ∷ codes "-o" ∷ demo_package_path i
     ∷ codes "-I" ∷ (codes "name:" ++ demo_name i) ∷ codes "-I" ∷ (codes "version:" ++ demo_version i)
     ∷ depends_words i
 
 -- the path of the index
-abbrev pub demo_index : List ℕ
-demo_index = codes "demo/index.adb"
+abbrev pub demo_index_path : List ℕ
+demo_index_path = codes "demo/index.adb"
 
 -- the contents of `etc/apk/repositories`
 abbrev pub demo_repositories : List ℕ
-demo_repositories = demo_index ++ codes "\n"
+demo_repositories = demo_index_path ++ codes "\n"
 
 -- the paths of the packages 1 to n
-abbrev pub demo_packages : ℕ → List (List ℕ)
-demo_packages zero = []
-demo_packages (suc i) = demo_packages i ++ (demo_package (suc i) ∷ [])
+abbrev pub demo_package_paths : ℕ → List (List ℕ)
+demo_package_paths zero = []
+demo_package_paths (suc i) = demo_package_paths i ++ (demo_package_path (suc i) ∷ [])
 
 -- the words that make the index of n packages
 abbrev pub mkndx_words : ℕ → List (List ℕ)
-mkndx_words n = codes "mkndx" ∷ codes "-o" ∷ demo_index ∷ demo_packages n
+mkndx_words n = codes "mkndx" ∷ codes "-o" ∷ demo_index_path ∷ demo_package_paths n
 
 -- the name of package i, if none of n depends on it: only packages 2i and 2i + 1 could
-abbrev pub name_if_not_needed : ℕ → ℕ → List (List ℕ)
-name_if_not_needed n i = if nat_lt n (2 * i) then demo_name i ∷ [] else []
+abbrev pub name_unless_needed_by_first_n : ℕ → ℕ → List (List ℕ)
+name_unless_needed_by_first_n n i = if nat_lt n (2 * i) then demo_name i ∷ [] else []
 
 -- the names of those of the packages 1 to i on which none of n depends
-abbrev pub names_not_needed : ℕ → ℕ → List (List ℕ)
-names_not_needed n zero = []
-names_not_needed n (suc i) = names_not_needed n i ++ name_if_not_needed n (suc i)
+abbrev pub names_not_needed_by_first_n : ℕ → ℕ → List (List ℕ)
+names_not_needed_by_first_n n zero = []
+names_not_needed_by_first_n n (suc i) =
+    names_not_needed_by_first_n n i ++ name_unless_needed_by_first_n n (suc i)
 
 -- the words that add those of n packages on which no other depends
 abbrev pub add_words : ℕ → List (List ℕ)
-add_words n = codes "add" ∷ codes "--initdb" ∷ codes "--allow-untrusted" ∷ names_not_needed n n
+add_words n = codes "add" ∷ codes "--initdb" ∷ codes "--allow-untrusted" ∷ names_not_needed_by_first_n n n

@@ -1,11 +1,11 @@
 //! The command lines that `demo` runs, the number of packages that it makes, and its report. The
 //! rules are in `docs/commands.md`, "`demo N`".
 //!
-//! The number of words before a call that adds some is bounded by round numbers, 16, 32 and
-//! 100,000. A list of words has a limit, 4,294,967,294, which no command of `demo` comes near.
+//! The contracts bound the number of words before a call that adds some by 16, 32 or 100,000. A
+//! list of words holds at most 4,294,967,294, and no command of `demo` comes near this limit.
 
 ghost use Rattle.std.specs.Prelude.{◌≡◌, ◌<◌, ◌++◌, ◌∷◌, [], codes, length, IfOk, OnOk, true, IsTrue, Some};
-ghost use Rattle.demo_lines.specs.Lines.{add_words, demo_name, demo_package, demo_packages, demo_version, depends_words, mkndx_words, mkpkg_words, name_if_not_needed, names_not_needed};
+ghost use Rattle.demo_lines.specs.Lines.{add_words, demo_name, demo_package_path, demo_package_paths, demo_version, depends_words, mkndx_words, mkpkg_words, name_unless_needed_by_first_n, names_not_needed_by_first_n};
 ghost use Rattle.std.specs.Str.Parse.{digits_value};
 ghost use Rattle.command_core.specs.Operands.{exactly, is_demo_number};
 ghost use Rattle.command_core.specs.Sound.{are_allowed_operands};
@@ -15,7 +15,7 @@ ghost use Rattle.demo_lines.specs.Report.{demo_line, last_line};
 ghost use Rattle.dep_core.specs.World.{is_line_end};
 ghost use Rattle.std.specs.List.{after_last};
 
-use crate::texts::{INDEX, demo_folder, demo_package, push_name, push_version};
+use crate::texts::{INDEX, demo_folder, demo_package_path, push_name, push_version};
 use base_core::{Text, Words};
 use command_core::Operands;
 use std::alloc::{AllocError, Global};
@@ -36,7 +36,7 @@ fn push_mkpkg(words: &mut Words, alloc: Global, i: u16) -> Result<(), AllocError
 {
     words.push(b"mkpkg")?;
     push_option(words, b"-F", &demo_folder(alloc, i)?)?;
-    push_option(words, b"-o", &demo_package(alloc, i)?)?;
+    push_option(words, b"-o", &demo_package_path(alloc, i)?)?;
     push_option(words, b"-I", &name_word(alloc, b"name:", i)?)?;
     push_option(words, b"-I", &version_word(alloc, i)?)?;
     push_depends(words, alloc, i)
@@ -62,7 +62,7 @@ fn push_option(words: &mut Words, option: &[u8], value: &[u8]) -> Result<(), All
     words.push(value)
 }
 
-// A word with this beginning, which ends with the name of package i.
+// A word: this beginning, followed by the name of package i.
 fn name_word(alloc: Global, front: &[u8], i: u16) -> Result<Vec<u8>, AllocError>
     ensures { IfOk result (λ text. text.items ≡ front.now ++ demo_name i) }
 {
@@ -95,7 +95,7 @@ pub fn mkndx_words(alloc: Global, n: u16) -> Result<Words, AllocError>
 // Adds the paths of the packages 1 to n.
 fn push_packages(words: &mut Words, alloc: Global, n: u16) -> Result<(), AllocError>
     requires { length words.old < 16 }
-    ensures { OnOk result (words.new ≡ words.old ++ demo_packages n) }
+    ensures { OnOk result (words.new ≡ words.old ++ demo_package_paths n) }
 {
     for i in 0..n {
         push_package(words, alloc, i + 1)?;
@@ -106,9 +106,9 @@ fn push_packages(words: &mut Words, alloc: Global, n: u16) -> Result<(), AllocEr
 // Adds the path of package i.
 fn push_package(words: &mut Words, alloc: Global, i: u16) -> Result<(), AllocError>
     requires { length words.old < 100000 }
-    ensures { OnOk result (words.new ≡ words.old ++ demo_package i ∷ []) }
+    ensures { OnOk result (words.new ≡ words.old ++ demo_package_path i ∷ []) }
 {
-    let name = demo_package(alloc, i)?;
+    let name = demo_package_path(alloc, i)?;
     words.push(&name)?;
     Ok(())
 }
@@ -128,7 +128,7 @@ pub fn add_words(alloc: Global, n: u16) -> Result<Words, AllocError>
 // Adds the names of those of n packages on which no other depends.
 fn push_top_names(words: &mut Words, alloc: Global, n: u16) -> Result<(), AllocError>
     requires { length words.old < 16 }
-    ensures { OnOk result (words.new ≡ words.old ++ names_not_needed n n) }
+    ensures { OnOk result (words.new ≡ words.old ++ names_not_needed_by_first_n n n) }
 {
     for i in 0..n {
         push_if_top(words, alloc, n, i + 1)?;
@@ -139,7 +139,7 @@ fn push_top_names(words: &mut Words, alloc: Global, n: u16) -> Result<(), AllocE
 // Adds the name of package i, if none of n depends on it: the first that does has twice its number.
 fn push_if_top(words: &mut Words, alloc: Global, n: u16, i: u16) -> Result<(), AllocError>
     requires { length words.old < 100000 }
-    ensures { OnOk result (words.new ≡ words.old ++ name_if_not_needed n i) }
+    ensures { OnOk result (words.new ≡ words.old ++ name_unless_needed_by_first_n n i) }
 {
     if 2 * i as u32 <= n as u32 {
         return Ok(());

@@ -1,6 +1,6 @@
 //! The texts of package i and of its file. The rules are in `docs/commands.md`, "`demo N`".
 ghost use Rattle.std.specs.Prelude.{◌≡◌, ◌<◌, ◌++◌, IfOk, OnOk};
-ghost use Rattle.demo_lines.specs.Lines.{demo_file, demo_folder, demo_index, demo_name, demo_package, demo_repositories, demo_text, demo_version, digit_at};
+ghost use Rattle.demo_lines.specs.Lines.{demo_file, demo_folder, demo_index_path, demo_name, demo_package_path, demo_repositories, demo_text, demo_version, digit_at_unit};
 
 use std::alloc::{AllocError, Global};
 
@@ -44,8 +44,8 @@ pub(crate) fn demo_folder(alloc: Global, i: u16) -> Result<Vec<u8>, AllocError>
 }
 
 /// The path of package i, in the folder of the index.
-pub(crate) fn demo_package(alloc: Global, i: u16) -> Result<Vec<u8>, AllocError>
-    ensures { IfOk result (λ text. text.items ≡ demo_package i) }
+pub(crate) fn demo_package_path(alloc: Global, i: u16) -> Result<Vec<u8>, AllocError>
+    ensures { IfOk result (λ text. text.items ≡ demo_package_path i) }
 {
     let mut text = demo_folder(alloc, i)?;
     text.extend_from_slice(b"-")?;
@@ -60,11 +60,11 @@ pub(crate) fn push_name(text: &mut Vec<u8>, i: u16) -> Result<(), AllocError>
 {
     let digits = [
         b'p',
-        digit_at(10000, i),
-        digit_at(1000, i),
-        digit_at(100, i),
-        digit_at(10, i),
-        digit_at(1, i),
+        digit_at_unit(10000, i),
+        digit_at_unit(1000, i),
+        digit_at_unit(100, i),
+        digit_at_unit(10, i),
+        digit_at_unit(1, i),
     ];
     text.extend_from_slice(&digits)
 }
@@ -74,16 +74,16 @@ pub(crate) fn push_version(text: &mut Vec<u8>, i: u16) -> Result<(), AllocError>
     ensures { OnOk result (text.new.items ≡ text.old.items ++ demo_version i) }
 {
     text.extend_from_slice(b"1.")?;
-    text.push(digit_at(1, i % 7))?;
+    text.push(digit_at_unit(1, i % 7))?;
     text.extend_from_slice(b"-r")?;
-    text.push(digit_at(1, i % 3))?;
+    text.push(digit_at_unit(1, i % 3))?;
     Ok(())
 }
 
-// The digit of i at a unit, as 100 for hundreds, in ASCII.
-fn digit_at(unit: u16, i: u16) -> u8
+// The ASCII code of one decimal digit of i: for the unit 100 that of the hundreds.
+fn digit_at_unit(unit: u16, i: u16) -> u8
     requires { 0 < unit }
-    ensures { result ≡ digit_at unit i }
+    ensures { result ≡ digit_at_unit unit i }
 {
     b'0' + (i / unit % 10) as u8
 }

@@ -6,8 +6,8 @@ use Rattle.std.proofs.lemmas.List.{take-append-drop}
 use Rattle.std.proofs.lemmas.Bool.{and_parts, and_from, eqb-true, cases_Bool}
 use Rattle.version_core.specs.Order.{is_version}
 use Rattle.dep_core.specs.Dependency.{Dependency, dependency_from_parts, is_dep_name, is_name_byte, is_tag, is_tag_byte}
-use Rattle.dep_core.specs.DependencyText.{IsDependency, is_constraint_or_none, is_tag_or_none, mark_text, operator_text, tag_text}
-use Rattle.dep_core.specs.Reading.{dependency_from_tag, rest_after, dependency_of, dependency_after_version, is_not_at_sign, is_operator_byte, with_constraint_read, dependency_after_operator, dependency_from_name, operator_bits, dependency_after_name, dependency_from_version, with_constraint, with_tag}
+use Rattle.dep_core.specs.DependencyText.{IsDependency, is_constraint_or_none, is_tag_or_none, conflict_mark_text, operator_text, tag_text}
+use Rattle.dep_core.specs.Reading.{dependency_from_tag, without_leading_bytes, dependency_of, dependency_after_version, is_not_at_sign, is_operator_byte, dependency_from_operator, dependency_after_operator, dependency_from_name, operator_bits, dependency_after_name, dependency_from_version, with_constraint, with_tag}
 use Rattle.dep_core.specs.Spelling.{SpellsDependency, SpellsConstraint}
 use Rattle.dep_core.proofs.Operators.{operator-is, some-inj}
 
@@ -22,7 +22,7 @@ none-from (Some x) h = (cc)
 some-none : {A : Type 0} {x : A} → Some x ≡ None → ⊥
 some-none h = (cc)
 
-front-behind : (p : ℕ → Bool) (text : List ℕ) → take_while p text ++ rest_after p text ≡ text
+front-behind : (p : ℕ → Bool) (text : List ℕ) → take_while p text ++ without_leading_bytes p text ≡ text
 front-behind p text = take-append-drop (prefix_len p text) text
 
 abbrev bare : List ℕ → Bool → Option (List ℕ) → Dependency
@@ -58,7 +58,7 @@ versioned-out : (name : List ℕ) (conflict : Bool) (tag : Option (List ℕ)) (b
 unfolding dependency_from_version
 versioned-out name conflict tag bits op rest text d n t o e h =
     let v : List ℕ = take_while is_not_at_sign rest in
-    let tail : List ℕ = rest_after is_not_at_sign rest in
+    let tail : List ℕ = without_leading_bytes is_not_at_sign rest in
     let found : (is_version v ≡ true) × (dependency_after_version (with_constraint (bare name conflict tag) v bits) tail ≡ Some d) =
     cond_some (is_version v) (dependency_after_version (with_constraint (bare name conflict tag) v bits) tail) d h in
     let limited_well : is_constraint_or_none (Some v) bits ≡ true = and_from (is_version v) (is_some (operator_text bits)) found.0 (operator-is op bits o).2 in
@@ -88,8 +88,8 @@ limited-by-out : (name : List ℕ) (conflict : Bool) (tag : Option (List ℕ)) (
 limited-by-out name conflict tag None op rest text d n t o e h = (cc)
 limited-by-out name conflict tag (Some bits) op rest text d n t o e h = versioned-out name conflict tag bits op rest text d n t o e h
 
-limited-out : (name : List ℕ) (conflict : Bool) (tag : Option (List ℕ)) (text : List ℕ) (d : Dependency) → is_dep_name name ≡ true → is_tag_or_none tag ≡ true → with_constraint_read (bare name conflict tag) text ≡ Some d → IsLimited name conflict tag text d
-unfolding with_constraint_read
+limited-out : (name : List ℕ) (conflict : Bool) (tag : Option (List ℕ)) (text : List ℕ) (d : Dependency) → is_dep_name name ≡ true → is_tag_or_none tag ≡ true → dependency_from_operator (bare name conflict tag) text ≡ Some d → IsLimited name conflict tag text d
+unfolding dependency_from_operator
 limited-out name conflict tag [] d n t h =
     let P : Dependency → Type 0 = λ x. IsLimited name conflict tag [] x in
     subst P (some-inj h) (record {
@@ -101,7 +101,7 @@ limited-out name conflict tag [] d n t h =
       placed = inl (refl, refl);
     })
 limited-out name conflict tag (c ∷ rest) d n t h =
-    limited-by-out name conflict tag (operator_bits (take_while is_operator_byte (c ∷ rest))) (take_while is_operator_byte (c ∷ rest)) (rest_after is_operator_byte (c ∷ rest)) (c ∷ rest) d n t refl (front-behind is_operator_byte (c ∷ rest)) h
+    limited-by-out name conflict tag (operator_bits (take_while is_operator_byte (c ∷ rest))) (take_while is_operator_byte (c ∷ rest)) (without_leading_bytes is_operator_byte (c ∷ rest)) (c ∷ rest) d n t refl (front-behind is_operator_byte (c ∷ rest)) h
 
 -- ---- after the name
 
@@ -118,9 +118,9 @@ dependency_from_tag-out : (name : List ℕ) (conflict : Bool) (c : ℕ) (rest : 
 unfolding dependency_from_tag
 dependency_from_tag-out name conflict c rest d n e h =
     let tag : List ℕ = take_while is_tag_byte rest in
-    let tail : List ℕ = rest_after is_tag_byte rest in
-    let found : (is_tag tag ≡ true) × (with_constraint_read (bare name conflict (Some tag)) tail ≡ Some d) =
-    cond_some (is_tag tag) (with_constraint_read (bare name conflict (Some tag)) tail) d h in
+    let tail : List ℕ = without_leading_bytes is_tag_byte rest in
+    let found : (is_tag tag ≡ true) × (dependency_from_operator (bare name conflict (Some tag)) tail ≡ Some d) =
+    cond_some (is_tag tag) (dependency_from_operator (bare name conflict (Some tag)) tail) d h in
     let out : IsLimited name conflict (Some tag) tail d = limited-out name conflict (Some tag) tail d n found.0 found.1 in
     let whole : c ∷ rest ≡ 64 ∷ (tag ++ tail) = (λ i. e i ∷ sym (front-behind is_tag_byte rest) i) in
     record {
@@ -162,29 +162,29 @@ tagged-out name conflict [] d n h =
     })
 tagged-out name conflict (c ∷ rest) d n h =
     elim (cases_Bool (eqb c 64)) [
-      | inl e ↦ dependency_from_tag-out name conflict c rest d n (eqb-true c 64 e) (sym (ap (λ b. cond b (dependency_from_tag (bare name conflict None) rest) (with_constraint_read (bare name conflict None) (c ∷ rest))) e) ∙ h)
-      | inr e ↦ limited-tagged name conflict (c ∷ rest) d (limited-out name conflict None (c ∷ rest) d n refl (sym (ap (λ b. cond b (dependency_from_tag (bare name conflict None) rest) (with_constraint_read (bare name conflict None) (c ∷ rest))) e) ∙ h))
+      | inl e ↦ dependency_from_tag-out name conflict c rest d n (eqb-true c 64 e) (sym (ap (λ b. cond b (dependency_from_tag (bare name conflict None) rest) (dependency_from_operator (bare name conflict None) (c ∷ rest))) e) ∙ h)
+      | inr e ↦ limited-tagged name conflict (c ∷ rest) d (limited-out name conflict None (c ∷ rest) d n refl (sym (ap (λ b. cond b (dependency_from_tag (bare name conflict None) rest) (dependency_from_operator (bare name conflict None) (c ∷ rest))) e) ∙ h))
     ]
 
 -- ---- the name, and the mark before it
 
-named-out : (conflict : Bool) (text : List ℕ) (d : Dependency) (whole : List ℕ) → mark_text conflict ++ text ≡ whole → dependency_from_name conflict text ≡ Some d → SpellsDependency whole d
+named-out : (conflict : Bool) (text : List ℕ) (d : Dependency) (whole : List ℕ) → conflict_mark_text conflict ++ text ≡ whole → dependency_from_name conflict text ≡ Some d → SpellsDependency whole d
 unfolding dependency_from_name
 named-out conflict text d whole e h =
     let name : List ℕ = take_while is_name_byte text in
-    let rest : List ℕ = rest_after is_name_byte text in
+    let rest : List ℕ = without_leading_bytes is_name_byte text in
     let found : (is_dep_name name ≡ true) × (dependency_after_name (bare name conflict None) rest ≡ Some d) =
     cond_some (is_dep_name name) (dependency_after_name (bare name conflict None) rest) d h in
     let out : IsTagged name conflict rest d = tagged-out name conflict rest d found.0 found.1 in
-    let front : whole ≡ mark_text d.conflict ++ (d.name ++ rest) =
-    sym e ∙ (ap (λ t. mark_text conflict ++ t) (sym (front-behind is_name_byte text)) ∙ (λ i. mark_text (sym out.same_conflict i) ++ (sym out.same_name i ++ rest))) in (
+    let front : whole ≡ conflict_mark_text d.conflict ++ (d.name ++ rest) =
+    sym e ∙ (ap (λ t. conflict_mark_text conflict ++ t) (sym (front-behind is_name_byte text)) ∙ (λ i. conflict_mark_text (sym out.same_conflict i) ++ (sym out.same_name i ++ rest))) in (
       out.good,
       (
         out.limit,
         out.spelled,
         elim out.placed [
-          | inl p ↦ inl (front ∙ ap (λ t. mark_text d.conflict ++ (d.name ++ t)) p)
-          | inr p ↦ inr (front ∙ ap (λ t. mark_text d.conflict ++ (d.name ++ t)) p)
+          | inl p ↦ inl (front ∙ ap (λ t. conflict_mark_text d.conflict ++ (d.name ++ t)) p)
+          | inr p ↦ inr (front ∙ ap (λ t. conflict_mark_text d.conflict ++ (d.name ++ t)) p)
         ],
       ),
     )

@@ -11,11 +11,11 @@ use Rattle.std.proofs.lemmas.List.Folds.{prefix_len-append}
 use Rattle.std.proofs.lemmas.List.Sums.{AllPass-from_list_all}
 use Rattle.std.proofs.lemmas.List.Splits.{slice_split_at}
 use Rattle.version_core.proofs.VersionBytes.{all-imp, all-append}
-use Rattle.base_core.specs.Name.{is_name, is_part, parts_of}
+use Rattle.base_core.specs.Name.{is_name, is_path_part, path_parts_of}
 use Rattle.dep_core.specs.Dependency.{is_tag, is_tag_byte}
 use Rattle.dep_core.specs.DependencyText.{is_tag_or_none}
-use Rattle.dep_core.specs.Reading.{rest_after}
-use Rattle.dep_core.specs.Repositories.{Repository, repository_at_path, with_repositories_of_line, begins_with_blank, is_blank_or_comment, singleton, repositories_from, repositories_of, repositories_on_line, repository, repository_of, tagged_repository, without_outer_blanks, without_trailing_blanks}
+use Rattle.dep_core.specs.Reading.{without_leading_bytes}
+use Rattle.dep_core.specs.Repositories.{Repository, repository_at_path, with_repositories_of_line, begins_with_blank, is_blank_or_comment, singleton, repositories_from, repositories_of, repositories_on_line, repository, repository_of, repository_after_at_sign, without_outer_blanks, without_trailing_blanks}
 use Rattle.dep_core.specs.RepositoryText.{is_line_path, is_line_repository, repositories_text, tag_prefix}
 use Rattle.dep_core.specs.World.{is_blank, is_line_end, lines_of}
 use Rattle.dep_core.proofs.Spelled.{run, past_run}
@@ -56,7 +56,7 @@ nothing_cut text h = take_all (length text - suffix_len is_blank text) text (ome
 name-long : (path : List ℕ) → is_name path ≡ true → 0 < length path
 unfolding is_name
 name-long path h =
-    let a = and_parts _ (list_all is_part (parts_of path)) h in
+    let a = and_parts _ (list_all is_path_part (path_parts_of path)) h in
     let b = and_parts _ (is_utf8 path) a.0 in
     let c = and_parts _ (not (list_any (λ b. eqb b 0) path)) b.0 in
     let d : (nat_lt 0 (length path) ≡ true) × (nat_le (length path) 1024 ≡ true) = and_parts (nat_lt 0 (length path)) (nat_le (length path) 1024) c.0 in
@@ -72,20 +72,20 @@ whole_line (Some tag) path n s =
 path-read : (tag : Option (List ℕ)) (path : List ℕ) → is_name path ≡ true → repository_at_path tag (47 ∷ path) ≡ Some (repository tag path)
 path-read tag path n = ap (λ b. cond b (Some (repository tag path)) None) n
 
-tagged-read : (tag path : List ℕ) → is_tag tag ≡ true → is_name path ≡ true → tagged_repository (tag ++ (32 ∷ (47 ∷ path))) ≡ Some (repository (Some tag) path)
-unfolding tagged_repository
+tagged-read : (tag path : List ℕ) → is_tag tag ≡ true → is_name path ≡ true → repository_after_at_sign (tag ++ (32 ∷ (47 ∷ path))) ≡ Some (repository (Some tag) path)
+unfolding repository_after_at_sign
 tagged-read tag path t n =
     let bytes : list_all is_tag_byte tag ≡ true = (and_parts (nat_lt 0 (length tag)) (list_all is_tag_byte tag) t).1 in
     let first : take_while is_tag_byte (tag ++ (32 ∷ (47 ∷ path))) ≡ tag = run is_tag_byte tag (32 ∷ (47 ∷ path)) bytes refl in
-    let rest : rest_after is_tag_byte (tag ++ (32 ∷ (47 ∷ path))) ≡ 32 ∷ (47 ∷ path) = past_run is_tag_byte tag (32 ∷ (47 ∷ path)) bytes refl in
-    (λ i. cond (is_tag (first i) && begins_with_blank (rest i)) (repository_at_path (Some (first i)) (rest_after is_blank (rest i))) None)
+    let rest : without_leading_bytes is_tag_byte (tag ++ (32 ∷ (47 ∷ path))) ≡ 32 ∷ (47 ∷ path) = past_run is_tag_byte tag (32 ∷ (47 ∷ path)) bytes refl in
+    (λ i. cond (is_tag (first i) && begins_with_blank (rest i)) (repository_at_path (Some (first i)) (without_leading_bytes is_blank (rest i))) None)
     ∙ (ap (λ b. cond (b && true) (repository_at_path (Some tag) (47 ∷ path)) None) t ∙ path-read (Some tag) path n)
 
 line-read : (tag : Option (List ℕ)) (path : List ℕ) → is_tag_or_none tag ≡ true → is_name path ≡ true → repository_of (tag_prefix tag ++ (47 ∷ path)) ≡ Some (repository tag path)
 unfolding repository_of
 line-read None path t n = path-read None path n
 line-read (Some tag) path t n =
-    ap tagged_repository (append_assoc tag (32 ∷ []) (47 ∷ path)) ∙ tagged-read tag path t n
+    ap repository_after_at_sign (append_assoc tag (32 ∷ []) (47 ∷ path)) ∙ tagged-read tag path t n
 
 is_no_comment : (tag : Option (List ℕ)) (path : List ℕ) → is_blank_or_comment (tag_prefix tag ++ (47 ∷ path)) ≡ false
 is_no_comment None path = refl

@@ -8,8 +8,8 @@ use Rattle.std.proofs.lemmas.Bool.{and_parts, eqb-true}
 use Rattle.std.proofs.lemmas.Bool.Decides.{nat_tests}
 use Rattle.version_core.specs.Order.{is_version}
 use Rattle.dep_core.specs.Dependency.{Dependency, dependency_from_parts, is_dep_name, is_name_byte, is_tag, is_tag_byte}
-use Rattle.dep_core.specs.DependencyText.{IsDependency, is_constraint_or_none, is_tag_or_none, dep_text, constraint_text, mark_text, operator_text, tag_text}
-use Rattle.dep_core.specs.Reading.{dependency_on_any_version, dependency_from_tag, rest_after, dependency_of, dependency_after_version, is_not_at_sign, is_operator_byte, with_constraint_read, dependency_after_operator, dependency_from_name, operator_bits, dependency_after_name, dependency_from_version, with_constraint, with_tag}
+use Rattle.dep_core.specs.DependencyText.{IsDependency, is_constraint_or_none, is_tag_or_none, dep_text, constraint_text, conflict_mark_text, operator_text, tag_text}
+use Rattle.dep_core.specs.Reading.{dependency_on_any_version, dependency_from_tag, without_leading_bytes, dependency_of, dependency_after_version, is_not_at_sign, is_operator_byte, dependency_from_operator, dependency_after_operator, dependency_from_name, operator_bits, dependency_after_name, dependency_from_version, with_constraint, with_tag}
 use Rattle.dep_core.specs.Spelling.{SpellsDependency, SpellsConstraint}
 use Rattle.dep_core.proofs.Operators.{IsOperator, begins_as_operator, operator-is, text-read}
 use Rattle.dep_core.proofs.Versions.{Versions}
@@ -36,7 +36,7 @@ run-len p (x ∷ xs) ys h s =
 pub run : (p : ℕ → Bool) (xs ys : List ℕ) → list_all p xs ≡ true → stops p ys ≡ true → take_while p (xs ++ ys) ≡ xs
 run p xs ys h s = ap (λ n. take n (xs ++ ys)) (run-len p xs ys h s) ∙ take-append_seam xs ys
 
-pub past_run : (p : ℕ → Bool) (xs ys : List ℕ) → list_all p xs ≡ true → stops p ys ≡ true → rest_after p (xs ++ ys) ≡ ys
+pub past_run : (p : ℕ → Bool) (xs ys : List ℕ) → list_all p xs ≡ true → stops p ys ≡ true → without_leading_bytes p (xs ++ ys) ≡ ys
 past_run p xs ys h s = ap (λ n. drop n (xs ++ ys)) (run-len p xs ys h s) ∙ drop-append_seam xs ys
 
 -- ---- bytes
@@ -83,8 +83,8 @@ versioned-text spelled d bits v tail h s =
 
 -- ---- the operator
 
-limited-text : Versions → (d : Dependency) (op v tail : List ℕ) (bits : ℕ) → operator_bits op ≡ Some bits → is_version v ≡ true → stops is_not_at_sign tail ≡ true → with_constraint_read d (op ++ (v ++ tail)) ≡ dependency_after_version (with_constraint d v bits) tail
-unfolding with_constraint_read
+limited-text : Versions → (d : Dependency) (op v tail : List ℕ) (bits : ℕ) → operator_bits op ≡ Some bits → is_version v ≡ true → stops is_not_at_sign tail ≡ true → dependency_from_operator d (op ++ (v ++ tail)) ≡ dependency_after_version (with_constraint d v bits) tail
+unfolding dependency_from_operator
 limited-text spelled d [] v tail bits o h s = absurd (nothing (operator-is [] bits o).1)
   where
     nothing : false ≡ true → ⊥
@@ -99,19 +99,19 @@ limited-text spelled d (b ∷ op) v tail bits o h s =
 abbrev bare : List ℕ → Bool → Option (List ℕ) → Dependency
 bare name conflict tag = dependency_from_parts name None 1 conflict tag
 
-limited-limit : Versions → (name : List ℕ) (conflict : Bool) (tag version : Option (List ℕ)) (bits : ℕ) (limit : List ℕ) → SpellsConstraint limit version bits → is_constraint_or_none version bits ≡ true → with_constraint_read (bare name conflict tag) limit ≡ Some (dependency_from_parts name version bits conflict tag)
-unfolding with_constraint_read dependency_after_version
+limited-limit : Versions → (name : List ℕ) (conflict : Bool) (tag version : Option (List ℕ)) (bits : ℕ) (limit : List ℕ) → SpellsConstraint limit version bits → is_constraint_or_none version bits ≡ true → dependency_from_operator (bare name conflict tag) limit ≡ Some (dependency_from_parts name version bits conflict tag)
+unfolding dependency_from_operator dependency_after_version
 limited-limit spelled name conflict tag None bits limit e g =
-    ap (with_constraint_read (bare name conflict tag)) e ∙ ap (λ n. Some (dependency_from_parts name None n conflict tag)) (sym (eqb-true bits 1 g))
+    ap (dependency_from_operator (bare name conflict tag)) e ∙ ap (λ n. Some (dependency_from_parts name None n conflict tag)) (sym (eqb-true bits 1 g))
 limited-limit spelled name conflict tag (Some v) bits limit e g =
-    ap (with_constraint_read (bare name conflict tag)) (e.2 ∙ ap (λ t. e.0 ++ t) (sym (append-nil v)))
+    ap (dependency_from_operator (bare name conflict tag)) (e.2 ∙ ap (λ t. e.0 ++ t) (sym (append-nil v)))
     ∙ limited-text spelled (bare name conflict tag) e.0 v [] bits e.1 (and_parts (is_version v) _ g).0 refl
 
 at_stops : (tag : Option (List ℕ)) → stops is_not_at_sign (tag_text tag) ≡ true
 at_stops None = refl
 at_stops (Some tag) = refl
 
-limited-limit_tag : Versions → (name : List ℕ) (conflict : Bool) (tag : Option (List ℕ)) (v : List ℕ) (bits : ℕ) (op : List ℕ) → operator_bits op ≡ Some bits → is_version v ≡ true → is_tag_or_none tag ≡ true → with_constraint_read (bare name conflict None) (op ++ (v ++ tag_text tag)) ≡ Some (dependency_from_parts name (Some v) bits conflict tag)
+limited-limit_tag : Versions → (name : List ℕ) (conflict : Bool) (tag : Option (List ℕ)) (v : List ℕ) (bits : ℕ) (op : List ℕ) → operator_bits op ≡ Some bits → is_version v ≡ true → is_tag_or_none tag ≡ true → dependency_from_operator (bare name conflict None) (op ++ (v ++ tag_text tag)) ≡ Some (dependency_from_parts name (Some v) bits conflict tag)
 limited-limit_tag spelled name conflict tag v bits op o h t =
     limited-text spelled (bare name conflict None) op v (tag_text tag) bits o h (at_stops tag)
     ∙ ended-tag (with_constraint (bare name conflict None) v bits) tag refl t
@@ -131,18 +131,18 @@ unfolding dependency_after_name dependency_from_tag
 tagged-at spelled name conflict tag version bits limit t e g =
     let bytes : list_all is_tag_byte tag ≡ true = (and_parts (nat_lt 0 (length tag)) (list_all is_tag_byte tag) t).1 in
     let stop : stops is_tag_byte limit ≡ true = limit_stops is_tag_byte version bits limit operator_ends_tag e in
-    (λ i. cond (is_tag (run is_tag_byte tag limit bytes stop i)) (with_constraint_read (with_tag (bare name conflict None) (run is_tag_byte tag limit bytes stop i)) (past_run is_tag_byte tag limit bytes stop i)) None)
-    ∙ (ap (λ b. cond b (with_constraint_read (bare name conflict (Some tag)) limit) None) t ∙ limited-limit spelled name conflict (Some tag) version bits limit e g)
+    (λ i. cond (is_tag (run is_tag_byte tag limit bytes stop i)) (dependency_from_operator (with_tag (bare name conflict None) (run is_tag_byte tag limit bytes stop i)) (past_run is_tag_byte tag limit bytes stop i)) None)
+    ∙ (ap (λ b. cond b (dependency_from_operator (bare name conflict (Some tag)) limit) None) t ∙ limited-limit spelled name conflict (Some tag) version bits limit e g)
 
 -- an operator follows the name
-tagged-operator : (d : Dependency) (op rest : List ℕ) (bits : ℕ) → operator_bits op ≡ Some bits → dependency_after_name d (op ++ rest) ≡ with_constraint_read d (op ++ rest)
+tagged-operator : (d : Dependency) (op rest : List ℕ) (bits : ℕ) → operator_bits op ≡ Some bits → dependency_after_name d (op ++ rest) ≡ dependency_from_operator d (op ++ rest)
 unfolding dependency_after_name
 tagged-operator d op rest bits o = by op (operator-is op bits o).1
   where
-    by : (op' : List ℕ) → begins_as_operator op' ≡ true → dependency_after_name d (op' ++ rest) ≡ with_constraint_read d (op' ++ rest)
+    by : (op' : List ℕ) → begins_as_operator op' ≡ true → dependency_after_name d (op' ++ rest) ≡ dependency_from_operator d (op' ++ rest)
     by [] h = (cc)
     by (b ∷ op') h =
-        ap (λ x. cond x (dependency_from_tag d (op' ++ rest)) (with_constraint_read d (b ∷ (op' ++ rest)))) (operator_is_no_at b h)
+        ap (λ x. cond x (dependency_from_tag d (op' ++ rest)) (dependency_from_operator d (b ∷ (op' ++ rest)))) (operator_is_no_at b h)
 
 -- ---- the name, and the mark before it
 
@@ -150,8 +150,8 @@ tagged-none : (name : List ℕ) (conflict : Bool) → dependency_after_name (bar
 unfolding dependency_after_name
 tagged-none name conflict = refl
 
-limited-none : (name : List ℕ) (conflict : Bool) → with_constraint_read (bare name conflict None) [] ≡ Some (bare name conflict None)
-unfolding with_constraint_read
+limited-none : (name : List ℕ) (conflict : Bool) → dependency_from_operator (bare name conflict None) [] ≡ Some (bare name conflict None)
+unfolding dependency_from_operator
 limited-none name conflict = refl
 
 -- after the name, where the tag is there
@@ -161,7 +161,7 @@ tagged-front spelled name conflict None None bits limit t e g =
     ap (dependency_after_name (bare name conflict None)) e ∙ (tagged-none name conflict ∙ (sym (limited-none name conflict) ∙ limited-limit spelled name conflict None None bits [] refl g))
 tagged-front spelled name conflict None (Some v) bits limit t e g =
     ap (dependency_after_name (bare name conflict None)) e.2
-    ∙ (tagged-operator (bare name conflict None) e.0 v bits e.1 ∙ (ap (with_constraint_read (bare name conflict None)) (sym e.2) ∙ limited-limit spelled name conflict None (Some v) bits limit e g))
+    ∙ (tagged-operator (bare name conflict None) e.0 v bits e.1 ∙ (ap (dependency_from_operator (bare name conflict None)) (sym e.2) ∙ limited-limit spelled name conflict None (Some v) bits limit e g))
 
 -- after the name, where the tag follows the version
 tagged-back : Versions → (name : List ℕ) (conflict : Bool) (tag version : Option (List ℕ)) (bits : ℕ) (limit : List ℕ) → is_tag_or_none tag ≡ true → SpellsConstraint limit version bits → is_constraint_or_none version bits ≡ true → dependency_after_name (bare name conflict None) (limit ++ tag_text tag) ≡ Some (dependency_from_parts name version bits conflict tag)
@@ -195,7 +195,7 @@ named-text conflict name rest h s =
     (λ i. cond (is_dep_name (run is_name_byte name rest a.1 s i)) (dependency_after_name (dependency_on_any_version conflict (run is_name_byte name rest a.1 s i)) (past_run is_name_byte name rest a.1 s i)) None)
     ∙ ap (λ b. cond b (dependency_after_name (dependency_on_any_version conflict name) rest) None) h
 
-marked : (conflict : Bool) (name rest : List ℕ) → is_dep_name name ≡ true → dependency_of (mark_text conflict ++ (name ++ rest)) ≡ dependency_from_name conflict (name ++ rest)
+marked : (conflict : Bool) (name rest : List ℕ) → is_dep_name name ≡ true → dependency_of (conflict_mark_text conflict ++ (name ++ rest)) ≡ dependency_from_name conflict (name ++ rest)
 unfolding dependency_of
 marked true name rest h = refl
 marked false [] rest h = (cc)

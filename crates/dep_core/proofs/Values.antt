@@ -7,11 +7,11 @@ use Rattle.dep_core.specs.Dependency.{Dependency, dependency_from_parts, is_dep_
 use Rattle.dep_core.specs.DependencyText.{IsDependency, is_constraint_or_none, is_tag_or_none, operator_text}
 use Rattle.dep_core.specs.Reading.{dependency_on_any_version}
 use Rattle.dep_core.specs.Value.{dep_value, is_match_number, is_version_or_empty, match_number_of}
-use Rattle.dep_core.specs.ValueReading.{match_bits_of, dependency_of_value, with_wanted_version}
+use Rattle.dep_core.specs.ValueReading.{match_bits_unless_any_version, dependency_of_value, with_wanted_version}
 use Rattle.dep_core.proofs.Operators.{each_operator}
 use Rattle.dep_core.proofs.Versions.{Versions}
 
-value-at : (name version : List ℕ) (matching : ℕ) (d : Dependency) → is_dep_name name ≡ true → is_version_or_empty version ≡ true → is_match_number matching ≡ true → with_wanted_version (dependency_on_any_version (not (nat_lt matching 16)) name) version (match_bits_of (matching % 16)) ≡ d → dependency_of_value name version matching ≡ Some d
+value-at : (name version : List ℕ) (matching : ℕ) (d : Dependency) → is_dep_name name ≡ true → is_version_or_empty version ≡ true → is_match_number matching ≡ true → with_wanted_version (dependency_on_any_version (not (nat_lt matching 16)) name) version (match_bits_unless_any_version (matching % 16)) ≡ d → dependency_of_value name version matching ≡ Some d
 unfolding dependency_of_value
 value-at name version matching d n v m e = λ i. cond (n i && (v i && m i)) (Some (e i)) None
 
@@ -27,7 +27,7 @@ IsRead name b rest bits =
 -- one row: the match number with a conflict, and without one
 row : (name : List ℕ) (b : ℕ) (rest : List ℕ) (bits strict plain : ℕ) → is_dep_name name ≡ true → is_version (b ∷ rest) ≡ true
     → unwrap_or (match_number_of (Some (b ∷ rest)) bits true) 0 ≡ strict → unwrap_or (match_number_of (Some (b ∷ rest)) bits false) 0 ≡ plain
-    → is_match_number strict ≡ true → is_match_number plain ≡ true → nat_lt strict 16 ≡ false → nat_lt plain 16 ≡ true → match_bits_of (strict % 16) ≡ Some bits → match_bits_of (plain % 16) ≡ Some bits → IsRead name b rest bits
+    → is_match_number strict ≡ true → is_match_number plain ≡ true → nat_lt strict 16 ≡ false → nat_lt plain 16 ≡ true → match_bits_unless_any_version (strict % 16) ≡ Some bits → match_bits_unless_any_version (plain % 16) ≡ Some bits → IsRead name b rest bits
 row name b rest bits strict plain n v my mn gy gn ly ln by bn = by_conflict
   where
     by_conflict : IsRead name b rest bits

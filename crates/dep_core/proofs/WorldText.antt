@@ -12,8 +12,8 @@ use Rattle.std.proofs.lemmas.List.Sums.{AllPass-from_list_all}
 use Rattle.std.proofs.lemmas.List.Splits.{slice_split_none, slice_split_at}
 use Rattle.version_core.specs.Order.{is_version}
 use Rattle.dep_core.specs.Dependency.{Dependency, is_dep_name, is_name_byte, is_tag_byte}
-use Rattle.dep_core.specs.DependencyText.{IsDependency, dep_text, is_dependency, is_constraint_or_none, is_tag_or_none, constraint_text, mark_text, operator_text, tag_text}
-use Rattle.dep_core.specs.World.{IsWorld, has_name, is_blank, is_in_order, is_line_end, lines_of, or_bad_line, with_entry, world_with_lines, with_new_entry, world_with_words, words_of, world_of, world_text}
+use Rattle.dep_core.specs.DependencyText.{IsDependency, dep_text, is_dependency, is_constraint_or_none, is_tag_or_none, constraint_text, conflict_mark_text, operator_text, tag_text}
+use Rattle.dep_core.specs.World.{IsWorld, has_name, is_blank, is_in_order, is_line_end, lines_of, or_bad_line, with_entry, world_with_lines, with_new_entry, world_with_words, words_of_line, world_of, world_text}
 use Rattle.base_core.specs.ByteOrder.{bytes_cmp}
 use Rattle.base_core.proofs.Orderings.{is_less}
 use Rattle.dep_core.proofs.Lines.{is_word}
@@ -44,7 +44,7 @@ visible_ends_no_line b h = grind (arith, nat_tests)
 visible_is_no_blank : (b : ℕ) → is_visible b ≡ true → is_blank b ≡ false
 visible_is_no_blank b h = grind (arith, nat_tests)
 
-mark-visible : (conflict : Bool) → list_all is_visible (mark_text conflict) ≡ true
+mark-visible : (conflict : Bool) → list_all is_visible (conflict_mark_text conflict) ≡ true
 mark-visible true = refl
 mark-visible false = refl
 
@@ -64,7 +64,7 @@ text-is_visible spelled d g =
     let good = and_parts (is_dep_name d.name && is_constraint_or_none d.version d.bits) (is_tag_or_none d.tag) g in
     let both = and_parts (is_dep_name d.name) (is_constraint_or_none d.version d.bits) good.0 in
     let name = and_parts (nat_lt 0 (length d.name) && nat_le (length d.name) 255) (list_all is_name_byte d.name) both.0 in
-    all-append is_visible (mark_text d.conflict) _ (mark-visible d.conflict) (all-append is_visible d.name _ (all-imp is_name_byte is_visible name_visible d.name name.1) (all-append is_visible (tag_text d.tag) (constraint_text d.version d.bits) (tag-visible d.tag good.1) (limit-visible spelled d.version d.bits both.1)))
+    all-append is_visible (conflict_mark_text d.conflict) _ (mark-visible d.conflict) (all-append is_visible d.name _ (all-imp is_name_byte is_visible name_visible d.name name.1) (all-append is_visible (tag_text d.tag) (constraint_text d.version d.bits) (tag-visible d.tag good.1) (limit-visible spelled d.version d.bits both.1)))
 
 some_bytes : (b : ℕ) (rest : List ℕ) → is_word (b ∷ rest) ≡ true
 some_bytes b rest = grind (arith, nat_tests)
@@ -73,7 +73,7 @@ front-word : (name rest : List ℕ) → is_dep_name name ≡ true → is_word (n
 front-word [] rest h = (cc)
 front-word (b ∷ name) rest h = some_bytes b (name ++ rest)
 
-text-word : (conflict : Bool) (name rest : List ℕ) → is_dep_name name ≡ true → is_word (mark_text conflict ++ (name ++ rest)) ≡ true
+text-word : (conflict : Bool) (name rest : List ℕ) → is_dep_name name ≡ true → is_word (conflict_mark_text conflict ++ (name ++ rest)) ≡ true
 text-word true name rest h = some_bytes 33 (name ++ rest)
 text-word false name rest h = front-word name rest h
 
@@ -85,7 +85,7 @@ no_line_end text h = λ k d l. visible_ends_no_line (get_or text k d) (AllPass-f
 no_blank : (text : List ℕ) → list_all is_visible text ≡ true → All (λ b. is_blank b ≡ false) text
 no_blank text h = λ k d l. visible_is_no_blank (get_or text k d) (AllPass-from_list_all is_visible text h k d l)
 
-one-word : (text : List ℕ) → list_all is_visible text ≡ true → is_word text ≡ true → words_of text ≡ text ∷ []
+one-word : (text : List ℕ) → list_all is_visible text ≡ true → is_word text ≡ true → words_of_line text ≡ text ∷ []
 one-word text v w =
     ap (filter is_word) (slice_split_none is_blank text (no_blank text v)) ∙ ap (λ b. cond b (text ∷ []) []) w
 
@@ -108,7 +108,7 @@ last-new (e ∷ w) d rest h =
 
 -- ---- the whole text
 
-one-line : Versions → (w : List Dependency) (d : Dependency) (rest : List Dependency) → IsDependency d → is_in_order (w ++ (d ∷ rest)) ≡ true → world_with_words w (words_of (dep_text d)) ≡ Some (w ++ (d ∷ []))
+one-line : Versions → (w : List Dependency) (d : Dependency) (rest : List Dependency) → IsDependency d → is_in_order (w ++ (d ∷ rest)) ≡ true → world_with_words w (words_of_line (dep_text d)) ≡ Some (w ++ (d ∷ []))
 one-line spelled w d rest g h =
     let good = and_parts (is_dep_name d.name && is_constraint_or_none d.version d.bits) (is_tag_or_none d.tag) g in
     let named = (and_parts (is_dep_name d.name) (is_constraint_or_none d.version d.bits) good.0).0 in

@@ -13,7 +13,7 @@ use Rattle.std.proofs.lemmas.Bool.{and_parts, and_from, or_parts, not-true, not_
 use Rattle.std.proofs.lemmas.List.Sorted.{IsPermutation-refl, IsPermutation-sym, IsPermutation-trans, IsPermutation-cons, IsPermutation-middle, IsPermutation-append_right}
 use Rattle.dep_core.specs.Dependency.{Dependency}
 use Rattle.dep_core.specs.Reading.{dependency_of}
-use Rattle.dep_core.specs.World.{IsWorld, has_name, lines_of, or_bad_line, with_entry, world_with_lines, with_new_entry, world_with_words, words_of, world_of}
+use Rattle.dep_core.specs.World.{IsWorld, has_name, lines_of, or_bad_line, with_entry, world_with_lines, with_new_entry, world_with_words, words_of_line, world_of}
 use Rattle.base_core.specs.ByteOrder.{bytes_cmp}
 use Rattle.base_core.proofs.Booleans.{or_swap}
 use Rattle.dep_core.specs.Entries.{IsFirstBadLine, IsWorldOf, have_different_names, words_in}
@@ -32,16 +32,16 @@ words-append [] back w = refl
 words-append (x ∷ front) back w =
     append-by (option_and_then (with_new_entry w) (dependency_of x)) front back (words-append front back)
 
-line-by : (o : Option (List Dependency)) (k : ℕ) (lines : List (List ℕ)) → ((w : List Dependency) → result_ok (world_with_lines w (k + 1) lines) ≡ world_with_words w (flat_map words_of lines)) → result_ok (or_bad_line k (λ m. world_with_lines m (k + 1) lines) o) ≡ option_and_then (λ m. world_with_words m (flat_map words_of lines)) o
+line-by : (o : Option (List Dependency)) (k : ℕ) (lines : List (List ℕ)) → ((w : List Dependency) → result_ok (world_with_lines w (k + 1) lines) ≡ world_with_words w (flat_map words_of_line lines)) → result_ok (or_bad_line k (λ m. world_with_lines m (k + 1) lines) o) ≡ option_and_then (λ m. world_with_words m (flat_map words_of_line lines)) o
 line-by None k lines h = refl
 line-by (Some w) k lines h = h w
 
 -- the lines are a world where their words are one
-lines-words : (lines : List (List ℕ)) (k : ℕ) (w : List Dependency) → result_ok (world_with_lines w k lines) ≡ world_with_words w (flat_map words_of lines)
+lines-words : (lines : List (List ℕ)) (k : ℕ) (w : List Dependency) → result_ok (world_with_lines w k lines) ≡ world_with_words w (flat_map words_of_line lines)
 lines-words [] k w = refl
 lines-words (line ∷ lines) k w =
-    line-by (world_with_words w (words_of line)) k lines (lines-words lines (k + 1))
-    ∙ sym (words-append (words_of line) (flat_map words_of lines) w)
+    line-by (world_with_words w (words_of_line line)) k lines (lines-words lines (k + 1))
+    ∙ sym (words-append (words_of_line line) (flat_map words_of_line lines) w)
 
 -- ---- an entry of a new name
 
@@ -184,7 +184,7 @@ record IsBadAt (w : List Dependency) (k : ℕ) (lines : List (List ℕ)) (line :
   good_before : is_ok (world_with_lines w k (take before lines)) ≡ true
   bad_with : is_ok (world_with_lines w k (take (suc before) lines)) ≡ false
 
-bad-by : (w : List Dependency) (k : ℕ) (text : List ℕ) (lines : List (List ℕ)) (line : ℕ) (o : Option (List Dependency)) → world_with_words w (words_of text) ≡ o → or_bad_line k (λ m. world_with_lines m (k + 1) lines) o ≡ Err line → ((u : List Dependency) → world_with_lines u (k + 1) lines ≡ Err line → IsBadAt u (k + 1) lines line) → IsBadAt w k (text ∷ lines) line
+bad-by : (w : List Dependency) (k : ℕ) (text : List ℕ) (lines : List (List ℕ)) (line : ℕ) (o : Option (List Dependency)) → world_with_words w (words_of_line text) ≡ o → or_bad_line k (λ m. world_with_lines m (k + 1) lines) o ≡ Err line → ((u : List Dependency) → world_with_lines u (k + 1) lines ≡ Err line → IsBadAt u (k + 1) lines line) → IsBadAt w k (text ∷ lines) line
 bad-by w k text lines line None e h more = record {
   before = 0;
   number = (let same : k ≡ line = cc in omega arith);
@@ -205,7 +205,7 @@ bad-by w k text lines line (Some u) e h more =
 bad-at : (lines : List (List ℕ)) (w : List Dependency) (k line : ℕ) → world_with_lines w k lines ≡ Err line → IsBadAt w k lines line
 bad-at [] w k line h = (cc)
 bad-at (text ∷ lines) w k line h =
-    bad-by w k text lines line (world_with_words w (words_of text)) refl h (λ u. bad-at lines u (k + 1) line)
+    bad-by w k text lines line (world_with_words w (words_of_line text)) refl h (λ u. bad-at lines u (k + 1) line)
 
 pub first-bad_line : (text : List ℕ) (line : ℕ) → world_of text ≡ Err line → IsFirstBadLine text line
 unfolding world_of

@@ -32,15 +32,15 @@ abbrev pub is_dep_name : List ℕ → Bool
 is_dep_name name = nat_lt 0 (length name) && nat_le (length name) 255 && list_all is_name_byte name
 
 -- whether the bytes begin with `-` (45) or `.` (46), as no package's name does
-abbrev pub begins_with_punctuation : List ℕ → Bool
-begins_with_punctuation [] = false
-begins_with_punctuation (b ∷ rest) = (b == 45) || (b == 46)
+abbrev pub begins_with_dash_or_dot : List ℕ → Bool
+begins_with_dash_or_dot [] = false
+begins_with_dash_or_dot (b ∷ rest) = (b == 45) || (b == 46)
 
 -- whether the bytes are the name of a package: a dependency's name that neither begins with `-` or `.`
 -- nor has a `/` (47)
 abbrev pub is_package_name : List ℕ → Bool
 is_package_name name =
-    is_dep_name name && not (begins_with_punctuation name) && not (list_any (λ b. b == 47) name)
+    is_dep_name name && not (begins_with_dash_or_dot name) && not (list_any (λ b. b == 47) name)
 
 -- whether a tag may have this byte: a letter, a digit, `_` (95), `-` (45) or `.` (46)
 abbrev pub is_tag_byte : ℕ → Bool

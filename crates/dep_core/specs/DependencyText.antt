@@ -1,5 +1,5 @@
--- Which parts are a dependency, and the one text that each is written as. The rules are in
--- `docs/formats.md`, "Dependencies", the paragraph of the text of a dependency.
+-- Which dependencies are well-formed, and the text that each of them is written as. The rules are
+-- in `docs/formats.md`, "Dependencies", the paragraph of the text of a dependency.
 use Rattle.std.specs.Prelude.{ℕ, ◌==◌, Bool, true, false, ◌&&◌, List, [], ◌∷◌, ◌++◌, map, Option, Some, None, is_some, unwrap_or, IsTrue}
 use Rattle.std.specs.Map.{lookup}
 use Rattle.version_core.specs.Order.{is_version}
@@ -9,7 +9,8 @@ use Rattle.dep_core.specs.Dependency.{Dependency, is_dep_name, is_tag, operators
 abbrev pub operator_text : ℕ → Option (List ℕ)
 operator_text bits = lookup (λ b. b == bits) (map (λ (o : List ℕ × ℕ). (o.1, o.0)) operators)
 
--- whether match bits fit the wanted version: those of `=` if there is none, else those of an operator
+-- whether the version and the match bits of a dependency are valid: without a version the bits are
+-- those of `=`; a version is valid and has the bits of an operator
 abbrev pub is_constraint_or_none : Option (List ℕ) → ℕ → Bool
 is_constraint_or_none None bits = bits == 1
 is_constraint_or_none (Some version) bits = is_version version && is_some (operator_text bits)
@@ -28,10 +29,10 @@ is_dependency d = is_dep_name d.name && is_constraint_or_none d.version d.bits &
 abbrev pub IsDependency : Dependency → Type 0
 IsDependency d = IsTrue (is_dependency d)
 
--- the text that marks a conflict: `!` (33), or nothing if it is none
-abbrev pub mark_text : Bool → List ℕ
-mark_text true = 33 ∷ []
-mark_text false = []
+-- the mark of a conflict: `!` (33) if the dependency is a conflict, otherwise empty
+abbrev pub conflict_mark_text : Bool → List ℕ
+conflict_mark_text true = 33 ∷ []
+conflict_mark_text false = []
 
 -- the text of a tag: `@` (64) and the tag, or nothing if there is none
 abbrev pub tag_text : Option (List ℕ) → List ℕ
@@ -47,4 +48,4 @@ constraint_text (Some version) bits = unwrap_or (operator_text bits) [] ++ versi
 -- operator and the version
 abbrev pub dep_text : Dependency → List ℕ
 dep_text d =
-    mark_text d.conflict ++ (d.name ++ (tag_text d.tag ++ constraint_text d.version d.bits))
+    conflict_mark_text d.conflict ++ (d.name ++ (tag_text d.tag ++ constraint_text d.version d.bits))

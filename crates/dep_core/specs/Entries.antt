@@ -5,11 +5,11 @@ use Rattle.std.specs.List.{flat_map}
 use Rattle.std.specs.List.Sorted.{IsPermutation}
 use Rattle.dep_core.specs.Dependency.{Dependency}
 use Rattle.dep_core.specs.Reading.{dependency_of}
-use Rattle.dep_core.specs.World.{IsWorld, has_name, lines_of, world_with_lines, words_of}
+use Rattle.dep_core.specs.World.{IsWorld, has_name, lines_of, world_with_lines, words_of_line}
 
 -- the words of all lines of a text, in their order
 abbrev pub words_in : List ℕ → List (List ℕ)
-words_in text = flat_map words_of (lines_of text)
+words_in text = flat_map words_of_line (lines_of text)
 
 -- whether no two of some dependencies have the same name
 abbrev pub have_different_names : List Dependency → Bool
@@ -19,10 +19,15 @@ have_different_names (d ∷ rest) = not (has_name d.name rest) && have_different
 -- each word is a dependency, no name occurs twice, and the world has exactly these dependencies, in
 -- order of their names
 pub record IsWorldOf (text : List ℕ) (world : List Dependency) : Type 0 where
+  -- the dependencies of the words, in the order of the words
   pub entries : List Dependency
+  -- each word is a dependency
   pub read : map dependency_of (words_in text) ≡ map Some entries
+  -- no name occurs twice
   pub apart : have_different_names entries ≡ true
+  -- the world has the same dependencies
   pub same : IsPermutation entries world
+  -- the world is in order of the names
   pub in_order : IsWorld world
 
 -- this line, counted from 1, is the first that spoils the world: the lines before it are one, and with
@@ -30,7 +35,11 @@ pub record IsWorldOf (text : List ℕ) (world : List Dependency) : Type 0 where
 pub record IsFirstBadLine (text : List ℕ) (line : ℕ) : Type 0 where
   -- how many lines precede it
   pub before : ℕ
+  -- the line is counted from 1
   pub number : line ≡ before + 1
+  -- the text has this line
   pub within : before < length (lines_of text)
+  -- the lines before it are a world
   pub good_before : is_ok (world_with_lines [] 1 (take before (lines_of text))) ≡ true
+  -- together with this line they are not a world
   pub bad_with : is_ok (world_with_lines [] 1 (take (before + 1) (lines_of text))) ≡ false

@@ -10,14 +10,14 @@ use Rattle.dep_core.specs.Dependency.{Dependency, dependency_from_parts}
 abbrev pub dependency : Dep → Dependency
 dependency dep = dependency_from_parts dep.name.now dep.version dep.op dep.conflict (option_copied dep.tag)
 
--- whether the found version, if there is one, is accepted: any is accepted if none is wanted, else it
--- must match
+-- whether a constraint accepts the found version: without a wanted version it accepts any version
+-- and none; with one, a version must be found, and it must match
 abbrev pub constraint_accepts : Option (List ℕ) → ℕ → Option (List ℕ) → Bool
 constraint_accepts None bits found = true
 constraint_accepts (Some wanted) bits None = false
 constraint_accepts (Some wanted) bits (Some found) = matches bits found wanted
 
--- whether a name and a version, if there is one, meet a dependency; it does not matter whether it is a
--- conflict
+-- whether a package with this name and this version, if it has one, meets the dependency; whether
+-- the dependency is a conflict does not matter
 abbrev pub meets : Dependency → List ℕ → Option (List ℕ) → Bool
 meets d name version = bytes_eq d.name name && constraint_accepts d.version d.bits version

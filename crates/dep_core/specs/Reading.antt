@@ -1,6 +1,7 @@
 -- Which dependency a text denotes, if any. The rules are in `docs/formats.md`, "Dependencies", the
--- paragraph of the text of a dependency. Each definition `at_..` reads from one place of the grammar
--- on, with the dependency as read so far.
+-- paragraph of the text of a dependency. A definition `dependency_from_X` parses a text that begins
+-- with the part X of the grammar, and `dependency_after_X` one that begins after X. Their argument
+-- `d` is the dependency as parsed so far.
 use Rattle.std.specs.Prelude.{ℕ, ◌==◌, Bool, true, false, not, ◌&&◌, ◌||◌, if◌then◌else◌, List, [], ◌∷◌, ◌++◌, drop, codes, Option, Some, None, is_some}
 use Rattle.std.specs.List.{prefix_len, take_while}
 use Rattle.std.specs.Map.{lookup}
@@ -8,9 +9,9 @@ use Rattle.std.specs.Str.{bytes_eq}
 use Rattle.version_core.specs.Order.{is_version}
 use Rattle.dep_core.specs.Dependency.{Dependency, dependency_from_parts, is_name_byte, is_dep_name, is_tag_byte, is_tag, operators}
 
--- the text after its longest front of bytes that have a property
-abbrev pub rest_after : (ℕ → Bool) → List ℕ → List ℕ
-rest_after p text = drop (prefix_len p text) text
+-- the text without its longest prefix of bytes that all have the property `p`
+abbrev pub without_leading_bytes : (ℕ → Bool) → List ℕ → List ℕ
+without_leading_bytes p text = drop (prefix_len p text) text
 
 -- whether a byte occurs in operators: `<`, `=`, `>` or `~`
 abbrev pub is_operator_byte : ℕ → Bool
@@ -36,55 +37,61 @@ with_tag d tag = dependency_from_parts d.name d.version d.bits d.conflict (Some 
 abbrev pub with_constraint : Dependency → List ℕ → ℕ → Dependency
 with_constraint d version bits = dependency_from_parts d.name (Some version) bits d.conflict d.tag
 
--- reads after the version: nothing, or `@` (64) and the tag, if no tag followed the name
+-- parses the text after the version: it is empty, or it is `@` (64) and a tag; a tag is refused
+-- here if one followed the name
 unfoldable pub dependency_after_version : Dependency → List ℕ → Option Dependency
 dependency_after_version d [] = Some d
 dependency_after_version d (b ∷ tag) =
     if (b == 64) && (not (is_some d.tag) && is_tag tag) then Some (with_tag d tag) else None
 
--- reads after the operator: the version, up to an `@`
+-- parses the text after an operator with these match bits: a version up to the first `@`, and what
+-- follows it
 unfoldable pub dependency_from_version : Dependency → ℕ → List ℕ → Option Dependency
 dependency_from_version d bits text =
     if is_version (take_while is_not_at_sign text)
     then dependency_after_version (with_constraint d (take_while is_not_at_sign text) bits)
-    (rest_after is_not_at_sign text)
+    (without_leading_bytes is_not_at_sign text)
     else None
 
--- reads after the bytes of an operator, with its match bits; None if they are no operator
+-- parses the text after the bytes of an operator, given their match bits; None if these bytes are
+-- no operator
 abbrev pub dependency_after_operator : Dependency → Option ℕ → List ℕ → Option Dependency
 dependency_after_operator d None text = None
 dependency_after_operator d (Some bits) text = dependency_from_version d bits text
 
--- reads after the name and its tag: nothing, or the operator
-unfoldable pub with_constraint_read : Dependency → List ℕ → Option Dependency
-with_constraint_read d [] = Some d
-with_constraint_read d (b ∷ rest) =
+-- parses the text after the name and its tag: it is empty, or it begins with an operator
+unfoldable pub dependency_from_operator : Dependency → List ℕ → Option Dependency
+dependency_from_operator d [] = Some d
+dependency_from_operator d (b ∷ rest) =
     dependency_after_operator d (operator_bits (take_while is_operator_byte (b ∷ rest)))
-    (rest_after is_operator_byte (b ∷ rest))
+    (without_leading_bytes is_operator_byte (b ∷ rest))
 
--- reads after the `@`: the tag
+-- parses the text after the `@` that follows the name: a tag, and what follows it
 unfoldable pub dependency_from_tag : Dependency → List ℕ → Option Dependency
 dependency_from_tag d text =
     if is_tag (take_while is_tag_byte text)
-    then with_constraint_read (with_tag d (take_while is_tag_byte text))
-    (rest_after is_tag_byte text)
+    then dependency_from_operator (with_tag d (take_while is_tag_byte text))
+    (without_leading_bytes is_tag_byte text)
     else None
 
--- reads after the name: `@` (64) and the tag, if there is one
+-- parses the text after the name: `@` (64) and a tag if it begins with `@`, otherwise an operator
+-- or nothing
 unfoldable pub dependency_after_name : Dependency → List ℕ → Option Dependency
 dependency_after_name d [] = Some d
-dependency_after_name d (b ∷ rest) = if b == 64 then dependency_from_tag d rest else with_constraint_read d (b ∷ rest)
+dependency_after_name d (b ∷ rest) =
+    if b == 64 then dependency_from_tag d rest else dependency_from_operator d (b ∷ rest)
 
--- reads the name, from the front or after the mark of a conflict
+-- parses a text that begins with the name; a conflict has its `!` removed before
 unfoldable pub dependency_from_name : Bool → List ℕ → Option Dependency
 dependency_from_name conflict text =
     if is_dep_name (take_while is_name_byte text)
     then dependency_after_name (dependency_on_any_version conflict (take_while is_name_byte text))
-    (rest_after is_name_byte text)
+    (without_leading_bytes is_name_byte text)
     else None
 
 -- the dependency that a text denotes, or None if it denotes none; a leading `!` (33) makes it a
 -- conflict
 unfoldable pub dependency_of : List ℕ → Option Dependency
 dependency_of [] = None
-dependency_of (b ∷ rest) = if b == 33 then dependency_from_name true rest else dependency_from_name false (b ∷ rest)
+dependency_of (b ∷ rest) =
+    if b == 33 then dependency_from_name true rest else dependency_from_name false (b ∷ rest)

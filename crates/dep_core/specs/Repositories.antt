@@ -6,7 +6,7 @@ use Rattle.std.specs.List.{suffix_len, take_while}
 use Rattle.base_core.specs.Name.{is_name}
 use Rattle.dep_core.specs.Dependency.{is_tag_byte, is_tag}
 use Rattle.dep_core.specs.LeadingSlash.{without_slash}
-use Rattle.dep_core.specs.Reading.{rest_after}
+use Rattle.dep_core.specs.Reading.{without_leading_bytes}
 use Rattle.dep_core.specs.World.{is_blank, lines_of}
 
 -- the file of an index, and the tag under which world may ask for its packages
@@ -24,7 +24,7 @@ without_trailing_blanks text = take (length text - suffix_len is_blank text) tex
 
 -- the text without spaces and tabs at both ends
 abbrev pub without_outer_blanks : List ℕ → List ℕ
-without_outer_blanks text = without_trailing_blanks (rest_after is_blank text)
+without_outer_blanks text = without_trailing_blanks (without_leading_bytes is_blank text)
 
 -- whether a line, without blanks at its ends, is skipped: it is empty, or begins with `#` (35)
 abbrev pub is_blank_or_comment : List ℕ → Bool
@@ -42,18 +42,20 @@ abbrev pub repository_at_path : Option (List ℕ) → List ℕ → Option Reposi
 repository_at_path tag path =
     if is_name (without_slash path) then Some (repository tag (without_slash path)) else None
 
--- the repository of a text after `@`: the tag, blanks, the path
-unfoldable pub tagged_repository : List ℕ → Option Repository
-tagged_repository text =
+-- the repository of a line, given the text after the `@` of the line: a tag, blanks, and a path
+unfoldable pub repository_after_at_sign : List ℕ → Option Repository
+repository_after_at_sign text =
     let tag = take_while is_tag_byte text in
-    let rest = rest_after is_tag_byte text in
-    if is_tag tag && begins_with_blank rest then repository_at_path (Some tag) (rest_after is_blank rest)
+    let rest = without_leading_bytes is_tag_byte text in
+    if is_tag tag && begins_with_blank rest then repository_at_path (Some tag)
+    (without_leading_bytes is_blank rest)
     else None
 
 -- the repository of a line that is not skipped, without blanks at its ends; `@` (64) precedes a tag
 unfoldable pub repository_of : List ℕ → Option Repository
 repository_of [] = None
-repository_of (b ∷ rest) = if b == 64 then tagged_repository rest else repository_at_path None (b ∷ rest)
+repository_of (b ∷ rest) =
+    if b == 64 then repository_after_at_sign rest else repository_at_path None (b ∷ rest)
 
 -- the list of one repository
 abbrev pub singleton : Repository → List Repository
@@ -65,7 +67,8 @@ repositories_on_line line =
     if is_blank_or_comment (without_outer_blanks line) then Some []
     else option_map singleton (repository_of (without_outer_blanks line))
 
--- the repositories of a line before those of the lines after it; the number of the line if it is bad
+-- the repositories of a line, followed by those of the later lines (`rest`); if the line is bad
+-- (None), its number
 abbrev pub with_repositories_of_line : ℕ → Option (List Repository) → Result (List Repository) ℕ
     → Result (List Repository) ℕ
 with_repositories_of_line line None rest = Err line

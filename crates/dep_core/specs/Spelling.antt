@@ -2,7 +2,7 @@
 -- `docs/formats.md`, "Dependencies": the tag may also follow the version, and `~` has two more texts.
 use Rattle.std.specs.Prelude.{◌≡◌, ℕ, List, [], ◌++◌, Option, Some, None, ◌⊎◌}
 use Rattle.dep_core.specs.Dependency.{Dependency}
-use Rattle.dep_core.specs.DependencyText.{IsDependency, mark_text, tag_text}
+use Rattle.dep_core.specs.DependencyText.{IsDependency, conflict_mark_text, tag_text}
 use Rattle.dep_core.specs.Reading.{operator_bits}
 
 -- a text spells a version constraint: an operator of these match bits, and the version; or nothing if
@@ -16,5 +16,5 @@ SpellsConstraint text (Some version) bits =
 abbrev pub SpellsDependency : List ℕ → Dependency → Type 0
 SpellsDependency text d =
     IsDependency d × ((limit : List ℕ) × SpellsConstraint limit d.version d.bits
-    × ((text ≡ mark_text d.conflict ++ (d.name ++ (tag_text d.tag ++ limit)))
-    ⊎ (text ≡ mark_text d.conflict ++ (d.name ++ (limit ++ tag_text d.tag)))))
+    × ((text ≡ conflict_mark_text d.conflict ++ (d.name ++ (tag_text d.tag ++ limit)))
+    ⊎ (text ≡ conflict_mark_text d.conflict ++ (d.name ++ (limit ++ tag_text d.tag)))))

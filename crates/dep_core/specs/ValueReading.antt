@@ -8,14 +8,15 @@ use Rattle.dep_core.specs.Value.{is_match_number, is_version_or_empty}
 -- the match bits for the low four bits of a match number. 7 and 15 accept any version (None), and 0
 -- counts as 1. 8, 10 and 12, which match fuzzily, count as 9, 11 and 13, which accept equal versions
 -- too
-abbrev pub match_bits_of : ℕ → Option ℕ
-match_bits_of low =
+abbrev pub match_bits_unless_any_version : ℕ → Option ℕ
+match_bits_unless_any_version low =
     if (low == 7) || (low == 15) then None else
     if low == 0 then Some 1 else
     if (low == 8) || ((low == 10) || (low == 12)) then Some (low + 1) else
     Some low
 
--- the dependency with a wanted version and its match bits; without match bits it is unchanged
+-- the dependency with this wanted version and these match bits; unchanged if the version is empty
+-- or there are no match bits
 abbrev pub with_wanted_version : Dependency → List ℕ → Option ℕ → Dependency
 with_wanted_version d [] bits = d
 with_wanted_version d (b ∷ rest) None = d
@@ -26,5 +27,6 @@ with_wanted_version d (b ∷ rest) (Some bits) = with_constraint d (b ∷ rest) 
 unfoldable pub dependency_of_value : List ℕ → List ℕ → ℕ → Option Dependency
 dependency_of_value name version matching =
     if is_dep_name name && (is_version_or_empty version && is_match_number matching) then
-    Some (with_wanted_version (dependency_on_any_version (not (nat_lt matching 16)) name) version (match_bits_of (matching % 16)))
+    Some (with_wanted_version (dependency_on_any_version (not (nat_lt matching 16)) name) version
+    (match_bits_unless_any_version (matching % 16)))
     else None

@@ -19,11 +19,12 @@ is_in_order (d ∷ rest) =
 abbrev pub IsWorld : List Dependency → Type 0
 IsWorld world = IsTrue (list_all is_dependency world && is_in_order world)
 
--- whether one of them has this name
+-- whether one of the dependencies has this name
 abbrev pub has_name : List ℕ → List Dependency → Bool
 has_name name world = list_any (λ (d : Dependency). bytes_eq d.name name) world
 
--- world with a dependency, in place of the one with its name, or else inserted in order
+-- world with this dependency: it replaces the entry with its name, or is inserted in the order of
+-- the names
 abbrev pub with_entry : Dependency → List Dependency → List Dependency
 with_entry d [] = d ∷ []
 with_entry d (e ∷ rest) =
@@ -46,15 +47,16 @@ is_blank b = (b == 32) || (b == 9)
 abbrev pub is_line_end : ℕ → Bool
 is_line_end b = b == 10
 
--- the lines of a text; there is one after the last line end too
+-- the lines of a text, which is split at each line end; the text after the last line end is a line
+-- too
 abbrev pub lines_of : List ℕ → List (List ℕ)
 lines_of text = slice_split is_line_end text
 
 -- the words of a line, between blanks
-abbrev pub words_of : List ℕ → List (List ℕ)
-words_of line = filter (λ word. not (length word == 0)) (slice_split is_blank line)
+abbrev pub words_of_line : List ℕ → List (List ℕ)
+words_of_line line = filter (λ word. not (length word == 0)) (slice_split is_blank line)
 
--- world with one more entry, or None if there is none or its name is taken
+-- world with this dependency as a new entry, or None if an entry has its name
 abbrev pub with_new_entry : List Dependency → Dependency → Option (List Dependency)
 with_new_entry world d = if has_name d.name world then None else Some (with_entry d world)
 
@@ -65,7 +67,8 @@ world_with_words world (word ∷ words) =
     option_and_then (λ more. world_with_words more words)
     (option_and_then (with_new_entry world) (dependency_of word))
 
--- the world after a line, or the number of that line if it is bad
+-- the result of `next` for the world that includes the entries of a line; if the line is bad
+-- (None), its number
 abbrev pub or_bad_line : ℕ → (List Dependency → Result (List Dependency) ℕ)
     → Option (List Dependency) → Result (List Dependency) ℕ
 or_bad_line line next None = Err line
@@ -76,7 +79,8 @@ or_bad_line line next (Some world) = next world
 abbrev pub world_with_lines : List Dependency → ℕ → List (List ℕ) → Result (List Dependency) ℕ
 world_with_lines world line [] = Ok world
 world_with_lines world line (text ∷ rest) =
-    or_bad_line line (λ more. world_with_lines more (line + 1) rest) (world_with_words world (words_of text))
+    or_bad_line line (λ more. world_with_lines more (line + 1) rest)
+    (world_with_words world (words_of_line text))
 
 -- the world that a text denotes, or the number of its first bad line, counted from 1
 unfoldable pub world_of : List ℕ → Result (List Dependency) ℕ

@@ -3,7 +3,7 @@
 
 ghost use Rattle.std.specs.Prelude.{IsTrue, ◌≡◌, Some, IfSome, is_some, ◌==◌};
 ghost use Rattle.std.specs.Option.{option_copied};
-ghost use Rattle.dep_core.specs.Dependency.{dependency_from_parts, begins_with_punctuation, is_dep_name, is_name_byte, is_package_name, is_tag, is_tag_byte};
+ghost use Rattle.dep_core.specs.Dependency.{dependency_from_parts, begins_with_dash_or_dot, is_dep_name, is_name_byte, is_package_name, is_tag, is_tag_byte};
 ghost use Rattle.dep_core.specs.DependencyText.{is_dependency, operator_text};
 ghost use Rattle.dep_core.specs.Reading.{operator_bits};
 ghost use Rattle.std.specs.List.{list_all, list_any};
@@ -19,7 +19,7 @@ pub struct Dep<'a> {
     pub version: Option<Version<'a>>,
     /// How a version must compare with the wanted one; `=` if no version is wanted.
     pub op: Op,
-    /// Whether it excludes what meets it.
+    /// Whether the dependency is a conflict: it excludes the packages that meet it.
     pub conflict: bool,
     /// The tag of the repositories that may supply it. Only dependencies in world have one
     /// (apk-world(5)).
@@ -34,8 +34,9 @@ impl<'a> Dep<'a> {
     ghost use Rattle.dep_core.specs.Reading.{dependency_on_any_version, with_constraint, with_tag};
     ghost use Rattle.dep_core.specs.Meets.{dependency, meets};
 
-    /// Whether a name and a version, if there is one, meet it: the names are equal, and it wants no
-    /// version or the given one matches. It does not matter whether it is a conflict.
+    /// Whether a package with this name and this version, if it has one, meets the dependency: the
+    /// names are equal, and any version is accepted, or the given one matches. Whether the
+    /// dependency is a conflict does not matter.
     pub fn met_by(&self, name: &[u8], version: Option<&Version<'_>>) -> bool
         ensures { result ≡ meets (dependency self.now) name.now (option_copied version.entry) }
     {
@@ -153,7 +154,7 @@ fn has_name_bytes(name: &[u8]) -> bool
 pub fn is_package_name(name: &[u8]) -> bool
     ensures { result ≡ is_package_name name.now }
 {
-    if !is_dep_name(name) || begins_with_punctuation(name) {
+    if !is_dep_name(name) || begins_with_dash_or_dot(name) {
         return false;
     }
     !has_slash(name)
@@ -167,8 +168,8 @@ pub fn has_slash(name: &[u8]) -> bool
 }
 
 /// Whether a name begins with a byte that no package's name may begin with.
-fn begins_with_punctuation(name: &[u8]) -> bool
-    ensures { result ≡ begins_with_punctuation name.now }
+fn begins_with_dash_or_dot(name: &[u8]) -> bool
+    ensures { result ≡ begins_with_dash_or_dot name.now }
 {
     match name.first() {
         Some(byte) => *byte == b'-' || *byte == b'.',

@@ -3,7 +3,7 @@
 
 ghost use Rattle.std.specs.Prelude.{◌≡◌, ◌<◌, ◌==◌, ◌++◌, length, slice_get, Some, None, if◌then◌else◌, IfOk, IfErr, option_copied};
 ghost use Rattle.std.specs.Option.{option_map};
-ghost use Rattle.dep_core.specs.Repositories.{repository_at_path, begins_with_blank, is_blank_or_comment, repositories_of, repositories_on_line, repository_of, tagged_repository, without_outer_blanks, without_trailing_blanks};
+ghost use Rattle.dep_core.specs.Repositories.{repository_at_path, begins_with_blank, is_blank_or_comment, repositories_of, repositories_on_line, repository_of, repository_after_at_sign, without_outer_blanks, without_trailing_blanks};
 ghost use Rattle.dep_core.specs.Faults.{IsReposFault};
 ghost use Rattle.dep_core.specs.LeadingSlash.{without_slash};
 
@@ -176,9 +176,9 @@ fn read_repo(alloc: Global, text: &[u8]) -> Result<Option<Repo>, AllocError>
 }
 
 /// The repository of a text after the `@` of its tag; None if it is bad.
-#[tactic(auto, unfolding(crate::specs::Repositories::tagged_repository))]
+#[tactic(auto, unfolding(crate::specs::Repositories::repository_after_at_sign))]
 fn read_tagged(alloc: Global, text: &[u8]) -> Result<Option<Repo>, AllocError>
-    ensures { IfOk result (λ found. found ≡ tagged_repository text.now) }
+    ensures { IfOk result (λ found. found ≡ repository_after_at_sign text.now) }
 {
     let (tag, rest) = text.split_at(tag_len(text));
     if !is_tag(tag) || !begins_with_blank(rest) {

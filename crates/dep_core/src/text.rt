@@ -5,10 +5,10 @@ ghost use Rattle.std.specs.Prelude.{◌≡◌, IsTrue, true, is_some, IfSome, �
 ghost use Rattle.std.specs.Option.{option_map};
 ghost use Rattle.dep_core.specs.Dependency.{is_dep_name, is_name_byte, is_tag_byte};
 ghost use Rattle.dep_core.specs.DependencyText.{operator_text, dep_text};
-ghost use Rattle.dep_core.specs.Reading.{dependency_from_tag, dependency_of, dependency_after_version, with_constraint_read, dependency_from_name, dependency_after_name, dependency_from_version, is_not_at_sign, is_operator_byte};
+ghost use Rattle.dep_core.specs.Reading.{dependency_from_tag, dependency_of, dependency_after_version, dependency_from_operator, dependency_from_name, dependency_after_name, dependency_from_version, is_not_at_sign, is_operator_byte};
 ghost use Rattle.dep_core.specs.Meets.{dependency};
 ghost use Rattle.dep_core.specs.Value.{is_version_or_empty};
-ghost use Rattle.dep_core.specs.ValueReading.{match_bits_of, dependency_of_value};
+ghost use Rattle.dep_core.specs.ValueReading.{match_bits_unless_any_version, dependency_of_value};
 ghost use Rattle.std.specs.List.{prefix_len};
 ghost use Rattle.dep_core.specs.World.{is_blank};
 
@@ -45,31 +45,34 @@ fn dependency_from_name(conflict: bool, text: &[u8]) -> Option<Dep<'_>>
 /// Reads what follows the name: a tag, a constraint or nothing.
 #[tactic(auto, unfolding(crate::specs::Reading::dependency_after_name))]
 fn dependency_after_name<'a>(dep: Dep<'a>, text: &'a [u8]) -> Option<Dep<'a>>
-    ensures { option_map dependency result ≡ dependency_after_name (dependency dep.entry) text.entry.now }
+    ensures { option_map dependency result
+        ≡ dependency_after_name (dependency dep.entry) text.entry.now }
 {
     match text.split_first() {
         None => Some(dep),
         Some((b'@', rest)) => dependency_from_tag(dep, rest),
-        Some(_) => with_constraint_read(dep, text),
+        Some(_) => dependency_from_operator(dep, text),
     }
 }
 
 /// Reads a tag after the name, and a constraint or nothing after it.
 #[tactic(auto, unfolding(crate::specs::Reading::dependency_from_tag))]
 fn dependency_from_tag<'a>(dep: Dep<'a>, text: &'a [u8]) -> Option<Dep<'a>>
-    ensures { option_map dependency result ≡ dependency_from_tag (dependency dep.entry) text.entry.now }
+    ensures { option_map dependency result
+        ≡ dependency_from_tag (dependency dep.entry) text.entry.now }
 {
     let (tag, rest) = text.split_at(tag_len(text));
     if !is_tag(tag) {
         return None;
     }
-    with_constraint_read(dep.with_tag(tag), rest)
+    dependency_from_operator(dep.with_tag(tag), rest)
 }
 
 /// Reads an operator and the version after it, or nothing.
-#[tactic(auto, unfolding(crate::specs::Reading::with_constraint_read))]
-fn with_constraint_read<'a>(dep: Dep<'a>, text: &'a [u8]) -> Option<Dep<'a>>
-    ensures { option_map dependency result ≡ with_constraint_read (dependency dep.entry) text.entry.now }
+#[tactic(auto, unfolding(crate::specs::Reading::dependency_from_operator))]
+fn dependency_from_operator<'a>(dep: Dep<'a>, text: &'a [u8]) -> Option<Dep<'a>>
+    ensures { option_map dependency result
+        ≡ dependency_from_operator (dependency dep.entry) text.entry.now }
 {
     if text.is_empty() {
         return Some(dep);
@@ -83,7 +86,8 @@ fn with_constraint_read<'a>(dep: Dep<'a>, text: &'a [u8]) -> Option<Dep<'a>>
 #[tactic(auto, unfolding(crate::specs::Reading::dependency_from_version))]
 fn dependency_from_version<'a>(dep: Dep<'a>, op: Op, text: &'a [u8]) -> Option<Dep<'a>>
     requires { IsTrue (is_some (operator_text op)) }
-    ensures { option_map dependency result ≡ dependency_from_version (dependency dep.entry) op text.entry.now }
+    ensures { option_map dependency result
+        ≡ dependency_from_version (dependency dep.entry) op text.entry.now }
 {
     let (version, rest) = text.split_at(len_before_at_sign(text));
     let version = Version::read(version)?;
@@ -93,7 +97,8 @@ fn dependency_from_version<'a>(dep: Dep<'a>, op: Op, text: &'a [u8]) -> Option<D
 /// Reads what follows the version: a tag or nothing.
 #[tactic(auto, unfolding(crate::specs::Reading::dependency_after_version))]
 fn dependency_after_version<'a>(dep: Dep<'a>, text: &'a [u8]) -> Option<Dep<'a>>
-    ensures { option_map dependency result ≡ dependency_after_version (dependency dep.entry) text.entry.now }
+    ensures { option_map dependency result
+        ≡ dependency_after_version (dependency dep.entry) text.entry.now }
 {
     match text.split_first() {
         None => Some(dep),
@@ -154,7 +159,7 @@ fn is_version_or_empty(text: &[u8]) -> bool
 
 /// The operator that the low four bits of a match number denote; None if any version is accepted.
 fn wanted_op(low: Op) -> Option<Op>
-    ensures bits { result ≡ match_bits_of low }
+    ensures bits { result ≡ match_bits_unless_any_version low }
     ensures has_text { IfSome result (λ op. IsTrue (is_some (operator_text op))) }
 {
     match low.bits() {
@@ -195,7 +200,7 @@ pub fn append_dep(text: &mut Vec<u8>, dep: &Dep<'_>) -> Result<(), AllocError>
     Ok(())
 }
 
-/// The length of the longest front whose bytes a name may have.
+/// The length of the longest prefix whose bytes a name may have.
 #[tactic(auto, using(crate::proofs::Prefixes::len_at))]
 pub fn name_len(text: &[u8]) -> usize
     ensures len { result ≡ prefix_len is_name_byte text.now }
@@ -211,7 +216,7 @@ fn name_end(text: &[u8]) -> Option<usize>
     text.iter().position(|byte| !is_name_byte(*byte))
 }
 
-/// The length of the longest front whose bytes a tag may have.
+/// The length of the longest prefix whose bytes a tag may have.
 #[tactic(auto, using(crate::proofs::Prefixes::len_at))]
 pub fn tag_len(text: &[u8]) -> usize
     ensures len { result ≡ prefix_len is_tag_byte text.now }
@@ -227,7 +232,7 @@ fn tag_end(text: &[u8]) -> Option<usize>
     text.iter().position(|byte| !is_tag_byte(*byte))
 }
 
-/// The length of the longest front of operator bytes.
+/// The length of the longest prefix of bytes that occur in operators.
 #[tactic(auto, using(crate::proofs::Prefixes::len_at))]
 pub fn operator_len(text: &[u8]) -> usize
     ensures len { result ≡ prefix_len is_operator_byte text.now }
@@ -236,14 +241,14 @@ pub fn operator_len(text: &[u8]) -> usize
     operator_end(text).unwrap_or(text.len())
 }
 
-/// The index of the first byte that no operator has.
+/// The index of the first byte that occurs in no operator.
 fn operator_end(text: &[u8]) -> Option<usize>
     ensures { result ≡ position (λ b. not (is_operator_byte b)) text.now }
 {
     text.iter().position(|byte| !is_operator_byte(*byte))
 }
 
-/// Whether operators have this byte.
+/// Whether this byte occurs in an operator: `<`, `=`, `>` or `~`.
 fn is_operator_byte(byte: u8) -> bool
     ensures { result ≡ is_operator_byte byte }
 {

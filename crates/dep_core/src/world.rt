@@ -4,7 +4,7 @@
 
 ghost use Rattle.std.specs.Prelude.{◌≡◌, ◌<◌, ◌==◌, Some, length, slice_get, IfOk, IfErr, OnOk, OnErr, IsTrue, [], None, not, if◌then◌else◌};
 ghost use Rattle.dep_core.specs.Meets.{dependency};
-ghost use Rattle.dep_core.specs.World.{IsWorld, has_name, with_entry, without_name, world_of, world_text, with_new_entry, world_with_words, words_of};
+ghost use Rattle.dep_core.specs.World.{IsWorld, has_name, with_entry, without_name, world_of, world_text, with_new_entry, world_with_words, words_of_line};
 ghost use Rattle.base_core.specs.ByteOrder.{bytes_cmp};
 ghost use Rattle.dep_core.specs.Faults.{IsWorldFault};
 ghost use Rattle.dep_core.specs.DependencyText.{is_dependency, IsDependency};
@@ -271,7 +271,8 @@ impl<'a> Model for Found<'a> {
 
     ghost view = { λ found. values found.by_name };
 
-    ghost invariant = { λ found. IsKeyedByName found.by_name.entries × IsWorld (values found.by_name) };
+    ghost invariant = { λ found. IsKeyedByName found.by_name.entries
+        × IsWorld (values found.by_name) };
 }
 
 impl<'a> Found<'a> {
@@ -289,7 +290,7 @@ impl<'a> Found<'a> {
     /// name.
     pub fn add_line(&mut self, line: &'a [u8]) -> Result<bool, AllocError>
         ensures { IfOk result (λ good.
-            world_with_words self.old (words_of line.entry.now)
+            world_with_words self.old (words_of_line line.entry.now)
             ≡ (if good then Some self.new else None)) }
     {
         for word in line.split(|byte| is_blank(*byte)) {

@@ -7,7 +7,7 @@ use Rattle.adb_block.specs.Header.{header_of}
 use Rattle.adb_block.specs.ReaderPosition.{first_block_position}
 use Rattle.adb_block.specs.Reading.{Reading, block_stream_from}
 use Rattle.adb_view.specs.Plain.{Plain, null, plain_of, IsNormal}
-use Rattle.adb_view.specs.Head.{root_of}
+use Rattle.adb_view.specs.Head.{root_word_of_payload}
 use Rattle.adb_view.specs.Schema.{shape_of}
 use Rattle.adb_view.specs.Values.{value_at}
 use Rattle.adb_view.specs.declared.tables.Which.{Which}
@@ -24,8 +24,8 @@ use Rattle.outcome.specs.adb_dump.Dump.{dump_text}
 use Rattle.outcome.specs.adb_dump.Values.{IsOfBytes, IsNormalValueOfTable}
 use Rattle.outcome.proofs.adb_dump.Booleans.{chosen}
 use Rattle.outcome.specs.gen_core.Dumps.{IsRootValue}
-use Rattle.outcome.specs.gen_core.Generated.{DumpedRoot, dumped_root, file_of_root, file_unless_too_large, generated_file, word_of_root}
-use Rattle.outcome.specs.Dump.{dump_fault, dump_of, dump_of_blocks, dump_with_root, dump_with_schema, or_text}
+use Rattle.outcome.specs.gen_core.Generated.{DumpedRoot, dumped_root, file_of_root, file_unless_too_large, generated_file, schema_word_or_zero}
+use Rattle.outcome.specs.Dump.{dump_fault_of_blocks, dump_of, dump_of_blocks, dump_by_root_table, dump_by_schema, text_unless_fault}
 use Rattle.dump_laws.proofs.Printed.{HasNamesAmong, Overflows, printed, within}
 
 -- what the layers below say of texts and of values that are found
@@ -38,7 +38,7 @@ Found = (payload : List ℕ) → All (λ b. b < 256) payload → (which : Which)
 
 -- ---- a text, its container, and the text again
 
-some_word : (w : Which) → IsSome (schema_word w) → schema_word w ≡ Some (word_of_root w)
+some_word : (w : Which) → IsSome (schema_word w) → schema_word w ≡ Some (schema_word_or_zero w)
 some_word w e = go (schema_word w) e
   where
     go : (o : Option ℕ) → IsSome o → o ≡ Some (unwrap_or o 0)
@@ -58,15 +58,15 @@ printed_again laws over texts text file e = go (dumped_root text) refl e
     go (Err n) is e = absurd cc
     go (Ok root) is e =
         let (root_is, text_is) = texts.said text root is in
-        let (payload, wrote, file_is) = written_file (word_of_root root.which) (payload_or_overflow root.value) file e in
+        let (payload, wrote, file_is) = written_file (schema_word_or_zero root.which) (payload_or_overflow root.value) file e in
         let (g, canonical_is) = within over root.which root.value payload root_is.normal.0 root_is.normal.1 wrote in
-        ap dump_of (sym file_is ∙ ap (file_of (word_of_root root.which)) (sym canonical_is))
-        ∙ printed laws root.which (word_of_root root.which) root.value (some_word root.which root_is.root) g
+        ap dump_of (sym file_is ∙ ap (file_of (schema_word_or_zero root.which)) (sym canonical_is))
+        ∙ printed laws root.which (schema_word_or_zero root.which) root.value (some_word root.which root_is.root) g
         ∙ ap (λ (t : List ℕ). let text : Result (List ℕ) Cause = Ok t in text) text_is
 
 -- ---- a container, its text, and the container again
 
-generated : Texts → (which : Which) (v : Plain) → IsRootValue which v → generated_file (dump_text which v) ≡ file_unless_too_large (word_of_root which) (payload_or_overflow v)
+generated : Texts → (which : Which) (v : Plain) → IsRootValue which v → generated_file (dump_text which v) ≡ file_unless_too_large (schema_word_or_zero which) (payload_or_overflow v)
 unfolding generated_file
 generated texts which v is = ap file_of_root (texts.accepted which v is)
 
@@ -94,14 +94,14 @@ root_word schema which e =
         let same : w ≡ which = cc in
         ap schema_word (sym same) ∙ h ∙ ap (λ (n : ℕ). Some n) (sym (eqb-true schema word t))
 
-word_known : (which : Which) (schema : ℕ) → schema_word which ≡ Some schema → (IsSome (schema_word which)) × (word_of_root which ≡ schema)
+word_known : (which : Which) (schema : ℕ) → schema_word which ≡ Some schema → (IsSome (schema_word which)) × (schema_word_or_zero which ≡ schema)
 word_known which schema e = (subst IsSome (sym e) refl, ap (λ (o : Option ℕ). unwrap_or o 0) e)
 
 -- what is printed of blocks
 text_of_blocks : (which : Which) (r : Reading) (text : List ℕ) → dump_of_blocks which r ≡ Ok text → dump_text which (root_value which (first_block_payload r)) ≡ text
-text_of_blocks which r text e = go (dump_fault which r) e
+text_of_blocks which r text e = go (dump_fault_of_blocks which r) e
   where
-    go : (o : Option Cause) → or_text o (dump_text which (root_value which (first_block_payload r))) ≡ Ok text → dump_text which (root_value which (first_block_payload r)) ≡ text
+    go : (o : Option Cause) → text_unless_fault o (dump_text which (root_value which (first_block_payload r))) ≡ Ok text → dump_text which (root_value which (first_block_payload r)) ≡ text
     go None e = cc
     go (Some c) e = absurd cc
 
@@ -109,7 +109,7 @@ printed_text : (file text : List ℕ) (schema : ℕ) (which : Which) → dump_of
 unfolding dump_of payload_in
 printed_text file text schema which e h root =
     let r = block_stream_from (first_block_position schema file) in
-    let blocks : dump_of_blocks which r ≡ Ok text = sym (ap (dump_with_schema file) h ∙ ap (dump_with_root schema r) root) ∙ e in
+    let blocks : dump_of_blocks which r ≡ Ok text = sym (ap (dump_by_schema file) h ∙ ap (dump_by_root_table schema r) root) ∙ e in
     ap (λ (o : Result ℕ Cause). dump_text which (root_value which (payload_after_header file o))) h ∙ text_of_blocks which r text blocks
 
 null_root : (which : Which) → IsNormalValueOfTable which null × IsOfBytes null
@@ -118,7 +118,7 @@ null_root which = ((tt, shape_null (shape_of (Obj which))), tt)
 
 found_value : Found → (which : Which) (payload : List ℕ) → All (λ b. b < 256) payload → IsNormalValueOfTable which (root_value which payload) × IsOfBytes (root_value which payload)
 unfolding value_at
-found_value found which payload bytes = go (plain_of payload (shape_of (Obj which)) (root_of payload)) (found payload bytes which (root_of payload))
+found_value found which payload bytes = go (plain_of payload (shape_of (Obj which)) (root_word_of_payload payload)) (found payload bytes which (root_word_of_payload payload))
   where
     go : (o : Option Plain) → IfSome o (λ v. IsNormalValueOfTable which v × IsOfBytes v) → IsNormalValueOfTable which (unwrap_or o null) × IsOfBytes (unwrap_or o null)
     go None h = null_root which

@@ -10,7 +10,7 @@ use Rattle.adb_block.specs.Header.{header_of}
 use Rattle.adb_block.specs.ReaderPosition.{first_block_position}
 use Rattle.adb_block.specs.Reading.{Reading, done, more, block_stream_from}
 use Rattle.adb_view.specs.Plain.{Plain, null, IsNormal}
-use Rattle.adb_view.specs.Head.{head_fault, root_of}
+use Rattle.adb_view.specs.Head.{payload_head_fault, root_word_of_payload}
 use Rattle.adb_view.specs.Shaped.{HasShape}
 use Rattle.adb_view.specs.Schema.{shape_of}
 use Rattle.adb_view.specs.Values.{value_at}
@@ -29,7 +29,7 @@ use Rattle.outcome.proofs.adb_sound.Payloads.{payload_long}
 use Rattle.outcome.proofs.make_core.Roots.{written}
 use Rattle.outcome.proofs.adb_sound.SoundFiles.{IsWord, reading_is, word_is}
 use Rattle.outcome.specs.adb_dump.Dump.{dump_text}
-use Rattle.outcome.specs.Dump.{dump_fault, dump_of, dump_of_blocks, dump_with_root, dump_with_schema, head_or_shape_fault, framing_fault, or_text}
+use Rattle.outcome.specs.Dump.{dump_fault_of_blocks, dump_of, dump_of_blocks, dump_by_root_table, dump_by_schema, payload_head_or_shape_fault, framing_fault, text_unless_fault}
 
 -- a value within both limits, of a table
 pub record HasNamesAmong (which : Which) (v : Plain) : Type 0 where
@@ -57,17 +57,17 @@ within law which v payload n h e =
 
 -- ---- the payload
 
-head_good : (root : ℕ) (out : Layout) → head_fault (payload_with_root root out) ≡ None
+head_good : (root : ℕ) (out : Layout) → payload_head_fault (payload_with_root root out) ≡ None
 head_good root out = let t : ltb (length (payload_with_root root out)) 8 ≡ false = le-ltb _ _ (payload_long root out) in rw t refl
 
-shape_good : Lower → (which : Which) (v : Plain) → HasNamesAmong which v → shape_fault (canonical v) (shape_of (Obj which)) (root_of (canonical v)) ≡ None
+shape_good : Lower → (which : Which) (v : Plain) → HasNamesAmong which v → shape_fault (canonical v) (shape_of (Obj which)) (root_word_of_payload (canonical v)) ≡ None
 shape_good laws which v g =
     let visits_are = laws.visited (shape_of (Obj which)) v g.normal g.shaped g.fits in
     let few = g.few in
-    (laws.faultless (canonical v) (shape_of (Obj which)) (root_of (canonical v))).1
+    (laws.faultless (canonical v) (shape_of (Obj which)) (root_word_of_payload (canonical v))).1
     (ap is_some (laws.back (shape_of (Obj which)) v g.normal g.shaped g.fits), omega arith)
 
-form_good : Lower → (which : Which) (v : Plain) → HasNamesAmong which v → head_or_shape_fault which (canonical v) ≡ None
+form_good : Lower → (which : Which) (v : Plain) → HasNamesAmong which v → payload_head_or_shape_fault which (canonical v) ≡ None
 form_good laws which v g = none_both _ _ (head_good (write v empty_layout).0 (write v empty_layout).1) (shape_good laws which v g)
 
 value_is : Lower → (which : Which) (v : Plain) → HasNamesAmong which v → root_value which (canonical v) ≡ v
@@ -79,7 +79,7 @@ value_is laws which v g = ap (λ (o : Option Plain). unwrap_or o null) (laws.bac
 blocks_printed : Lower → (which : Which) (v : Plain) → HasNamesAmong which v → (r : Reading) (at : ℕ) → r ≡ more (adb_piece (canonical v)) at done → dump_of_blocks which r ≡ Ok (dump_text which v)
 blocks_printed laws which v g r at is =
     ap (dump_of_blocks which) is
-    ∙ ap (λ (o : Option Cause). or_text o (dump_text which (root_value which (canonical v)))) (none_both _ _ (form_good laws which v g) refl)
+    ∙ ap (λ (o : Option Cause). text_unless_fault o (dump_text which (root_value which (canonical v)))) (none_both _ _ (form_good laws which v g) refl)
     ∙ ap (λ (u : Plain). let text : Result (List ℕ) Cause = Ok (dump_text which u) in text) (value_is laws which v g)
 
 pub printed : Lower → (which : Which) (schema : ℕ) (v : Plain) → schema_word which ≡ Some schema → HasNamesAmong which v → dump_of (file_of schema (canonical v)) ≡ Ok (dump_text which v)
@@ -94,6 +94,6 @@ printed laws which schema v word g =
     let read = laws.read file schema pieces spelled in
     let first = first_of (block_stream_from (first_block_position schema file)) (adb_piece (canonical v)) [] (reading_is file schema pieces read.0 read.1) in
     let alone : block_stream_from (first_block_position schema file) ≡ more (adb_piece (canonical v)) first.at done = first.is ∙ ap (λ (r : Reading). more (adb_piece (canonical v)) first.at r) (none_of_blocks first.later first.others) in
-    ap (dump_with_schema file) read.0
-    ∙ ap (dump_with_root schema (block_stream_from (first_block_position schema file))) w.root
+    ap (dump_by_schema file) read.0
+    ∙ ap (dump_by_root_table schema (block_stream_from (first_block_position schema file))) w.root
     ∙ blocks_printed laws which v g (block_stream_from (first_block_position schema file)) first.at alone

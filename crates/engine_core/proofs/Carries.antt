@@ -31,7 +31,7 @@ use Rattle.change_report.specs.journal_intent.Intent.{AreChangeNames, Intent}
 use Rattle.engine_core.proofs.Once.{once_both}
 use Rattle.change_report.proofs.change_outcome.Leading.{acted_is}
 use Rattle.change_report.proofs.change_outcome.Room.{room}
-use Rattle.change_report.specs.change_outcome.ChangeOutcome.{ChangeDone, ChangeWishes, actions_of, bytes_or_empty_under, change_done, has_actions, file_change, is_absent_or_different, name_if_needed, new_records, or_result_too_large, unless_overflow, unless_too_large, written_record_names}
+use Rattle.change_report.specs.change_outcome.ChangeOutcome.{ChangeDone, ChangeWishes, intent_of_change, bytes_or_empty_under, change_done, has_actions, file_change, is_absent_or_different, name_if_needed, new_records, or_result_too_large, unless_overflow, unless_too_large, names_of_written_database_and_world}
 use Rattle.change_report.specs.change_outcome.MembersAfter.{MemberFound, found_package_contents, found_members}
 use Rattle.change_report.specs.journal_core.Recovery.{files_after_actions, intent_name}
 use Rattle.change_report.specs.journal_core.Staged.{AreJournalPathsFree, AreStagingPathsFree, IsEmptyStage, Staging, action_count, new_stage, files_with_staged}
@@ -41,7 +41,7 @@ use Rattle.change_report.specs.db_core.Members.{Member, is_added, member_name}
 use Rattle.change_report.specs.db_core.Seen.{members_of}
 use Rattle.change_report.specs.db_write.NewDatabase.{database_of}
 use Rattle.change_report.specs.file_owners.Owners.{owned_flags_of}
-use Rattle.change_report.specs.file_owners.Replaces.{version_text}
+use Rattle.change_report.specs.file_owners.Replaces.{package_version_text}
 use Rattle.change_report.specs.own_core.Planned.{IsOfAddedFile, IsUnreservedName, written_names}
 use Rattle.change_report.specs.path_clashes.Clash.{HasNoClash}
 use Rattle.change_report.specs.own_core.WritesSeen.{writes_in}
@@ -61,10 +61,10 @@ use Rattle.journal_staging.specs.declared.writes.StageFault.{StageFault}
 use Rattle.journal_staging.specs.declared.writes.StageFault.TheVariants as Stages
 use Rattle.journal_staging.specs.declared.writes.StagedWrite.{StagedWrite}
 use Rattle.engine_core.specs.Committing.{IsReadyToCommit, IsRefusedPackage, result_of_ready}
-use Rattle.engine_core.specs.Rendering.{IsOverflowOf, IsRendered, IsStageOf, removals_of_plan}
+use Rattle.engine_core.specs.Rendering.{IsRefusedForOverflow, IsRendered, IsStageOf, removals_of_plan}
 use Rattle.engine_core.specs.ChangeRun.{CarriesOut, DoesCommit, IsUnchangedOrCommit, report_of_result}
 use Rattle.engine_core.specs.Preparing.{AreRecordWrites, AreNewRecordsOf, IsPlanned, bytes_if, inputs_of_plan, replacement_of_plan, wishes_of_plan}
-use Rattle.engine_core.specs.Writing.{HasBytes, IsWriteOfRecord, IsSourceOfWrite, IsWriteBy, package_at, database_and_world_names, name_of_write}
+use Rattle.engine_core.specs.Writing.{HasBytes, IsWriteOfRecord, IsSourceOfWrite, IsWriteOfChange, package_at, database_and_world_names, name_of_write}
 use Rattle.engine_core.specs.declared.planning.Plan.{Plan}
 use Rattle.engine_core.specs.declared.rendering.NewRecords.{NewRecords}
 use Rattle.engine_core.specs.declared.rendering.Rendered.{Rendered}
@@ -93,7 +93,7 @@ some_copied (Some x) false bytes is = absurd (cc)
 abbrev pub ready_change : Inputs → Replacement → ChangeWishes → List MemberFound → Files → List ℕ → Result ChangeDone Refusal
 ready_change inputs r wishes found files database =
     let records = new_records inputs database in
-    let actions = actions_of inputs (file_change inputs wishes found) files records in
+    let actions = intent_of_change inputs (file_change inputs wishes found) files records in
     unless_overflow (overflow_of (value_of_intent actions)) (change_done inputs r wishes found files records)
 
 -- ---- what is made ready
@@ -104,7 +104,7 @@ pub record IsMadeReady (history : List TreeState) (p : Plan) (found : List Membe
   pub own : AreNewRecordsOf (inputs_of_plan p) records
   pub which : AreRecordWrites (inputs_of_plan p) records rw
   pub names : map name_of_write writes ≡ sorted_distinct_names (written_names p.files ++ database_and_world_names rw)
-  pub each : All (IsWriteBy (members_of p.members) (package_at p.packages.now.arrivals) (writes_in p.files.writes) rw) writes
+  pub each : All (IsWriteOfChange (members_of p.members) (package_at p.packages.now.arrivals) (writes_in p.files.writes) rw) writes
   pub removed : removals ≡ sorted_distinct_names (p.files.removals ++ name_if_needed (inputs_of_plan p).root.database.from_text text_database_name)
 
 -- what is rendered is made ready
@@ -156,10 +156,10 @@ two_reserved true b q (inl is) = ap is_reserved is
 two_reserved true b q (inr here) = world_reserved b q here
 two_reserved false b q here = world_reserved b q here
 
-records_once : (inputs : Inputs) (records : DatabaseAndWorldAfter) → HaveNoRepeats (written_record_names inputs records)
+records_once : (inputs : Inputs) (records : DatabaseAndWorldAfter) → HaveNoRepeats (names_of_written_database_and_world inputs records)
 records_once inputs records = two_once (is_absent_or_different inputs.root.database.file records.database) (not (bytes_eq inputs.root.world_text records.world))
 
-records_are_reserved : (inputs : Inputs) (records : DatabaseAndWorldAfter) (q : List ℕ) → IsIn q (written_record_names inputs records) → is_reserved q ≡ true
+records_are_reserved : (inputs : Inputs) (records : DatabaseAndWorldAfter) (q : List ℕ) → IsIn q (names_of_written_database_and_world inputs records) → is_reserved q ≡ true
 records_are_reserved inputs records q here = two_reserved (is_absent_or_different inputs.root.database.file records.database) (not (bytes_eq inputs.root.world_text records.world)) q here
 
 -- of the plan alone
@@ -168,7 +168,7 @@ module _ (history : List TreeState) (p : Plan) (found : List MemberFound) (files
   no_reserved = record { before = plan.unreserved; coming = sym (ap first_reserved_path plan.arrived.members) ∙ plan.owners.allowed }
 
   module _ (records : NewRecords) (own : AreNewRecordsOf (inputs_of_plan p) records) (rw : RecordWrites) (which : AreRecordWrites (inputs_of_plan p) records rw) where
-    pub record_names_are : database_and_world_names rw ≡ written_record_names (inputs_of_plan p) (new_records (inputs_of_plan p) records.database.items)
+    pub record_names_are : database_and_world_names rw ≡ names_of_written_database_and_world (inputs_of_plan p) (new_records (inputs_of_plan p) records.database.items)
     record_names_are =
         let inputs = inputs_of_plan p in
         let named = which.database_name ∙ own.database_name in
@@ -184,7 +184,7 @@ module _ (history : List TreeState) (p : Plan) (found : List MemberFound) (files
         (λ q here. records_are_reserved (inputs_of_plan p) (new_records (inputs_of_plan p) records.database.items) q (subst (λ (ns : List (List ℕ)). IsIn q ns) record_names_are here))
 
     pub write_names_are : written_names p.files ++ database_and_world_names rw
-        ≡ map (λ w. w.name) (file_writes_of (file_change (inputs_of_plan p) (wishes_of_plan p) found) files) ++ written_record_names (inputs_of_plan p) (new_records (inputs_of_plan p) records.database.items)
+        ≡ map (λ w. w.name) (file_writes_of (file_change (inputs_of_plan p) (wishes_of_plan p) found) files) ++ names_of_written_database_and_world (inputs_of_plan p) (new_records (inputs_of_plan p) records.database.items)
     write_names_are = let lists = plan.lists.writes in λ i. map (λ w. w.name) (lists i) ++ record_names_are i
 
 contained : {X : Type 0} (P : X → Type 0) (xs : List X) (x : X) → All P xs → Contains xs x → P x
@@ -192,7 +192,7 @@ contained P xs x all (k, less, is) = subst P is (all k x less)
 
 -- the package of a file that is written comes, and it is the one that is spoiled
 module _ (history : List TreeState) (p : Plan) (found : List MemberFound) (files : Files) (plan : IsPlanned history p found files)
-    (writes : List StagedWrite) (rw : RecordWrites) (each : All (IsWriteBy (members_of p.members) (package_at p.packages.now.arrivals) (writes_in p.files.writes) rw) writes) (member : ℕ) (cause : Cause) where
+    (writes : List StagedWrite) (rw : RecordWrites) (each : All (IsWriteOfChange (members_of p.members) (package_at p.packages.now.arrivals) (writes_in p.files.writes) rw) writes) (member : ℕ) (cause : Cause) where
   given_no_file : (bytes : List ℕ) (s : Source) → HasBytes bytes s → IsSpoiledAt member cause s → ⊥
   given_no_file bytes (Bytes own) has is = is
   given_no_file bytes (Link target) has is = is
@@ -214,7 +214,7 @@ module _ (history : List TreeState) (p : Plan) (found : List MemberFound) (files
   abbrev ComesSpoiled : Type 0
   ComesSpoiled = (m : Member) × (slice_get (members_of p.members) member ≡ Some m) × (is_added m ≡ true) × Spoiled member
 
-  by_write : (w : StagedWrite) → IsWriteBy (members_of p.members) (package_at p.packages.now.arrivals) (writes_in p.files.writes) rw w → IsSpoiledAt member cause w.source → ComesSpoiled
+  by_write : (w : StagedWrite) → IsWriteOfChange (members_of p.members) (package_at p.packages.now.arrivals) (writes_in p.files.writes) rw w → IsSpoiledAt member cause w.source → ComesSpoiled
   by_write w (inl f) at =
       let of = contained (IsOfAddedFile (members_of p.members)) (writes_in p.files.writes) f.file plan.sources f.planned_file in
       let (here, spoiled) = planned_at f.file w.source f.source at in
@@ -225,7 +225,7 @@ module _ (history : List TreeState) (p : Plan) (found : List MemberFound) (files
   pub file_comes : HasSpoiledFile member cause writes → ComesSpoiled
   file_comes has =
       by_write has.write
-      (all_at (IsWriteBy (members_of p.members) (package_at p.packages.now.arrivals) (writes_in p.files.writes) rw) writes has.number has.write each has.at) has.is
+      (all_at (IsWriteOfChange (members_of p.members) (package_at p.packages.now.arrivals) (writes_in p.files.writes) rw) writes has.number has.write each has.at) has.is
 
 module _ (history : List TreeState) (p : Plan) (found : List MemberFound) (files : Files) (own : NewRecords)
     (rw : RecordWrites) (writes : List StagedWrite) (removals : List (List ℕ)) (ready : IsMadeReady history p found files own rw writes removals) where
@@ -239,7 +239,7 @@ module _ (history : List TreeState) (p : Plan) (found : List MemberFound) (files
   records = new_records inputs own.database.items
 
   abbrev actions : Intent
-  actions = actions_of inputs change files records
+  actions = intent_of_change inputs change files records
 
   abbrev done : ChangeDone
   done = change_done inputs (replacement_of_plan p) (wishes_of_plan p) found files records
@@ -291,8 +291,8 @@ module _ (history : List TreeState) (p : Plan) (found : List MemberFound) (files
         → EachDenotes (files_of v) writes (map (bytes_or_empty_under done.files) (map name_of_write writes))
     located v earlier read told root =
         all_stand inputs change found own rw (package_at p.packages.now.arrivals) ready.own ready.which free v earlier read files (subst (λ (f : Files). IsRootOfFiles f inputs.root) (sym told) root) writes
-        (subst (λ (ms : List Member). All (IsWriteBy ms (package_at p.packages.now.arrivals) (file_writes_of change files) rw) writes) ready.plan.arrived.members
-        (subst (λ (ws : List FileWrite). All (IsWriteBy (members_of p.members) (package_at p.packages.now.arrivals) ws rw) writes) ready.plan.lists.writes ready.each))
+        (subst (λ (ms : List Member). All (IsWriteOfChange ms (package_at p.packages.now.arrivals) (file_writes_of change files) rw) writes) ready.plan.arrived.members
+        (subst (λ (ws : List FileWrite). All (IsWriteOfChange (members_of p.members) (package_at p.packages.now.arrivals) ws rw) writes) ready.plan.lists.writes ready.each))
 
     -- what holds of the run by its contents and the files that it leads to holds by those of the change
     pub where_shown : (ws : List StagedWrite) → ws ≡ writes → (P : TreeState → Files → Type 0) → FilesAreRead history found (package_at p.packages.now.arrivals)
@@ -395,7 +395,7 @@ module _ (history : List TreeState) (p : Plan) (found : List MemberFound) (files
                 file = spoiled.file;
                 cause = cause;
                 spoiled = spoiled.spoiled;
-                is = told ∙ (λ i. PackageBad (member_name (sym spoiled.is i)) (version_text (sym spoiled.is i).pkg) cause);
+                is = told ∙ (λ i. PackageBad (member_name (sym spoiled.is i)) (package_version_text (sym spoiled.is i).pkg) cause);
               };
               is = refl;
             });
@@ -439,7 +439,7 @@ ready_is history p r ready =
 pub entry_large : {A : Type 0} (view : A → Bool) (history : List TreeState) (p : Plan) (found : List MemberFound) (files : Files) (made : NewRecords) (rw : RecordWrites) (writes : List StagedWrite) (removals : List (List ℕ))
     → IsMadeReady history p found files made rw writes removals → (fault : Refused)
     → Agrees view (Err fault) (unless_overflow (overflow_of (value_of_intent (intent_of_lists removals (map name_of_write writes)))) true)
-    → Agrees {A = Bool} {B = Bool} (λ _. true) (Err fault) (unless_overflow (overflow_of (value_of_intent (actions_of (inputs_of_plan p) (file_change (inputs_of_plan p) (wishes_of_plan p) found) files (new_records (inputs_of_plan p) made.database.items)))) true)
+    → Agrees {A = Bool} {B = Bool} (λ _. true) (Err fault) (unless_overflow (overflow_of (value_of_intent (intent_of_change (inputs_of_plan p) (file_change (inputs_of_plan p) (wishes_of_plan p) found) files (new_records (inputs_of_plan p) made.database.items)))) true)
 entry_large view history p found files made rw writes removals ready (IsRefused refusal) told =
     ap (λ (o : Option PayloadCounts). unless_overflow o true) (sym (overflow_is history p found files made rw writes removals ready)) ∙ told
 entry_large view history p found files made rw writes removals ready Disk told = told
@@ -592,12 +592,12 @@ module _ (history : List TreeState) (p : Plan) (found : List MemberFound) (files
     made_database = ap (λ (part : Result (List ℕ) Refusal). and_then part (ready_change (inputs_of_plan p) (replacement_of_plan p) (wishes_of_plan p) found files)) (sym database_is ∙ told)
 
     -- the journal entry is too large
-    pub large_entry : (counts : Counts) (fault : Refused) → IsOverflowOf p records fault
+    pub large_entry : (counts : Counts) (fault : Refused) → IsRefusedForOverflow p records fault
         → CarriesOut (Ok found) (unless_too_large (inputs_of_plan p) (replacement_of_plan p) (wishes_of_plan p) found files) history history counts counts (Err fault)
     large_entry counts fault large =
         subst (λ (w : Result ChangeDone Refusal). CarriesOut (Ok found) w history history counts counts (Err fault)) (sym made_database)
         (entry_refused (Ok found)
-        (overflow_of (value_of_intent (actions_of (inputs_of_plan p) (file_change (inputs_of_plan p) (wishes_of_plan p) found) files (new_records (inputs_of_plan p) records.database.items))))
+        (overflow_of (value_of_intent (intent_of_change (inputs_of_plan p) (file_change (inputs_of_plan p) (wishes_of_plan p) found) files (new_records (inputs_of_plan p) records.database.items))))
         (change_done (inputs_of_plan p) (replacement_of_plan p) (wishes_of_plan p) found files (new_records (inputs_of_plan p) records.database.items)) history counts fault (large history found files plan))
 
     -- the journal entry fits

@@ -6,7 +6,7 @@ use Rattle.change_report.specs.candidate_core.Rank.{SealedPool}
 use Rattle.change_report.proofs.candidate_core.OptionLists.{in_places}
 use Rattle.report_core.specs.declared.refusal.Refusal.{Refusal}
 use Rattle.change_report.specs.search_tables.Reasons.{HasOptions}
-use Rattle.change_report.specs.search_tables.Selection.{IsFirstSelection}
+use Rattle.change_report.specs.search_tables.Selection.{IsFirstPreferredSelection}
 use Rattle.change_report.proofs.solve_core.Existence.{first_or_none}
 use Rattle.change_report.proofs.solve_core.FirstFound.{none_satisfies}
 use Rattle.change_report.proofs.search_tables.PoolFacts.{pool_facts}
@@ -39,7 +39,7 @@ choice_exists has (Err refusal) = (None, refl)
 
 -- a pool has one first selection at most
 abbrev pub HasOneFirst : Type 0
-HasOneFirst = (pool : SealedPool) (trace other : List ℕ) → IsFirstSelection pool trace → IsFirstSelection pool other → trace ≡ other
+HasOneFirst = (pool : SealedPool) (trace other : List ℕ) → IsFirstPreferredSelection pool trace → IsFirstPreferredSelection pool other → trace ≡ other
 
 pool_one : HasOneFirst → (pool : SealedPool) (a b : Option (List ℕ)) → IsPreferredChoice pool a → IsPreferredChoice pool b → a ≡ b
 pool_one one pool None None x y = refl

@@ -24,7 +24,7 @@ use Rattle.change_report.specs.package_changes.Changes.{Replacement}
 use Rattle.report_core.specs.declared.refusal.Refusal.{Refusal}
 use Rattle.engine_core.specs.ChangeRun.{CarriesOut, DoesCommit, IsUnchangedOrCommit, report_as_is, report_of_result}
 use Rattle.engine_core.specs.Changed.{IsClashOfSelected, IsClashUnlessSimulated, InputsAndReplacement, change_of_selected, found_packages}
-use Rattle.engine_core.specs.Runs.{IsSelectedRun}
+use Rattle.engine_core.specs.Runs.{IsRunOnSelection}
 use Rattle.engine_core.specs.Wishes.{wishes_of}
 
 -- ---- there is a first clash
@@ -155,7 +155,7 @@ module _ (packages : Result (List MemberFound) Refusal) (wanted : Result ChangeD
 module _ (command : CommandLine) (selected : Result InputsAndReplacement Refusal) (old now : List TreeState) (before after : Counts) where
   pub of_seen : (seen : Seen command selected old) (result : Result (List ℕ) Refused)
       → CarriesOut (found_packages command seen.read selected) (and_then selected (change_of_selected command seen.read seen.files seen.clash)) old now before after result
-      → IsSelectedRun command selected old now before after result
+      → IsRunOnSelection command selected old now before after result
   of_seen seen result comes = record {
     read = seen.read;
     observed = seen.observed;
@@ -168,12 +168,12 @@ module _ (command : CommandLine) (selected : Result InputsAndReplacement Refusal
     comes = comes;
   }
 
-  pub selected_failure : HaveClash → All IsWellFormed old → IsOnlyRead old now before after → (fault : Refused) → IsDiskOrMemoryFailure fault → IsSelectedRun command selected old now before after (Err fault)
+  pub selected_failure : HaveClash → All IsWellFormed old → IsOnlyRead old now before after → (fault : Refused) → IsDiskOrMemoryFailure fault → IsRunOnSelection command selected old now before after (Err fault)
   selected_failure have whole quiet fault is =
       let seen = seen_any have command selected old whole in
       of_seen seen (Err fault) (comes_to_failure _ _ old now before after quiet fault is)
 
-  pub selected_refusal : HaveClash → All IsWellFormed old → IsOnlyRead old now before after → (refusal : Refusal) → selected ≡ Err refusal → IsSelectedRun command selected old now before after (Err (IsRefused refusal))
+  pub selected_refusal : HaveClash → All IsWellFormed old → IsOnlyRead old now before after → (refusal : Refusal) → selected ≡ Err refusal → IsRunOnSelection command selected old now before after (Err (IsRefused refusal))
   selected_refusal have whole quiet refusal is =
       let seen = seen_any have command selected old whole in
       of_seen seen (Err (IsRefused refusal))

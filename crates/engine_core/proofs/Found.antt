@@ -19,7 +19,7 @@ use Rattle.change_report.specs.change_inputs.Chains.{and_then}
 use Rattle.change_report.specs.change_inputs.Inputs.{Inputs}
 use Rattle.change_report.specs.change_inputs.declared.root.Refused.{Refused}
 use Rattle.change_report.specs.change_inputs.declared.root.Refused.TheVariants as Commands
-use Rattle.change_report.specs.change_outcome.ChangeOutcome.{ChangeDone, ChangeWishes, IsClashFound, change_members, change_with_members, file_change, member_name_at_place, touched_paths, unless_clash, unless_contested, unless_reserved_path, unless_too_large}
+use Rattle.change_report.specs.change_outcome.ChangeOutcome.{ChangeDone, ChangeWishes, IsClashFound, members_after_change, change_with_members, file_change, member_name_at_place, touched_paths, unless_clash, unless_contested, unless_reserved_path, unless_too_large}
 use Rattle.change_report.specs.change_outcome.MembersAfter.{MemberFound, found_members}
 use Rattle.change_report.specs.change_outcome.Triggers.{unless_trigger_due}
 use Rattle.change_report.specs.db_core.Members.{Member, member_listings, member_name, member_of_kept}
@@ -38,11 +38,11 @@ use Rattle.change_report.specs.path_clashes.FirstClash.{IsFirstClashOrNone, IsFi
 use Rattle.report_core.specs.declared.refusal.Refusal.{Refusal}
 use Rattle.report_core.specs.declared.refusal.Refusal.TheVariants.{Owned, PathClash, Reserved}
 use Rattle.engine_core.specs.ChangeRun.{CarriesOut}
-use Rattle.engine_core.specs.Preparing.{HasReadArrivals, IsArrived, IsPlanned, inputs_of_packages, replacement_of_packages, inputs_of_plan, replacement_of_plan, wishes_of_plan}
+use Rattle.engine_core.specs.Preparing.{HasReadAddedPackages, IsArrived, IsPlanned, inputs_of_packages, replacement_of_packages, inputs_of_plan, replacement_of_plan, wishes_of_plan}
 use Rattle.engine_core.specs.Plans.{HasNoPlan, IsPlanFrom, IsRefusalOfPlanFault}
 use Rattle.engine_core.specs.declared.packages.ReadPackages.{ReadPackages}
 use Rattle.engine_core.specs.declared.planning.Plan.{Plan}
-use Rattle.engine_core.specs.Runs.{IsFoundRun}
+use Rattle.engine_core.specs.Runs.{IsRunOnFoundPackages}
 use Rattle.engine_core.proofs.Early.{HaveClash, IsOnlyRead, comes_to_failure, comes_to_refusal, nothing_within}
 use Rattle.engine_core.proofs.WholeRuns.{comes_after_reads}
 
@@ -87,7 +87,7 @@ none_told : (change : FileChange) (files : Files) (old : List TreeState) → IfO
 none_told change files [] there may told = (may.0, tt, may.1)
 none_told change files (v ∷ earlier) there may told = (files, there, told)
 
-module _ (have : HaveClash) (inputs : Inputs) (r : Replacement) (wishes : ChangeWishes) (read : Reads) (found : List MemberFound) (is_found : change_members inputs r wishes read ≡ Ok found) where
+module _ (have : HaveClash) (inputs : Inputs) (r : Replacement) (wishes : ChangeWishes) (read : Reads) (found : List MemberFound) (is_found : members_after_change inputs r wishes read ≡ Ok found) where
   clash_seen : (old : List TreeState) → All IsWellFormed old → ClashSeen inputs wishes found old
   clash_seen [] whole =
       let c = have.exists inputs r wishes read [] no_names nothing_within in
@@ -99,28 +99,28 @@ module _ (have : HaveClash) (inputs : Inputs) (r : Replacement) (wishes : Change
 
   module _ (old now : List TreeState) (before after : Counts) (whole : All IsWellFormed old) (quiet : IsOnlyRead old now before after) where
     found_by : (result : Result (List ℕ) Refused) → ((clash : Option NamePair) → CarriesOut (Ok found) (change_with_members inputs r wishes clash (files_now old) found) old now before after result)
-        → IsFoundRun inputs r wishes found old now before after result
+        → IsRunOnFoundPackages inputs r wishes found old now before after result
     found_by result comes =
         let seen = clash_seen old whole in
         record { files = files_now old; there = there_now old; present_files = files_now old; stand = there_now old; clash = seen.clash; is_clash = seen.is_clash; comes = comes seen.clash }
 
-    pub found_failure : (fault : Refused) → IsDiskOrMemoryFailure fault → IsFoundRun inputs r wishes found old now before after (Err fault)
+    pub found_failure : (fault : Refused) → IsDiskOrMemoryFailure fault → IsRunOnFoundPackages inputs r wishes found old now before after (Err fault)
     found_failure fault is = found_by (Err fault) (λ clash. comes_to_failure _ _ old now before after quiet fault is)
 
     -- ---- no plan
 
-    reserved_path : (path : List ℕ) → first_reserved_path (found_members found) ≡ Some path → IsFoundRun inputs r wishes found old now before after (Err (Commands.Refusal (Reserved path)))
+    reserved_path : (path : List ℕ) → first_reserved_path (found_members found) ≡ Some path → IsRunOnFoundPackages inputs r wishes found old now before after (Err (Commands.Refusal (Reserved path)))
     reserved_path path is = found_by _ (λ clash. comes_to_refusal _ _ old now before after quiet (Reserved path)
         (ap (λ (o : Option (List ℕ)). unless_reserved_path o (unless_clash clash (unless_contested (found_members found) (first_contested_path_of_members (found_members found))
         (and_then (unless_trigger_due wishes.no_scripts (touched_paths (file_change inputs wishes found) (files_now old)) (found_members found)) (λ allowed. unless_too_large inputs r wishes found (files_now old)))))) is))
 
     by_clash : (result : Result (List ℕ) Refused) (clash : Option NamePair) → (told : ClashTold (file_change inputs wishes found) old clash)
-        → CarriesOut (Ok found) (change_with_members inputs r wishes clash told.files found) old now before after result → IsFoundRun inputs r wishes found old now before after result
+        → CarriesOut (Ok found) (change_with_members inputs r wishes clash told.files found) old now before after result → IsRunOnFoundPackages inputs r wishes found old now before after result
     by_clash result clash told comes =
         record { files = told.files; there = told.there; present_files = told.present_files; stand = told.stand; clash = clash; is_clash = told.is_clash; comes = comes }
 
     path_clash : (path other : List ℕ) → first_reserved_path (found_members found) ≡ None → ClashTold (file_change inputs wishes found) old (Some (record { path = path; other = other }))
-        → IsFoundRun inputs r wishes found old now before after (Err (Commands.Refusal (PathClash path other)))
+        → IsRunOnFoundPackages inputs r wishes found old now before after (Err (Commands.Refusal (PathClash path other)))
     path_clash path other none told =
         let pair : NamePair = record { path = path; other = other } in
         by_clash _ (Some pair) told
@@ -137,7 +137,7 @@ module _ (have : HaveClash) (inputs : Inputs) (r : Replacement) (wishes : Change
         by (Some m) e = same_Some (member_name m) name e
 
     owned_path : (path first second : List ℕ) → IsRefusalForMembersAlone (found_members found) (Plans.Owned path first second) → ClashTold (file_change inputs wishes found) old None
-        → IsFoundRun inputs r wishes found old now before after (Err (Commands.Refusal (Owned path first second)))
+        → IsRunOnFoundPackages inputs r wishes found old now before after (Err (Commands.Refusal (Owned path first second)))
     owned_path path first second (none, contest) told =
         let contested : Option ContestedPath = first_contested_path_of_members (found_members found) in
         let rest = and_then (unless_trigger_due wishes.no_scripts (touched_paths (file_change inputs wishes found) told.files) (found_members found)) (λ allowed. unless_too_large inputs r wishes found told.files) in
@@ -148,12 +148,12 @@ module _ (have : HaveClash) (inputs : Inputs) (r : Replacement) (wishes : Change
         ∙ ((λ i. Err (Owned (sym contest.at i) (named contest.contest.rivals.first first contest.lister i) (named contest.contest.rivals.second second contest.other i))))))
 
     pub unplanned : (fault : PlanFault) (refused : Refused) → IsRefusalOfPlanFault fault refused → IsRefusalForMembersAlone (found_members found) fault
-        → IfObservable old (λ v. IsRefusalOverFiles (file_change inputs wishes found) (files_of v) fault) → MayBeRefusalOf (file_change inputs wishes found) old fault → IsFoundRun inputs r wishes found old now before after (Err refused)
-    unplanned (Plans.Reserved path) refused is cause first may = subst (λ (e : Refused). IsFoundRun inputs r wishes found old now before after (Err e)) (sym is) (reserved_path path cause)
-    unplanned (Plans.PathClash path other) refused is cause first may = subst (λ (e : Refused). IsFoundRun inputs r wishes found old now before after (Err e)) (sym is) (path_clash path other cause (clash_told (file_change inputs wishes found) old (Some (record { path = path; other = other })) may first))
-    unplanned (Plans.Owned path one two) refused is cause first may = subst (λ (e : Refused). IsFoundRun inputs r wishes found old now before after (Err e)) (sym is) (owned_path path one two cause (clash_told (file_change inputs wishes found) old None may first))
-    unplanned Plans.Disk refused is cause first may = subst (λ (e : Refused). IsFoundRun inputs r wishes found old now before after (Err e)) (sym is) (found_failure Commands.Disk tt)
-    unplanned Plans.Memory refused is cause first may = subst (λ (e : Refused). IsFoundRun inputs r wishes found old now before after (Err e)) (sym is) (found_failure Commands.Memory tt)
+        → IfObservable old (λ v. IsRefusalOverFiles (file_change inputs wishes found) (files_of v) fault) → MayBeRefusalOf (file_change inputs wishes found) old fault → IsRunOnFoundPackages inputs r wishes found old now before after (Err refused)
+    unplanned (Plans.Reserved path) refused is cause first may = subst (λ (e : Refused). IsRunOnFoundPackages inputs r wishes found old now before after (Err e)) (sym is) (reserved_path path cause)
+    unplanned (Plans.PathClash path other) refused is cause first may = subst (λ (e : Refused). IsRunOnFoundPackages inputs r wishes found old now before after (Err e)) (sym is) (path_clash path other cause (clash_told (file_change inputs wishes found) old (Some (record { path = path; other = other })) may first))
+    unplanned (Plans.Owned path one two) refused is cause first may = subst (λ (e : Refused). IsRunOnFoundPackages inputs r wishes found old now before after (Err e)) (sym is) (owned_path path one two cause (clash_told (file_change inputs wishes found) old None may first))
+    unplanned Plans.Disk refused is cause first may = subst (λ (e : Refused). IsRunOnFoundPackages inputs r wishes found old now before after (Err e)) (sym is) (found_failure Commands.Disk tt)
+    unplanned Plans.Memory refused is cause first may = subst (λ (e : Refused). IsRunOnFoundPackages inputs r wishes found old now before after (Err e)) (sym is) (found_failure Commands.Memory tt)
 
 -- ---- a plan
 
@@ -163,11 +163,11 @@ change_is history a ms wishes found arrived = λ i. record { old = arrived.read.
 
 -- why there is none, of the packages that are found
 pub unplanned_run : HaveClash → (old now : List TreeState) (before after : Counts) (a : ReadPackages) (ms : Members) (wishes : ChangeWishes) (read : Reads) (found : List MemberFound) (fault : PlanFault) (refused : Refused)
-    → All IsWellFormed old → IsOnlyRead old now before after → IsArrived old a ms found → change_members (inputs_of_packages a) (replacement_of_packages a) wishes read ≡ Ok found
+    → All IsWellFormed old → IsOnlyRead old now before after → IsArrived old a ms found → members_after_change (inputs_of_packages a) (replacement_of_packages a) wishes read ≡ Ok found
     → IsRefusalOfPlanFault fault refused → IsRefusalForMembersAlone (members_of ms) fault
     → IfObservable old (λ v. IsRefusalOverFiles (file_change_between a.selection.now.db ms wishes.purge) (files_of v) fault)
     → MayBeRefusalOf (file_change_between a.selection.now.db ms wishes.purge) old fault
-    → IsFoundRun (inputs_of_packages a) (replacement_of_packages a) wishes found old now before after (Err refused)
+    → IsRunOnFoundPackages (inputs_of_packages a) (replacement_of_packages a) wishes found old now before after (Err refused)
 unplanned_run have old now before after a ms wishes read found fault refused whole quiet arrived is_found is cause first may =
     unplanned have (inputs_of_packages a) (replacement_of_packages a) wishes read found is_found old now before after whole quiet fault refused is
     (subst (λ (ms : List Member). IsRefusalForMembersAlone ms fault) arrived.members cause)
@@ -176,8 +176,8 @@ unplanned_run have old now before after a ms wishes read found fault refused who
 
 -- the same, of the step that plans
 pub unplanned_step : HaveClash → (old now : List TreeState) (before after : Counts) (a : ReadPackages) (ms : Members) (wishes : ChangeWishes) (read : Reads) (found : List MemberFound) (refused : Refused)
-    → HasNoPlan old wishes.purge a.selection.now.db ms refused → All IsWellFormed old → IsOnlyRead old now before after → IsArrived old a ms found → change_members (inputs_of_packages a) (replacement_of_packages a) wishes read ≡ Ok found
-    → IsFoundRun (inputs_of_packages a) (replacement_of_packages a) wishes found old now before after (Err refused)
+    → HasNoPlan old wishes.purge a.selection.now.db ms refused → All IsWellFormed old → IsOnlyRead old now before after → IsArrived old a ms found → members_after_change (inputs_of_packages a) (replacement_of_packages a) wishes read ≡ Ok found
+    → IsRunOnFoundPackages (inputs_of_packages a) (replacement_of_packages a) wishes found old now before after (Err refused)
 unplanned_step have old now before after a ms wishes read found refused why whole quiet arrived is_found =
     unplanned_run have old now before after a ms wishes read found why.fault refused whole quiet arrived is_found why.reported why.cause why.first why.may
 
@@ -205,7 +205,7 @@ pub planned_run : (old mid now : List TreeState) (before between after : Counts)
     → CarriesOut (Ok found)
     (and_then (unless_trigger_due wishes.no_scripts (touched_paths (file_change (inputs_of_packages a) wishes found) plan.files) (found_members found))
     (λ allowed. unless_too_large (inputs_of_packages a) (replacement_of_packages a) wishes found plan.files)) mid now between after result
-    → IsFoundRun (inputs_of_packages a) (replacement_of_packages a) wishes found old now before after result
+    → IsRunOnFoundPackages (inputs_of_packages a) (replacement_of_packages a) wishes found old now before after result
 planned_run old mid now before between after a ms p wishes found result quiet arrived plan owners comes =
     let inputs = inputs_of_packages a in
     let r = replacement_of_packages a in
@@ -240,7 +240,7 @@ pub planned_step_run : (old mid now : List TreeState) (before between after : Co
     (and_then (unless_trigger_due (wishes_of_plan p).no_scripts (touched_paths (file_change (inputs_of_plan p) (wishes_of_plan p) found) files) (found_members found))
     (λ allowed. unless_too_large (inputs_of_plan p) (replacement_of_plan p) (wishes_of_plan p) found files)) mid now between after result)
     → IsPlanFrom old (wishes_of_plan p).purge p.packages.now.selection.now.db p.members p.files → IsOnlyRead old mid before between → IsArrived old p.packages.now p.members found
-    → IsFoundRun (inputs_of_plan p) (replacement_of_plan p) (wishes_of_plan p) found old now before after result
+    → IsRunOnFoundPackages (inputs_of_plan p) (replacement_of_plan p) (wishes_of_plan p) found old now before after result
 planned_step_run old mid now before between after p found result comes plan quiet arrived =
     planned_run old mid now before between after p.packages.now p.members p.files (wishes_of_plan p) found result quiet arrived plan.lists plan.owners
     (comes plan.lists.files (planned_step old mid p found plan quiet.same arrived))
@@ -253,6 +253,6 @@ triggers_are history p found files planned =
     λ i. unless_trigger_due (wishes_of_plan p).no_scripts (map (λ w. w.name) (planned.lists.writes i) ++ planned.lists.removals i) (planned.arrived.members i)
 
 -- the packages after a change have arrived
-pub has_arrived : (history : List TreeState) (a : ReadPackages) (ms : Members) (found : List MemberFound) → members_of ms ≡ found_members found → HasReadArrivals history a found
+pub has_arrived : (history : List TreeState) (a : ReadPackages) (ms : Members) (found : List MemberFound) → members_of ms ≡ found_members found → HasReadAddedPackages history a found
     → IsArrived history a ms found
 has_arrived history a ms found members read = record { read = read; members = members }

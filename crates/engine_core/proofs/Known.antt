@@ -15,7 +15,7 @@ use Rattle.dep_core.specs.World.{IsWorld, has_name, is_in_order}
 use Rattle.dep_core.proofs.Places.{has_name-at, has_name-none, in_order_at}
 use Rattle.dep_core.proofs.Worlds.{cmp-back}
 use Rattle.change_report.proofs.make_info.Left.{left_at}
-use Rattle.engine_core.specs.Wishes.{first_unknown}
+use Rattle.engine_core.specs.Wishes.{place_of_first_unknown_operand}
 
 pub is_found : {X : Type 0} (p : X → Bool) (n : ℕ) (xs : List X) → is_some (position_from p n xs) ≡ list_any p xs
 is_found p n [] = refl
@@ -81,16 +81,16 @@ module _ (name : List ℕ) (world : List Dependency) (is_world : IsWorld world) 
 
 -- ---- the operands
 
-module _ (is_known : List ℕ → Bool) (operands : List Operand) (i : ℕ) (left : first_unknown is_known (drop i operands) ≡ first_unknown is_known operands) where
+module _ (is_known : List ℕ → Bool) (operands : List Operand) (i : ℕ) (left : place_of_first_unknown_operand is_known (drop i operands) ≡ place_of_first_unknown_operand is_known operands) where
   first_at : (o : Operand) (b : Bool) → slice_get operands i ≡ Some o → b ≡ is_known o.text
-      → (if b then first_unknown is_known (drop (i + 1) operands) else Some o.place) ≡ first_unknown is_known operands
-  first_at o b at is = ap (λ (t : Bool). if t then first_unknown is_known (drop (i + 1) operands) else Some o.place) is ∙ sym (ap (first_unknown is_known) (left_at operands i o at)) ∙ left
+      → (if b then place_of_first_unknown_operand is_known (drop (i + 1) operands) else Some o.place) ≡ place_of_first_unknown_operand is_known operands
+  first_at o b at is = ap (λ (t : Bool). if t then place_of_first_unknown_operand is_known (drop (i + 1) operands) else Some o.place) is ∙ sym (ap (place_of_first_unknown_operand is_known) (left_at operands i o at)) ∙ left
 
-  pub unknown_here : (o : Operand) (b : Bool) → slice_get operands i ≡ Some o → b ≡ is_known o.text → b ≡ false → Some o.place ≡ first_unknown is_known operands
-  unknown_here o b at is none = sym (ap (λ (t : Bool). if t then first_unknown is_known (drop (i + 1) operands) else Some o.place) none) ∙ first_at o b at is
+  pub unknown_here : (o : Operand) (b : Bool) → slice_get operands i ≡ Some o → b ≡ is_known o.text → b ≡ false → Some o.place ≡ place_of_first_unknown_operand is_known operands
+  unknown_here o b at is none = sym (ap (λ (t : Bool). if t then place_of_first_unknown_operand is_known (drop (i + 1) operands) else Some o.place) none) ∙ first_at o b at is
 
-  pub known_here : (o : Operand) (b : Bool) → slice_get operands i ≡ Some o → b ≡ is_known o.text → b ≡ true → first_unknown is_known (drop (i + 1) operands) ≡ first_unknown is_known operands
-  known_here o b at is known = sym (ap (λ (t : Bool). if t then first_unknown is_known (drop (i + 1) operands) else Some o.place) known) ∙ first_at o b at is
+  pub known_here : (o : Operand) (b : Bool) → slice_get operands i ≡ Some o → b ≡ is_known o.text → b ≡ true → place_of_first_unknown_operand is_known (drop (i + 1) operands) ≡ place_of_first_unknown_operand is_known operands
+  known_here o b at is known = sym (ap (λ (t : Bool). if t then place_of_first_unknown_operand is_known (drop (i + 1) operands) else Some o.place) known) ∙ first_at o b at is
 
-  pub all_known : length operands ≤ i → None ≡ first_unknown is_known operands
-  all_known past = sym (ap (first_unknown is_known) (drop_all i operands past)) ∙ left
+  pub all_known : length operands ≤ i → None ≡ place_of_first_unknown_operand is_known operands
+  all_known past = sym (ap (place_of_first_unknown_operand is_known) (drop_all i operands past)) ∙ left

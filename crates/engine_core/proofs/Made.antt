@@ -3,7 +3,7 @@ use Rattle.std.proofs.Common.{◌≡◌, ◌∙◌, ◌≤◌, ℕ, Bool, true, 
 use Rattle.std.specs.Prelude.{if◌then◌else◌, nat_lt}
 use Rattle.std.proofs.lemmas.Bool.{ltb-false}
 use Rattle.added_packages.specs.Answered.{DenotesUnlessDisk}
-use Rattle.added_packages.specs.Arrivals.{AreMembersRead, arrivals_seen, members_read}
+use Rattle.added_packages.specs.Arrivals.{AreMembersRead, arrivals_seen, members_of_read_packages}
 use Rattle.added_packages.specs.declared.arrivals.Arrivals.{Arrivals}
 use Rattle.added_packages.specs.declared.arrivals.MemberRead.{MemberRead}
 use Rattle.adb_view.specs.Plain.{Plain}
@@ -15,7 +15,7 @@ use Rattle.change_report.specs.change_inputs.Chains.{and_then}
 use Rattle.change_report.specs.change_inputs.Inputs.{Inputs}
 use Rattle.change_report.specs.change_inputs.declared.root.Refused.{Refused}
 use Rattle.change_report.specs.change_inputs.declared.root.Refused.TheVariants.{Disk, Memory, Refusal as IsRefused}
-use Rattle.change_report.specs.change_outcome.ChangeOutcome.{ChangeDone, ChangeWishes, IsClashFoundAmong, change_members, change_or_refusal, change_with_members, file_change, touched_paths, unless_too_large}
+use Rattle.change_report.specs.change_outcome.ChangeOutcome.{ChangeDone, ChangeWishes, IsClashFoundAmong, members_after_change, change_or_refusal, change_with_members, file_change, touched_paths, unless_too_large}
 use Rattle.change_report.specs.change_outcome.Triggers.{unless_trigger_due}
 use Rattle.change_report.specs.change_outcome.MembersAfter.{MemberFound, found_members, members_after}
 use Rattle.command_core.specs.Command.{CommandLine}
@@ -35,19 +35,19 @@ use Rattle.change_report.specs.candidate_core.declared.candidate_list.TheConstan
 use Rattle.report_core.specs.declared.refusal.Refusal.{Refusal}
 use Rattle.engine_core.specs.ChangeRun.{CarriesOut}
 use Rattle.engine_core.specs.Changed.{IsClashOfSelectedAmong, IsClashUnlessSimulatedAmong, change_of_selected, simulated_change}
-use Rattle.engine_core.specs.Preparing.{HasReadArrivals, AreFoundBy, AreReadFor, IsArrived, IsPlanOfPackages, IsPlanned, IsRootRead, inputs_of_packages, inputs_of_plan, replacement_of_packages, replacement_of_plan, wishes_of_packages, wishes_of_plan}
-use Rattle.engine_core.specs.Runs.{IsSelectedRun}
+use Rattle.engine_core.specs.Preparing.{HasReadAddedPackages, ArePackagesFoundByReads, ArePackagesReadForSelection, IsArrived, IsPlanOfPackages, IsPlanned, IsRootRead, inputs_of_packages, inputs_of_plan, replacement_of_packages, replacement_of_plan, wishes_of_packages, wishes_of_plan}
+use Rattle.engine_core.specs.Runs.{IsRunOnSelection}
 use Rattle.engine_core.specs.Selecting.{pool_of_inputs}
 use Rattle.engine_core.specs.SelectionSeen.{HasDatabaseOfInputs, inputs_of_selection, replacement_seen, selection_seen, wishes_of_selection}
 use Rattle.engine_core.specs.declared.choosing.Selection.{Selection}
 use Rattle.engine_core.specs.declared.packages.ReadPackages.{ReadPackages}
 use Rattle.engine_core.specs.declared.planning.Plan.{Plan}
-use Rattle.engine_core.specs.Runs.{IsFoundRun}
+use Rattle.engine_core.specs.Runs.{IsRunOnFoundPackages}
 use Rattle.engine_core.proofs.Early.{HaveClash, IsOnlyRead, comes_to_refusal, files_seen, selected_failure, some_reads}
 use Rattle.engine_core.proofs.Carries.{part_fails}
 use Rattle.engine_core.proofs.Found.{has_arrived, planned_step, planned_step_run, triggers_are}
 use Rattle.engine_core.specs.Plans.{IsPlanFrom}
-use Rattle.engine_core.specs.Rendering.{IsOverflowOf}
+use Rattle.engine_core.specs.Rendering.{IsRefusedForOverflow}
 use Rattle.engine_core.specs.declared.rendering.NewRecords.{NewRecords}
 use Rattle.change_report.specs.Due.{planned_paths}
 use Rattle.change_report.specs.change_inputs.Answers.{Agrees}
@@ -82,18 +82,18 @@ module _ (s : Selection) (database : HasDatabaseOfInputs s) where
   placed_is = λ i. record { before = database i; selected = candidates_at s.pool s.trace; again = s.again }
 
   members_are : (read : Reads) (repositories : List Repository) (flags : Flags) → repositories ≡ inputs.root.repositories → flags ≡ s.command.now.flags
-      → members_after placed read repositories flags.no_scripts ≡ change_members inputs (replacement_seen s) wishes read
+      → members_after placed read repositories flags.no_scripts ≡ members_after_change inputs (replacement_seen s) wishes read
   members_are read repositories flags are is = λ i. members_after (placed_is i) read (are i) (is i).no_scripts
 
   -- memory has run out
-  pub not_read : (old : List TreeState) → IsExplainedBySomeReads old (λ read. DenotesUnlessDisk {A = ReadPackages} (AreReadFor old s) (Err Memory) (change_members inputs (replacement_seen s) wishes read))
+  pub not_read : (old : List TreeState) → IsExplainedBySomeReads old (λ read. DenotesUnlessDisk {A = ReadPackages} (ArePackagesReadForSelection old s) (Err Memory) (members_after_change inputs (replacement_seen s) wishes read))
   not_read old = let (read, observed) = some_reads old in record { read = read; observed = observed; is = tt }
 
   module _ (old : List TreeState) (repositories : List Repository) (are : repositories ≡ inputs.root.repositories) (flags : Flags) (is_flags : flags ≡ s.command.now.flags) where
     -- a package that comes is refused
     pub read_refused : (fault : Refused)
         → IsExplainedBySomeReads old (λ read. DenotesUnlessDisk (λ (a : Arrivals) (found : List MemberFound). AreMembersRead old (packages_of s.db) (arrivals_seen a) found) (Err fault) (members_after placed read repositories flags.no_scripts))
-        → IsExplainedBySomeReads old (λ read. DenotesUnlessDisk {A = ReadPackages} (AreReadFor old s) (Err fault) (change_members inputs (replacement_seen s) wishes read))
+        → IsExplainedBySomeReads old (λ read. DenotesUnlessDisk {A = ReadPackages} (ArePackagesReadForSelection old s) (Err fault) (members_after_change inputs (replacement_seen s) wishes read))
     read_refused (IsRefused refusal) explained =
         record { read = explained.read; observed = explained.observed; is = sym (members_are explained.read repositories flags are is_flags) ∙ explained.is }
     read_refused Disk explained = record { read = explained.read; observed = explained.observed; is = tt }
@@ -102,7 +102,7 @@ module _ (s : Selection) (database : HasDatabaseOfInputs s) where
     -- the packages that come are read
     pub read_all : (a : ReadPackages) → a.selection.now ≡ s → placed_names_seen a.names ≡ placed_names_of (placed_replacement_from_parts s.db s.pool s.trace s.again)
         → IsExplainedBySomeReads old (λ read. DenotesUnlessDisk (λ (b : Arrivals) (found : List MemberFound). AreMembersRead old (packages_of s.db) (arrivals_seen b) found) (Ok a.arrivals) (members_after placed read repositories flags.no_scripts))
-        → IsExplainedBySomeReads old (λ read. DenotesUnlessDisk (AreReadFor old s) (Ok a) (change_members inputs (replacement_seen s) wishes read))
+        → IsExplainedBySomeReads old (λ read. DenotesUnlessDisk (ArePackagesReadForSelection old s) (Ok a) (members_after_change inputs (replacement_seen s) wishes read))
     read_all a same named explained = record {
       read = explained.read;
       observed = explained.observed;
@@ -121,20 +121,20 @@ module _ (s : Selection) (database : HasDatabaseOfInputs s) where
 
 -- what `read_packages` explains
 abbrev pub Read : List TreeState → Selection → Result ReadPackages Refused → Type 0
-Read old s result = IsExplainedBySomeReads old (λ read. DenotesUnlessDisk (AreReadFor old s) result (change_members (inputs_of_selection s) (replacement_seen s) (wishes_of_selection s) read))
+Read old s result = IsExplainedBySomeReads old (λ read. DenotesUnlessDisk (ArePackagesReadForSelection old s) result (members_after_change (inputs_of_selection s) (replacement_seen s) (wishes_of_selection s) read))
 
 module _ (s : Selection) (real : s.command.now.flags.simulate ≡ false) where
   change_is : (read : Reads) (files : Files) (clash : Option NamePair) → change_of_selected s.command.now read files clash (selection_seen s) ≡ change_or_refusal (inputs_of_selection s) (replacement_seen s) (wishes_of_selection s) read clash files
   change_is read files clash =
       ap (λ (b : Bool). if b then Ok (simulated_change (replacement_seen s) (wishes_of_selection s) files) else change_or_refusal (inputs_of_selection s) (replacement_seen s) (wishes_of_selection s) read clash files) real
 
-  by_found : (read : Reads) (files : Files) (clash : Option NamePair) (members : Result (List MemberFound) Refusal) → change_members (inputs_of_selection s) (replacement_seen s) (wishes_of_selection s) read ≡ members
+  by_found : (read : Reads) (files : Files) (clash : Option NamePair) (members : Result (List MemberFound) Refusal) → members_after_change (inputs_of_selection s) (replacement_seen s) (wishes_of_selection s) read ≡ members
       → change_of_selected s.command.now read files clash (selection_seen s) ≡ and_then members (change_with_members (inputs_of_selection s) (replacement_seen s) (wishes_of_selection s) clash files)
   unfolding change_or_refusal
   by_found read files clash members is =
       change_is read files clash ∙ ap (λ (m : Result (List MemberFound) Refusal). and_then m (change_with_members (inputs_of_selection s) (replacement_seen s) (wishes_of_selection s) clash files)) is
 
-  clash_is : (read : Reads) (found : List MemberFound) (files present_files : Files) (clash : Option NamePair) → change_members (inputs_of_selection s) (replacement_seen s) (wishes_of_selection s) read ≡ Ok found
+  clash_is : (read : Reads) (found : List MemberFound) (files present_files : Files) (clash : Option NamePair) → members_after_change (inputs_of_selection s) (replacement_seen s) (wishes_of_selection s) read ≡ Ok found
       → IsClashFoundAmong (inputs_of_selection s) (wishes_of_selection s) files present_files (Ok found) clash → IsClashOfSelectedAmong s.command.now read files present_files (Ok (selection_seen s)) clash
   clash_is read found files present_files clash is here =
       subst (λ (b : Bool). IsClashUnlessSimulatedAmong b (wishes_of_selection s) read files present_files (selection_seen s) clash) (sym real)
@@ -142,7 +142,7 @@ module _ (s : Selection) (real : s.command.now.flags.simulate ≡ false) where
 
   module _ (old mid : List TreeState) (before between : Counts) (quiet : IsOnlyRead old mid before between) where
     -- a package that comes is refused
-    pub unarrived : HaveClash → All IsWellFormed old → (fault : Refused) → Read old s (Err fault) → IsSelectedRun s.command.now (Ok (selection_seen s)) old mid before between (Err fault)
+    pub unarrived : HaveClash → All IsWellFormed old → (fault : Refused) → Read old s (Err fault) → IsRunOnSelection s.command.now (Ok (selection_seen s)) old mid before between (Err fault)
     unarrived have whole (IsRefused refusal) explained =
         let read = explained.read in
         let seen = files_seen have s.command.now (Ok (selection_seen s)) old read whole in
@@ -161,9 +161,9 @@ module _ (s : Selection) (real : s.command.now.flags.simulate ≡ false) where
     unarrived have whole Memory explained = selected_failure s.command.now (Ok (selection_seen s)) old mid before between have whole quiet Memory tt
 
     found_run : (read : Reads) (found : List MemberFound) (now : List TreeState) (after : Counts) (result : Result (List ℕ) Refused) → AreReadsOfTree old read
-        → change_members (inputs_of_selection s) (replacement_seen s) (wishes_of_selection s) read ≡ Ok found
-        → IsFoundRun (inputs_of_selection s) (replacement_seen s) (wishes_of_selection s) found mid now between after result
-        → IsSelectedRun s.command.now (Ok (selection_seen s)) old now before after result
+        → members_after_change (inputs_of_selection s) (replacement_seen s) (wishes_of_selection s) read ≡ Ok found
+        → IsRunOnFoundPackages (inputs_of_selection s) (replacement_seen s) (wishes_of_selection s) found mid now between after result
+        → IsRunOnSelection s.command.now (Ok (selection_seen s)) old now before after result
     found_run read found now after result observed found_is run =
         run_after_reads s.command.now (Ok (selection_seen s)) old mid now before between after result quiet (record {
           read = read;
@@ -180,33 +180,33 @@ module _ (s : Selection) (real : s.command.now.flags.simulate ≡ false) where
 
     -- the packages that come are read
     module _ (database : HasDatabaseOfInputs s) (root : IsRootRead old (inputs_of_selection s)) (a : ReadPackages) (explained : Read old s (Ok a)) where
-      pub found_by_reads : AreFoundBy mid a explained.read explained.is.0
+      pub found_by_reads : ArePackagesFoundByReads mid a explained.read explained.is.0
       found_by_reads = record {
-        arrivals = subst (λ (h : List TreeState). HasReadArrivals h a explained.is.0) (sym quiet.same) (record {
+        arrivals = subst (λ (h : List TreeState). HasReadAddedPackages h a explained.is.0) (sym quiet.same) (record {
           database = subst HasDatabaseOfInputs (sym explained.is.2.selection) database;
           placed = explained.is.2.placed;
           read = explained.is.2.read;
           root = subst (λ (t : Selection). IsRootRead old (inputs_of_selection t)) (sym explained.is.2.selection) root;
         });
-        is = subst (λ (t : Selection). change_members (inputs_of_selection t) (replacement_seen t) (wishes_of_selection t) explained.read ≡ Ok explained.is.0) (sym explained.is.2.selection) explained.is.1;
+        is = subst (λ (t : Selection). members_after_change (inputs_of_selection t) (replacement_seen t) (wishes_of_selection t) explained.read ≡ Ok explained.is.0) (sym explained.is.2.selection) explained.is.1;
       }
 
       pub arrived_run : (now : List TreeState) (after : Counts) (result : Result (List ℕ) Refused)
-          → (AreFoundBy mid a explained.read explained.is.0 → IsFoundRun (inputs_of_packages a) (replacement_of_packages a) (wishes_of_packages a) explained.is.0 mid now between after result)
-          → IsSelectedRun s.command.now (Ok (selection_seen s)) old now before after result
+          → (ArePackagesFoundByReads mid a explained.read explained.is.0 → IsRunOnFoundPackages (inputs_of_packages a) (replacement_of_packages a) (wishes_of_packages a) explained.is.0 mid now between after result)
+          → IsRunOnSelection s.command.now (Ok (selection_seen s)) old now before after result
       arrived_run now after result run =
           found_run explained.read explained.is.0 now after result explained.observed explained.is.1
-          (subst (λ (t : Selection). IsFoundRun (inputs_of_selection t) (replacement_seen t) (wishes_of_selection t) explained.is.0 mid now between after result) explained.is.2.selection (run found_by_reads))
+          (subst (λ (t : Selection). IsRunOnFoundPackages (inputs_of_selection t) (replacement_seen t) (wishes_of_selection t) explained.is.0 mid now between after result) explained.is.2.selection (run found_by_reads))
 
 -- ---- the run by the plan
 
 -- the law that packages that were read are those that are found
 abbrev pub HaveMembers : Type 0
-HaveMembers = (history : List TreeState) (before : List Plain) (reads : List MemberRead) (found : List MemberFound) → AreMembersRead history before reads found → members_read before reads ≡ found_members found
+HaveMembers = (history : List TreeState) (before : List Plain) (reads : List MemberRead) (found : List MemberFound) → AreMembersRead history before reads found → members_of_read_packages before reads ≡ found_members found
 
-module _ (law : HaveMembers) (old mid : List TreeState) (before between : Counts) (quiet : IsOnlyRead old mid before between) (a : ReadPackages) (p : Plan) (plan : IsPlanOfPackages old a p) (read : Reads) (found : List MemberFound) (are : AreFoundBy old a read found) where
-  arrivals_of_plan : HasReadArrivals old p.packages.now found
-  arrivals_of_plan = subst (λ (b : ReadPackages). HasReadArrivals old b found) (sym plan.packages) are.arrivals
+module _ (law : HaveMembers) (old mid : List TreeState) (before between : Counts) (quiet : IsOnlyRead old mid before between) (a : ReadPackages) (p : Plan) (plan : IsPlanOfPackages old a p) (read : Reads) (found : List MemberFound) (are : ArePackagesFoundByReads old a read found) where
+  arrivals_of_plan : HasReadAddedPackages old p.packages.now found
+  arrivals_of_plan = subst (λ (b : ReadPackages). HasReadAddedPackages old b found) (sym plan.packages) are.arrivals
 
   plan_arrived : IsArrived old p.packages.now p.members found
   plan_arrived = has_arrived old p.packages.now p.members found (plan.members ∙ law _ _ _ found arrivals_of_plan.read) arrivals_of_plan
@@ -216,9 +216,9 @@ module _ (law : HaveMembers) (old mid : List TreeState) (before between : Counts
 
   pub plan_run : (now : List TreeState) (after : Counts) (result : Result (List ℕ) Refused)
       → ((files : Files) → IsPlanned mid p found files → CarriesOut (Ok found) (unless_too_large (inputs_of_plan p) (replacement_of_plan p) (wishes_of_plan p) found files) mid now between after result)
-      → IsFoundRun (inputs_of_packages a) (replacement_of_packages a) (wishes_of_packages a) found old now before after result
+      → IsRunOnFoundPackages (inputs_of_packages a) (replacement_of_packages a) (wishes_of_packages a) found old now before after result
   plan_run now after result comes =
-      subst (λ (b : ReadPackages). IsFoundRun (inputs_of_packages b) (replacement_of_packages b) (wishes_of_packages b) found old now before after result) plan.packages
+      subst (λ (b : ReadPackages). IsRunOnFoundPackages (inputs_of_packages b) (replacement_of_packages b) (wishes_of_packages b) found old now before after result) plan.packages
       (planned_step_run old mid now before between after p found result
       (λ files planned.
       subst (λ (w : Result ChangeDone Refusal). CarriesOut (Ok found) w mid now between after result)
@@ -238,10 +238,10 @@ no_disk view wanted Disk told is = told
 no_disk view wanted Memory told is = cc
 
 pub untriggered : HaveMembers → (old mid : List TreeState) (before between : Counts) → IsOnlyRead old mid before between → (p : Plan) → IsPlanFrom old (wishes_of_plan p).purge p.packages.now.selection.now.db p.members p.files
-    → members_of p.members ≡ members_read (packages_of p.packages.now.selection.now.db) (arrivals_seen p.packages.now.arrivals) → (found : List MemberFound) → HasReadArrivals old p.packages.now found
+    → members_of p.members ≡ members_of_read_packages (packages_of p.packages.now.selection.now.db) (arrivals_seen p.packages.now.arrivals) → (found : List MemberFound) → HasReadAddedPackages old p.packages.now found
     → (fault : Refused) (flags : Flags) → flags ≡ p.packages.now.selection.now.command.now.flags
     → Agrees {A = Unit {0}} (λ _. true) (Err fault) (unless_trigger_due flags.no_scripts (planned_paths p.files) (members_of p.members))
-    → IsFoundRun (inputs_of_plan p) (replacement_of_plan p) (wishes_of_plan p) found old mid before between (Err fault)
+    → IsRunOnFoundPackages (inputs_of_plan p) (replacement_of_plan p) (wishes_of_plan p) found old mid before between (Err fault)
 untriggered law old mid before between quiet p files members found arrivals fault flags is_flags told =
     planned_step_run old mid mid before between between p found (Err fault)
     (λ fs planned.
@@ -251,5 +251,5 @@ untriggered law old mid before between quiet p files members found arrivals faul
     files quiet (has_arrived old p.packages.now p.members found (members ∙ law _ _ _ found arrivals.read) arrivals)
 
 -- nor does the rendering
-pub large_no_disk : (history : List TreeState) (p : Plan) (found : List MemberFound) {files : Files} → IsPlanned history p found files → (records : NewRecords) (fault : Refused) → IsOverflowOf p records fault → fault ≡ Disk → ⊥
+pub large_no_disk : (history : List TreeState) (p : Plan) (found : List MemberFound) {files : Files} → IsPlanned history p found files → (records : NewRecords) (fault : Refused) → IsRefusedForOverflow p records fault → fault ≡ Disk → ⊥
 large_no_disk history p found {files} planned records fault large is = no_disk {A = Bool} (λ _. true) _ fault (large history found files planned) is

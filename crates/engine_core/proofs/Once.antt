@@ -11,15 +11,15 @@ use Rattle.change_report.proofs.file_owners.NamedPlaces.{turned}
 use Rattle.change_report.specs.change_files.PlanLists.{sorted_distinct_names, prepend_unless_repeated, without_repeats}
 use Rattle.change_report.specs.journal_intent.FreeNames.{HaveNoRepeats, IsNoneOf, IsOneOf}
 use Rattle.base_core.specs.ByteOrder.{bytes_cmp}
-use Rattle.base_core.specs.Sorted.{sorted_by, with_element}
+use Rattle.base_core.specs.Sorted.{sorted_by, with_element_inserted}
 use Rattle.base_core.proofs.Sorting.{Each}
 use Rattle.base_core.proofs.Booleans.{neither_first, or_swap, neither_second}
 
-any_with : (p : List ℕ → Bool) (x : List ℕ) (ys : List (List ℕ)) → list_any p (with_element bytes_cmp x ys) ≡ (p x || list_any p ys)
+any_with : (p : List ℕ → Bool) (x : List ℕ) (ys : List (List ℕ)) → list_any p (with_element_inserted bytes_cmp x ys) ≡ (p x || list_any p ys)
 any_with p x [] = refl
 any_with p x (y ∷ ys) = by (is_gt (bytes_cmp x y)) (any_with p x ys)
   where
-    by : (b : Bool) → list_any p (with_element bytes_cmp x ys) ≡ (p x || list_any p ys) → list_any p (if b then y ∷ with_element bytes_cmp x ys else x ∷ y ∷ ys) ≡ (p x || (p y || list_any p ys))
+    by : (b : Bool) → list_any p (with_element_inserted bytes_cmp x ys) ≡ (p x || list_any p ys) → list_any p (if b then y ∷ with_element_inserted bytes_cmp x ys else x ∷ y ∷ ys) ≡ (p x || (p y || list_any p ys))
     by true h = ap (λ t. p y || t) h ∙ or_swap (p y) (p x) (list_any p ys)
     by false h = refl
 
@@ -27,11 +27,11 @@ any_in_order : (p : List ℕ → Bool) (xs : List (List ℕ)) → list_any p (so
 any_in_order p [] = refl
 any_in_order p (x ∷ xs) = any_with p x (sorted_by bytes_cmp xs) ∙ ap (λ t. p x || t) (any_in_order p xs)
 
-once_with : (x : List ℕ) (ys : List (List ℕ)) → IsNoneOf x ys → HaveNoRepeats ys → HaveNoRepeats (with_element bytes_cmp x ys)
+once_with : (x : List ℕ) (ys : List (List ℕ)) → IsNoneOf x ys → HaveNoRepeats ys → HaveNoRepeats (with_element_inserted bytes_cmp x ys)
 once_with x [] out once = (refl, tt)
 once_with x (y ∷ ys) out once = by (is_gt (bytes_cmp x y)) (once_with x ys (neither_second (bytes_eq x y) _ out) once.1)
   where
-    by : (b : Bool) → HaveNoRepeats (with_element bytes_cmp x ys) → HaveNoRepeats (if b then y ∷ with_element bytes_cmp x ys else x ∷ y ∷ ys)
+    by : (b : Bool) → HaveNoRepeats (with_element_inserted bytes_cmp x ys) → HaveNoRepeats (if b then y ∷ with_element_inserted bytes_cmp x ys else x ∷ y ∷ ys)
     by true more = (any_with (bytes_eq y) x ys ∙ or_from (bytes_eq y x) _ (turned x y (neither_first (bytes_eq x y) _ out)) once.0, more)
     by false more = (out, once)
 
@@ -70,24 +70,24 @@ once_both (x ∷ xs) ys one two apart =
 -- ---- elements by their names
 
 module _ {X : Type 0} (name : X → List ℕ) where
-  map_with : (x : X) (ys : List X) → map name (with_element (on name bytes_cmp) x ys) ≡ with_element bytes_cmp (name x) (map name ys)
+  map_with : (x : X) (ys : List X) → map name (with_element_inserted (on name bytes_cmp) x ys) ≡ with_element_inserted bytes_cmp (name x) (map name ys)
   map_with x [] = refl
   map_with x (y ∷ ys) = by (is_gt (bytes_cmp (name x) (name y))) (map_with x ys)
     where
-      by : (b : Bool) → map name (with_element (on name bytes_cmp) x ys) ≡ with_element bytes_cmp (name x) (map name ys)
-          → map name (if b then y ∷ with_element (on name bytes_cmp) x ys else x ∷ y ∷ ys) ≡ (if b then name y ∷ with_element bytes_cmp (name x) (map name ys) else name x ∷ name y ∷ map name ys)
+      by : (b : Bool) → map name (with_element_inserted (on name bytes_cmp) x ys) ≡ with_element_inserted bytes_cmp (name x) (map name ys)
+          → map name (if b then y ∷ with_element_inserted (on name bytes_cmp) x ys else x ∷ y ∷ ys) ≡ (if b then name y ∷ with_element_inserted bytes_cmp (name x) (map name ys) else name x ∷ name y ∷ map name ys)
       by true h = ap (λ l. name y ∷ l) h
       by false h = refl
 
   pub names_sorted : (xs : List X) → map name (sorted_by (on name bytes_cmp) xs) ≡ sorted_by bytes_cmp (map name xs)
   names_sorted [] = refl
-  names_sorted (x ∷ xs) = map_with x (sorted_by (on name bytes_cmp) xs) ∙ ap (with_element bytes_cmp (name x)) (names_sorted xs)
+  names_sorted (x ∷ xs) = map_with x (sorted_by (on name bytes_cmp) xs) ∙ ap (with_element_inserted bytes_cmp (name x)) (names_sorted xs)
 
-each_with : {X : Type 0} (cmp : X → X → Ordering) (P : X → Type 0) (x : X) (ys : List X) → P x → Each P ys → Each P (with_element cmp x ys)
+each_with : {X : Type 0} (cmp : X → X → Ordering) (P : X → Type 0) (x : X) (ys : List X) → P x → Each P ys → Each P (with_element_inserted cmp x ys)
 each_with cmp P x [] h each = (h, tt)
 each_with cmp P x (y ∷ ys) h each = by (is_gt (cmp x y)) (each_with cmp P x ys h each.1)
   where
-    by : (b : Bool) → Each P (with_element cmp x ys) → Each P (if b then y ∷ with_element cmp x ys else x ∷ y ∷ ys)
+    by : (b : Bool) → Each P (with_element_inserted cmp x ys) → Each P (if b then y ∷ with_element_inserted cmp x ys else x ∷ y ∷ ys)
     by true more = (each.0, more)
     by false more = (h, each)
 

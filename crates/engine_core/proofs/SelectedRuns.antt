@@ -19,7 +19,7 @@ use Rattle.report_core.specs.declared.refusal.Refusal.TheVariants.{NotInstalled}
 use Rattle.engine_core.specs.Changed.{InputsAndReplacement, selected_by, selected_of_inputs, simulated_change}
 use Rattle.engine_core.specs.Choice.{IsPreferredChoice, IsChoiceFrom}
 use Rattle.engine_core.specs.Chosen.{IsResultOfChoice}
-use Rattle.engine_core.specs.Runs.{IsSelectedRun}
+use Rattle.engine_core.specs.Runs.{IsRunOnSelection}
 use Rattle.engine_core.specs.Selecting.{pool_of_inputs, replacement_of_choice}
 use Rattle.engine_core.specs.SelectionSeen.{IsSelectedFrom, selection_seen}
 use Rattle.engine_core.specs.Wishes.{names_to_remove, names_to_reinstall, names_to_upgrade, unknown_operand_place, unless_unknown_operand, wishes_of}
@@ -36,7 +36,7 @@ abbrev pub IsRunBy :
 IsRunBy command inputs old now before after result =
     (chosen : Option (List ℕ))
     × IsChoiceFrom (pool_of_inputs command inputs) chosen
-    × IsSelectedRun command (selected_of_inputs command chosen inputs)
+    × IsRunOnSelection command (selected_of_inputs command chosen inputs)
     old now before after result
 
 pub with_error : {A : Type 0} (P : Result A Refused → Type 0) (r : Result A Refused) (fault : Refused) → IsErrAnd r (λ e. e ≡ fault) → P (Err fault) → P r
@@ -58,8 +58,8 @@ module _ (command : CommandLine) (inputs : Inputs) (old now : List TreeState) (b
       (chosen, choice, selected_failure command (selected_of_inputs command chosen inputs) old now before after have whole quiet Memory tt)
 
   -- a selection is made
-  pub selected_run : (s : Selection) (result : Result (List ℕ) Refused) → IsSelectedFrom command inputs (Ok s) → IsSelectedRun command (Ok (selection_seen s)) old now before after result → IsRunBy command inputs old now before after result
-  selected_run s result (chosen, choice, is) run = (chosen, choice, subst (λ (r : Result InputsAndReplacement Refusal). IsSelectedRun command r old now before after result) (sym is) run)
+  pub selected_run : (s : Selection) (result : Result (List ℕ) Refused) → IsSelectedFrom command inputs (Ok s) → IsRunOnSelection command (Ok (selection_seen s)) old now before after result → IsRunBy command inputs old now before after result
+  selected_run s result (chosen, choice, is) run = (chosen, choice, subst (λ (r : Result InputsAndReplacement Refusal). IsRunOnSelection command r old now before after result) (sym is) run)
 
 -- ---- what is selected
 
@@ -121,7 +121,7 @@ module _ (command : CommandLine) (inputs : Inputs) where
 -- ---- a change that is only simulated
 
 pub simulated_run : HaveClash → (command : CommandLine) (s : InputsAndReplacement) (old now : List TreeState) (before after : Counts) (report : List ℕ) → All IsWellFormed old → IsOnlyRead old now before after → command.flags.simulate ≡ true
-    → report ≡ simulated_report s.replacement (names_to_remove command.applet command.operands) → IsSelectedRun command (Ok s) old now before after (Ok report)
+    → report ≡ simulated_report s.replacement (names_to_remove command.applet command.operands) → IsRunOnSelection command (Ok s) old now before after (Ok report)
 simulated_run have command s old now before after report whole quiet simulate told =
     let seen = seen_any have command (Ok s) old whole in
     let done : ChangeDone = simulated_change s.replacement (wishes_of command) seen.files in

@@ -9,7 +9,7 @@ use Rattle.journal_staging.specs.adb_schema.Reserved.{is_reserved}
 use Rattle.adb_view.specs.Plain.{Plain}
 use Rattle.added_packages.specs.Arrivals.{IsFileOfMember}
 use Rattle.change_report.specs.change_files.FileChange.{FileChange}
-use Rattle.change_report.specs.change_files.FilesAfter.{DatabaseAndWorldAfter, changed_files, database_name, is_written, listing_bytes, world_bytes_after, world_name, listing_written_under_name}
+use Rattle.change_report.specs.change_files.FilesAfter.{DatabaseAndWorldAfter, files_after_change, database_name, is_written, listing_bytes, world_bytes_after, world_name, listing_written_under_name}
 use Rattle.change_report.specs.change_files.PlanLists.{FileWrite, file_writes_of, write_to}
 use Rattle.change_report.specs.change_files.Touched.{is_record_name}
 use Rattle.change_report.proofs.change_files.Lists.{IsOneOf}
@@ -37,7 +37,7 @@ use Rattle.journal_staging.specs.declared.writes.Source.{Source}
 use Rattle.journal_staging.specs.declared.writes.Source.TheVariants.{Bytes, File, Link}
 use Rattle.journal_staging.specs.declared.writes.StagedWrite.{StagedWrite}
 use Rattle.engine_core.specs.Preparing.{AreRecordWrites, AreNewRecordsOf, bytes_if}
-use Rattle.engine_core.specs.Writing.{HasBytes, IsWriteOfRecord, IsSourceOfWrite, IsWriteBy, entry_of_write, name_of_write}
+use Rattle.engine_core.specs.Writing.{HasBytes, IsWriteOfRecord, IsSourceOfWrite, IsWriteOfChange, entry_of_write, name_of_write}
 use Rattle.engine_core.specs.declared.rendering.NewRecords.{NewRecords}
 use Rattle.engine_core.specs.declared.writes.RecordWrites.{RecordWrites}
 
@@ -63,7 +63,7 @@ module _ (inputs : Inputs) (change : FileChange) (contents : ℕ → List Conten
   records = new_records inputs database
 
   abbrev after : Files
-  after = changed_files change (listing_bytes contents) records files
+  after = files_after_change change (listing_bytes contents) records files
 
   placed : (l : Listing) (name : List ℕ) → listing_written_under_name change files name ≡ Some l → IsPlaced change.members l
   placed l name written =
@@ -96,7 +96,7 @@ module _ (inputs : Inputs) (change : FileChange) (contents : ℕ → List Conten
   database_bytes = ap (λ (o : Option (List ℕ)). unwrap_or o []) (database_after change (listing_bytes contents) records files)
 
   world_by : after world_name ≡ world_bytes_after records.world (files world_name)
-  unfolding changed_files
+  unfolding files_after_change
   world_by = refl
 
   said_world : (world : List ℕ) (old : Option (List ℕ)) → unwrap_or (world_bytes_after world old) [] ≡ world
@@ -168,9 +168,9 @@ module _ (inputs : Inputs) (change : FileChange) (found : List MemberFound) (own
     (v : TreeState) (earlier : List TreeState) (read : FilesAreRead (v ∷ earlier) found packages)
     (files : Files) (root : IsRootOfFiles files inputs.root) where
   abbrev left : Files
-  left = changed_files change (listing_bytes (found_package_contents found)) (new_records inputs own.database.items) files
+  left = files_after_change change (listing_bytes (found_package_contents found)) (new_records inputs own.database.items) files
 
-  one_stands : (w : StagedWrite) → IsWriteBy change.members packages (file_writes_of change files) rw w → DenotesBytes (files_of v) w.source (bytes_or_empty_under left (name_of_write w))
+  one_stands : (w : StagedWrite) → IsWriteOfChange change.members packages (file_writes_of change files) rw w → DenotesBytes (files_of v) w.source (bytes_or_empty_under left (name_of_write w))
   one_stands w (inl f) =
       file_stands v earlier found change.members packages read f.file (bytes_or_empty_under left (name_of_write w)) w.source
       (ap (bytes_or_empty_under left) f.named ∙ file_bytes inputs change (found_package_contents found) own.database.items files root free f.file f.planned_file) f.source
@@ -183,9 +183,9 @@ module _ (inputs : Inputs) (change : FileChange) (found : List MemberFound) (own
       subst (DenotesBytes (files_of v) w.source)
       (is_own.world ∙ sym (ap (bytes_or_empty_under left) (named ∙ (which.world_name ∙ is_own.world_name)) ∙ world_bytes inputs change (found_package_contents found) own.database.items files root free)) located
 
-  pub all_stand : (writes : List StagedWrite) → All (IsWriteBy change.members packages (file_writes_of change files) rw) writes → EachDenotes (files_of v) writes (map (bytes_or_empty_under left) (map name_of_write writes))
+  pub all_stand : (writes : List StagedWrite) → All (IsWriteOfChange change.members packages (file_writes_of change files) rw) writes → EachDenotes (files_of v) writes (map (bytes_or_empty_under left) (map name_of_write writes))
   all_stand writes each = record {
     same = mapped_long name_of_write (bytes_or_empty_under left) writes;
     each = λ i w bytes at is. subst (DenotesBytes (files_of v) w.source) (sym (mapped_at name_of_write (bytes_or_empty_under left) writes i w bytes at is))
-        (one_stands w (all_at (IsWriteBy change.members packages (file_writes_of change files) rw) writes i w each at));
+        (one_stands w (all_at (IsWriteOfChange change.members packages (file_writes_of change files) rw) writes i w each at));
   }

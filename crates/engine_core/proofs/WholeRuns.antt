@@ -8,12 +8,12 @@ use Rattle.base_core.specs.Files.{Files}
 use Rattle.base_core.specs.Tree.{IsWellFormed, TreeState, files_of}
 use Rattle.change_report.specs.change_inputs.Answers.{AgreesUnlessDisk, IsDiskOrMemoryFailure}
 use Rattle.change_report.specs.change_inputs.Chains.{and_then}
-use Rattle.change_report.specs.change_inputs.Inputs.{Inputs, first_index_read, inputs_of}
+use Rattle.change_report.specs.change_inputs.Inputs.{Inputs, first_index_read_number, inputs_of}
 use Rattle.change_report.specs.change_inputs.Seen.{inputs_seen}
 use Rattle.change_report.specs.change_inputs.declared.loaded.Loaded.{Loaded}
 use Rattle.change_report.specs.change_inputs.declared.root.Refused.{Refused}
 use Rattle.change_report.specs.change_inputs.declared.root.Refused.TheVariants.{Disk, Memory, Refusal as IsRefused}
-use Rattle.change_report.specs.change_outcome.ChangeOutcome.{ChangeDone, ChangeWishes, IsClashFoundAmong, change_members, change_or_refusal, change_with_members}
+use Rattle.change_report.specs.change_outcome.ChangeOutcome.{ChangeDone, ChangeWishes, IsClashFoundAmong, members_after_change, change_or_refusal, change_with_members}
 use Rattle.change_report.specs.change_outcome.MembersAfter.{MemberFound, members_after}
 use Rattle.command_core.specs.Command.{CommandLine}
 use Rattle.dep_core.specs.Repositories.{Repository}
@@ -28,7 +28,7 @@ use Rattle.engine_core.specs.Preparing.{IsRootRead}
 use Rattle.engine_core.specs.ChangeRun.{CarriesOut, IsChangeRun}
 use Rattle.engine_core.specs.Changed.{IsClashOfSelected, IsClashOfSelectedAmong, IsClashUnlessSimulatedAmong, InputsAndReplacement, change_of_selected, change_of_command, found_packages, selected_by, selected_for, selected_of_inputs, simulated_change}
 use Rattle.engine_core.specs.Choice.{IsChoiceFrom}
-use Rattle.engine_core.specs.Runs.{IsSelectedRun}
+use Rattle.engine_core.specs.Runs.{IsRunOnSelection}
 use Rattle.engine_core.specs.Selecting.{pool_of_inputs, pool_of_command}
 use Rattle.engine_core.specs.Wishes.{unknown_operand_place, unless_unknown_operand, wishes_of}
 use Rattle.engine_core.proofs.Early.{HaveClash, IsOnlyRead, comes_to_failure, comes_to_refusal, files_seen}
@@ -37,9 +37,9 @@ use Rattle.engine_core.proofs.SelectedRuns.{HaveChoice, IsRunBy}
 -- what is read of the root, and what is read behind it, rest on reads of their own
 pub record HaveOwnReads : Type 0 where
   pub inputs : (command : CommandLine) (read other : Reads) (inputs : Inputs) → inputs_of command read ≡ Ok inputs
-      → ((n : ℕ) (name : List ℕ) → n < first_index_read + length inputs.root.repositories → read n name ≡ other n name) → inputs_of command other ≡ Ok inputs
+      → ((n : ℕ) (name : List ℕ) → n < first_index_read_number + length inputs.root.repositories → read n name ≡ other n name) → inputs_of command other ≡ Ok inputs
   pub members : (r : Replacement) (read other : Reads) (repositories : List Repository) (no_scripts : Bool)
-      → ((n : ℕ) (name : List ℕ) → first_index_read + length repositories ≤ n → read n name ≡ other n name)
+      → ((n : ℕ) (name : List ℕ) → first_index_read_number + length repositories ≤ n → read n name ≡ other n name)
       → members_after r read repositories no_scripts ≡ members_after r other repositories no_scripts
 
 -- ---- two rows of reads as one
@@ -87,7 +87,7 @@ comes_after_reads packages wanted old mid now before between after result quiet 
     both A B C (v ∷ earlier) q r = λ a b c. r a b c ∙ q
 
 pub run_after_reads : (command : CommandLine) (selected : Result InputsAndReplacement Refusal) (old mid now : List TreeState) (before between after : Counts) (result : Result (List ℕ) Refused)
-    → IsOnlyRead old mid before between → IsSelectedRun command selected mid now between after result → IsSelectedRun command selected old now before after result
+    → IsOnlyRead old mid before between → IsRunOnSelection command selected mid now between after result → IsRunOnSelection command selected old now before after result
 run_after_reads command selected old mid now before between after result quiet run = record {
   read = run.read;
   observed = subst (λ (h : List TreeState). AreReadsOfTree h run.read) quiet.same run.observed;
@@ -102,8 +102,8 @@ run_after_reads command selected old mid now before between after result quiet r
 
 -- ---- the same by other reads behind those of the root
 
-module _ (have : HaveOwnReads) (command : CommandLine) (inputs : Inputs) (read other : Reads) (same : (n : ℕ) (name : List ℕ) → first_index_read + length inputs.root.repositories ≤ n → read n name ≡ other n name) where
-  members_same : (r : Replacement) (wishes : ChangeWishes) → change_members inputs r wishes read ≡ change_members inputs r wishes other
+module _ (have : HaveOwnReads) (command : CommandLine) (inputs : Inputs) (read other : Reads) (same : (n : ℕ) (name : List ℕ) → first_index_read_number + length inputs.root.repositories ≤ n → read n name ≡ other n name) where
+  members_same : (r : Replacement) (wishes : ChangeWishes) → members_after_change inputs r wishes read ≡ members_after_change inputs r wishes other
   members_same r wishes = have.members r read other inputs.root.repositories wishes.no_scripts same
 
   change_same : (r : Replacement) (wishes : ChangeWishes) (clash : Option NamePair) (files : Files) → change_or_refusal inputs r wishes read clash files ≡ change_or_refusal inputs r wishes other clash files
@@ -124,15 +124,15 @@ module _ (have : HaveOwnReads) (command : CommandLine) (inputs : Inputs) (read o
   clash_same : (s : InputsAndReplacement) (files present_files : Files) (clash : Option NamePair) → s.inputs ≡ inputs → IsClashUnlessSimulatedAmong command.flags.simulate (wishes_of command) other files present_files s clash → IsClashUnlessSimulatedAmong command.flags.simulate (wishes_of command) read files present_files s clash
   clash_same s files present_files clash is = by command.flags.simulate
     where
-      of_inputs : (i : Inputs) → i ≡ inputs → change_members i s.replacement (wishes_of command) other ≡ change_members i s.replacement (wishes_of command) read
-      of_inputs i e = subst (λ (j : Inputs). change_members j s.replacement (wishes_of command) other ≡ change_members j s.replacement (wishes_of command) read) (sym e) (sym (members_same s.replacement (wishes_of command)))
+      of_inputs : (i : Inputs) → i ≡ inputs → members_after_change i s.replacement (wishes_of command) other ≡ members_after_change i s.replacement (wishes_of command) read
+      of_inputs i e = subst (λ (j : Inputs). members_after_change j s.replacement (wishes_of command) other ≡ members_after_change j s.replacement (wishes_of command) read) (sym e) (sym (members_same s.replacement (wishes_of command)))
 
       by : (b : Bool) → IsClashUnlessSimulatedAmong b (wishes_of command) other files present_files s clash → IsClashUnlessSimulatedAmong b (wishes_of command) read files present_files s clash
       by true clash_is = clash_is
       by false clash_is = subst (λ (found : Result (List MemberFound) Refusal). IsClashFoundAmong s.inputs (wishes_of command) files present_files found clash) (of_inputs s.inputs is) clash_is
 
   packages_same : (s : InputsAndReplacement) → s.inputs ≡ inputs → found_packages command read (Ok s) ≡ found_packages command other (Ok s)
-  packages_same s is = subst (λ (i : Inputs). change_members i s.replacement (wishes_of command) read ≡ change_members i s.replacement (wishes_of command) other) (sym is) (members_same s.replacement (wishes_of command))
+  packages_same s is = subst (λ (i : Inputs). members_after_change i s.replacement (wishes_of command) read ≡ members_after_change i s.replacement (wishes_of command) other) (sym is) (members_same s.replacement (wishes_of command))
 
 -- what is selected has these inputs
 abbrev HasInputs : Inputs → Result InputsAndReplacement Refusal → Type 0
@@ -157,9 +157,9 @@ selected_has command chosen inputs = by_pool (pool_of_inputs command inputs)
 module _ (have : HaveOwnReads) (command : CommandLine) (inputs : Inputs) (old now : List TreeState) (before after : Counts) (result : Result (List ℕ) Refused)
     (first : Reads) (observed : AreReadsOfTree old first) (is : inputs_of command first ≡ Ok inputs)
     (chosen : Option (List ℕ)) (choice : IsChoiceFrom (pool_of_inputs command inputs) chosen)
-    (run : IsSelectedRun command (selected_of_inputs command chosen inputs) old now before after result) where
+    (run : IsRunOnSelection command (selected_of_inputs command chosen inputs) old now before after result) where
   count : ℕ
-  count = first_index_read + length inputs.root.repositories
+  count = first_index_read_number + length inputs.root.repositories
 
   selected : Result InputsAndReplacement Refusal
   selected = selected_of_inputs command chosen inputs
@@ -167,7 +167,7 @@ module _ (have : HaveOwnReads) (command : CommandLine) (inputs : Inputs) (old no
   read : Reads
   read = splice count first run.read
 
-  same : (n : ℕ) (name : List ℕ) → first_index_read + length inputs.root.repositories ≤ n → read n name ≡ run.read n name
+  same : (n : ℕ) (name : List ℕ) → first_index_read_number + length inputs.root.repositories ≤ n → read n name ≡ run.read n name
   unfolding read count
   same n name more = splice_after count first run.read n name more
 

@@ -3,7 +3,7 @@ use Rattle.std.proofs.Common.{◌≡◌, ℕ, Bool, false, true, List, [], ◌�
 use Rattle.std.specs.Prelude.{codes}
 use Rattle.adb_view.specs.Plain.{Plain, blob, more, none, obj}
 use Rattle.change_report.specs.change_inputs.Database.{database_from_parts}
-use Rattle.change_report.specs.change_inputs.Inputs.{Inputs, inputs_from_parts, root_by}
+use Rattle.change_report.specs.change_inputs.Inputs.{Inputs, inputs_from_parts, root_from_parts}
 use Rattle.command_core.specs.Command.{command_from_parts}
 use Rattle.command_core.specs.Flags.{no_flags}
 use Rattle.command_core.specs.declared.command.Applet.{Applet}
@@ -12,11 +12,11 @@ use Rattle.command_core.specs.declared.operands.Operand.{Operand}
 use Rattle.dep_core.specs.Dependency.{Dependency, dependency_from_parts}
 use Rattle.change_report.specs.package_changes.Changes.{change_of_name, changes_of}
 use Rattle.change_report.specs.change_files.PlanLists.{sorted_distinct_names}
-use Rattle.change_report.specs.candidate_core.Candidates.{Candidate, candidate_by, named}
+use Rattle.change_report.specs.candidate_core.Candidates.{Candidate, candidate_from_parts, named}
 use Rattle.change_report.specs.candidate_core.Rank.{is_better, rank_cmp, sealed_pool_from_parts}
 use Rattle.report_core.specs.Reports.{Change, Reinstall, Upgrade as Upgrading}
 use Rattle.version_core.specs.Order.{is_version, tokens, version_cmp}
-use Rattle.version_core.specs.Token.{component_lexeme, next_lexeme, number_lexeme}
+use Rattle.version_core.specs.Token.{later_component_lexeme, next_lexeme, number_lexeme}
 use Rattle.engine_core.specs.Selecting.{replacement_of_choice}
 use Rattle.engine_core.specs.Wishes.{names_to_reinstall, names_to_upgrade, unknown_operand_place}
 
@@ -41,7 +41,7 @@ needs_a = dependency_from_parts (codes "a") None 1 false None
 
 abbrev inputs : Inputs
 inputs =
-    inputs_from_parts (root_by (command_from_parts Upgrade no_flags [] [] 2) (database_from_parts (obj (more (info_of_b (codes "1")) none) ∷ []) None false) [] (needs_a ∷ []) []) []
+    inputs_from_parts (root_from_parts (command_from_parts Upgrade no_flags [] [] 2) (database_from_parts (obj (more (info_of_b (codes "1")) none) ∷ []) None false) [] (needs_a ∷ []) []) []
 
 -- ---- the operand that is refused
 
@@ -63,10 +63,10 @@ add_asks_for_nothing = refl
 -- ---- what is upgraded: b 1 is installed, and a repository has b 2
 
 abbrev installed_b : Candidate
-installed_b = candidate_by (info_of_b (codes "1")) (codes "b") (Some (codes "1")) [] [] [] [] 0 None None true
+installed_b = candidate_from_parts (info_of_b (codes "1")) (codes "b") (Some (codes "1")) [] [] [] [] 0 None None true
 
 abbrev newer_b : Candidate
-newer_b = candidate_by (info_of_b (codes "2")) (codes "b") (Some (codes "2")) [] [] [] [] 0 (Some 1) None false
+newer_b = candidate_from_parts (info_of_b (codes "2")) (codes "b") (Some (codes "2")) [] [] [] [] 0 (Some 1) None false
 
 -- whether the newer one comes first
 abbrev takes_newer : Applet → List Operand → Bool
@@ -74,23 +74,23 @@ takes_newer applet operands =
     is_better (sealed_pool_from_parts (installed_b ∷ (newer_b ∷ [])) [] (names_to_upgrade applet operands)) (named (codes "b")) 1 0
 
 upgrade_of_all : takes_newer Upgrade [] ≡ true
-unfolding rank_cmp is_version version_cmp tokens next_lexeme number_lexeme component_lexeme
+unfolding rank_cmp is_version version_cmp tokens next_lexeme number_lexeme later_component_lexeme
 upgrade_of_all = refl
 
 upgrade_of_it : takes_newer Upgrade just_b ≡ true
-unfolding rank_cmp is_version version_cmp tokens next_lexeme number_lexeme component_lexeme
+unfolding rank_cmp is_version version_cmp tokens next_lexeme number_lexeme later_component_lexeme
 upgrade_of_it = refl
 
 upgrade_of_another : takes_newer Upgrade just_a ≡ false
-unfolding rank_cmp is_version version_cmp tokens next_lexeme number_lexeme component_lexeme
+unfolding rank_cmp is_version version_cmp tokens next_lexeme number_lexeme later_component_lexeme
 upgrade_of_another = refl
 
 fix_upgrades_nothing : takes_newer Fix just_b ≡ false
-unfolding rank_cmp is_version version_cmp tokens next_lexeme number_lexeme component_lexeme
+unfolding rank_cmp is_version version_cmp tokens next_lexeme number_lexeme later_component_lexeme
 fix_upgrades_nothing = refl
 
 add_upgrades_nothing : takes_newer Add just_b ≡ false
-unfolding rank_cmp is_version version_cmp tokens next_lexeme number_lexeme component_lexeme
+unfolding rank_cmp is_version version_cmp tokens next_lexeme number_lexeme later_component_lexeme
 add_upgrades_nothing = refl
 
 -- ---- what comes again
@@ -110,5 +110,5 @@ unfolding changes_of change_of_name sorted_distinct_names
 upgrade_reinstalls_nothing = refl
 
 upgrade_upgrades : changes_by Upgrade [] 1 ≡ Upgrading (codes "b") (codes "1") (codes "2") ∷ []
-unfolding changes_of change_of_name sorted_distinct_names is_version version_cmp tokens next_lexeme number_lexeme component_lexeme
+unfolding changes_of change_of_name sorted_distinct_names is_version version_cmp tokens next_lexeme number_lexeme later_component_lexeme
 upgrade_upgrades = refl

@@ -14,7 +14,7 @@ use Rattle.change_report.specs.own_core.Planned.{written_names}
 use Rattle.change_report.specs.own_core.WritesSeen.{writes_in}
 use Rattle.change_report.specs.own_core.declared.planning.FilePlan.{FilePlan}
 use Rattle.journal_staging.specs.declared.writes.StagedWrite.{StagedWrite}
-use Rattle.engine_core.specs.Writing.{IsFileWrite, IsWriteOfRecord, IsSourceOfWrite, IsWriteBy, PackagesRead, database_and_world_names, record_writes, name_of_write}
+use Rattle.engine_core.specs.Writing.{IsFileWrite, IsWriteOfRecord, IsSourceOfWrite, IsWriteOfChange, PackagesRead, database_and_world_names, record_writes, name_of_write}
 use Rattle.engine_core.specs.declared.writes.RecordWrites.{RecordWrites}
 use Rattle.engine_core.proofs.Elements.{all_each, contains_at, each_all, each_both, each_weaker, mapped_at}
 use Rattle.engine_core.proofs.Lists.{map_both, map_more, take_next}
@@ -97,9 +97,9 @@ module _ (members : List Member) (packages : PackagesRead) (plan : FilePlan) (r 
       ap (map name_of_write) is ∙ names_sorted name_of_write items ∙ ap (sorted_by bytes_cmp) (gathered_names items gathered) ∙ once_ordered (written_names plan ++ database_and_world_names r) once
 
   pub each_gathered : (items sorted : List StagedWrite) → Gathered items → sorted ≡ sorted_by (on name_of_write bytes_cmp) items
-      → All (IsWriteBy members packages (writes_in plan.writes) r) sorted
+      → All (IsWriteOfChange members packages (writes_in plan.writes) r) sorted
   each_gathered items sorted (files, is, names, all) sorts =
-      let Q : StagedWrite → Type 0 = IsWriteBy members packages (writes_in plan.writes) r in
+      let Q : StagedWrite → Type 0 = IsWriteOfChange members packages (writes_in plan.writes) r in
       let one = record_writes r.database_name r.database in
       let two = record_writes r.world_name r.world in
       let ours : Each Q files = each_weaker (IsFileWrite members packages (writes_in plan.writes)) Q (λ w h. inl h) files (all_each (IsFileWrite members packages (writes_in plan.writes)) files all) in

@@ -15,7 +15,7 @@ use Rattle.change_report.specs.change_outcome.ChangeOutcome.{ChangeDone}
 use Rattle.change_report.specs.change_outcome.MembersAfter.{MemberFound}
 use Rattle.command_core.specs.Command.{CommandLine}
 use Rattle.change_report.specs.db_core.Members.{member_name}
-use Rattle.change_report.specs.file_owners.Replaces.{version_text}
+use Rattle.change_report.specs.file_owners.Replaces.{package_version_text}
 use Rattle.change_report.specs.journal_core.Recovery.{intent_name}
 use Rattle.change_report.specs.journal_core.Staged.{AreStagingPathsFree, IsEmptyStage}
 use Rattle.change_report.specs.make_info.Reads.{Reads}
@@ -24,8 +24,8 @@ use Rattle.change_report.specs.path_clashes.Clash.{NamePair}
 use Rattle.report_core.specs.declared.refusal.Refusal.{Refusal}
 use Rattle.report_core.specs.declared.refusal.Refusal.TheVariants.{PackageBad}
 use Rattle.journal_staging.specs.Spoiled.{IsSpoiledFile}
-use Rattle.journal_staging.specs.journal_commit.StageRun.{IsStageRun, IsStageRunComplete}
-use Rattle.engine_core.specs.Changed.{IsClashForAmong, change_of_command, found_packages, selected_for}
+use Rattle.journal_staging.specs.journal_commit.StageRun.{IsRunOfStagedChange, IsStagedChangeComplete}
+use Rattle.engine_core.specs.Changed.{IsClashOfCommandAmong, change_of_command, found_packages, selected_for}
 use Rattle.engine_core.specs.Choice.{IsChoiceFrom}
 use Rattle.engine_core.specs.Selecting.{pool_of_command}
 
@@ -58,7 +58,7 @@ pub record HasSpoiledPackage (packages : Result (List MemberFound) Refusal) (ref
   pub file : List ℕ
   pub cause : Cause
   pub spoiled : IsSpoiledFile tested file cause
-  pub is : refusal ≡ PackageBad (member_name one.member) (version_text one.member.pkg) cause
+  pub is : refusal ≡ PackageBad (member_name one.member) (package_version_text one.member.pkg) cause
 
 -- The file of an added package is not what was tested, when its contents are read once more. The report
 -- on it is that on some file with other contents. This does not happen on an observable tree without an
@@ -66,9 +66,12 @@ pub record HasSpoiledPackage (packages : Result (List MemberFound) Refusal) (ref
 pub record IsChangedSinceTested (packages : Result (List MemberFound) Refusal)
     (wanted : Result ChangeDone Refusal) (history : List TreeState)
     (result : Result (List ℕ) Refused) : Type 0 where
+  -- the tree is not observable, or has an intent or a staged file
   pub unseen : IfObservable history (λ v. v.names intent_name ≡ None → IsEmptyStage (files_of v)
       → ⊥)
+  -- the change is not refused, and would write or remove something
   pub commits : DoesCommit wanted
+  -- the refusal reports the package that is spoiled
   pub refusal : Refusal
   pub spoiled : HasSpoiledPackage packages refusal
   pub is : result ≡ Err (IsRefused refusal)
@@ -81,8 +84,11 @@ pub record IsCommit (wanted : Result ChangeDone Refusal) (v : TreeState)
   pub done : ChangeDone
   pub is : wanted ≡ Ok done
   pub commits : done.commits ≡ true
-  pub run : IsStageRun done.files v old now
-  pub ok : OnOk result (IsStageRunComplete done.files v now)
+  -- what holds in each state of a run that leads to the files of the change
+  pub run : IsRunOfStagedChange done.files v old now
+  -- if the run succeeds, the change is complete
+  pub ok : OnOk result (IsStagedChangeComplete done.files v now)
+  -- it fails only with an I/O error of the tree
   pub err : IfErr result (λ refused. refused ≡ Disk)
 
 -- the tree is unchanged, which ends a change only if it commits nothing; or the change is carried
@@ -93,7 +99,7 @@ abbrev pub IsUnchangedOrCommit :
 IsUnchangedOrCommit wanted v old now result =
     ((now ≡ old) × OnOk result (DoesCommit wanted → ⊥)) ⊎ IsCommit wanted v old now result
 
--- ---- both
+-- ---- the answer and the effect together
 
 -- How a run ends whose change has the result `wanted`, and for which the reads find these packages. It
 -- answers that report or refusal, or that one of these packages has changed, or that the tree failed or
@@ -111,19 +117,25 @@ pub record CarriesOut (packages : Result (List MemberFound) Refusal)
       → (DoesCommit wanted → AreStagingPathsFree (files_of v)) → after.misuses ≡ before.misuses)
 
 -- A run of a command's change: by what reads find, by some files, by what is chosen, and by the first
--- clash of names among some present files. On an observable tree both are the files that it has at the
--- start.
+-- clash of names among some present files. On an observable tree `files` and `present_files` are the
+-- tree's files at the start.
 pub record IsChangeRun (command : CommandLine) (old now : List TreeState) (before after : Counts)
     (result : Result (List ℕ) Refused) : Type 0 where
+  -- what the reads find
   pub read : Reads
   pub observed : AreReadsOfTree old read
+  -- the places of the chosen candidates; None if no selection satisfies the new world
   pub chosen : Option (List ℕ)
   pub choice : IsChoiceFrom (pool_of_command command read) chosen
+  -- the files that decide whether a configuration file is kept
   pub files : Files
   pub there : IfObservable old (λ v. files ≡ files_of v)
+  -- the files among which names clash
   pub present_files : Files
   pub stand : IfObservable old (λ v. present_files ≡ files_of v)
+  -- the first clash of names, if there is one
   pub clash : Option NamePair
-  pub is_clash : IsClashForAmong command read files present_files chosen clash
+  pub is_clash : IsClashOfCommandAmong command read files present_files chosen clash
+  -- how the run ends
   pub comes : CarriesOut (found_packages command read (selected_for command read chosen))
       (change_of_command command read files chosen clash) old now before after result

@@ -5,7 +5,7 @@ use Rattle.std.specs.Prelude.{◌≡◌, ℕ, Bool, true, false, if◌then◌els
 use Rattle.base_core.specs.Files.{Files}
 use Rattle.change_report.specs.change_inputs.Chains.{and_then}
 use Rattle.change_report.specs.change_inputs.Inputs.{Inputs, inputs_of}
-use Rattle.change_report.specs.change_outcome.ChangeOutcome.{ChangeDone, ChangeWishes, IsClashOfChangeAmong, change_members, change_or_refusal}
+use Rattle.change_report.specs.change_outcome.ChangeOutcome.{ChangeDone, ChangeWishes, IsClashOfChangeAmong, members_after_change, change_or_refusal}
 use Rattle.change_report.specs.change_outcome.MembersAfter.{MemberFound}
 use Rattle.command_core.specs.Command.{CommandLine}
 use Rattle.change_report.specs.make_info.Reads.{Reads}
@@ -55,7 +55,7 @@ selected_for command read chosen =
 abbrev pub found_packages :
     CommandLine → Reads → Result InputsAndReplacement Refusal → Result (List MemberFound) Refusal
 found_packages command read selected =
-    and_then selected (λ s. change_members s.inputs s.replacement (wishes_of command) read)
+    and_then selected (λ s. members_after_change s.inputs s.replacement (wishes_of command) read)
 
 -- ---- the result
 
@@ -79,14 +79,14 @@ change_of_command command read files chosen clash =
 
 -- ---- the first clash
 
--- what a change is given as its first clash of names; a simulated one does not test for it
+-- the first clash of names that a change finds; a simulated change does not look for one, and has none
 abbrev pub IsClashUnlessSimulatedAmong :
     Bool → ChangeWishes → Reads → Files → Files → InputsAndReplacement → Option NamePair → Type 0
 IsClashUnlessSimulatedAmong true wishes read files present_files s clash = clash ≡ None
 IsClashUnlessSimulatedAmong false wishes read files present_files s clash =
     IsClashOfChangeAmong s.inputs s.replacement wishes read files present_files clash
 
--- what a command is given as its first clash of names; one that is refused earlier does not test for it
+-- the first clash of names that a command finds; one that is refused earlier does not look for it
 abbrev pub IsClashOfSelectedAmong :
     CommandLine → Reads → Files → Files → Result InputsAndReplacement Refusal → Option NamePair → Type 0
 IsClashOfSelectedAmong command read files present_files (Ok s) clash =
@@ -94,27 +94,28 @@ IsClashOfSelectedAmong command read files present_files (Ok s) clash =
     clash
 IsClashOfSelectedAmong command read files present_files (Err refusal) clash = clash ≡ None
 
--- The first clash of the names after a change; none if the command is refused before that test. By
--- `files` configuration is kept or a file is written beside it, and names clash among the
--- `present_files` ones.
-abbrev pub IsClashForAmong :
+-- The first clash of the names after a change; none if the command is refused before that test. `files`
+-- decide whether a configuration file is kept or a file is written beside it; names clash among
+-- `present_files`.
+abbrev pub IsClashOfCommandAmong :
     CommandLine → Reads → Files → Files → Option (List ℕ) → Option NamePair → Type 0
-IsClashForAmong command read files present_files chosen clash =
+IsClashOfCommandAmong command read files present_files chosen clash =
     IsClashOfSelectedAmong command read files present_files (selected_for command read chosen) clash
 
--- *IsClashUnlessSimulatedAmong* if both are the same files, as on an observable tree
+-- *IsClashUnlessSimulatedAmong*, with the same files as `present_files`, as on an observable tree
 abbrev pub IsClashUnlessSimulated :
     Bool → ChangeWishes → Reads → Files → InputsAndReplacement → Option NamePair → Type 0
 IsClashUnlessSimulated simulate wishes read files s clash =
     IsClashUnlessSimulatedAmong simulate wishes read files files s clash
 
--- *IsClashOfSelectedAmong* if both are the same files
+-- *IsClashOfSelectedAmong*, with the same files as `present_files`
 abbrev pub IsClashOfSelected :
     CommandLine → Reads → Files → Result InputsAndReplacement Refusal → Option NamePair → Type 0
 IsClashOfSelected command read files selected clash =
     IsClashOfSelectedAmong command read files files selected clash
 
--- *IsClashForAmong* if both are the same files
-abbrev pub IsClashFor :
+-- *IsClashOfCommandAmong*, with the same files as `present_files`
+abbrev pub IsClashOfCommand :
     CommandLine → Reads → Files → Option (List ℕ) → Option NamePair → Type 0
-IsClashFor command read files chosen clash = IsClashForAmong command read files files chosen clash
+IsClashOfCommand command read files chosen clash =
+    IsClashOfCommandAmong command read files files chosen clash

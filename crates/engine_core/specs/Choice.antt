@@ -3,13 +3,13 @@
 use Rattle.std.specs.Prelude.{◌≡◌, ℕ, List, Option, Some, None, Result, Ok, Err}
 use Rattle.change_report.specs.candidate_core.Rank.{SealedPool}
 use Rattle.report_core.specs.declared.refusal.Refusal.{Refusal}
-use Rattle.change_report.specs.search_tables.Selection.{IsFirstSelection, IsSatisfying}
+use Rattle.change_report.specs.search_tables.Selection.{IsFirstPreferredSelection, IsSatisfying}
 
 -- the choice among candidates: the places of the first preferred selection; or none, if no selection
 -- satisfies the world
 abbrev pub IsPreferredChoice : SealedPool → Option (List ℕ) → Type 0
 IsPreferredChoice pool None = (selection : List ℕ) → IsSatisfying pool selection → ⊥
-IsPreferredChoice pool (Some trace) = IsFirstSelection pool trace
+IsPreferredChoice pool (Some trace) = IsFirstPreferredSelection pool trace
 
 -- the choice if candidates are made, or refused: none if there is a refusal
 abbrev pub IsChoiceFrom : Result SealedPool Refusal → Option (List ℕ) → Type 0

@@ -9,7 +9,7 @@ use Rattle.change_report.specs.change_inputs.declared.root.Refused.TheVariants.{
 use Rattle.change_report.specs.change_outcome.ChangeOutcome.{ChangeDone, change_done, new_records}
 use Rattle.change_report.specs.change_outcome.MembersAfter.{MemberFound}
 use Rattle.change_report.specs.db_core.Members.{Member, member_name}
-use Rattle.change_report.specs.file_owners.Replaces.{version_text}
+use Rattle.change_report.specs.file_owners.Replaces.{package_version_text}
 use Rattle.report_core.specs.declared.refusal.Refusal.{Refusal}
 use Rattle.report_core.specs.declared.refusal.Refusal.TheVariants.{PackageBad}
 use Rattle.engine_core.specs.Preparing.{AreNewRecordsOf, IsPlanned, inputs_of_plan, replacement_of_plan, wishes_of_plan}
@@ -43,7 +43,7 @@ abbrev pub IsPackageBad : List Member → ℕ → Cause → Refusal → Type 0
 IsPackageBad members place cause refusal =
     (m : Member)
     × (slice_get members place ≡ Some m)
-    × (refusal ≡ PackageBad (member_name m) (version_text m.pkg) cause)
+    × (refusal ≡ PackageBad (member_name m) (package_version_text m.pkg) cause)
 
 -- how carrying out fails if the package of the member at a place was changed since it was tested
 abbrev pub IsRefusedPackage : List Member → ℕ → Cause → Refused → Type 0

@@ -44,8 +44,9 @@ pub record HasNoPlan (history : List TreeState) (purge : Bool) (db : Db) (member
     (refused : Refused) : Type 0 where
   pub fault : PlanFault
   pub reported : IsRefusalOfPlanFault fault refused
-  -- what the packages alone show of it
+  -- what the packages alone show of the fault
   pub cause : IsRefusalForMembersAlone (members_of members) fault
-  -- what the tree's files show of it, if they are observable; and else what some files show
-  pub first : IfObservable history (λ v. IsRefusalOverFiles (file_change_between db members purge) (files_of v) fault)
+  -- what the tree's files show of the fault, if they are observable; and else what some files show
+  pub first : IfObservable history
+      (λ v. IsRefusalOverFiles (file_change_between db members purge) (files_of v) fault)
   pub may : MayBeRefusalOf (file_change_between db members purge) history fault

@@ -4,7 +4,7 @@
 use Rattle.std.specs.Prelude.{◌≡◌, ℕ, Bool, true, false, not, List, All, Option, Some, None, Ok, bytes_eq}
 use Rattle.std.specs.Option.{option_copied}
 use Rattle.journal_staging.specs.adb_schema.Reserved.{is_reserved}
-use Rattle.added_packages.specs.Arrivals.{AreMembersRead, arrivals_seen, members_read}
+use Rattle.added_packages.specs.Arrivals.{AreMembersRead, arrivals_seen, members_of_read_packages}
 use Rattle.base_core.specs.Calls.{IfObservable}
 use Rattle.base_core.specs.Files.{Files}
 use Rattle.base_core.specs.Tree.{TreeState, files_of}
@@ -14,7 +14,7 @@ use Rattle.change_report.specs.change_files.NamesAfter.{name_change}
 use Rattle.change_report.specs.path_clashes.Clash.{HasNoClash}
 use Rattle.change_report.specs.change_inputs.Inputs.{Inputs}
 use Rattle.change_report.specs.change_outcome.Premises.{IsRootOfFiles}
-use Rattle.change_report.specs.change_outcome.ChangeOutcome.{ChangeWishes, change_members, file_change, is_absent_or_different}
+use Rattle.change_report.specs.change_outcome.ChangeOutcome.{ChangeWishes, members_after_change, file_change, is_absent_or_different}
 use Rattle.change_report.specs.change_outcome.MembersAfter.{MemberFound, found_members}
 use Rattle.change_report.specs.change_outcome.Triggers.{unless_trigger_due}
 use Rattle.change_report.specs.db_core.Seen.{members_of, packages_of}
@@ -44,7 +44,7 @@ IsRootRead history inputs = IfObservable history (λ v. IsRootOfFiles (files_of 
 abbrev pub inputs_of_packages : ReadPackages → Inputs
 inputs_of_packages a = inputs_of_selection a.selection.now
 
--- which packages replace which
+-- the chosen candidates, and the packages before that they replace
 abbrev pub replacement_of_packages : ReadPackages → Replacement
 replacement_of_packages a = replacement_seen a.selection.now
 
@@ -53,7 +53,7 @@ abbrev pub wishes_of_packages : ReadPackages → ChangeWishes
 wishes_of_packages a = wishes_of_selection a.selection.now
 
 -- packages were read for a selection, and are those that are found
-pub record AreReadFor (history : List TreeState) (s : Selection) (a : ReadPackages)
+pub record ArePackagesReadForSelection (history : List TreeState) (s : Selection) (a : ReadPackages)
     (found : List MemberFound) : Type 0 where
   pub selection : a.selection.now ≡ s
   pub placed : placed_names_seen a.names ≡ placed_names_of (placed_replacement_from_parts
@@ -62,7 +62,7 @@ pub record AreReadFor (history : List TreeState) (s : Selection) (a : ReadPackag
 
 -- the added packages were read, and with the kept ones they are those that are found
 -- found: the packages after the change, with the file of each added one
-pub record HasReadArrivals (history : List TreeState) (a : ReadPackages) (found : List MemberFound)
+pub record HasReadAddedPackages (history : List TreeState) (a : ReadPackages) (found : List MemberFound)
     : Type 0 where
   pub database : HasDatabaseOfInputs a.selection.now
   pub placed : placed_names_seen a.names ≡ placed_names_of (placed_replacement_from_parts
@@ -71,16 +71,16 @@ pub record HasReadArrivals (history : List TreeState) (a : ReadPackages) (found 
   pub root : IsRootRead history (inputs_of_packages a)
 
 -- reads find these packages after the change
-pub record AreFoundBy (history : List TreeState) (a : ReadPackages) (read : Reads)
+pub record ArePackagesFoundByReads (history : List TreeState) (a : ReadPackages) (read : Reads)
     (found : List MemberFound) : Type 0 where
-  pub arrivals : HasReadArrivals history a found
-  pub is : change_members (inputs_of_packages a) (replacement_of_packages a) (wishes_of_packages a)
+  pub arrivals : HasReadAddedPackages history a found
+  pub is : members_after_change (inputs_of_packages a) (replacement_of_packages a) (wishes_of_packages a)
       read ≡ Ok found
 
--- the packages after a change have arrived: they were read, and one database can list their members
+-- the packages after a change were read, and `after` are their members
 pub record IsArrived (history : List TreeState) (a : ReadPackages) (after : Members)
     (found : List MemberFound) : Type 0 where
-  pub read : HasReadArrivals history a found
+  pub read : HasReadAddedPackages history a found
   pub members : members_of after ≡ found_members found
 
 -- ---- the plan
@@ -89,7 +89,7 @@ pub record IsArrived (history : List TreeState) (a : ReadPackages) (after : Memb
 abbrev pub inputs_of_plan : Plan → Inputs
 inputs_of_plan p = inputs_of_packages p.packages.now
 
--- which packages replace which, as it is known of a plan
+-- the chosen candidates and the packages before that they replace, as they are known of a plan
 abbrev pub replacement_of_plan : Plan → Replacement
 replacement_of_plan p = replacement_of_packages p.packages.now
 
@@ -101,7 +101,8 @@ wishes_of_plan p = wishes_of_packages p.packages.now
 pub record IsPlanOfPackages (history : List TreeState) (a : ReadPackages) (p : Plan) : Type 0 where
   pub packages : p.packages.now ≡ a
   pub members : members_of p.members
-      ≡ members_read (packages_of p.packages.now.selection.now.db) (arrivals_seen p.packages.now.arrivals)
+      ≡ members_of_read_packages (packages_of p.packages.now.selection.now.db)
+      (arrivals_seen p.packages.now.arrivals)
   pub files : IsPlanFrom history (wishes_of_plan p).purge p.packages.now.selection.now.db p.members
       p.files
   pub triggers : unless_trigger_due (wishes_of_plan p).no_scripts (planned_paths p.files)
@@ -111,19 +112,24 @@ pub record IsPlanOfPackages (history : List TreeState) (a : ReadPackages) (p : P
 pub record IsPlanned (history : List TreeState) (p : Plan) (found : List MemberFound) (files : Files)
     : Type 0 where
   pub arrived : IsArrived history p.packages.now p.members found
+  -- on an observable tree, the files are the tree's
   pub told : IfObservable history (λ v. files ≡ files_of v)
+  -- the plan is that of the change over these files
   pub lists : ArePlanLists (file_change (inputs_of_plan p) (wishes_of_plan p) found) files p.files
   pub names : HasDisjointUnreservedNames p.files
   pub sources : HasSources (members_of p.members) p.files
   pub owners : IsPlanForMembersAlone (members_of p.members) p.files
+  -- no name after the change is a folder of another
   pub no_clash : IfObservable history (λ v.
       HasNoClash (name_change (file_change (inputs_of_plan p) (wishes_of_plan p) found) files) files)
+  -- no path that a package before lists is reserved
   pub unreserved : All (λ l. is_reserved l.path ≡ false)
       (old_listings (file_change (inputs_of_plan p) (wishes_of_plan p) found))
 
 -- the files of a change are planned, by some packages that are found and over some files
 abbrev pub IsPlannedFromSomeFiles : List TreeState → Plan → Type 0
-IsPlannedFromSomeFiles history p = (found : List MemberFound) × (files : Files) × IsPlanned history p found files
+IsPlannedFromSomeFiles history p =
+    (found : List MemberFound) × (files : Files) × IsPlanned history p found files
 
 -- ---- the database and world
 

@@ -8,7 +8,7 @@ use Rattle.base_core.specs.Tree.{TreeState}
 use Rattle.change_report.specs.change_files.PlanLists.{sorted_distinct_names}
 use Rattle.change_report.specs.change_inputs.Answers.{Agrees}
 use Rattle.change_report.specs.change_inputs.declared.root.Refused.{Refused}
-use Rattle.change_report.specs.change_outcome.ChangeOutcome.{actions_of, change_report, has_actions, file_change, name_if_needed, new_records, unless_overflow}
+use Rattle.change_report.specs.change_outcome.ChangeOutcome.{intent_of_change, change_report, has_actions, file_change, name_if_needed, new_records, unless_overflow}
 use Rattle.change_report.specs.change_outcome.MembersAfter.{MemberFound}
 use Rattle.change_report.specs.db_core.Seen.{members_of}
 use Rattle.change_report.specs.journal_core.Staged.{Staging, new_stage}
@@ -18,7 +18,7 @@ use Rattle.change_report.specs.own_core.WritesSeen.{writes_in}
 use Rattle.journal_staging.specs.declared.writes.StagedWrite.{StagedWrite}
 use Rattle.root_names.specs.RootNames.{text_database_name}
 use Rattle.engine_core.specs.Preparing.{AreRecordWrites, IsPlanned, inputs_of_plan, replacement_of_plan, wishes_of_plan}
-use Rattle.engine_core.specs.Writing.{IsWriteBy, database_and_world_names, package_at, name_of_write}
+use Rattle.engine_core.specs.Writing.{IsWriteOfChange, database_and_world_names, package_at, name_of_write}
 use Rattle.engine_core.specs.declared.planning.Plan.{Plan}
 use Rattle.engine_core.specs.declared.rendering.NewRecords.{NewRecords}
 use Rattle.engine_core.specs.declared.rendering.Rendered.{Rendered}
@@ -32,7 +32,7 @@ pub record AreWritesOf (p : Plan) (records : NewRecords) (writes : List StagedWr
   pub which : AreRecordWrites (inputs_of_plan p) records of_records
   pub names : map name_of_write writes
       ≡ sorted_distinct_names (written_names p.files ++ database_and_world_names of_records)
-  pub each : All (IsWriteBy (members_of p.members) (package_at p.packages.now.arrivals)
+  pub each : All (IsWriteOfChange (members_of p.members) (package_at p.packages.now.arrivals)
       (writes_in p.files.writes) of_records) writes
 
 -- the names that a change removes, in byte order: those of its plan, and that of a text database that
@@ -52,12 +52,12 @@ IsStageOf removals writes (Some stage) =
     × (stage ≡ new_stage removals writes)
 
 -- a change is refused since its journal entry exceeds a limit of the writer; or memory has run out
-abbrev pub IsOverflowOf : Plan → NewRecords → Refused → Type 0
-IsOverflowOf p records refused =
+abbrev pub IsRefusedForOverflow : Plan → NewRecords → Refused → Type 0
+IsRefusedForOverflow p records refused =
     (history : List TreeState) (found : List MemberFound) (files : Files)
     → IsPlanned history p found files
     → Agrees {A = Bool} {B = Bool} (λ _. true) (Err refused) (unless_overflow (overflow_of
-    (value_of_intent (actions_of (inputs_of_plan p)
+    (value_of_intent (intent_of_change (inputs_of_plan p)
     (file_change (inputs_of_plan p) (wishes_of_plan p) found) files
     (new_records (inputs_of_plan p) records.database.items)))) true)
 

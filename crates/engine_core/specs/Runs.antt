@@ -3,7 +3,7 @@
 -- contract of the whole run is *IsChangeRun*.
 use Rattle.std.specs.Prelude.{◌≡◌, ℕ, List, Option, Result, Ok, OnOk, IfErr, IsErrOf}
 use Rattle.base_core.specs.Calls.{IfObservable}
-use Rattle.base_core.specs.Faults.{Counts, CountsOnlyRise, HasCause, IsNoFault}
+use Rattle.base_core.specs.Faults.{Counts, CountsOnlyRise, IsFaultCountedWithCause, CountsNoNewFault}
 use Rattle.base_core.specs.Files.{Files}
 use Rattle.base_core.specs.Tree.{TreeState, files_of}
 use Rattle.change_report.specs.change_inputs.Chains.{and_then}
@@ -21,32 +21,41 @@ use Rattle.report_core.specs.declared.refusal.Refusal.{Refusal}
 use Rattle.engine_core.specs.ChangeRun.{CarriesOut}
 use Rattle.engine_core.specs.Changed.{IsClashOfSelectedAmong, InputsAndReplacement, change_of_selected, found_packages}
 
--- a run by what is selected, or by the refusal instead
-pub record IsSelectedRun (command : CommandLine) (selected : Result InputsAndReplacement Refusal)
+-- a run of a change, given what is selected or the refusal instead
+pub record IsRunOnSelection (command : CommandLine) (selected : Result InputsAndReplacement Refusal)
     (old now : List TreeState) (before after : Counts)
     (result : Result (List ℕ) Refused) : Type 0 where
+  -- what the reads find
   pub read : Reads
   pub observed : AreReadsOfTree old read
+  -- the files that decide whether a configuration file is kept
   pub files : Files
   pub there : IfObservable old (λ v. files ≡ files_of v)
+  -- the files among which names clash
   pub present_files : Files
   pub stand : IfObservable old (λ v. present_files ≡ files_of v)
+  -- the first clash of names, if there is one
   pub clash : Option NamePair
   pub is_clash : IsClashOfSelectedAmong command read files present_files selected clash
+  -- how the run ends
   pub comes : CarriesOut (found_packages command read selected)
       (and_then selected (change_of_selected command read files clash))
       old now before after result
 
--- a run of a change by these packages, if reads find them
-pub record IsFoundRun (inputs : Inputs) (r : Replacement) (wishes : ChangeWishes)
+-- a run of a change after which the packages are these, as reads find them
+pub record IsRunOnFoundPackages (inputs : Inputs) (r : Replacement) (wishes : ChangeWishes)
     (found : List MemberFound) (old now : List TreeState) (before after : Counts)
     (result : Result (List ℕ) Refused) : Type 0 where
+  -- the files that decide whether a configuration file is kept
   pub files : Files
   pub there : IfObservable old (λ v. files ≡ files_of v)
+  -- the files among which names clash
   pub present_files : Files
   pub stand : IfObservable old (λ v. present_files ≡ files_of v)
+  -- the first clash of names, if there is one
   pub clash : Option NamePair
   pub is_clash : IsClashFoundAmong inputs wishes files present_files (Ok found) clash
+  -- how the run ends
   pub comes : CarriesOut (Ok found) (change_with_members inputs r wishes clash files found)
       old now before after result
 
@@ -55,8 +64,8 @@ pub record IsRunCounted {A : Type 0} (before after : Counts) (result : Result A 
   -- no count falls
   pub goes_on : CountsOnlyRise before after
   -- the tree is reported as failed only if that has its cause
-  pub disk : IsErrOf result Disk → HasCause before after
+  pub disk : IsErrOf result Disk → IsFaultCountedWithCause before after
   -- an answer that is no I/O error of the tree raised neither the count of faults nor that of calls
   -- without memory
-  pub kept : OnOk result (IsNoFault before after)
-  pub others : IfErr result (λ refused. (refused ≡ Disk → ⊥) → IsNoFault before after)
+  pub kept : OnOk result (CountsNoNewFault before after)
+  pub others : IfErr result (λ refused. (refused ≡ Disk → ⊥) → CountsNoNewFault before after)

@@ -14,7 +14,7 @@ use Rattle.change_report.specs.candidate_core.Rank.{UpgradedNames, all_names, li
 use Rattle.report_core.specs.declared.refusal.Refusal.{Refusal}
 use Rattle.report_core.specs.declared.refusal.Refusal.TheVariants.{NotInstalled}
 
--- the names to be removed, whether they are or not: those that `del` takes out of world
+-- the names that `del` takes out of world, whether their packages are then removed or kept
 abbrev pub names_to_remove : Applet → List Operand → List (List ℕ)
 names_to_remove Del operands = operand_texts operands
 names_to_remove applet operands = []
@@ -51,18 +51,20 @@ is_installed_name inputs name = was_installed inputs.root.database.packages name
 abbrev pub is_known_name : Inputs → List ℕ → Bool
 is_known_name inputs name = has_name name inputs.root.world || is_installed_name inputs name
 
--- the place of the first operand whose text is no known name
-abbrev pub first_unknown : (List ℕ → Bool) → List Operand → Option ℕ
-first_unknown is_known [] = None
-first_unknown is_known (o ∷ operands) =
-    if is_known o.text then first_unknown is_known operands else Some o.place
+-- the place on the command line of the first operand whose text is no known name
+abbrev pub place_of_first_unknown_operand : (List ℕ → Bool) → List Operand → Option ℕ
+place_of_first_unknown_operand is_known [] = None
+place_of_first_unknown_operand is_known (o ∷ operands) =
+    if is_known o.text then place_of_first_unknown_operand is_known operands else Some o.place
 
--- the word that is refused as not installed: for `del` a name that is neither in world nor installed,
--- for `upgrade` and `fix` one that is not installed
+-- the place on the command line of the operand that is refused as not installed: for `del` a name that
+-- is neither in world nor installed, for `upgrade` and `fix` one that is not installed
 abbrev pub unknown_operand_place : Applet → Inputs → List Operand → Option ℕ
-unknown_operand_place Del inputs operands = first_unknown (is_known_name inputs) operands
-unknown_operand_place Upgrade inputs operands = first_unknown (is_installed_name inputs) operands
-unknown_operand_place Fix inputs operands = first_unknown (is_installed_name inputs) operands
+unknown_operand_place Del inputs operands = place_of_first_unknown_operand (is_known_name inputs) operands
+unknown_operand_place Upgrade inputs operands =
+    place_of_first_unknown_operand (is_installed_name inputs) operands
+unknown_operand_place Fix inputs operands =
+    place_of_first_unknown_operand (is_installed_name inputs) operands
 unknown_operand_place applet inputs operands = None
 
 -- the next result, unless an operand that names no known package refuses the command

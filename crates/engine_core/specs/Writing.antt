@@ -23,7 +23,7 @@ name_of_write w = w.name.now
 
 -- ---- a file of a package
 
--- what the package says of the file that a write is of
+-- the entry of the file that a write writes, among the files of its package
 abbrev pub entry_of_write : List Member → FileWrite → Plain
 entry_of_write members w =
     listed_file_at (folders_if_any (slice_get members w.member)) w.folder w.file
@@ -32,7 +32,7 @@ entry_of_write members w =
 abbrev pub PackagesRead : Type 0
 PackagesRead = ℕ → Option TestedPackage
 
--- a file in a package is the one that a write is of
+-- a file in a package that was read is the file that a write writes
 pub record IsFileOfWrite (packages : PackagesRead) (w : FileWrite) (f : PackagedFile) : Type 0 where
   pub read : packages w.member ≡ Some f.package.now
   pub member : f.member ≡ w.member
@@ -88,9 +88,9 @@ database_and_world_names r =
 -- ---- each write
 
 -- a write is that of a file of a package, of the database, or of world
-abbrev pub IsWriteBy :
+abbrev pub IsWriteOfChange :
     List Member → PackagesRead → List FileWrite → RecordWrites → StagedWrite → Type 0
-IsWriteBy members packages planned r write =
+IsWriteOfChange members packages planned r write =
     IsFileWrite members packages planned write
     ⊎ (IsWriteOfRecord r.database_name.now r.database write
     ⊎ IsWriteOfRecord r.world_name.now r.world write)

@@ -86,7 +86,8 @@ fn first_selection<'a>(
     pool: &Sealed<'a>,
 ) -> Result<Trace, Refused>
     requires { pool.now.world ≡ (inputs_seen loaded.now).root.new_world }
-    ensures { (chosen : Option (List ℕ)) × IsPreferredChoice pool.now chosen × IsResultOfChoice chosen result }
+    ensures { (chosen : Option (List ℕ)) × IsPreferredChoice pool.now chosen
+        × IsResultOfChoice chosen result }
 {
     // A law that the proof needs; it has no effect at run time.
     a_choice_exists();

@@ -31,7 +31,8 @@ pub(crate) fn commit<T: Tree>(
 ) -> Result<Text, Refused>
     // The change is rendered from its plan, over the tree as it is now.
     requires { IsReadyToCommit (T.history tree.old) plan.now rendered }
-    // The run ends in the change.
+    // The report of the rendered change is returned; or one of its packages has changed, the tree
+    // failed, or memory ran out.
     ensures comes { (ready : IsReadyToCommit (T.history tree.old) plan.now rendered.entry)
         → CarriesOut (Ok ready.found) (Ok (result_of_ready ready)) (T.history tree.old)
         (T.history tree.new) (T.counts tree.old) (T.counts tree.new) result }

@@ -1,7 +1,7 @@
 //! Makes the change of a selection, step by step. The rules are in `docs/commands.md`, "What a
 //! change does with files", and the order of the refusals in "`add` and `del`".
 ghost use Rattle.engine_core.specs.Preparing.{IsRootRead};
-ghost use Rattle.engine_core.specs.Runs.{IsRunCounted, IsSelectedRun};
+ghost use Rattle.engine_core.specs.Runs.{IsRunCounted, IsRunOnSelection};
 ghost use Rattle.engine_core.specs.SelectionSeen.{HasDatabaseOfInputs, HasPoolOfInputs, inputs_of_selection, selection_seen};
 ghost use Rattle.journal_staging.specs.journal_commit.Asked.{TargetsAreAccepted};
 ghost use Rattle.std.specs.Prelude.{◌≡◌, false, Ok};
@@ -34,8 +34,8 @@ pub(crate) fn make_change<T: Tree>(
     requires root { IsRootRead (T.history tree.old) (inputs_of_selection selection.now) }
     // The change is not only simulated.
     requires real { selection.now.command.now.flags.simulate ≡ false }
-    // The run is one by what is selected.
-    ensures run { IsSelectedRun selection.now.command.now (Ok (selection_seen selection.now))
+    // The run is that of a change with this selection.
+    ensures run { IsRunOnSelection selection.now.command.now (Ok (selection_seen selection.now))
         (T.history tree.old) (T.history tree.new) (T.counts tree.old) (T.counts tree.new) result }
     ensures counts { IsRunCounted (T.counts tree.old) (T.counts tree.new) result }
     ensures promised { TargetsAreAccepted T.accepts (T.history tree.old) (T.history tree.new) }

@@ -4,10 +4,10 @@
 ghost use Rattle.added_packages.specs.Answered.{DenotesUnlessDisk};
 ghost use Rattle.added_packages.specs.Arrivals.{CanBeMembers, arrivals_seen};
 ghost use Rattle.base_core.specs.Read.{OnlyReads};
-ghost use Rattle.change_report.specs.change_outcome.ChangeOutcome.{change_members};
+ghost use Rattle.change_report.specs.change_outcome.ChangeOutcome.{members_after_change};
 ghost use Rattle.change_report.specs.db_core.Seen.{packages_of};
 ghost use Rattle.change_report.specs.package_files.Runs.{IsExplainedBySomeReads};
-ghost use Rattle.engine_core.specs.Preparing.{AreReadFor};
+ghost use Rattle.engine_core.specs.Preparing.{ArePackagesReadForSelection};
 ghost use Rattle.engine_core.specs.SelectionSeen.{HasDatabaseOfInputs, HasPoolOfInputs, inputs_of_selection, replacement_seen, wishes_of_selection};
 ghost use Rattle.std.specs.Prelude.{IfOk};
 
@@ -42,12 +42,13 @@ pub(crate) fn read_packages<'r, 'a, T: Tree>(
 ) -> Result<ReadPackages<'r, 'a>, Refused>
     requires database { HasDatabaseOfInputs selection.now }
     requires pool { HasPoolOfInputs selection.now }
-    // They are the packages that reads of the tree find; or one of them is refused, the first.
+    // The packages are those that reads of the tree find; or the first that has a fault is refused.
     ensures found { IsExplainedBySomeReads (T.history tree.old) (λ read.
-        DenotesUnlessDisk (AreReadFor (T.history tree.old) selection.entry.now) result
-        (change_members (inputs_of_selection selection.entry.now)
+        DenotesUnlessDisk (ArePackagesReadForSelection
+        (T.history tree.old) selection.entry.now) result
+        (members_after_change (inputs_of_selection selection.entry.now)
         (replacement_seen selection.entry.now) (wishes_of_selection selection.entry.now) read)) }
-    // One database can list them.
+    // One database can list all packages.
     ensures members { IfOk result (λ packages. CanBeMembers
         (packages_of packages.selection.now.db) (arrivals_seen packages.arrivals)) }
     ensures tree { OnlyReads Refused.Disk (T.history tree.old) (T.history tree.new)

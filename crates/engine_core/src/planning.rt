@@ -12,8 +12,8 @@ ghost use Rattle.change_report.specs.db_core.Seen.{members_of, packages_of};
 ghost use Rattle.change_report.specs.Due.{planned_paths};
 ghost use Rattle.change_report.specs.make_info.Reads.{Reads};
 ghost use Rattle.engine_core.specs.Plans.{HasNoPlan, IsPlanFrom, IsRefusalOfPlanFault};
-ghost use Rattle.engine_core.specs.Preparing.{AreFoundBy, IsPlanOfPackages, inputs_of_packages, replacement_of_packages, wishes_of_packages};
-ghost use Rattle.engine_core.specs.Runs.{IsFoundRun};
+ghost use Rattle.engine_core.specs.Preparing.{ArePackagesFoundByReads, IsPlanOfPackages, inputs_of_packages, replacement_of_packages, wishes_of_packages};
+ghost use Rattle.engine_core.specs.Runs.{IsRunOnFoundPackages};
 ghost use Rattle.std.specs.Prelude.{◌≡◌, ◌<◌, true, Err, IfErr, IfOk, List, length};
 
 use crate::packages::ReadPackages;
@@ -51,10 +51,10 @@ pub(crate) fn plan_change<'r, 's, 'a, T: Tree>(
         (arrivals_seen packages.now.arrivals) }
     // The plan of these packages, over the tree's files if they are observable.
     ensures plan { IfOk result (IsPlanOfPackages (T.history tree.old) packages.entry.now) }
-    // Or the first test of the change that refuses it, whatever reads find these packages.
+    // Or the refusal by the first test that the change fails, whatever reads find these packages.
     ensures refused { IfErr result (λ refused. (read : Reads) (found : List MemberFound)
-        → AreFoundBy (T.history tree.old) packages.entry.now read found
-        → IsFoundRun (inputs_of_packages packages.entry.now)
+        → ArePackagesFoundByReads (T.history tree.old) packages.entry.now read found
+        → IsRunOnFoundPackages (inputs_of_packages packages.entry.now)
         (replacement_of_packages packages.entry.now) (wishes_of_packages packages.entry.now) found
         (T.history tree.old) (T.history tree.new) (T.counts tree.old) (T.counts tree.new)
         (Err refused)) }

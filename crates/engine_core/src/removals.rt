@@ -21,7 +21,8 @@ pub(crate) fn removals_of(
 ) -> Result<Names, AllocError>
     requires { HaveNoRepeats (planned.now ++ name_if_needed takes_text_over text_database_name) }
     ensures { IfOk result (λ names. names
-        ≡ sorted_distinct_names (planned.now ++ name_if_needed takes_text_over text_database_name)) }
+        ≡ sorted_distinct_names (planned.now
+        ++ name_if_needed takes_text_over text_database_name)) }
 {
     let text_name = text_database_name(alloc)?;
     let mut names = Vec::new(alloc);

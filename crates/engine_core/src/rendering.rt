@@ -13,7 +13,7 @@ ghost use Rattle.change_report.specs.db_core.Seen.{members_of};
 ghost use Rattle.change_report.specs.db_write.NewDatabase.{database_of};
 ghost use Rattle.change_report.specs.journal_intent.IntentValue.{intent_of_lists, value_of_intent};
 ghost use Rattle.engine_core.specs.Preparing.{AreRecordWrites, AreNewRecordsOf, IsPlannedFromSomeFiles, IsPlanned, bytes_if, inputs_of_plan, replacement_of_plan, wishes_of_plan};
-ghost use Rattle.engine_core.specs.Rendering.{AreWritesOf, IsOverflowOf, IsRendered, IsStageOf, removals_of_plan};
+ghost use Rattle.engine_core.specs.Rendering.{AreWritesOf, IsRefusedForOverflow, IsRendered, IsStageOf, removals_of_plan};
 ghost use Rattle.engine_core.specs.Writing.{name_of_write};
 ghost use Rattle.std.specs.Option.{option_copied};
 ghost use Rattle.std.specs.Prelude.{◌≡◌, List, map, not, true, IfErr, IfOk};
@@ -58,7 +58,7 @@ pub(crate) fn render<'c>(
     requires records { AreNewRecordsOf (inputs_of_plan plan.now) records.now }
     ensures rendered { IfOk result (IsRendered plan.entry.now records.entry.now) }
     // Or the journal entry of the change is too large.
-    ensures refused { IfErr result (IsOverflowOf plan.entry.now records.entry.now) }
+    ensures refused { IfErr result (IsRefusedForOverflow plan.entry.now records.entry.now) }
 {
     // A law that the proof needs; it has no effect at run time.
     a_package_that_was_read_is_that_of_its_file();

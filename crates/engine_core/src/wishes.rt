@@ -4,7 +4,7 @@ ghost use Rattle.change_report.specs.change_inputs.Seen.{inputs_seen};
 ghost use Rattle.change_report.specs.db_core.Seen.{packages_of};
 ghost use Rattle.dep_core.specs.World.{has_name};
 ghost use Rattle.change_report.specs.change_inputs.World.{operand_texts};
-ghost use Rattle.engine_core.specs.Wishes.{first_unknown, is_known_name, names_of_upgrade, names_to_remove, names_to_reinstall, names_to_upgrade, unknown_operand_place};
+ghost use Rattle.engine_core.specs.Wishes.{place_of_first_unknown_operand, is_known_name, names_of_upgrade, names_to_remove, names_to_reinstall, names_to_upgrade, unknown_operand_place};
 ghost use Rattle.change_report.specs.package_changes.Report.{was_installed};
 ghost use Rattle.change_report.specs.candidate_core.Rank.{all_names, listed_names};
 ghost use Rattle.change_report.specs.candidate_core.Values.{names_upgraded_by};
@@ -17,7 +17,7 @@ use dep_core::World;
 use std::alloc::{AllocError, Global};
 use std::cmp::Ordering;
 
-/// The names to be removed, whether they are or not: those that `del` takes out of world.
+/// The names that `del` takes out of world, whether their packages are then removed or kept.
 ///
 /// # Errors
 ///
@@ -94,16 +94,17 @@ pub(crate) fn unknown_operand(command: &Command, loaded: &Loaded, db: &Db<'_>) -
         ≡ unknown_operand_place command.now.applet (inputs_seen loaded.now) command.now.operands }
 {
     match command.applet() {
-        Applet::Del => first_unknown(command.operands(), loaded, db),
+        Applet::Del => place_of_first_unknown_operand(command.operands(), loaded, db),
         Applet::Upgrade | Applet::Fix => first_not_installed(command.operands(), db),
         _ => None,
     }
 }
 
 // The place of the first operand that is neither in world nor installed.
-fn first_unknown(operands: &Operands, loaded: &Loaded, db: &Db<'_>) -> Option<u32>
+fn place_of_first_unknown_operand(operands: &Operands, loaded: &Loaded, db: &Db<'_>) -> Option<u32>
     requires { packages_of db.now ≡ (inputs_seen loaded.now).root.database.packages }
-    ensures { result ≡ first_unknown (is_known_name (inputs_seen loaded.now)) operands.now }
+    ensures { result ≡ place_of_first_unknown_operand (is_known_name
+        (inputs_seen loaded.now)) operands.now }
 {
     for i in 0..operands.len() {
         let operand = operands.get(i);
@@ -116,7 +117,8 @@ fn first_unknown(operands: &Operands, loaded: &Loaded, db: &Db<'_>) -> Option<u3
 
 // The place of the first operand that is not installed.
 fn first_not_installed(operands: &Operands, db: &Db<'_>) -> Option<u32>
-    ensures { result ≡ first_unknown (was_installed (packages_of db.now)) operands.now }
+    ensures { result ≡ place_of_first_unknown_operand (was_installed
+        (packages_of db.now)) operands.now }
 {
     for i in 0..operands.len() {
         let operand = operands.get(i);

@@ -2,7 +2,7 @@
 //! "`add` and `del`", what is written.
 ghost use Rattle.change_report.specs.change_files.PlanLists.{sorted_distinct_names};
 ghost use Rattle.change_report.specs.db_core.Seen.{members_of};
-ghost use Rattle.engine_core.specs.Writing.{HasPackageOfEachAdded, IsFileWrite, IsSourceOfWrite, IsWriteBy, package_at, database_and_world_names, record_writes, name_of_write};
+ghost use Rattle.engine_core.specs.Writing.{HasPackageOfEachAdded, IsFileWrite, IsSourceOfWrite, IsWriteOfChange, package_at, database_and_world_names, record_writes, name_of_write};
 ghost use Rattle.change_report.specs.journal_intent.FreeNames.{HaveNoRepeats};
 ghost use Rattle.base_core.specs.ByteOrder.{bytes_cmp};
 ghost use Rattle.base_core.specs.Sorted.{sorted_by};
@@ -125,9 +125,10 @@ pub(crate) fn writes_of<'c>(
     requires once { HaveNoRepeats (written_names plan.now ++ database_and_world_names records.now) }
     // The names are those of the plan and of the records, in byte order.
     ensures names { IfOk result (λ writes. map name_of_write writes.items
-        ≡ sorted_distinct_names (written_names plan.entry.now ++ database_and_world_names records.now)) }
+        ≡ sorted_distinct_names (written_names plan.entry.now
+        ++ database_and_world_names records.now)) }
     // Each write has the bytes that its name is to have.
-    ensures each { IfOk result (λ writes. All (IsWriteBy (members_of members.now)
+    ensures each { IfOk result (λ writes. All (IsWriteOfChange (members_of members.now)
         (package_at arrivals.entry.now) (writes_in plan.entry.now.writes) records.now)
         writes.items) }
 {

@@ -4,12 +4,12 @@ use Rattle.std.specs.Option.{option_map}
 use Rattle.std.specs.Prelude.{IfErr, IfSome, IsErrOf, OnErr}
 use Rattle.std.proofs.Math.Seq.{take-add}
 use Rattle.base_core.specs.Calls.{IfObservable, IsCounted}
-use Rattle.base_core.specs.Faults.{Counts, HasCause, IsNoFault}
+use Rattle.base_core.specs.Faults.{Counts, IsFaultCountedWithCause, CountsNoNewFault}
 use Rattle.base_core.specs.Read.{OnlyReads}
 use Rattle.base_core.specs.Tree.{TreeState, CanRead, files_of}
 use Rattle.base_core.specs.declared.tree.Disk.{Disk}
 use Rattle.file_guard.specs.Listed.{is_as_described}
-use Rattle.file_guard.specs.Watching.{Watches}
+use Rattle.file_guard.specs.Watching.{IsWatchOfTest}
 use Rattle.file_guard.specs.declared.compare.ListedFile.{ListedFile}
 use Rattle.file_guard.specs.declared.watch.Watch.{Watch}
 
@@ -20,8 +20,8 @@ use Rattle.file_guard.specs.declared.watch.Watch.{Watch}
 pub record HasRead (history : List TreeState) (name : List ℕ) (for_new for_old : Watch) (new old : Option ListedFile) (at : ℕ) : Type 0 where
   pub bytes : List ℕ
   pub front : IfObservable history (λ v. IfSome (files_of v name) (λ file. bytes ≡ take at file))
-  pub due_new : Watches for_new (is_as_described new) bytes
-  pub due_old : Watches for_old (is_as_described old) bytes
+  pub due_new : IsWatchOfTest for_new (is_as_described new) bytes
+  pub due_old : IsWatchOfTest for_old (is_as_described old) bytes
 
 -- what is known of the file under a name as soon as it is known of each file, where the tree tells
 -- it
@@ -36,7 +36,7 @@ nothing_read : (history : List TreeState) (name : List ℕ) → IfObservable his
 nothing_read [] name = tt
 nothing_read (v ∷ earlier) name = of_file _ (files_of v name) (λ file is. refl)
 
-pub before_first : (history : List TreeState) (name : List ℕ) (for_new for_old : Watch) (new old : Option ListedFile) → Watches for_new (is_as_described new) [] → Watches for_old (is_as_described old) []
+pub before_first : (history : List TreeState) (name : List ℕ) (for_new for_old : Watch) (new old : Option ListedFile) → IsWatchOfTest for_new (is_as_described new) [] → IsWatchOfTest for_old (is_as_described old) []
     → HasRead history name for_new for_old new old 0
 before_first history name for_new for_old new old is_new is_old =
     record { bytes = []; front = nothing_read history name; due_new = is_new; due_old = is_old }
@@ -56,8 +56,8 @@ further_front (v ∷ earlier) later name at n bytes piece same read h =
 
 pub further : (history later : List TreeState) (name : List ℕ) (for_new for_old new_after old_after : Watch) (new old : Option ListedFile) (at n : ℕ) (piece : List ℕ)
     → later ≡ history
-    → ((test : List ℕ → Bool) (so_far : List ℕ) → Watches for_new test so_far → Watches new_after test (so_far ++ piece))
-    → ((test : List ℕ → Bool) (so_far : List ℕ) → Watches for_old test so_far → Watches old_after test (so_far ++ piece))
+    → ((test : List ℕ → Bool) (so_far : List ℕ) → IsWatchOfTest for_new test so_far → IsWatchOfTest new_after test (so_far ++ piece))
+    → ((test : List ℕ → Bool) (so_far : List ℕ) → IsWatchOfTest for_old test so_far → IsWatchOfTest old_after test (so_far ++ piece))
     → IfObservable later (λ v. IfSome (files_of v name) (λ file. piece ≡ take n (drop at file)))
     → HasRead history name for_new for_old new old at → HasRead history name new_after old_after new old (at + n)
 further history later name for_new for_old new_after old_after new old at n piece same takes_new takes_old read has = record {
@@ -93,11 +93,11 @@ proper_where : (history : List TreeState) (can : TreeState → Type 0) (P : Type
 proper_where [] can P h may = tt
 proper_where (v ∷ earlier) can P h may = h may
 
-counted_disk : {A : Type 0} (a b : Counts) (fault : Disk) (r : Result A Disk) → OnErr r (HasCause a b) → IsErrOf r fault → HasCause a b
+counted_disk : {A : Type 0} (a b : Counts) (fault : Disk) (r : Result A Disk) → OnErr r (IsFaultCountedWithCause a b) → IsErrOf r fault → IsFaultCountedWithCause a b
 counted_disk a b fault (Ok value) cause is = absurd (cc)
 counted_disk a b fault (Err other) cause is = cause
 
-no_other : {A : Type 0} (a b : Counts) (fault : Disk) (r : Result A Disk) → IfErr r (λ other. (other ≡ fault → ⊥) → IsNoFault a b)
+no_other : {A : Type 0} (a b : Counts) (fault : Disk) (r : Result A Disk) → IfErr r (λ other. (other ≡ fault → ⊥) → CountsNoNewFault a b)
 no_other a b fault (Ok value) = tt
 no_other a b fault (Err other) = λ off. absurd (off refl)
 

@@ -48,12 +48,12 @@ is_as_listed_by size hash target bytes =
     else if length hash == 0 then (size == 0) && (length bytes == 0)
     else is_none (hash_fault hash bytes)
 
--- whether bytes are what an entry says of them
+-- whether bytes are as an entry lists them
 abbrev pub is_as_listed : Plain → List ℕ → Bool
 is_as_listed entry bytes =
     is_as_listed_by (file_size entry) (file_hash entry) (file_target entry) bytes
 
--- two entries say the same of the bytes: their sizes, hashes and targets are equal
+-- whether two entries describe the same bytes: their sizes, hashes and targets are equal
 unfoldable pub do_entries_agree : Plain → Plain → Bool
 do_entries_agree a b =
     (file_size a == file_size b)

@@ -19,12 +19,13 @@ is_as_described None bytes = false
 is_as_described (Some listed) bytes =
     is_as_listed_by listed.size listed.hash.now listed.target.now bytes
 
--- how bytes compare with what is listed after a change and before it; a side that lists nothing
--- agrees with no bytes
+-- whether bytes are as the new `ListedFile` describes, and whether they are as the old one
+-- describes; without one, no bytes are
 abbrev pub comparison_of_bytes : Option ListedFile → Option ListedFile → List ℕ → Comparison
 comparison_of_bytes new old bytes =
     record { as_new = is_as_described new bytes; as_old = is_as_described old bytes }
 
 -- how the file under the name compares, if there is one
-abbrev pub comparison_of_found_file : Option ListedFile → Option ListedFile → Option (List ℕ) → Option Comparison
+abbrev pub comparison_of_found_file : Option ListedFile → Option ListedFile → Option (List ℕ)
+    → Option Comparison
 comparison_of_found_file new old found = option_map (comparison_of_bytes new old) found

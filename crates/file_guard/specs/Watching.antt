@@ -6,12 +6,13 @@ use Rattle.pkg_core.specs.Hashing.{HasHashedMessage}
 use Rattle.file_guard.specs.declared.watch.Watch.{Watch}
 use Rattle.file_guard.specs.declared.watch.Watch.TheVariants.{Never, Exactly, Hashed}
 
--- What a `Watch` knows after these bytes: a test of the whole file fails, requires exactly the expected
--- bytes, or requires the digest of all.
-abbrev pub Watches : Watch → (List ℕ → Bool) → List ℕ → Type 0
-Watches Never test so_far = (further : List ℕ) → test (so_far ++ further) ≡ false
-Watches (Exactly first second) test so_far =
+-- What a `Watch` says of a test of the whole file, after the bytes `so_far` were read: the test
+-- fails, or it requires exactly these remaining bytes, or it requires that all bytes together have
+-- this digest.
+abbrev pub IsWatchOfTest : Watch → (List ℕ → Bool) → List ℕ → Type 0
+IsWatchOfTest Never test so_far = (further : List ℕ) → test (so_far ++ further) ≡ false
+IsWatchOfTest (Exactly first second) test so_far =
     (further : List ℕ) → test (so_far ++ further) ≡ bytes_eq further (first.now ++ second.now)
-Watches (Hashed hasher hash) test so_far =
+IsWatchOfTest (Hashed hasher hash) test so_far =
     HasHashedMessage hasher hash.now so_far
     × ((bytes : List ℕ) → test bytes ≡ is_none (hash_fault hash.now bytes))

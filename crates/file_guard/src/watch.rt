@@ -3,7 +3,7 @@
 
 ghost use Rattle.std.specs.Prelude.{◌≡◌, ℕ, Bool, List, [], ◌++◌, Some};
 ghost use Rattle.file_guard.specs.Listed.{is_as_described};
-ghost use Rattle.file_guard.specs.Watching.{Watches};
+ghost use Rattle.file_guard.specs.Watching.{IsWatchOfTest};
 
 use crate::compare::ListedFile;
 use crate::link::{LINK_MARK, link_text_of_target};
@@ -26,7 +26,7 @@ impl<'a> Watch<'a> {
     /// The watch of an entry, before the first byte of the file; without an entry, nothing is as
     /// listed.
     pub fn new(listed: Option<ListedFile<'a>>) -> Watch<'a>
-        ensures { Watches result (is_as_described listed.entry) [] }
+        ensures { IsWatchOfTest result (is_as_described listed.entry) [] }
     {
         match listed {
             Some(listed) => watch_listed(listed),
@@ -36,8 +36,8 @@ impl<'a> Watch<'a> {
 
     /// The watch after more bytes of the file.
     pub fn take(self, bytes: &[u8]) -> Watch<'a>
-        ensures { (test : List ℕ → Bool) (so_far : List ℕ) → Watches self.entry test so_far
-            → Watches result test (so_far ++ bytes.now) }
+        ensures { (test : List ℕ → Bool) (so_far : List ℕ) → IsWatchOfTest self.entry test so_far
+            → IsWatchOfTest result test (so_far ++ bytes.now) }
     {
         match self {
             Watch::Never => Watch::Never,
@@ -51,7 +51,7 @@ impl<'a> Watch<'a> {
 
     /// Whether the file is as listed, if no bytes remain.
     pub fn has_listed_bytes(self) -> bool
-        ensures { (test : List ℕ → Bool) (bytes : List ℕ) → Watches self.entry test bytes
+        ensures { (test : List ℕ → Bool) (bytes : List ℕ) → IsWatchOfTest self.entry test bytes
             → result ≡ test bytes }
     {
         match self {
@@ -65,7 +65,7 @@ impl<'a> Watch<'a> {
 /// The watch of a file with this entry: its link's bytes, its digest, or no bytes are expected; by
 /// a size alone nothing is as listed.
 fn watch_listed<'a>(listed: ListedFile<'a>) -> Watch<'a>
-    ensures { Watches result (is_as_described (Some listed.entry)) [] }
+    ensures { IsWatchOfTest result (is_as_described (Some listed.entry)) [] }
 {
     if !listed.target.is_empty() {
         return Watch::Exactly(LINK_MARK, link_text_of_target(listed.target));
@@ -82,8 +82,8 @@ fn watch_listed<'a>(listed: ListedFile<'a>) -> Watch<'a>
 /// The bytes expected after some bytes, if these two runs of bytes were expected.
 fn bytes_behind<'a>(first: &'a [u8], second: &'a [u8], bytes: &[u8]) -> Watch<'a>
     ensures { (test : List ℕ → Bool) (so_far : List ℕ)
-        → Watches (Watch.Exactly first.entry second.entry) test so_far
-        → Watches result test (so_far ++ bytes.now) }
+        → IsWatchOfTest (Watch.Exactly first.entry second.entry) test so_far
+        → IsWatchOfTest result test (so_far ++ bytes.now) }
 {
     let len = bytes.len().min(first.len());
     let Some(first_left) = first.strip_prefix(&bytes[..len]) else {

@@ -17,7 +17,7 @@ use Rattle.adb_view.specs.declared.tables.Kind.TheVariants as Kinds
 use Rattle.db_core.specs.Members.{Member, is_found_place, member_name}
 use Rattle.db_core.proofs.AnyOf.{any_step, past_end}
 use Rattle.file_owners.specs.Questions.{AreSameQuestion, IsQuestionIn, entry_of_question, question_names_package, question_names_if_any, with_question}
-use Rattle.file_owners.specs.Replaces.{replaces_entry_names, is_replaced_by, version_text}
+use Rattle.file_owners.specs.Replaces.{replaces_entry_names, is_replaced_by, package_version_text}
 use Rattle.file_owners.specs.declared.questions.Question.{Question}
 use Rattle.file_owners.proofs.AnyOfFront.{all_at, one_more, passed_in_front, settled, some_at}
 use Rattle.file_owners.proofs.NamedPlaces.{other_name}
@@ -109,7 +109,7 @@ asks_alike members payload one other p q same y pkg =
     let version : text_in (entry_in first 1) ≡ text_in (entry_in second 1) = p.version ∙ (ap (λ (w : ℕ). text_in (value_at payload Kinds.Text w)) same.version ∙ sym q.version) in
     let matching : int_in (entry_in first 2) ≡ int_in (entry_in second 2) = p.matching ∙ (same.matching ∙ sym q.matching) in
     let dependency : dependency_in first ≡ dependency_in second = λ k. dependency_of_value (name k) (version k) (matching k) in
-    λ k. (same.place k == y) && (is_version (version_text pkg) && is_replaced_by (dependency k) (package_name pkg) (version_text pkg))
+    λ k. (same.place k == y) && (is_version (package_version_text pkg) && is_replaced_by (dependency k) (package_name pkg) (package_version_text pkg))
 
 module _ (members : List Member) (payload : List ℕ) (questions : List Question) (i : ℕ) (all : All (IsQuestionIn members payload) questions) (y : ℕ) (m : Member) where
   pub next_answered : (q : Question) (answer : Bool) → slice_get questions i ≡ Some q → answer ≡ question_names_package payload y m.pkg q

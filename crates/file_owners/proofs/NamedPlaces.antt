@@ -15,16 +15,16 @@ use Rattle.std.proofs.lemmas.Map.Keys.{ge_from_not_lt}
 use Rattle.dep_core.specs.Dependency.{Dependency}
 use Rattle.dep_core.specs.Reading.{dependency_on_any_version}
 use Rattle.dep_core.specs.Value.{is_match_number, is_version_or_empty}
-use Rattle.dep_core.specs.ValueReading.{match_bits_of, dependency_of_value, with_wanted_version}
+use Rattle.dep_core.specs.ValueReading.{match_bits_unless_any_version, dependency_of_value, with_wanted_version}
 use Rattle.dep_core.specs.Dependency.{is_dep_name}
 use Rattle.version_core.specs.Order.{is_version}
 use Rattle.adb_view.specs.Plain.{Plain}
 use Rattle.path_claims.specs.adb_fields.Repeated.{entries_at, package_name}
 use Rattle.adb_view.specs.Values.{entry_in, int_in, text_in}
 use Rattle.db_core.specs.Members.{Member, member_name}
-use Rattle.file_owners.specs.NamedPlaces.{ArePlacesNamed, ArePlacesOfEach}
-use Rattle.file_owners.specs.Owners.{member_beats, takes_over_if_any}
-use Rattle.file_owners.specs.Replaces.{replaces_entry_names, is_preferred_replacer, is_replaced_by, replaces_names_package, takes_over, version_text}
+use Rattle.file_owners.specs.NamedPlaces.{ArePlacesOfNamedMembers, ArePlacesNamedByEachMember}
+use Rattle.file_owners.specs.Owners.{member_beats, takes_over_if_both_exist}
+use Rattle.file_owners.specs.Replaces.{replaces_entry_names, is_preferred_replacer, is_replaced_by, replaces_names_package, takes_over, package_version_text}
 use Rattle.db_core.specs.adb_schema.Dependencies.{dependency_in}
 use Rattle.file_owners.proofs.AnyOfFront.{some_at}
 
@@ -54,8 +54,8 @@ not_met (Some d) name version h = go (not d.conflict) (bytes_eq d.name name) _ (
 value_named : (name version : List ℕ) (matching : ℕ) (d : Dependency) → dependency_of_value name version matching ≡ Some d → d.name ≡ name
 unfolding dependency_of_value
 value_named name version matching d e =
-    let made : Dependency = with_wanted_version (dependency_on_any_version (not (nat_lt matching 16)) name) version (match_bits_of (matching % 16)) in
-    go (is_dep_name name && (is_version_or_empty version && is_match_number matching)) made (named_on (dependency_on_any_version (not (nat_lt matching 16)) name) version (match_bits_of (matching % 16))) e
+    let made : Dependency = with_wanted_version (dependency_on_any_version (not (nat_lt matching 16)) name) version (match_bits_unless_any_version (matching % 16)) in
+    go (is_dep_name name && (is_version_or_empty version && is_match_number matching)) made (named_on (dependency_on_any_version (not (nat_lt matching 16)) name) version (match_bits_unless_any_version (matching % 16))) e
   where
     go : (t : Bool) (made : Dependency) → made.name ≡ name → (if t then Some made else None) ≡ Some d → d.name ≡ name
     go true made n s = sym (ap (λ o. (value_or d o).name) s) ∙ n
@@ -71,10 +71,10 @@ turned a b h = go (bytes_eq b a) refl
 pub other_name : (entry y : Plain) → bytes_eq (package_name y) (text_in (entry_in entry 0)) ≡ false → replaces_entry_names entry y ≡ false
 other_name entry y h =
     let name : List ℕ = text_in (entry_in entry 0) in
-    ap (λ t. is_version (version_text y) && t)
-    (not_met (dependency_in entry) (package_name y) (version_text y)
+    ap (λ t. is_version (package_version_text y) && t)
+    (not_met (dependency_in entry) (package_name y) (package_version_text y)
     (λ d e. ap (λ n. bytes_eq n (package_name y)) (value_named name (text_in (entry_in entry 1)) (int_in (entry_in entry 2)) d e) ∙ turned (package_name y) name h))
-    ∙ none_and (is_version (version_text y))
+    ∙ none_and (is_version (package_version_text y))
   where
     none_and : (a : Bool) → (a && false) ≡ false
     none_and true = refl
@@ -90,7 +90,7 @@ none_found entry members h y m g = sym (other_name entry m.pkg (sym (h y m g)))
 
 pub in_order : (members : List Member) (pkg : Plain) (old new : List ℕ) → IsPermutation old new → IsSorted nat_cmp new
     → ((y : ℕ) (m : Member) → slice_get members y ≡ Some m → list_any (λ p. p == y) old ≡ list_any (λ entry. replaces_entry_names entry m.pkg) (entries_at 16 (entry_in pkg 0)))
-    → ArePlacesNamed members pkg new
+    → ArePlacesOfNamedMembers members pkg new
 unfolding replaces_names_package
 in_order members pkg old new moved rising named = record {
   rising = rising;
@@ -123,7 +123,7 @@ among xs x r position up = go r (searched xs x r position (nat_rises xs up))
 abbrev pub AreOfEachSoFar : List Member → List (List ℕ) → ℕ → Type 0
 AreOfEachSoFar members named i =
     (length named ≡ i)
-    × ((x : ℕ) (m : Member) (places : List ℕ) → slice_get members x ≡ Some m → slice_get named x ≡ Some places → ArePlacesNamed members m.pkg places)
+    × ((x : ℕ) (m : Member) (places : List ℕ) → slice_get members x ≡ Some m → slice_get named x ≡ Some places → ArePlacesOfNamedMembers members m.pkg places)
 
 at_end : (xs : List (List ℕ)) (y z : List ℕ) (k : ℕ) → slice_get (xs ++ y ∷ []) k ≡ Some z → (slice_get xs k ≡ Some z) ⊎ ((k ≡ length xs) × (y ≡ z))
 at_end [] y z zero g = inr (refl, ap (value_or y) g)
@@ -136,20 +136,20 @@ at_end (x ∷ xs) y z (suc k) g = behind (at_end xs y z k g)
     behind (inr (e, s)) = inr (ap suc e, s)
 
 pub member_gathered : (members : List Member) (old new : List (List ℕ)) (places : List ℕ) (i : ℕ) (pkg : Plain) → new ≡ old ++ places ∷ []
-    → ((m : Member) → slice_get members i ≡ Some m → pkg ≡ m.pkg) → ArePlacesNamed members pkg places
+    → ((m : Member) → slice_get members i ≡ Some m → pkg ≡ m.pkg) → ArePlacesOfNamedMembers members pkg places
     → AreOfEachSoFar members old i → AreOfEachSoFar members new (i + 1)
 member_gathered members old new places i pkg is there named inv = (
   omega (arith, ap length is, length-append old (places ∷ []), inv.0),
   λ x m ps g h. go x m ps g (at_end old places ps x (ap (λ xs. slice_get xs x) (sym is) ∙ h)),
 )
   where
-    go : (x : ℕ) (m : Member) (ps : List ℕ) → slice_get members x ≡ Some m → (slice_get old x ≡ Some ps) ⊎ ((x ≡ length old) × (places ≡ ps)) → ArePlacesNamed members m.pkg ps
+    go : (x : ℕ) (m : Member) (ps : List ℕ) → slice_get members x ≡ Some m → (slice_get old x ≡ Some ps) ⊎ ((x ≡ length old) × (places ≡ ps)) → ArePlacesOfNamedMembers members m.pkg ps
     go x m ps g (inl h) = inv.1 x m ps g h
     go x m ps g (inr (e, s)) =
         let at : slice_get members i ≡ Some m = ap (slice_get members) (sym (inv.0) ∙ sym e) ∙ g in
-        subst (λ v. ArePlacesNamed members v ps) (there m at) (subst (ArePlacesNamed members pkg) s named)
+        subst (λ v. ArePlacesOfNamedMembers members v ps) (there m at) (subst (ArePlacesOfNamedMembers members pkg) s named)
 
-pub all_gathered : (members : List Member) (named : List (List ℕ)) (i : ℕ) → i ≡ length members → AreOfEachSoFar members named i → ArePlacesOfEach members named
+pub all_gathered : (members : List Member) (named : List (List ℕ)) (i : ℕ) → i ≡ length members → AreOfEachSoFar members named i → ArePlacesNamedByEachMember members named
 all_gathered members named i e inv = record { long = inv.0 ∙ e; each = inv.1 }
 
 -- ---- which of two members beats the other
@@ -160,7 +160,7 @@ kept_at f [] i v l e = absurd (omega arith)
 kept_at f (x ∷ xs) zero v l e = ap (λ u. Some (f u)) (sym e)
 kept_at f (x ∷ xs) (suc i) v l e = kept_at f xs i v (omega arith) e
 
-module _ (members : List Member) (named : List (List ℕ)) (all : ArePlacesOfEach members named) (x y : ℕ) (l : x < length members) (k : y < length members) where
+module _ (members : List Member) (named : List (List ℕ)) (all : ArePlacesNamedByEachMember members named) (x y : ℕ) (l : x < length members) (k : y < length members) where
   pub rising_at : (i : ℕ) (places : List ℕ) → i < length members → slice_get named i ≡ Some places → IsSorted nat_cmp places
   rising_at i places h g = let m = some_at members i h in (all.each i m.0 places m.1 g).rising
 
@@ -169,7 +169,7 @@ module _ (members : List Member) (named : List (List ℕ)) (all : ArePlacesOfEac
 
   beats_is : (m n : Member) → slice_get members x ≡ Some m → slice_get members y ≡ Some n → takes_over m.pkg n.pkg ≡ member_beats members x y
   unfolding member_beats
-  beats_is m n g h = sym (λ j. takes_over_if_any (g j) (h j))
+  beats_is m n g h = sym (λ j. takes_over_if_both_exist (g j) (h j))
 
   pub not_named : (places : List ℕ) (t : Bool) → slice_get named x ≡ Some places → t ≡ list_any (λ p. p == y) places → t ≡ false → false ≡ member_beats members x y
   unfolding takes_over

@@ -8,7 +8,7 @@ use Rattle.base_core.specs.ByteOrder.{precedes}
 use Rattle.base_core.proofs.Orderings.{precedes_one_way}
 use Rattle.db_core.specs.Members.{Member}
 use Rattle.path_claims.specs.Contest.{IsAsymmetric}
-use Rattle.file_owners.specs.Owners.{member_beats, takes_over_if_any}
+use Rattle.file_owners.specs.Owners.{member_beats, takes_over_if_both_exist}
 use Rattle.file_owners.specs.Replaces.{is_preferred_replacer, replaces_names_package, replacing_priority, takes_over}
 
 by_number : (m n : ℕ) (s t : Bool) → (s ≡ true → t ≡ false) → (nat_lt n m || ((m == n) && s)) ≡ true → (nat_lt m n || ((n == m) && t)) ≡ false
@@ -30,20 +30,20 @@ pub members_one_way : (members : List Member) → IsAsymmetric (member_beats mem
 unfolding member_beats
 members_one_way members x y h = go (slice_get members x) (slice_get members y) h
   where
-    go : (a b : Option Member) → takes_over_if_any a b ≡ true → takes_over_if_any b a ≡ false
+    go : (a b : Option Member) → takes_over_if_both_exist a b ≡ true → takes_over_if_both_exist b a ≡ false
     go None b h = absurd (true≢false (sym h))
     go (Some a) None h = refl
     go (Some a) (Some b) h = takes_over_one_way a.pkg b.pkg h
 
 none_beats : (members : List Member) (x y : ℕ) → slice_get members x ≡ None → false ≡ member_beats members x y
 unfolding member_beats
-none_beats members x y g = sym (ap (λ a. takes_over_if_any a (slice_get members y)) g)
+none_beats members x y g = sym (ap (λ a. takes_over_if_both_exist a (slice_get members y)) g)
 
 none_is_beaten : (members : List Member) (x y : ℕ) → slice_get members y ≡ None → false ≡ member_beats members x y
 unfolding member_beats
-none_is_beaten members x y g = sym (ap (takes_over_if_any (slice_get members x)) g ∙ go (slice_get members x))
+none_is_beaten members x y g = sym (ap (takes_over_if_both_exist (slice_get members x)) g ∙ go (slice_get members x))
   where
-    go : (a : Option Member) → takes_over_if_any a None ≡ false
+    go : (a : Option Member) → takes_over_if_both_exist a None ≡ false
     go None = refl
     go (Some a) = refl
 

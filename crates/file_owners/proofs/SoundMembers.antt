@@ -16,13 +16,13 @@ use Rattle.db_core.specs.adb_schema.SoundValues.{IsSoundPackage, IsSoundDependen
 use Rattle.db_core.proofs.adb_schema.SoundLeaves.{each_at}
 use Rattle.db_core.specs.Members.{Member}
 use Rattle.db_core.specs.SoundMembers.{AreOfSoundContainers, IsOfSoundContainer}
-use Rattle.file_owners.specs.Replaces.{version_text}
+use Rattle.file_owners.specs.Replaces.{package_version_text}
 
 abbrev replaced_by : Plain → Plains
 replaced_by pkg = entries_in (entry_in (entry_in pkg PACKAGE_INFO) INFO_REPLACES)
 
 record IsSoundMember (pkg : Plain) : Type 0 where
-  pub version : is_version (version_text pkg) ≡ true
+  pub version : is_version (package_version_text pkg) ≡ true
   pub replaced : Each IsSoundDependency (replaced_by pkg)
 
 of_package : (root : Which) (pkg : Plain) → IsSoundPackage root pkg → IsSoundMember pkg
@@ -53,8 +53,8 @@ each_by P none h = tt
 each_by P (more v vs) h = (h 0 (omega arith), each_by P vs (λ k less. h (suc k) (omega (arith, less))))
 
 module _ (members : List Member) (i : ℕ) (pkg : Plain) (within : i < length members) (at : (m : Member) → slice_get members i ≡ Some m → pkg ≡ m.pkg) (sound : ∥ AreOfSoundContainers members ∥₁) where
-  pub version_sound : is_version (version_text pkg) ≡ true
-  version_sound = is_passed (is_version (version_text pkg)) sound (λ all. (member_at members i pkg within at all).version)
+  pub version_sound : is_version (package_version_text pkg) ≡ true
+  version_sound = is_passed (is_version (package_version_text pkg)) sound (λ all. (member_at members i pkg within at all).version)
 
   dependency_sound : (k : ℕ) → k < count_of (replaced_by pkg) → IsSoundDependency (nth (replaced_by pkg) k)
   dependency_sound k less =

@@ -6,7 +6,8 @@ use Rattle.db_core.specs.Members.{Listing}
 use Rattle.path_claims.specs.Claims.{PathClaim}
 use Rattle.file_owners.specs.Owners.{claim_of_listing}
 
--- the claims followed by those of some listings, each with a number: how many claims are before it
+-- the claims followed by those of some listings; the number of a claim is how many claims are
+-- before it
 abbrev pub claims_with_listings : List PathClaim → List Listing → List PathClaim
 claims_with_listings claims [] = claims
 claims_with_listings claims (l ∷ listings) =

@@ -10,13 +10,17 @@ use Rattle.db_core.specs.Members.{Member}
 use Rattle.file_owners.specs.Replaces.{replaces_names_package}
 
 -- the places rise, and are those of the members that the package names
-pub record ArePlacesNamed (members : List Member) (pkg : Plain) (places : List ℕ) : Type 0 where
+pub record ArePlacesOfNamedMembers (members : List Member) (pkg : Plain) (places : List ℕ) : Type 0 where
+  -- the places are in rising order
   pub rising : IsSorted nat_cmp places
+  -- the member at a place is named exactly if the place is in the list
   pub named : (y : ℕ) (m : Member) → slice_get members y ≡ Some m
       → list_any (λ place. place == y) places ≡ replaces_names_package pkg m.pkg
 
 -- for each member, in its order, the list has the places of the members that it names
-pub record ArePlacesOfEach (members : List Member) (named : List (List ℕ)) : Type 0 where
+pub record ArePlacesNamedByEachMember (members : List Member) (named : List (List ℕ)) : Type 0 where
+  -- there is one list for each member
   pub long : length named ≡ length members
+  -- the list of a member has the places of the members that it names
   pub each : (x : ℕ) (m : Member) (places : List ℕ) → slice_get members x ≡ Some m
-      → slice_get named x ≡ Some places → ArePlacesNamed members m.pkg places
+      → slice_get named x ≡ Some places → ArePlacesOfNamedMembers members m.pkg places

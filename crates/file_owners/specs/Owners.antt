@@ -8,15 +8,15 @@ use Rattle.file_owners.specs.Replaces.{takes_over}
 
 -- ---- which member beats which
 
--- whether the first member takes over the files of the second, if both exist
-abbrev pub takes_over_if_any : Option Member → Option Member → Bool
-takes_over_if_any None y = false
-takes_over_if_any (Some x) None = false
-takes_over_if_any (Some x) (Some y) = takes_over x.pkg y.pkg
+-- whether the first member takes over the files of the second; false if one of them is absent
+abbrev pub takes_over_if_both_exist : Option Member → Option Member → Bool
+takes_over_if_both_exist None y = false
+takes_over_if_both_exist (Some x) None = false
+takes_over_if_both_exist (Some x) (Some y) = takes_over x.pkg y.pkg
 
 -- whether the member at place x takes over the files of that at place y; not if there is no member
 unfoldable pub member_beats : List Member → ℕ → ℕ → Bool
-member_beats members x y = takes_over_if_any (slice_get members x) (slice_get members y)
+member_beats members x y = takes_over_if_both_exist (slice_get members x) (slice_get members y)
 
 -- ---- what members claim
 
@@ -41,7 +41,7 @@ claims_in members = claims_from 0 (member_listings members)
 
 -- ---- who owns a path
 
--- the place of the member that owns a path: *owner_among* of the members' claims, by *member_beats*
+-- the place of the member that owns a path, counted from 0; none if no member owns it
 unfoldable pub owner_of_path : List Member → List ℕ → Option ℕ
 owner_of_path members path = owner_among (member_beats members) (claims_in members) path
 

@@ -11,7 +11,7 @@ use Rattle.db_core.specs.Members.{Member, member_name}
 use Rattle.file_owners.specs.Replaces.{replaces_entry_names}
 use Rattle.file_owners.specs.declared.questions.Question.{Question}
 
--- the entry that asks, in its payload
+-- the plain value of a question's entry, read from the payload
 abbrev pub entry_of_question : List ℕ → Question → Plain
 entry_of_question payload q = value_at payload (Obj Dep) q.word
 
@@ -20,7 +20,8 @@ abbrev pub question_names_package : List ℕ → ℕ → Plain → Question → 
 question_names_package payload place pkg q =
     (q.place == place) && replaces_entry_names (entry_of_question payload q) pkg
 
--- the same of a question, if there is one
+-- whether there is a question, it is about the member at a place, and its entry names that member's
+-- package
 abbrev pub question_names_if_any : List ℕ → ℕ → Plain → Option Question → Bool
 question_names_if_any payload place pkg None = false
 question_names_if_any payload place pkg (Some q) = question_names_package payload place pkg q
@@ -30,19 +31,26 @@ abbrev pub with_question : List Question → Option Question → List Question
 with_question questions None = questions
 with_question questions (Some q) = questions ++ q ∷ []
 
--- its entry is a sound dependency, with the name of the member at its place, the version to which its
--- word leads, and its operator
+-- a question is consistent with the payload and the members: its entry is a sound dependency, with
+-- the name of the member at its place, the version to which its word leads, and its operator
 pub record IsQuestionIn (members : List Member) (payload : List ℕ) (q : Question) : Type 0 where
+  -- the place is one of a member
   pub within : q.place < length members
+  -- the word leads to a value with the shape of a dependency
   pub shaped : is_sound payload (Obj Dep) q.word ≡ true
+  -- the entry is a sound dependency
   pub sound : IsSoundDependency (entry_of_question payload q)
+  -- the entry has the name of that member
   pub name : (m : Member) → slice_get members q.place ≡ Some m
       → text_in (entry_in (entry_of_question payload q) DEP_NAME) ≡ member_name m
+  -- the version word leads to the version of the entry
   pub version : text_in (entry_in (entry_of_question payload q) DEP_VERSION)
       ≡ text_in (value_at payload Text q.version)
+  -- the operator is that of the entry
   pub matching : int_in (entry_in (entry_of_question payload q) DEP_MATCH) ≡ q.matching
 
--- both are about one member, and ask by one word and one operator
+-- two questions are the same: they are about one member, and have the same version word and the
+-- same operator
 pub record AreSameQuestion (one other : Question) : Type 0 where
   pub place : one.place ≡ other.place
   pub version : one.version ≡ other.version

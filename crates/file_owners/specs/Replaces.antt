@@ -12,22 +12,24 @@ use Rattle.dep_core.specs.Meets.{meets}
 use Rattle.db_core.specs.adb_schema.Dependencies.{dependency_in}
 use Rattle.base_core.specs.ByteOrder.{precedes}
 
--- the text of a package's version, as its information has it
-abbrev pub version_text : Plain → List ℕ
-version_text pkg = text_in (entry_in (entry_in pkg PACKAGE_INFO) INFO_VERSION)
+-- the version of a package, as the text in its information
+abbrev pub package_version_text : Plain → List ℕ
+package_version_text pkg = text_in (entry_in (entry_in pkg PACKAGE_INFO) INFO_VERSION)
 
--- whether a dependency, if there is one, is no conflict and is met by a name and a version
+-- whether a package with this name and version meets the dependency; false if there is no
+-- dependency or if it is a conflict
 abbrev pub is_replaced_by : Option Dependency → List ℕ → List ℕ → Bool
 is_replaced_by None name version = false
 is_replaced_by (Some d) name version = not d.conflict && meets d name (Some version)
 
--- whether an entry of `replaces` names y: it is no conflict, and y's own name and version satisfy it
+-- whether an entry of `replaces` names the package y: the entry is no conflict, and the name and
+-- the version of y meet it
 abbrev pub replaces_entry_names : Plain → Plain → Bool
 replaces_entry_names entry y =
-    is_version (version_text y)
-    && is_replaced_by (dependency_in entry) (package_name y) (version_text y)
+    is_version (package_version_text y)
+    && is_replaced_by (dependency_in entry) (package_name y) (package_version_text y)
 
--- whether x names y: an entry of x's `replaces` does
+-- whether the package x names the package y: an entry of the `replaces` of x does
 unfoldable pub replaces_names_package : Plain → Plain → Bool
 replaces_names_package x y =
     list_any (λ entry. replaces_entry_names entry y) (entries_at INFO_REPLACES (entry_in x PACKAGE_INFO))
@@ -44,6 +46,8 @@ is_preferred_replacer x y =
     || ((replacing_priority x == replacing_priority y)
     && precedes (package_name y) (package_name x))
 
--- whether x takes over the files of y: it names y, and is not named back or is preferred
+-- whether the package x takes over the files of the package y: x names y, and either y does not
+-- name x or x is preferred
 unfoldable pub takes_over : Plain → Plain → Bool
-takes_over x y = replaces_names_package x y && (not (replaces_names_package y x) || is_preferred_replacer x y)
+takes_over x y =
+    replaces_names_package x y && (not (replaces_names_package y x) || is_preferred_replacer x y)

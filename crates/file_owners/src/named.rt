@@ -18,7 +18,7 @@ ghost use Rattle.path_claims.specs.adb_fields.Fields.{are_all_sound, array_at};
 ghost use Rattle.db_core.specs.adb_schema.Views.{info_value, package_value};
 ghost use Rattle.db_core.specs.adb_schema.SoundValues.{IsSoundDependency};
 ghost use Rattle.db_core.specs.Seen.{members_of};
-ghost use Rattle.file_owners.specs.NamedPlaces.{ArePlacesNamed, ArePlacesOfEach};
+ghost use Rattle.file_owners.specs.NamedPlaces.{ArePlacesOfNamedMembers, ArePlacesNamedByEachMember};
 
 use crate::questions::places_in;
 use adb_view::{Arr, Which};
@@ -36,7 +36,7 @@ pub(crate) fn places_of_each(
     members: &Members<'_>,
 ) -> Result<Vec<Vec<u32>>, AllocError>
     ensures { IfOk result (λ named.
-        ArePlacesOfEach (members_of members.now) (map (λ v. v.items) named.items)) }
+        ArePlacesNamedByEachMember (members_of members.now) (map (λ v. v.items) named.items)) }
 {
     members.packages_are_sound();
     let mut named = Vec::with_capacity(alloc, members.len())?;
@@ -57,7 +57,7 @@ fn places_named(
     requires { Each IsSoundDependency (entries_in
         (entry_in (entry_in (package_value pkg.now) PACKAGE_INFO) INFO_REPLACES)) }
     ensures { IfOk result (λ places.
-        ArePlacesNamed (members_of members.now) (package_value pkg.now) places.items) }
+        ArePlacesOfNamedMembers (members_of members.now) (package_value pkg.now) places.items) }
 {
     let info = pkg.info();
     let mut places = places_in(alloc, members, info.adb(), replaced_entries(&info))?;

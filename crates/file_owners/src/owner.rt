@@ -11,9 +11,9 @@ ghost use Rattle.path_claims.specs.Claims.{claim_cmp};
 ghost use Rattle.path_claims.specs.ContestedSeen.{contested_seen};
 ghost use Rattle.path_claims.specs.Seen.{claim_seen};
 ghost use Rattle.file_owners.specs.Owners.{claims_in, first_contested_path_of_members, member_beats, owned_flags_of, owner_of_path};
-ghost use Rattle.file_owners.specs.NamedPlaces.{ArePlacesOfEach};
+ghost use Rattle.file_owners.specs.NamedPlaces.{ArePlacesNamedByEachMember};
 ghost use Rattle.db_core.specs.adb_schema.Views.{dependency_value, package_value};
-ghost use Rattle.file_owners.specs.Replaces.{replaces_entry_names, is_preferred_replacer, is_replaced_by, takes_over, version_text};
+ghost use Rattle.file_owners.specs.Replaces.{replaces_entry_names, is_preferred_replacer, is_replaced_by, takes_over, package_version_text};
 ghost use Rattle.db_core.specs.adb_schema.Dependencies.{dependency_in};
 ghost use Rattle.db_core.specs.adb_schema.SoundValues.{IsSoundDependency};
 ghost use Rattle.version_core.specs.Order.{is_version};
@@ -36,7 +36,8 @@ struct Claimants<'m, 'a> {
     /// For each member the places of those that it names, in rising order.
     named: Vec<Vec<u32>>,
     // These are the places of the members that each names.
-    ghost each: { ArePlacesOfEach (members_of members.now) (map (λ v. v.items) named.items) },
+    ghost each: { ArePlacesNamedByEachMember (members_of members.now) (map
+        (λ v. v.items) named.items) },
 }
 
 impl<'m, 'a> Contest for Claimants<'m, 'a> {
@@ -60,7 +61,8 @@ impl<'m, 'a> Contest for Claimants<'m, 'a> {
 fn member_beats(members: &Members<'_>, named: &[Vec<u32>], one: u32, other: u32) -> bool
     requires one { one < length (members_of members.now) }
     requires other { other < length (members_of members.now) }
-    requires each { ArePlacesOfEach (members_of members.now) (map (λ v. v.items) named.now) }
+    requires each { ArePlacesNamedByEachMember (members_of members.now) (map
+        (λ v. v.items) named.now) }
     ensures { result ≡ member_beats (members_of members.now) one other }
 {
     if !is_among(&named[one as usize], other) {
@@ -87,7 +89,8 @@ pub fn owners_of_files<'a>(alloc: Global, members: &Members<'a>) -> Result<Owner
         ≡ map (λ c. owner_of_path (members_of members.now) c.path)
         (map claim_seen found.claims.items)) }
     // For each file, in the order of members, folders and files, whether its member owns it.
-    ensures owned { IfOk result (λ found. found.owned.items ≡ owned_flags_of (members_of members.now)) }
+    ensures owned { IfOk result (λ found. found.owned.items
+        ≡ owned_flags_of (members_of members.now)) }
     // The first path in byte order that nobody owns, with its rivals.
     ensures contested { IfOk result (λ found. option_map contested_seen found.contested
         ≡ first_contested_path_of_members (members_of members.now)) }
@@ -109,11 +112,12 @@ fn is_replaced(dep: &DepView<'_>, name: &[u8], version: &Version<'_>) -> bool
     }
 }
 
-/// Whether an entry of `replaces` names another package: it is no conflict, and that one's name and
-/// version satisfy it. Neither is validated, since both are from sound containers.
+/// Whether an entry of `replaces` names another package: the entry is no conflict, and the name and
+/// the version of that package meet it. Name and version are not validated, since the packages are
+/// from sound containers.
 pub(crate) fn replaces_entry_names(entry: &DepView<'_>, pkg: &PackageView<'_>) -> bool
     requires entry { IsSoundDependency (dependency_value entry.now) }
-    requires version { is_version (version_text (package_value pkg.now)) ≡ true }
+    requires version { is_version (package_version_text (package_value pkg.now)) ≡ true }
     ensures { result ≡ replaces_entry_names (dependency_value entry.now) (package_value pkg.now) }
 {
     let info = pkg.info();
@@ -122,7 +126,6 @@ pub(crate) fn replaces_entry_names(entry: &DepView<'_>, pkg: &PackageView<'_>) -
 }
 
 /// Whether the first of two packages that name each other is preferred: it has the greater priority
-/// in replacing, or at equal priority the later name.
 /// in replacing, or at equal priority the later name.
 #[tactic(auto, unfolding(crate::specs::Replaces::is_preferred_replacer))]
 pub(crate) fn is_preferred<'a, 'b>(one: &PackageView<'a>, other: &PackageView<'b>) -> bool

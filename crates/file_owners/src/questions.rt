@@ -53,7 +53,7 @@ impl Question {
         by_place.then(by_version.then(by_matching))
     }
 
-    /// Whether both ask the same of one member: this compares words, not bytes.
+    /// Whether two questions are the same. Only words are compared, no bytes of texts.
     fn is_same(&self, other: &Question) -> bool
         ensures { result ≡ true → AreSameQuestion self.now other.now }
     {
@@ -134,7 +134,8 @@ fn question_of(members: &Members<'_>, adb: Adb<'_>, entry: Val) -> Option<Questi
     requires texts { IsSoundDependency (value_at (payload_of adb) (Kinds.Obj Tables.Dep) entry) }
     ensures asked { (y : ℕ) (m : Member) → slice_get (members_of members.now) y ≡ Some m
         → question_names_if_any (payload_of adb.entry) y m.pkg result
-        ≡ replaces_entry_names (value_at (payload_of adb.entry) (Kinds.Obj Tables.Dep) entry) m.pkg }
+        ≡ replaces_entry_names (value_at (payload_of adb.entry)
+        (Kinds.Obj Tables.Dep) entry) m.pkg }
     ensures question { IfSome result
         (IsQuestionIn (members_of members.now) (payload_of adb.entry)) }
 {
@@ -190,7 +191,8 @@ fn place_asked(members: &Members<'_>, adb: Adb<'_>, questions: &[Question], i: u
     ensures { (y : ℕ) (m : Member) → slice_get (members_of members.now) y ≡ Some m
         → (list_any (question_names_package (payload_of adb.entry) y m.pkg) (take i questions.now)
         || is_found_place y result)
-        ≡ list_any (question_names_package (payload_of adb.entry) y m.pkg) (take (i + 1) questions.now) }
+        ≡ list_any (question_names_package (payload_of adb.entry) y m.pkg) (take
+        (i + 1) questions.now) }
 {
     if repeats_the_one_before(questions, i) {
         return None;
@@ -216,7 +218,8 @@ fn repeats_the_one_before(questions: &[Question], i: usize) -> bool
 fn place_if_named(members: &Members<'_>, adb: Adb<'_>, question: &Question) -> Option<u32>
     requires { IsQuestionIn (members_of members.now) (payload_of adb) question.now }
     ensures { (y : ℕ) (m : Member) → slice_get (members_of members.now) y ≡ Some m
-        → is_found_place y result ≡ question_names_package (payload_of adb.entry) y m.pkg question.now }
+        → is_found_place y result
+        ≡ question_names_package (payload_of adb.entry) y m.pkg question.now }
 {
     members.packages_are_sound();
     let place = question.place;

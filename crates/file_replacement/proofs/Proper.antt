@@ -8,7 +8,7 @@ use Rattle.base_core.specs.Files.{put_name, drop_name, HasNoFileAsFolder}
 use Rattle.base_core.specs.Tree.{TreeState, files_of, with_name_removed, after_remove, CanCreate, CanRename}
 use Rattle.base_core.specs.Calls.{IfObservable, HoldsNow}
 use Rattle.base_core.proofs.AtName.{off_name}
-use Rattle.journal_core.specs.Replacing.{scratch_of, CanAddOutputNames}
+use Rattle.journal_core.specs.Replacing.{scratch_name_of, CanAddOutputNames}
 use Rattle.journal_core.specs.Filling.{HasOneMoreName, CanAddName, CanAddBothNames}
 use Rattle.journal_core.proofs.Beside.{as_read}
 
@@ -80,12 +80,12 @@ put_both true b x y z o p same some = refl
 put_both false true x y z o p same some = refl
 put_both false false x y z o p same some = same some
 
-pub both_places : (scratch name : List ℕ) → scratch ≡ scratch_of name → (v : TreeState) → CanAddOutputNames name (files_of v) → CanAddBothNames scratch name v
+pub both_places : (scratch name : List ℕ) → scratch ≡ scratch_name_of name → (v : TreeState) → CanAddOutputNames name (files_of v) → CanAddBothNames scratch name v
 both_places scratch name scratch_is v room = record {
   apart = λ is. scratch_apart name (sym scratch_is ∙ is);
-  folders = subst (λ s. HasNoFileAsFolder (put_name (put_name v.names s 0) name 0)) (sym scratch_is) (fewer (put_name (put_name (files_of v) (scratch_of name) []) name []) (put_name (put_name v.names (scratch_of name) 0) name 0)
-      (λ q. put_both (bytes_eq q name) (bytes_eq q (scratch_of name)) 0 0 [] (v.names q) (files_of v q) (as_read v.files (v.names q))) room.folders);
+  folders = subst (λ s. HasNoFileAsFolder (put_name (put_name v.names s 0) name 0)) (sym scratch_is) (fewer (put_name (put_name (files_of v) (scratch_name_of name) []) name []) (put_name (put_name v.names (scratch_name_of name) 0) name 0)
+      (λ q. put_both (bytes_eq q name) (bytes_eq q (scratch_name_of name)) 0 0 [] (v.names q) (files_of v q) (as_read v.files (v.names q))) room.folders);
 }
 
-pub room_proper : (scratch name : List ℕ) → scratch ≡ scratch_of name → (v : TreeState) (old rest : History) → old ≡ v ∷ rest → CanAddOutputNames name (files_of v) → (a b : ℕ) → IfObservable old (λ w. CanAddBothNames scratch name w → b ≡ a) → b ≡ a
+pub room_proper : (scratch name : List ℕ) → scratch ≡ scratch_name_of name → (v : TreeState) (old rest : History) → old ≡ v ∷ rest → CanAddOutputNames name (files_of v) → (a b : ℕ) → IfObservable old (λ w. CanAddBothNames scratch name w → b ≡ a) → b ≡ a
 room_proper scratch name scratch_is v old rest is room a b proper = observable_at old v rest is (λ w. CanAddBothNames scratch name w → b ≡ a) proper (both_places scratch name scratch_is v room)

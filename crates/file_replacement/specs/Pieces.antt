@@ -25,6 +25,7 @@ unsynced_file bytes = record { bytes = bytes; synced = false }
 pub record IsNewFile (scratch bytes : List ℕ) (first now : List TreeState) : Type 0 where
   pub only : OnlyScratchHasChanged scratch first now
   -- the file is there, and under no other name
-  pub file : IfObservable first (λ v. HoldsNow now (HasChangedOnlyByNewFile scratch (unsynced_file bytes) v))
+  pub file : IfObservable first
+      (λ v. HoldsNow now (HasChangedOnlyByNewFile scratch (unsynced_file bytes) v))
   -- the other names lead to the same files as before
   pub names : IfObservable first (λ v. HoldsNow now (HasOneMoreName scratch v))

@@ -4,15 +4,15 @@
 ghost use Rattle.std.specs.Prelude.{◌≡◌, ◌⊎◌, ◌≢◌, ◌≤◌, ◌++◌, [], ◌∷◌, ℕ, List, Some, length, IfOk, OnOk, IsErrOf};
 ghost use Rattle.base_core.specs.Calls.{HoldsNow, IfObservable};
 ghost use Rattle.base_core.specs.Crash.{Since};
-ghost use Rattle.base_core.specs.Faults.{CountsOnlyRise, HasCause, IsNoFault};
+ghost use Rattle.base_core.specs.Faults.{CountsOnlyRise, IsFaultCountedWithCause, CountsNoNewFault};
 ghost use Rattle.base_core.specs.Tree.{TreeState, CanRename};
 ghost use Rattle.file_replacement.specs.Lengths.{most_replaceable_name_bytes};
 ghost use Rattle.file_replacement.specs.Pieces.{OnlyScratchHasChanged, IsNewFile};
 ghost use Rattle.journal_core.specs.CallCounts.{IsResultExplainedByCounts};
-ghost use Rattle.journal_core.specs.Filling.{HasChangedOnlyByNewFile, IsReadyToMove, IsDurablyMoved, CanAddName, CanAddBothNames, synced_file};
+ghost use Rattle.journal_core.specs.Filling.{HasChangedOnlyByNewFile, IsNewFileReadyToMove, IsNewFileDurablyMoved, CanAddName, CanAddBothNames, synced_file};
 ghost use Rattle.journal_core.specs.Kept.{KeepsCrashMapsExcept};
 ghost use Rattle.journal_core.specs.Recovery.{intent_name};
-ghost use Rattle.journal_core.specs.Replacing.{scratch_of};
+ghost use Rattle.journal_core.specs.Replacing.{scratch_name_of};
 
 use base_core::{Disk, Name, Tree, TreeFault, counts_of_consecutive_calls_compose};
 use journal_core::calls::{append, create, remove, rename, sync_all_names, sync_file};
@@ -33,14 +33,14 @@ pub struct NewFile<'a> {
 
 impl<'a> Model for NewFile<'a> {
     ghost use Rattle.std.specs.Prelude.{◌≡◌, ℕ, List};
-    ghost use Rattle.journal_core.specs.Replacing.{scratch_of};
+    ghost use Rattle.journal_core.specs.Replacing.{scratch_name_of};
 
     // The name of the file that is replaced.
     ghost Value = { List ℕ };
 
     ghost view = { λ file. file.name.now };
 
-    ghost invariant = { λ file. file.scratch ≡ scratch_of file.name.now };
+    ghost invariant = { λ file. file.scratch ≡ scratch_name_of file.name.now };
 }
 
 impl<'a> NewFile<'a> {
@@ -57,18 +57,21 @@ impl<'a> NewFile<'a> {
     ) -> Result<NewFile<'a>, TreeFault>
         // The scratch name, which is longer, has to be a name too.
         requires { length name.now ≤ most_replaceable_name_bytes }
+        // The new file is to replace the file of this name.
         ensures name { IfOk result (λ file. file ≡ name.now) }
         // The file is made, and has no bytes.
-        ensures begun { OnOk result (IsNewFile (scratch_of name.now) [] (T.history tree.old)
+        ensures begun { OnOk result (IsNewFile (scratch_name_of name.now) [] (T.history tree.old)
             (T.history tree.new)) }
-        ensures only { OnlyScratchHasChanged (scratch_of name.now) (T.history tree.old)
+        // Whatever it returns, only the file under the scratch name has changed.
+        ensures only { OnlyScratchHasChanged (scratch_name_of name.now) (T.history tree.old)
             (T.history tree.new) }
 
         // The name is asked for first: either nothing has happened, or the tree accepts that a file
         // is renamed to it from the scratch name. Ok is returned only if it does.
         ensures asked { (T.history tree.new ≡ T.history tree.old)
-            ⊎ T.accepts (Some (scratch_of name.now)) name.now }
-        ensures accepted { OnOk result (T.accepts (Some (scratch_of name.now)) name.now) }
+            ⊎ T.accepts (Some (scratch_name_of name.now)) name.now }
+        // Ok is returned only if the tree accepts the target.
+        ensures accepted { OnOk result (T.accepts (Some (scratch_name_of name.now)) name.now) }
 
         // If there is no memory, no call of the tree was made.
         ensures memory { IsErrOf result TreeFault.Memory → tree.new ≡ tree.old }
@@ -76,13 +79,15 @@ impl<'a> NewFile<'a> {
         // No count of faults falls; a fault of the tree is returned only if that count rose, and Ok
         // only if it did not.
         ensures goes_on { CountsOnlyRise (T.counts tree.old) (T.counts tree.new) }
+        // An I/O error is returned only if a fault was counted.
         ensures disk { IsErrOf result TreeFault.Disk
-            → HasCause (T.counts tree.old) (T.counts tree.new) }
-        ensures kept { OnOk result (IsNoFault (T.counts tree.old) (T.counts tree.new)) }
+            → IsFaultCountedWithCause (T.counts tree.old) (T.counts tree.new) }
+        // Ok is returned only if no fault was counted.
+        ensures kept { OnOk result (CountsNoNewFault (T.counts tree.old) (T.counts tree.new)) }
 
         // If the scratch name may have a file, no call is a misuse.
         ensures proper { IfObservable (T.history tree.old) (λ v.
-            CanAddName (scratch_of name.now) v
+            CanAddName (scratch_name_of name.now) v
             → (T.counts tree.new).misuses ≡ (T.counts tree.old).misuses) }
     {
         let scratch = scratch_name(alloc, name)?;
@@ -94,17 +99,19 @@ impl<'a> NewFile<'a> {
     pub fn append<T: Tree>(&self, tree: &mut T, piece: &[u8]) -> Result<(), Disk>
         // `first` is the tree's history when the file was begun, and `bytes` the pieces so far.
         ensures appended { (bytes : List ℕ) (first : List TreeState)
-            → IsNewFile (scratch_of self.now) bytes first (T.history tree.old)
-            → OnOk result (IsNewFile (scratch_of self.now) (bytes ++ piece.now) first
+            → IsNewFile (scratch_name_of self.now) bytes first (T.history tree.old)
+            → OnOk result (IsNewFile (scratch_name_of self.now) (bytes ++ piece.now) first
             (T.history tree.new)) }
+        // Whatever it returns, only the file under the scratch name has changed.
         ensures only { (bytes : List ℕ) (first : List TreeState)
-            → IsNewFile (scratch_of self.now) bytes first (T.history tree.old)
-            → OnlyScratchHasChanged (scratch_of self.now) first (T.history tree.new) }
+            → IsNewFile (scratch_name_of self.now) bytes first (T.history tree.old)
+            → OnlyScratchHasChanged (scratch_name_of self.now) first (T.history tree.new) }
+        // How the tree's counts explain the result.
         ensures counts { IsResultExplainedByCounts (T.counts tree.old) (T.counts tree.new) result }
 
         // The call is no misuse.
         ensures proper { (bytes : List ℕ) (first : List TreeState)
-            → IsNewFile (scratch_of self.now) bytes first (T.history tree.old)
+            → IsNewFile (scratch_name_of self.now) bytes first (T.history tree.old)
             → IfObservable first (λ v.
             (T.counts tree.new).misuses ≡ (T.counts tree.old).misuses) }
     {
@@ -116,24 +123,28 @@ impl<'a> NewFile<'a> {
         requires { self.now ≢ intent_name }
         // `first` is the tree's history when the file was begun, and `bytes` are all its bytes.
         ensures moments { (bytes : List ℕ) (first : List TreeState)
-            → IsNewFile (scratch_of self.now) bytes first (T.history tree.old)
-            → IfObservable first (λ v. Since (IsReadyToMove (scratch_of self.now) self.now bytes v)
+            → IsNewFile (scratch_name_of self.now) bytes first (T.history tree.old)
+            → IfObservable first (λ v. Since (IsNewFileReadyToMove
+            (scratch_name_of self.now) self.now bytes v)
             first (T.history tree.new)) }
+        // Once it has returned Ok, the new file has its name, and no crash undoes this.
         ensures moved { OnOk result ((bytes : List ℕ) (first : List TreeState)
-            → IsNewFile (scratch_of self.now) bytes first (T.history tree.old)
+            → IsNewFile (scratch_name_of self.now) bytes first (T.history tree.old)
             → IfObservable first (λ v. HoldsNow (T.history tree.new)
-            (IsDurablyMoved (scratch_of self.now) self.now bytes v))) }
+            (IsNewFileDurablyMoved (scratch_name_of self.now) self.now bytes v))) }
+        // At each moment a crash leaves every other name as it might have left it before.
         ensures others { (bytes : List ℕ) (first : List TreeState)
-            → IsNewFile (scratch_of self.now) bytes first (T.history tree.old)
+            → IsNewFile (scratch_name_of self.now) bytes first (T.history tree.old)
             → IfObservable first (λ v. Since
-            (KeepsCrashMapsExcept (self.now ∷ scratch_of self.now ∷ []) v) first
+            (KeepsCrashMapsExcept (self.now ∷ scratch_name_of self.now ∷ []) v) first
             (T.history tree.new)) }
+        // How the tree's counts explain the result.
         ensures counts { IsResultExplainedByCounts (T.counts tree.old) (T.counts tree.new) result }
 
         // If each of the names may have a file, no call is a misuse.
         ensures proper { (bytes : List ℕ) (first : List TreeState)
-            → IsNewFile (scratch_of self.now) bytes first (T.history tree.old)
-            → IfObservable first (λ v. CanAddBothNames (scratch_of self.now) self.now v
+            → IsNewFile (scratch_name_of self.now) bytes first (T.history tree.old)
+            → IfObservable first (λ v. CanAddBothNames (scratch_name_of self.now) self.now v
             → (T.counts tree.new).misuses ≡ (T.counts tree.old).misuses) }
     {
         // A law that the proof needs; it computes nothing.
@@ -147,7 +158,7 @@ impl<'a> NewFile<'a> {
 /// `.apk-tmp`.
 fn scratch_name(alloc: Global, name: &Name) -> Result<Name, AllocError>
     requires { length name.now ≤ most_replaceable_name_bytes }
-    ensures { IfOk result (λ scratch. scratch ≡ scratch_of name.now) }
+    ensures { IfOk result (λ scratch. scratch ≡ scratch_name_of name.now) }
 {
     let mut bytes = Vec::from_slice(alloc, name.as_bytes())?;
     bytes.extend_from_slice(b".apk-tmp")?;
@@ -157,13 +168,19 @@ fn scratch_name(alloc: Global, name: &Name) -> Result<Name, AllocError>
 /// Asks for the name, and then makes an empty file under the scratch name. The clauses are those of
 /// `begin`, for any scratch name.
 fn begin_scratch<T: Tree>(tree: &mut T, scratch: &Name, name: &Name) -> Result<(), Disk>
+    // Once it has returned Ok, an empty new file is under the name.
     ensures begun { OnOk result (IsNewFile scratch.now [] (T.history tree.old)
         (T.history tree.new)) }
+    // Whatever it returns, only the file under the scratch name has changed.
     ensures only { OnlyScratchHasChanged scratch.now (T.history tree.old) (T.history tree.new) }
+    // Either nothing has happened, or the tree accepts the target.
     ensures asked { (T.history tree.new ≡ T.history tree.old)
         ⊎ T.accepts (Some scratch.now) name.now }
+    // Ok is returned only if the tree accepts the target.
     ensures accepted { OnOk result (T.accepts (Some scratch.now) name.now) }
+    // How the tree's counts explain the result.
     ensures counts { IsResultExplainedByCounts (T.counts tree.old) (T.counts tree.new) result }
+    // If the scratch name may have a file, no call is a misuse.
     ensures proper { IfObservable (T.history tree.old) (λ v. CanAddName scratch.now v
         → (T.counts tree.new).misuses ≡ (T.counts tree.old).misuses) }
 {
@@ -175,10 +192,14 @@ fn begin_scratch<T: Tree>(tree: &mut T, scratch: &Name, name: &Name) -> Result<(
 
 /// Makes an empty file under a name on which no state depends, replacing any file there.
 fn create_anew<T: Tree>(tree: &mut T, name: &Name) -> Result<(), Disk>
+    // Once it has returned Ok, an empty new file is under the name.
     ensures begun { OnOk result (IsNewFile name.now [] (T.history tree.old)
         (T.history tree.new)) }
+    // Whatever it returns, only the file under the scratch name has changed.
     ensures only { OnlyScratchHasChanged name.now (T.history tree.old) (T.history tree.new) }
+    // How the tree's counts explain the result.
     ensures counts { IsResultExplainedByCounts (T.counts tree.old) (T.counts tree.new) result }
+    // If the scratch name may have a file, no call is a misuse.
     ensures proper { IfObservable (T.history tree.old) (λ v. CanAddName name.now v
         → (T.counts tree.new).misuses ≡ (T.counts tree.old).misuses) }
 {
@@ -193,17 +214,22 @@ fn create_anew<T: Tree>(tree: &mut T, name: &Name) -> Result<(), Disk>
 /// one nor the new one. Without the second it could restore the old file after an Ok.
 fn settle<T: Tree>(tree: &mut T, from: &Name, to: &Name) -> Result<(), Disk>
     requires { to.now ≢ intent_name }
+    // From a durable tree on, a crash at any moment leaves an old state, or that of the new files.
     ensures moments { IfObservable (T.history tree.old) (λ v. (bytes : List ℕ) (start : TreeState)
         → HasChangedOnlyByNewFile from.now (synced_file bytes) start v
-        → Since (IsReadyToMove from.now to.now bytes start) (T.history tree.old) (T.history
+        → Since (IsNewFileReadyToMove from.now to.now bytes start) (T.history tree.old) (T.history
         tree.new)) }
+    // Once it has returned Ok, the new file has its name, and no crash undoes this.
     ensures settled { IfObservable (T.history tree.old) (λ v. (bytes : List ℕ) (start : TreeState)
         → HasChangedOnlyByNewFile from.now (synced_file bytes) start v
-        → OnOk result (IfObservable (T.history tree.new) (IsDurablyMoved from.now to.now bytes
+        → OnOk result (IfObservable (T.history tree.new)
+        (IsNewFileDurablyMoved from.now to.now bytes
         start))) }
+    // At each moment a crash leaves every other name as it might have left it before.
     ensures others { IfObservable (T.history tree.old) (λ v.
         Since (KeepsCrashMapsExcept (to.now ∷ from.now ∷ []) v) (T.history tree.old)
         (T.history tree.new)) }
+    // How the tree's counts explain the result.
     ensures counts { IsResultExplainedByCounts (T.counts tree.old) (T.counts tree.new) result }
 
     // If the file may be moved, no call is a misuse.

@@ -5,14 +5,14 @@ ghost use Rattle.std.specs.Prelude.{◌≡◌, ◌⊎◌, ◌≢◌, ◌≤◌, 
 ghost use Rattle.base_core.specs.Calls.{HoldsNow, IfObservable};
 ghost use Rattle.base_core.specs.Crash.{Since};
 ghost use Rattle.base_core.specs.Undone.{IsDurable};
-ghost use Rattle.base_core.specs.Faults.{CountsOnlyRise, HasCause, IsNoFault};
+ghost use Rattle.base_core.specs.Faults.{CountsOnlyRise, IsFaultCountedWithCause, CountsNoNewFault};
 ghost use Rattle.base_core.specs.Tree.{files_of};
 ghost use Rattle.file_replacement.specs.Lengths.{most_replaceable_name_bytes};
-ghost use Rattle.journal_core.specs.Filling.{CanAddBothNames, IsDurablyMoved, IsReadyToMove};
+ghost use Rattle.journal_core.specs.Filling.{CanAddBothNames, IsNewFileDurablyMoved, IsNewFileReadyToMove};
 ghost use Rattle.journal_core.specs.Kept.{IsSyncedAt, KeepsCrashMapsExcept};
 ghost use Rattle.journal_core.specs.Reading.{ReadsOldOrReplaced};
 ghost use Rattle.journal_core.specs.Recovery.{StateDependsOn, EachCrashLeaves, intent_name};
-ghost use Rattle.journal_core.specs.Replacing.{IgnoresScratch, CanAddOutputNames, IsMomentOfReplacing, replaced_files, scratch_of};
+ghost use Rattle.journal_core.specs.Replacing.{IgnoresScratch, CanAddOutputNames, IsMomentOfReplacing, replaced_files, scratch_name_of};
 
 use crate::new_file::NewFile;
 use base_core::{Name, Tree, TreeFault, counts_of_consecutive_calls_compose};
@@ -67,7 +67,8 @@ pub fn replace<T: Tree>(
 
     // At each moment a crash leaves every other name as it might have left it before.
     ensures others { IfObservable (T.history tree.old) (λ v.
-        Since (KeepsCrashMapsExcept (name.now ∷ scratch_of name.now ∷ []) v) (T.history tree.old)
+        Since (KeepsCrashMapsExcept (name.now ∷ scratch_name_of name.now ∷ []) v)
+        (T.history tree.old)
         (T.history tree.new)) }
 
     // Once it has returned Ok, no crash undoes a change of names, and the new file is synced.
@@ -77,8 +78,8 @@ pub fn replace<T: Tree>(
     // The name is asked for first: either nothing has happened, or the tree accepts that a file is
     // renamed to it from the scratch name. Ok is returned only if it does.
     ensures asked { (T.history tree.new ≡ T.history tree.old)
-        ⊎ T.accepts (Some (scratch_of name.now)) name.now }
-    ensures accepted { OnOk result (T.accepts (Some (scratch_of name.now)) name.now) }
+        ⊎ T.accepts (Some (scratch_name_of name.now)) name.now }
+    ensures accepted { OnOk result (T.accepts (Some (scratch_name_of name.now)) name.now) }
 
     // If there is no memory, no call of the tree was made.
     ensures memory { IsErrOf result TreeFault.Memory → tree.new ≡ tree.old }
@@ -86,9 +87,11 @@ pub fn replace<T: Tree>(
     // No count of faults falls; a fault of the tree is returned only if that count rose, and Ok
     // only if it did not.
     ensures goes_on { CountsOnlyRise (T.counts tree.old) (T.counts tree.new) }
+    // An I/O error is returned only if a fault was counted.
     ensures disk { IsErrOf result TreeFault.Disk
-        → HasCause (T.counts tree.old) (T.counts tree.new) }
-    ensures kept { OnOk result (IsNoFault (T.counts tree.old) (T.counts tree.new)) }
+        → IsFaultCountedWithCause (T.counts tree.old) (T.counts tree.new) }
+    // Ok is returned only if no fault was counted.
+    ensures kept { OnOk result (CountsNoNewFault (T.counts tree.old) (T.counts tree.new)) }
 
     // If the paths are free, no call is a misuse.
     ensures proper { IfObservable (T.history tree.old) (λ v. CanAddOutputNames name.now (files_of v)
@@ -108,24 +111,29 @@ fn write_new<T: Tree>(
     requires length { length name.now ≤ most_replaceable_name_bytes }
     requires apart { name.now ≢ intent_name }
     ensures moments { IfObservable (T.history tree.old) (λ v.
-        Since (IsReadyToMove (scratch_of name.now) name.now bytes.now v) (T.history tree.old)
+        Since (IsNewFileReadyToMove (scratch_name_of name.now) name.now bytes.now v)
+        (T.history tree.old)
         (T.history tree.new)) }
     ensures lasting { IfObservable (T.history tree.old) (λ v.
         OnOk result (HoldsNow (T.history tree.new)
-        (IsDurablyMoved (scratch_of name.now) name.now bytes.now v))) }
+        (IsNewFileDurablyMoved (scratch_name_of name.now) name.now bytes.now v))) }
     ensures others { IfObservable (T.history tree.old) (λ v.
-        Since (KeepsCrashMapsExcept (name.now ∷ scratch_of name.now ∷ []) v) (T.history tree.old)
+        Since (KeepsCrashMapsExcept (name.now ∷ scratch_name_of name.now ∷ []) v)
+        (T.history tree.old)
         (T.history tree.new)) }
     ensures asked { (T.history tree.new ≡ T.history tree.old)
-        ⊎ T.accepts (Some (scratch_of name.now)) name.now }
-    ensures accepted { OnOk result (T.accepts (Some (scratch_of name.now)) name.now) }
+        ⊎ T.accepts (Some (scratch_name_of name.now)) name.now }
+    ensures accepted { OnOk result (T.accepts (Some (scratch_name_of name.now)) name.now) }
     ensures memory { IsErrOf result TreeFault.Memory → tree.new ≡ tree.old }
+    // No count falls.
     ensures goes_on { CountsOnlyRise (T.counts tree.old) (T.counts tree.new) }
+    // An I/O error is returned only if a fault was counted.
     ensures disk { IsErrOf result TreeFault.Disk
-        → HasCause (T.counts tree.old) (T.counts tree.new) }
-    ensures kept { OnOk result (IsNoFault (T.counts tree.old) (T.counts tree.new)) }
+        → IsFaultCountedWithCause (T.counts tree.old) (T.counts tree.new) }
+    // Ok is returned only if no fault was counted.
+    ensures kept { OnOk result (CountsNoNewFault (T.counts tree.old) (T.counts tree.new)) }
     ensures proper { IfObservable (T.history tree.old) (λ v.
-        CanAddBothNames (scratch_of name.now) name.now v
+        CanAddBothNames (scratch_name_of name.now) name.now v
         → (T.counts tree.new).misuses ≡ (T.counts tree.old).misuses) }
 {
     // A law that the proof needs; it computes nothing.

@@ -3,7 +3,7 @@ use Rattle.std.proofs.Common.{◌≡◌, ◌≢◌, ℕ, zero, suc, ◌+◌, ◌
 use Rattle.std.specs.Prelude.{codes}
 use Rattle.adb_dump.specs.Dump.{Line}
 use Rattle.adb_dump.specs.Margin.{margin}
-use Rattle.adb_dump.specs.ReadBack.{strip_prefix, end_block_or_add_line, split_block, with_line_before_block}
+use Rattle.adb_dump.specs.ReadBack.{strip_prefix, end_block_or_add_line, block_and_lines_after, with_line_before_block}
 use Rattle.gen_core.specs.Cursors.{CursorState, cursor_after_block, cursor_after_line, cursor_at_entry, block_at, cursor_from_parts, line_of_block, margin_levels_after_block}
 use Rattle.gen_core.proofs.TextLines.{levels_read, margin-sum, two_some, two_none}
 
@@ -57,14 +57,14 @@ deeper depth = margin-sum depth 1
 
 -- the lines in front that are indented one level more, by the block that they are in
 pub record Inner (depth : ℕ) (ls : List Line) : Type 0 where
-  pub front : (block_at (depth + 1) ls).0 ≡ (split_block (block_at depth ls).0).0
-  pub later : block_at depth (block_at (depth + 1) ls).1 ≡ ((split_block (block_at depth ls).0).1, (block_at depth ls).1)
+  pub front : (block_at (depth + 1) ls).0 ≡ (block_and_lines_after (block_at depth ls).0).0
+  pub later : block_at depth (block_at (depth + 1) ls).1 ≡ ((block_and_lines_after (block_at depth ls).0).1, (block_at depth ls).1)
 
 -- with one line more, by what it is without its levels, and without one level more
 abbrev InnerHere : ℕ → Line → List Line → Option Line → Option Line → Type 0
 InnerHere depth l ls o p =
-    ((end_block_or_add_line l ls p (block_at (depth + 1) ls)).0 ≡ (split_block (end_block_or_add_line l ls o (block_at depth ls)).0).0)
-    × (block_at depth (end_block_or_add_line l ls p (block_at (depth + 1) ls)).1 ≡ ((split_block (end_block_or_add_line l ls o (block_at depth ls)).0).1, (end_block_or_add_line l ls o (block_at depth ls)).1))
+    ((end_block_or_add_line l ls p (block_at (depth + 1) ls)).0 ≡ (block_and_lines_after (end_block_or_add_line l ls o (block_at depth ls)).0).0)
+    × (block_at depth (end_block_or_add_line l ls p (block_at (depth + 1) ls)).1 ≡ ((block_and_lines_after (end_block_or_add_line l ls o (block_at depth ls)).0).1, (end_block_or_add_line l ls o (block_at depth ls)).1))
 
 inner_line : (depth : ℕ) (l : Line) (ls : List Line) (m : Line) (p : Option Line) → strip_prefix (margin depth) l ≡ Some m → strip_prefix (codes "  ") m ≡ p → Inner depth ls → InnerHere depth l ls (Some m) p
 inner_line depth l ls m None e f h = (rw f refl, ap (λ (o : Option Line). end_block_or_add_line l ls o (block_at depth ls)) e ∙ rw f refl)

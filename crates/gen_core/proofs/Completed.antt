@@ -3,14 +3,14 @@ use Rattle.std.proofs.Common.{◌≡◌, ◌≢◌, ℕ, zero, suc, ◌+◌, ◌
 use Rattle.std.specs.Prelude.{codes, bytes_eq, map}
 use Rattle.std.proofs.lemmas.List.{append-nil, length-append, take-append-le}
 use Rattle.std.proofs.lemmas.Bool.{and_parts}
-use Rattle.adb_view.specs.Plain.{Plain, Plains, null, int, blob, arr, obj, none, more, put_first_without_last_null, without_last_nulls, Shape, number, text, hash, array, object, Fields, no_fields, field, IsNormal, AreNormal}
+use Rattle.adb_view.specs.Plain.{Plain, Plains, null, int, blob, arr, obj, none, more, prepend_plain_unless_last_null, without_last_nulls, Shape, number, text, hash, array, object, Fields, no_fields, field, IsNormal, AreNormal}
 use Rattle.adb_view.specs.Shaped.{Each, HasShape, HaveShapes}
 use Rattle.adb_view.proofs.FoundShapes.{shape_null}
 use Rattle.base_core.specs.Lists.{and_then}
 use Rattle.base_core.proofs.AtName.{is_name}
 use Rattle.adb_dump.specs.Dump.{Line, int_line, text_line, hash_line, indent, with_dash, entry_lines_or_null_line, array_lines, block_lines, named_line, named_block, named_lines, fields_lines, field_lines_unless_null}
 use Rattle.adb_dump.specs.Values.{IsOfBytes, AreOfBytes}
-use Rattle.adb_dump.specs.ReadBack.{ResultOrBadLine, after_lines, strip_prefix, split_block, single_line_value, entry_read, entries_after_dash, entries_read, arr_read, obj_read, field_on_line, field_with_value_below, if_line_prints_value, if_named, block_read, named_read, fields_read, int_read, text_read, hash_read}
+use Rattle.adb_dump.specs.ReadBack.{ResultOrBadLine, mapped_or_bad_line_shifted_by, strip_prefix, block_and_lines_after, single_line_value, entry_read, entries_from_dash_line, entries_read, array_unless_empty, object_unless_empty, fields_read_with_value_on_line, fields_read_with_value_below, if_line_prints_value, fields_read_by_name_match, block_read, named_read, fields_read, int_read, text_read, hash_read}
 use Rattle.adb_dump.proofs.Booleans.{chosen}
 use Rattle.adb_dump.proofs.ReadOnly.{block_only, Fits1, split_block_parts, strip_prefix_some, keeps, entry_lines_or_null_line-is}
 use Rattle.adb_dump.proofs.BlockLines.{no_lines}
@@ -40,15 +40,15 @@ take-past [] ys n = let e : 0 + n ≡ n = omega arith in ap (λ (k : ℕ). take 
 take-past (x ∷ xs) ys n = let e : suc (length xs) + n ≡ suc (length xs + n) = omega arith in ap (λ (k : ℕ). take k (x ∷ (xs ++ ys))) e ∙ ap (λ (l : List Line). x ∷ l) (take-past xs ys n)
 
 -- lines of which a block of so many is in front, and what the front is
-front_in_block : (ls : List Line) (n : ℕ) → n ≤ length (split_block ls).0 → take n ls ≡ indent (take n (split_block ls).0)
+front_in_block : (ls : List Line) (n : ℕ) → n ≤ length (block_and_lines_after ls).0 → take n ls ≡ indent (take n (block_and_lines_after ls).0)
 front_in_block ls n le =
-    let r = split_block ls in
+    let r = block_and_lines_after ls in
     let within : n ≤ length (indent r.0) = omega (arith, le, indent-len r.0) in
     ap (take n) (split_block_parts ls) ∙ take-append-le n (indent r.0) r.1 within ∙ take-indent n r.0
 
-front_past_block : (ls : List Line) (n j : ℕ) → n ≡ length (split_block ls).0 + j → take n ls ≡ indent (split_block ls).0 ++ take j (split_block ls).1
+front_past_block : (ls : List Line) (n j : ℕ) → n ≡ length (block_and_lines_after ls).0 + j → take n ls ≡ indent (block_and_lines_after ls).0 ++ take j (block_and_lines_after ls).1
 front_past_block ls n j e =
-    let r = split_block ls in
+    let r = block_and_lines_after ls in
     let count : n ≡ length (indent r.0) + j = omega (arith, e, indent-len r.0) in
     ap (take n) (split_block_parts ls) ∙ ap (λ (k : ℕ). take k (indent r.0 ++ r.1)) count ∙ take-past (indent r.0) r.1 j
 
@@ -90,12 +90,12 @@ no_more_fit (field name s fs) = record { trim = refl; normal = tt; shapes = tt; 
 
 more_fit : (name : List ℕ) (s : Shape) (fs : Fields) (v : Plain) (vs : Plains) → Fit s v → FieldsFit fs vs → FieldsFit (field name s fs) (more v vs)
 unfolding IsNormal HasShape IsOfBytes
-more_fit name s fs v vs f g = record { trim = ap (put_first_without_last_null v) g.trim ∙ keeps v vs f.some; normal = (f.normal, g.normal); shapes = (f.shape, g.shapes); bytes = (f.bytes, g.bytes) }
+more_fit name s fs v vs f g = record { trim = ap (prepend_plain_unless_last_null v) g.trim ∙ keeps v vs f.some; normal = (f.normal, g.normal); shapes = (f.shape, g.shapes); bytes = (f.bytes, g.bytes) }
 
-null_fit : (name : List ℕ) (s : Shape) (fs : Fields) (vs : Plains) → FieldsFit fs vs → FieldsFit (field name s fs) (put_first_without_last_null null vs)
+null_fit : (name : List ℕ) (s : Shape) (fs : Fields) (vs : Plains) → FieldsFit fs vs → FieldsFit (field name s fs) (prepend_plain_unless_last_null null vs)
 unfolding IsNormal HasShape IsOfBytes
 null_fit name s fs none g = no_more_fit (field name s fs)
-null_fit name s fs (more u us) g = record { trim = ap (put_first_without_last_null null) g.trim; normal = (tt, g.normal); shapes = (shape_null s, g.shapes); bytes = (tt, g.bytes) }
+null_fit name s fs (more u us) g = record { trim = ap (prepend_plain_unless_last_null null) g.trim; normal = (tt, g.normal); shapes = (shape_null s, g.shapes); bytes = (tt, g.bytes) }
 
 entry_more : (s : Shape) (v : Plain) (vs : Plains) → EntryFit s v → EntriesFit s vs → EntriesFit s (more v vs)
 unfolding IsNormal IsOfBytes
@@ -275,10 +275,10 @@ dash_line : (l m : Line) → Some m ≡ strip_prefix (codes "- ") l → codes "-
 dash_line l m e = sym (strip_prefix_some (codes "- ") l m (sym e))
 
 -- the entry is the one that cannot be read on
-entry_ends : (s : Shape) (l m : Line) (ls : List Line) (k : ℕ) → Some m ≡ strip_prefix (codes "- ") l → EntryCompleted s (m ∷ (split_block ls).0) k → EntriesCompleted s (l ∷ ls) k
+entry_ends : (s : Shape) (l m : Line) (ls : List Line) (k : ℕ) → Some m ≡ strip_prefix (codes "- ") l → EntryCompleted s (m ∷ (block_and_lines_after ls).0) k → EntriesCompleted s (l ∷ ls) k
 entry_ends s l m ls zero dash c = no_entry s (l ∷ ls) 0 refl
 entry_ends s l m ls (suc i) dash c =
-    let r = split_block ls in
+    let r = block_and_lines_after ls in
     let within : i ≤ length r.0 = omega (arith, c.count) in
     let front : take i ls ≡ indent (take i r.0) = front_in_block ls i within in
     record {
@@ -295,9 +295,9 @@ entry_ends s l m ls (suc i) dash c =
     }
 
 -- the bad line is after the entry
-entry_passed : (s : Shape) (l m : Line) (ls : List Line) (k j : ℕ) (v : Plain) → Some m ≡ strip_prefix (codes "- ") l → entry_read (block_read s) m (split_block ls).0 ≡ Ok v → k ≡ 1 + length (split_block ls).0 + j → EntriesCompleted s (split_block ls).1 j → EntriesCompleted s (l ∷ ls) k
+entry_passed : (s : Shape) (l m : Line) (ls : List Line) (k j : ℕ) (v : Plain) → Some m ≡ strip_prefix (codes "- ") l → entry_read (block_read s) m (block_and_lines_after ls).0 ≡ Ok v → k ≡ 1 + length (block_and_lines_after ls).0 + j → EntriesCompleted s (block_and_lines_after ls).1 j → EntriesCompleted s (l ∷ ls) k
 entry_passed s l m ls k j v dash read is c =
-    let r = split_block ls in
+    let r = block_and_lines_after ls in
     let t = entry_there s m r.0 v read in
     let n : ℕ = length r.0 + j in
     let front : take n ls ≡ indent r.0 ++ take j r.1 = front_past_block ls n j refl in
@@ -319,18 +319,18 @@ entry_passed s l m ls k j v dash read is c =
 entries_completed : (s : Shape) → Completes s → (n : ℕ) (ls : List Line) (k : ℕ) → entries_read (block_read s) n ls ≡ Err k → EntriesCompleted s ls k
 entries_completed s h zero ls k e = absurd cc
 entries_completed s h (suc n) [] k e = absurd cc
-entries_completed s h (suc n) (l ∷ ls) k e = go (strip_prefix (codes "- ") l) refl (entries_completed s h n (split_block ls).1) e
+entries_completed s h (suc n) (l ∷ ls) k e = go (strip_prefix (codes "- ") l) refl (entries_completed s h n (block_and_lines_after ls).1) e
   where
-    after : (m : Line) → Some m ≡ strip_prefix (codes "- ") l → ((j : ℕ) → entries_read (block_read s) n (split_block ls).1 ≡ Err j → EntriesCompleted s (split_block ls).1 j) → (x : ResultOrBadLine Plain) → entry_read (block_read s) m (split_block ls).0 ≡ x
-        → and_then x (λ v. after_lines (1 + length (split_block ls).0) (more v) (entries_read (block_read s) n (split_block ls).1)) ≡ no_values k → EntriesCompleted s (l ∷ ls) k
-    after m dash next (Err j) is e = entry_ends s l m ls k dash (entry_completed s h m (split_block ls).0 k (is ∙ ap no_value (values_number j k e)))
+    after : (m : Line) → Some m ≡ strip_prefix (codes "- ") l → ((j : ℕ) → entries_read (block_read s) n (block_and_lines_after ls).1 ≡ Err j → EntriesCompleted s (block_and_lines_after ls).1 j) → (x : ResultOrBadLine Plain) → entry_read (block_read s) m (block_and_lines_after ls).0 ≡ x
+        → and_then x (λ v. mapped_or_bad_line_shifted_by (1 + length (block_and_lines_after ls).0) (more v) (entries_read (block_read s) n (block_and_lines_after ls).1)) ≡ no_values k → EntriesCompleted s (l ∷ ls) k
+    after m dash next (Err j) is e = entry_ends s l m ls k dash (entry_completed s h m (block_and_lines_after ls).0 k (is ∙ ap no_value (values_number j k e)))
     after m dash next (Ok v) is e =
-        let (j, bad, count) = later (1 + length (split_block ls).0) v (entries_read (block_read s) n (split_block ls).1) k e in
+        let (j, bad, count) = later (1 + length (block_and_lines_after ls).0) v (entries_read (block_read s) n (block_and_lines_after ls).1) k e in
         entry_passed s l m ls k j v dash is count (next j bad)
 
-    go : (o : Option Line) → o ≡ strip_prefix (codes "- ") l → ((j : ℕ) → entries_read (block_read s) n (split_block ls).1 ≡ Err j → EntriesCompleted s (split_block ls).1 j) → entries_after_dash (block_read s) (entries_read (block_read s) n) (split_block ls) o ≡ no_values k → EntriesCompleted s (l ∷ ls) k
+    go : (o : Option Line) → o ≡ strip_prefix (codes "- ") l → ((j : ℕ) → entries_read (block_read s) n (block_and_lines_after ls).1 ≡ Err j → EntriesCompleted s (block_and_lines_after ls).1 j) → entries_from_dash_line (block_read s) (entries_read (block_read s) n) (block_and_lines_after ls) o ≡ no_values k → EntriesCompleted s (l ∷ ls) k
     go None dash next e = no_entry s (l ∷ ls) k (sym (values_number 0 k e))
-    go (Some m) dash next e = after m dash next (entry_read (block_read s) m (split_block ls).0) refl e
+    go (Some m) dash next e = after m dash next (entry_read (block_read s) m (block_and_lines_after ls).0) refl e
 
 array_completed : (s : Shape) → Completes s → Completes (array s)
 unfolding block_read block_lines
@@ -342,8 +342,8 @@ array_completed s h ls k e =
       | inr nothing ↦ at_first (array s) (array_sample s) ls k (zero_of nothing e)
     ]
   where
-    zero_of : entries_read (block_read s) (length ls) ls ≡ Ok none → and_then (entries_read (block_read s) (length ls) ls) arr_read ≡ no_value k → k ≡ 0
-    zero_of nothing e = sym (value_number 0 k (sym (ap (λ (r : ResultOrBadLine Plains). and_then r arr_read) nothing) ∙ e))
+    zero_of : entries_read (block_read s) (length ls) ls ≡ Ok none → and_then (entries_read (block_read s) (length ls) ls) array_unless_empty ≡ no_value k → k ≡ 0
+    zero_of nothing e = sym (value_number 0 k (sym (ap (λ (r : ResultOrBadLine Plains). and_then r array_unless_empty) nothing) ∙ e))
 
 -- ---- fields
 
@@ -357,7 +357,7 @@ pub record FieldsCompleted (fs : Fields) (ls : List Line) (k : ℕ) : Type 0 whe
 no_field : (fs : Fields) (ls : List Line) (k : ℕ) → k ≡ 0 → FieldsCompleted fs ls k
 no_field fs ls k e = subst (λ (n : ℕ). FieldsCompleted fs ls n) (sym e) (record { values = none; fit = no_more_fit fs; count = omega arith; rest = []; lines = no_lines fs })
 
-null_lines : (name : List ℕ) (s : Shape) (fs : Fields) (vs : Plains) → fields_lines (field name s fs) (put_first_without_last_null null vs) ≡ fields_lines fs vs
+null_lines : (name : List ℕ) (s : Shape) (fs : Fields) (vs : Plains) → fields_lines (field name s fs) (prepend_plain_unless_last_null null vs) ≡ fields_lines fs vs
 unfolding fields_lines
 null_lines name s fs none = sym (no_lines fs)
 null_lines name s fs (more u us) = refl
@@ -403,9 +403,9 @@ name_line : (name : List ℕ) (l rest : Line) → NamedHere name l rest → rest
 name_line name l rest here e = ap (λ (x : Line). name ++ 58 ∷ x) (sym e) ∙ sym here.is
 
 -- the bad line is in the block below the name
-below_ends : (name : List ℕ) (s : Shape) (fs : Fields) → ((v : Plain) → named_lines s name v ≡ named_block name (block_lines s v)) → (l rest : Line) (ls : List Line) (k j : ℕ) → NamedHere name l rest → rest ≡ [] → k ≡ 1 + j → Completed s (split_block ls).0 j → FieldsCompleted (field name s fs) (l ∷ ls) k
+below_ends : (name : List ℕ) (s : Shape) (fs : Fields) → ((v : Plain) → named_lines s name v ≡ named_block name (block_lines s v)) → (l rest : Line) (ls : List Line) (k j : ℕ) → NamedHere name l rest → rest ≡ [] → k ≡ 1 + j → Completed s (block_and_lines_after ls).0 j → FieldsCompleted (field name s fs) (l ∷ ls) k
 below_ends name s fs h l rest ls k j here e is c =
-    let r = split_block ls in
+    let r = block_and_lines_after ls in
     let front : take j ls ≡ indent (take j r.0) = front_in_block ls j c.count in
     let count : k ≡ suc j = omega (arith, is) in
     record {
@@ -423,10 +423,10 @@ below_ends name s fs h l rest ls k j here e is c =
     }
 
 -- the bad line is after that block
-below_passed : (name : List ℕ) (s : Shape) (fs : Fields) → ((v : Plain) → named_lines s name v ≡ named_block name (block_lines s v)) → (l rest : Line) (ls : List Line) (k j : ℕ) (v : Plain) → NamedHere name l rest → rest ≡ [] → block_read s (split_block ls).0 ≡ Ok v
-    → k ≡ 1 + length (split_block ls).0 + j → FieldsCompleted fs (split_block ls).1 j → FieldsCompleted (field name s fs) (l ∷ ls) k
+below_passed : (name : List ℕ) (s : Shape) (fs : Fields) → ((v : Plain) → named_lines s name v ≡ named_block name (block_lines s v)) → (l rest : Line) (ls : List Line) (k j : ℕ) (v : Plain) → NamedHere name l rest → rest ≡ [] → block_read s (block_and_lines_after ls).0 ≡ Ok v
+    → k ≡ 1 + length (block_and_lines_after ls).0 + j → FieldsCompleted fs (block_and_lines_after ls).1 j → FieldsCompleted (field name s fs) (l ∷ ls) k
 below_passed name s fs h l rest ls k j v here e read is c =
-    let r = split_block ls in
+    let r = block_and_lines_after ls in
     let f = read_fit s r.0 v read in
     let n : ℕ = length r.0 + j in
     let front : take n ls ≡ indent r.0 ++ take j r.1 = front_past_block ls n j refl in
@@ -447,7 +447,7 @@ below_passed name s fs h l rest ls k j v here e read is c =
 
 -- a field's value on its line
 on_line_completed : (name : List ℕ) (s : Shape) (fs : Fields) (form : Plain → Line) (read : Line → Option Plain) → ((v : Plain) → named_lines s name v ≡ named_line name (form v)) → ((l : Line) (v : Plain) → if_line_prints_value form l (read l) ≡ Ok v → Fit s v) → FieldsComplete fs
-    → (l rest : Line) (ls : List Line) (k : ℕ) → NamedHere name l rest → field_on_line (λ x. if_line_prints_value form x (read x)) (fields_read fs) ls (strip_prefix (codes " ") rest) ≡ no_values k → FieldsCompleted (field name s fs) (l ∷ ls) k
+    → (l rest : Line) (ls : List Line) (k : ℕ) → NamedHere name l rest → fields_read_with_value_on_line (λ x. if_line_prints_value form x (read x)) (fields_read fs) ls (strip_prefix (codes " ") rest) ≡ no_values k → FieldsCompleted (field name s fs) (l ∷ ls) k
 on_line_completed name s fs form read h fits next l rest ls k here e = go (strip_prefix (codes " ") rest) refl e
   where
     formed : (word : Line) (v : Plain) → if_line_prints_value form word (read word) ≡ Ok v → form v ≡ word
@@ -461,27 +461,27 @@ on_line_completed name s fs form read h fits next l rest ls k here e = go (strip
               | inr x ↦ absurd (let f = x.1 in cc)
             ]
 
-    after : (word : Line) → Some word ≡ strip_prefix (codes " ") rest → (x : ResultOrBadLine Plain) → if_line_prints_value form word (read word) ≡ x → and_then x (λ v. after_lines 1 (more v) (fields_read fs ls)) ≡ no_values k → FieldsCompleted (field name s fs) (l ∷ ls) k
+    after : (word : Line) → Some word ≡ strip_prefix (codes " ") rest → (x : ResultOrBadLine Plain) → if_line_prints_value form word (read word) ≡ x → and_then x (λ v. mapped_or_bad_line_shifted_by 1 (more v) (fields_read fs ls)) ≡ no_values k → FieldsCompleted (field name s fs) (l ∷ ls) k
     after word space (Err j) is e = no_field (field name s fs) (l ∷ ls) k (sym (values_number j k e) ∙ form_zero form word (read word) j is)
     after word space (Ok v) is e =
         let (j, bad, count) = later 1 v (fields_read fs ls) k e in
         line_passed name s fs form h l rest word ls k j v here space (fits word v is) (formed word v is) count (next ls j bad)
 
-    go : (o : Option Line) → o ≡ strip_prefix (codes " ") rest → field_on_line (λ x. if_line_prints_value form x (read x)) (fields_read fs) ls o ≡ no_values k → FieldsCompleted (field name s fs) (l ∷ ls) k
+    go : (o : Option Line) → o ≡ strip_prefix (codes " ") rest → fields_read_with_value_on_line (λ x. if_line_prints_value form x (read x)) (fields_read fs) ls o ≡ no_values k → FieldsCompleted (field name s fs) (l ∷ ls) k
     go None space e = no_field (field name s fs) (l ∷ ls) k (sym (values_number 0 k e))
     go (Some word) space e = after word space (if_line_prints_value form word (read word)) refl e
 
 -- a field's value in the block below its name
 below_completed : (name : List ℕ) (s : Shape) (fs : Fields) → ((v : Plain) → named_lines s name v ≡ named_block name (block_lines s v)) → Completes s → FieldsComplete fs
-    → (l rest : Line) (ls : List Line) (k : ℕ) → NamedHere name l rest → field_with_value_below (block_read s) (fields_read fs) (split_block ls) rest ≡ no_values k → FieldsCompleted (field name s fs) (l ∷ ls) k
+    → (l rest : Line) (ls : List Line) (k : ℕ) → NamedHere name l rest → fields_read_with_value_below (block_read s) (fields_read fs) (block_and_lines_after ls) rest ≡ no_values k → FieldsCompleted (field name s fs) (l ∷ ls) k
 below_completed name s fs h inner next l (c ∷ cs) ls k here e = no_field (field name s fs) (l ∷ ls) k (sym (values_number 0 k e))
-below_completed name s fs h inner next l [] ls k here e = go (block_read s (split_block ls).0) refl e
+below_completed name s fs h inner next l [] ls k here e = go (block_read s (block_and_lines_after ls).0) refl e
   where
-    go : (x : ResultOrBadLine Plain) → block_read s (split_block ls).0 ≡ x → and_then (after_lines 1 (λ v. v) x) (λ v. after_lines (1 + length (split_block ls).0) (more v) (fields_read fs (split_block ls).1)) ≡ no_values k → FieldsCompleted (field name s fs) (l ∷ ls) k
-    go (Err j) is e = below_ends name s fs h l [] ls k j here refl (sym (values_number (1 + j) k e)) (inner (split_block ls).0 j is)
+    go : (x : ResultOrBadLine Plain) → block_read s (block_and_lines_after ls).0 ≡ x → and_then (mapped_or_bad_line_shifted_by 1 (λ v. v) x) (λ v. mapped_or_bad_line_shifted_by (1 + length (block_and_lines_after ls).0) (more v) (fields_read fs (block_and_lines_after ls).1)) ≡ no_values k → FieldsCompleted (field name s fs) (l ∷ ls) k
+    go (Err j) is e = below_ends name s fs h l [] ls k j here refl (sym (values_number (1 + j) k e)) (inner (block_and_lines_after ls).0 j is)
     go (Ok v) is e =
-        let (j, bad, count) = later (1 + length (split_block ls).0) v (fields_read fs (split_block ls).1) k e in
-        below_passed name s fs h l [] ls k j v here refl is count (next (split_block ls).1 j bad)
+        let (j, bad, count) = later (1 + length (block_and_lines_after ls).0) v (fields_read fs (block_and_lines_after ls).1) k e in
+        below_passed name s fs h l [] ls k j v here refl is count (next (block_and_lines_after ls).1 j bad)
 
 number_fits : (l : Line) (v : Plain) → if_line_prints_value int_line l (int_read l) ≡ Ok v → Fit number v
 unfolding block_read
@@ -508,12 +508,12 @@ unfolding fields_read
 field_completed name s fs h next [] k e = absurd cc
 field_completed name s fs h next (l ∷ ls) k e = go (strip_prefix (name ++ codes ":") l) refl e
   where
-    go : (o : Option Line) → o ≡ strip_prefix (name ++ codes ":") l → if_named (after_lines 0 (more null) (fields_read fs (l ∷ ls))) (named_read s (fields_read fs) ls) o ≡ no_values k → FieldsCompleted (field name s fs) (l ∷ ls) k
+    go : (o : Option Line) → o ≡ strip_prefix (name ++ codes ":") l → fields_read_by_name_match (mapped_or_bad_line_shifted_by 0 (more null) (fields_read fs (l ∷ ls))) (named_read s (fields_read fs) ls) o ≡ no_values k → FieldsCompleted (field name s fs) (l ∷ ls) k
     go None named e =
         let (j, bad, count) = later 0 null (fields_read fs (l ∷ ls)) k e in
         let same : j ≡ k = omega (arith, count) in
         let c = next (l ∷ ls) k (bad ∙ ap no_values same) in
-        record { values = put_first_without_last_null null c.values; fit = null_fit name s fs c.values c.fit; count = c.count; rest = c.rest; lines = null_lines name s fs c.values ∙ c.lines }
+        record { values = prepend_plain_unless_last_null null c.values; fit = null_fit name s fs c.values c.fit; count = c.count; rest = c.rest; lines = null_lines name s fs c.values ∙ c.lines }
     go (Some rest) named e = named_completed name s fs h next l rest ls k (named_here name l rest named) e
 
 no_fields_completed : FieldsComplete no_fields
@@ -528,7 +528,7 @@ unfolding block_read block_lines
 object_completed which fs p h ls k e =
     elim (obj_bad (fields_read fs ls) k e) [
       | inl bad ↦ by_values (h ls k bad)
-      | inr nothing ↦ at_first (object which fs) p ls k (sym (value_number 0 k (sym (ap (λ (r : ResultOrBadLine Plains). and_then r obj_read) nothing) ∙ e)))
+      | inr nothing ↦ at_first (object which fs) p ls k (sym (value_number 0 k (sym (ap (λ (r : ResultOrBadLine Plains). and_then r object_unless_empty) nothing) ∙ e)))
     ]
   where
     empty_front : (xs ys : List Line) → [] ≡ xs ++ ys → xs ≡ []

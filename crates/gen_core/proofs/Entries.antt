@@ -2,12 +2,12 @@
 use Rattle.std.proofs.Common.{◌≡◌, ◌≢◌, ℕ, zero, suc, ◌+◌, ◌<◌, ◌≤◌, Bool, true, false, cond, List, [], ◌∷◌, ◌++◌, length, drop, Option, Some, None, Result, Ok, Err, refl, sym, ap, subst, ◌∙◌, append_assoc, arith, inl, inr}
 use Rattle.std.specs.Prelude.{codes, bytes_eq, OnOk, IfErr}
 use Rattle.std.proofs.lemmas.List.{length-append}
-use Rattle.adb_view.specs.Plain.{Plain, Plains, null, none, more, arr, obj, arr_value, obj_value, obj_of, without_last_nulls, Shape, number, text, hash, array, object, Fields}
+use Rattle.adb_view.specs.Plain.{Plain, Plains, null, none, more, arr, obj, array_or_null, trimmed_object_or_null, object_or_null, without_last_nulls, Shape, number, text, hash, array, object, Fields}
 use Rattle.adb_values.specs.Drafts.{DraftState, draft_with, draft_with_all, draft_with_open_list}
 use Rattle.base_core.specs.Lists.{and_then}
 use Rattle.adb_dump.specs.Dump.{Line}
 use Rattle.adb_dump.specs.Margin.{margin}
-use Rattle.adb_dump.specs.ReadBack.{ResultOrBadLine, after_lines, strip_prefix, end_block_or_add_line, split_block, with_line_before_block, single_line_value, entry_read, entries_after_dash, entries_read, arr_read, obj_read, field_on_line, field_with_value_below, if_named, block_read, named_read, fields_read}
+use Rattle.adb_dump.specs.ReadBack.{ResultOrBadLine, mapped_or_bad_line_shifted_by, strip_prefix, end_block_or_add_line, block_and_lines_after, with_line_before_block, single_line_value, entry_read, entries_from_dash_line, entries_read, array_unless_empty, object_unless_empty, fields_read_with_value_on_line, fields_read_with_value_below, fields_read_by_name_match, block_read, named_read, fields_read}
 use Rattle.adb_dump.proofs.Booleans.{chosen}
 use Rattle.adb_dump.proofs.ReadOnly.{FieldsOnly, fields_only, some_line as no_line}
 use Rattle.adb_dump.proofs.ValueBack.{strip_prefix-append}
@@ -28,19 +28,19 @@ block_len depth (l ∷ ls) = go (strip_prefix (margin depth) l) (block_len depth
     go (Some inner) h = omega (arith, h)
 
 -- the two parts of a block have its lines
-pub split_count : (ls : List Line) → length (split_block ls).0 + length (split_block ls).1 ≡ length ls
+pub split_count : (ls : List Line) → length (block_and_lines_after ls).0 + length (block_and_lines_after ls).1 ≡ length ls
 split_count [] = omega arith
 split_count (l ∷ ls) = go (strip_prefix (codes "  ") l) (split_count ls)
   where
-    go : (o : Option Line) → length (split_block ls).0 + length (split_block ls).1 ≡ length ls → length (end_block_or_add_line l ls o (split_block ls)).0 + length (end_block_or_add_line l ls o (split_block ls)).1 ≡ length (l ∷ ls)
+    go : (o : Option Line) → length (block_and_lines_after ls).0 + length (block_and_lines_after ls).1 ≡ length ls → length (end_block_or_add_line l ls o (block_and_lines_after ls)).0 + length (end_block_or_add_line l ls o (block_and_lines_after ls)).1 ≡ length (l ∷ ls)
     go None h = omega arith
     go (Some inner) h = omega (arith, h)
 
 -- ---- entries
 
-same_dash : (f : List Line → ResultOrBadLine Plain) (g h : List Line → ResultOrBadLine Plains) (r : Split) (o : Option Line) → g r.1 ≡ h r.1 → entries_after_dash f g r o ≡ entries_after_dash f h r o
+same_dash : (f : List Line → ResultOrBadLine Plain) (g h : List Line → ResultOrBadLine Plains) (r : Split) (o : Option Line) → g r.1 ≡ h r.1 → entries_from_dash_line f g r o ≡ entries_from_dash_line f h r o
 same_dash f g h r None e = refl
-same_dash f g h r (Some l) e = ap (λ (x : ResultOrBadLine Plains). and_then (entry_read f l r.0) (λ v. after_lines (1 + length r.0) (more v) x)) e
+same_dash f g h r (Some l) e = ap (λ (x : ResultOrBadLine Plains). and_then (entry_read f l r.0) (λ v. mapped_or_bad_line_shifted_by (1 + length r.0) (more v) x)) e
 
 -- the number of lines is enough turns
 turns_enough : (f : List Line → ResultOrBadLine Plain) (n m : ℕ) (ls : List Line) → length ls ≤ n → length ls ≤ m → entries_read f n ls ≡ entries_read f m ls
@@ -51,8 +51,8 @@ turns_enough f (suc n) zero [] a b = refl
 turns_enough f (suc n) zero (l ∷ ls) a b = absurd (omega (arith, b))
 turns_enough f (suc n) (suc m) [] a b = refl
 turns_enough f (suc n) (suc m) (l ∷ ls) a b =
-    same_dash f (entries_read f n) (entries_read f m) (split_block ls) (strip_prefix (codes "- ") l)
-    (turns_enough f n m (split_block ls).1 (omega (arith, a, split_count ls)) (omega (arith, b, split_count ls)))
+    same_dash f (entries_read f n) (entries_read f m) (block_and_lines_after ls) (strip_prefix (codes "- ") l)
+    (turns_enough f n m (block_and_lines_after ls).1 (omega (arith, a, split_count ls)) (omega (arith, b, split_count ls)))
 
 -- an entry's place: its first line has lost its dash, and stands as one that is indented deeper
 pub record EntryPlace (depth : ℕ) (line entry : Line) (c : CursorState) : Type 0 where
@@ -61,9 +61,9 @@ pub record EntryPlace (depth : ℕ) (line entry : Line) (c : CursorState) : Type
   -- the block that it begins
   pub outer : block_at depth c.lines ≡ (line ∷ (block_at depth others).0, (block_at depth others).1)
   -- the entry's block
-  pub inner : block_at (depth + 1) (cursor_at_entry (depth + 1) entry c.lines c).lines ≡ (entry ∷ (split_block (block_at depth others).0).0, (block_at (depth + 1) others).1)
+  pub inner : block_at (depth + 1) (cursor_at_entry (depth + 1) entry c.lines c).lines ≡ (entry ∷ (block_and_lines_after (block_at depth others).0).0, (block_at (depth + 1) others).1)
   -- what is left of the outer block after it
-  pub later : block_at depth (block_at (depth + 1) others).1 ≡ ((split_block (block_at depth others).0).1, (block_at depth others).1)
+  pub later : block_at depth (block_at (depth + 1) others).1 ≡ ((block_and_lines_after (block_at depth others).0).1, (block_at depth others).1)
   pub number : (cursor_at_entry (depth + 1) entry c.lines c).number ≡ c.number
   pub shorter : length (block_at (depth + 1) others).1 < length c.lines
 
@@ -86,9 +86,9 @@ entry_place depth line entry c e =
 
 -- the entries from one on, by the entry
 entries_from : (f : List Line → ResultOrBadLine Plain) (line entry : Line) (ls rest : List Line) (d : DraftState) (c : CursorState) → Some entry ≡ strip_prefix (codes "- ") line
-    → values_taken (entries_read f (length (line ∷ ls)) (line ∷ ls)) (line ∷ ls, rest) d c ≡ values_taken (entries_after_dash f (entries_read f (length ls)) (split_block ls) (Some entry)) (line ∷ ls, rest) d c
+    → values_taken (entries_read f (length (line ∷ ls)) (line ∷ ls)) (line ∷ ls, rest) d c ≡ values_taken (entries_from_dash_line f (entries_read f (length ls)) (block_and_lines_after ls) (Some entry)) (line ∷ ls, rest) d c
 entries_from f line entry ls rest d c e =
-    ap (λ (o : Option Line). values_taken (entries_after_dash f (entries_read f (length ls)) (split_block ls) o) (line ∷ ls, rest) d c) (sym e)
+    ap (λ (o : Option Line). values_taken (entries_from_dash_line f (entries_read f (length ls)) (block_and_lines_after ls) o) (line ∷ ls, rest) d c) (sym e)
 
 pub entry_bad : (f : List Line → ResultOrBadLine Plain) (depth : ℕ) (line entry : Line) (d : DraftState) (c : CursorState) → Some line ≡ line_of_block (block_at depth c.lines).0 → Some entry ≡ strip_prefix (codes "- ") line → (n : ℕ)
     → (let new = cursor_at_entry (depth + 1) entry c.lines c in block_taken (entry_block_read f (block_at (depth + 1) new.lines).0) (block_at (depth + 1) new.lines) d new ≡ bad_at n)
@@ -100,11 +100,11 @@ entry_bad f depth line entry d c e dash n bad =
     let inner = sym (ap (λ (b : Split). block_taken (entry_block_read f b.0) b d new) p.inner) ∙ bad in
     ap (λ (b : Split). values_taken (entries_read f (length b.0) b.0) b d c) p.outer
     ∙ entries_from f line entry ls (block_at depth p.others).1 d c dash
-    ∙ go (entry_read f entry (split_block ls).0) (inner ∙ refl) p.number
+    ∙ go (entry_read f entry (block_and_lines_after ls).0) (inner ∙ refl) p.number
   where
-    go : (r : ResultOrBadLine Plain) → block_taken r (entry ∷ (split_block (block_at depth (entry_place depth line entry c e).others).0).0, (block_at (depth + 1) (entry_place depth line entry c e).others).1) d (cursor_at_entry (depth + 1) entry c.lines c) ≡ bad_at n
+    go : (r : ResultOrBadLine Plain) → block_taken r (entry ∷ (block_and_lines_after (block_at depth (entry_place depth line entry c e).others).0).0, (block_at (depth + 1) (entry_place depth line entry c e).others).1) d (cursor_at_entry (depth + 1) entry c.lines c) ≡ bad_at n
         → (cursor_at_entry (depth + 1) entry c.lines c).number ≡ c.number
-        → values_taken (and_then r (λ v. after_lines (1 + length (split_block (block_at depth (entry_place depth line entry c e).others).0).0) (more v) (entries_read f (length (block_at depth (entry_place depth line entry c e).others).0) (split_block (block_at depth (entry_place depth line entry c e).others).0).1)))
+        → values_taken (and_then r (λ v. mapped_or_bad_line_shifted_by (1 + length (block_and_lines_after (block_at depth (entry_place depth line entry c e).others).0).0) (more v) (entries_read f (length (block_at depth (entry_place depth line entry c e).others).0) (block_and_lines_after (block_at depth (entry_place depth line entry c e).others).0).1)))
         (line ∷ (block_at depth (entry_place depth line entry c e).others).0, (block_at depth (entry_place depth line entry c e).others).1) d c ≡ bad_at n
     go (Ok v) h same = absurd cc
     go (Err k) h same = ap (λ (m : ℕ). bad_at (m + k)) (sym same) ∙ h
@@ -129,12 +129,12 @@ one p q e = cc
 -- after an entry that was read
 entry_read_left : (f : List Line → ResultOrBadLine Plain) (depth : ℕ) (line entry : Line) (d : DraftState) (c new : CursorState) (p : EntryPlace depth line entry c) (v : Plain) → new.number ≡ c.number
     → values_taken (entries_read f (length (block_at depth c.lines).0) (block_at depth c.lines).0) (block_at depth c.lines) d c
-    ≡ values_taken (after_lines (1 + length (split_block (block_at depth p.others).0).0) (more v) (entries_read f (length (block_at depth p.others).0) (split_block (block_at depth p.others).0).1)) (line ∷ (block_at depth p.others).0, (block_at depth p.others).1) d c
-    → EntryLeft f depth d c (draft_with v d, cursor_after_block (entry ∷ (split_block (block_at depth p.others).0).0, (block_at (depth + 1) p.others).1) new)
+    ≡ values_taken (mapped_or_bad_line_shifted_by (1 + length (block_and_lines_after (block_at depth p.others).0).0) (more v) (entries_read f (length (block_at depth p.others).0) (block_and_lines_after (block_at depth p.others).0).1)) (line ∷ (block_at depth p.others).0, (block_at depth p.others).1) d c
+    → EntryLeft f depth d c (draft_with v d, cursor_after_block (entry ∷ (block_and_lines_after (block_at depth p.others).0).0, (block_at (depth + 1) p.others).1) new)
 entry_read_left f depth line entry d c new p v same whole =
     let ls = (block_at depth p.others).0 in
     let rest = (block_at depth p.others).1 in
-    let r = split_block ls in
+    let r = block_and_lines_after ls in
     let left = (block_at (depth + 1) p.others).1 in
     let place : CursorState = cursor_from_parts left (new.number + length (entry ∷ r.0)) 0 in
     let goes : CountsOnlyRise (line ∷ ls, rest) (r.1, rest) (1 + length r.0) c place = record {
@@ -168,17 +168,17 @@ entry_left f depth line entry d c e dash later ok = go (entry_read f entry r.0) 
     ls = (block_at depth p.others).0
 
     r : Split
-    r = split_block ls
+    r = block_and_lines_after ls
 
     inner : block_taken (entry_read f entry r.0) (entry ∷ r.0, (block_at (depth + 1) p.others).1) d new ≡ Ok later
     inner = sym (ap (λ (b : Split). block_taken (entry_block_read f b.0) b d new) p.inner) ∙ ok
 
     whole : values_taken (entries_read f (length (block_at depth c.lines).0) (block_at depth c.lines).0) (block_at depth c.lines) d c
-        ≡ values_taken (and_then (entry_read f entry r.0) (λ v. after_lines (1 + length r.0) (more v) (entries_read f (length ls) r.1))) (line ∷ ls, (block_at depth p.others).1) d c
+        ≡ values_taken (and_then (entry_read f entry r.0) (λ v. mapped_or_bad_line_shifted_by (1 + length r.0) (more v) (entries_read f (length ls) r.1))) (line ∷ ls, (block_at depth p.others).1) d c
     whole = ap (λ (b : Split). values_taken (entries_read f (length b.0) b.0) b d c) p.outer ∙ entries_from f line entry ls (block_at depth p.others).1 d c dash
 
     go : (x : ResultOrBadLine Plain) → block_taken x (entry ∷ r.0, (block_at (depth + 1) p.others).1) d new ≡ Ok later
-        → values_taken (entries_read f (length (block_at depth c.lines).0) (block_at depth c.lines).0) (block_at depth c.lines) d c ≡ values_taken (and_then x (λ v. after_lines (1 + length r.0) (more v) (entries_read f (length ls) r.1))) (line ∷ ls, (block_at depth p.others).1) d c
+        → values_taken (entries_read f (length (block_at depth c.lines).0) (block_at depth c.lines).0) (block_at depth c.lines) d c ≡ values_taken (and_then x (λ v. mapped_or_bad_line_shifted_by (1 + length r.0) (more v) (entries_read f (length ls) r.1))) (line ∷ ls, (block_at depth p.others).1) d c
         → EntryLeft f depth d c later
     go (Err k) h whole = absurd cc
     go (Ok v) h whole = subst (λ (x : Reading). EntryLeft f depth d c x) (one (draft_with v d, cursor_after_block (entry ∷ r.0, (block_at (depth + 1) p.others).1) new) later h) (entry_read_left f depth line entry d c new p v p.number whole)
@@ -190,7 +190,7 @@ no_dash f depth line d c e dash =
     let t = block_at depth (first_line depth c.lines line e).others in
     let zero_more : c.number + 0 ≡ c.number = omega arith in
     ap (λ (b : Split). values_taken (entries_read f (length b.0) b.0) b d c) b
-    ∙ ap (λ (o : Option Line). values_taken (entries_after_dash f (entries_read f (length t.0)) (split_block t.0) o) (line ∷ t.0, t.1) d c) (sym dash)
+    ∙ ap (λ (o : Option Line). values_taken (entries_from_dash_line f (entries_read f (length t.0)) (block_and_lines_after t.0) o) (line ∷ t.0, t.1) d c) (sym dash)
     ∙ ap bad_at zero_more
 
 -- ---- an entry
@@ -235,7 +235,7 @@ pub list_bad : (x : ResultOrBadLine Plains) (read : Plains → ResultOrBadLine P
 list_bad (Err k) read block d o c n e = e
 list_bad (Ok vs) read block d o c n e = absurd cc
 
-more_values : (o : ResultOrBadLine Plain) (n : ℕ) (r : ResultOrBadLine Plains) → and_then o (λ v. after_lines n (more v) r) ≢ Ok none
+more_values : (o : ResultOrBadLine Plain) (n : ℕ) (r : ResultOrBadLine Plains) → and_then o (λ v. mapped_or_bad_line_shifted_by n (more v) r) ≢ Ok none
 more_values (Ok v) n (Ok vs) e = absurd cc
 more_values (Ok v) n (Err k) e = absurd cc
 more_values (Err k) n r e = absurd cc
@@ -244,31 +244,31 @@ pub some_entries : (f : List Line → ResultOrBadLine Plain) (ls : List Line) (l
 some_entries f [] line e = absurd cc
 some_entries f (l ∷ ls) line e = go (strip_prefix (codes "- ") l)
   where
-    go : (o : Option Line) → entries_after_dash f (entries_read f (length ls)) (split_block ls) o ≢ Ok none
+    go : (o : Option Line) → entries_from_dash_line f (entries_read f (length ls)) (block_and_lines_after ls) o ≢ Ok none
     go None e = absurd cc
-    go (Some m) e = more_values (entry_read f m (split_block ls).0) (1 + length (split_block ls).0) (entries_read f (length ls) (split_block ls).1) e
+    go (Some m) e = more_values (entry_read f m (block_and_lines_after ls).0) (1 + length (block_and_lines_after ls).0) (entries_read f (length ls) (block_and_lines_after ls).1) e
 
-pub array_made : (f : List Line → ResultOrBadLine Plain) (ls : List Line) (line : Line) → Some line ≡ line_of_block ls → (vs : Plains) → entries_read f (length ls) ls ≡ Ok vs → arr_read vs ≡ Ok (arr_value vs)
+pub array_made : (f : List Line → ResultOrBadLine Plain) (ls : List Line) (line : Line) → Some line ≡ line_of_block ls → (vs : Plains) → entries_read f (length ls) ls ≡ Ok vs → array_unless_empty vs ≡ Ok (array_or_null vs)
 array_made f ls line e none is = absurd (some_entries f ls line e is)
 array_made f ls line e (more v vs) is = refl
 
-pub object_made : (fs : Fields) (ls : List Line) (line : Line) → Some line ≡ line_of_block ls → (vs : Plains) → fields_read fs ls ≡ Ok vs → obj_read vs ≡ Ok (obj_value vs)
+pub object_made : (fs : Fields) (ls : List Line) (line : Line) → Some line ≡ line_of_block ls → (vs : Plains) → fields_read fs ls ≡ Ok vs → object_unless_empty vs ≡ Ok (trimmed_object_or_null vs)
 object_made fs [] line e vs is = absurd cc
 object_made fs (l ∷ ls) line e vs is = go vs (fields_only fs (l ∷ ls) vs is)
   where
-    go : (vs : Plains) → FieldsOnly fs (l ∷ ls) vs → obj_read vs ≡ Ok (obj_value vs)
+    go : (vs : Plains) → FieldsOnly fs (l ∷ ls) vs → object_unless_empty vs ≡ Ok (trimmed_object_or_null vs)
     go none r = absurd (no_line fs l ls r.lines)
-    go (more v vs) r = ap (λ (us : Plains). let x : ResultOrBadLine Plain = Ok (obj_of us) in x) (sym r.trim)
+    go (more v vs) r = ap (λ (us : Plains). let x : ResultOrBadLine Plain = Ok (object_or_null us) in x) (sym r.trim)
 
 -- ---- the value of a field
 
 -- the shape's value is on the line of its field's name
 abbrev pub IsOnLine : Shape → Type 0
-IsOnLine s = (g : List Line → ResultOrBadLine Plains) (ls : List Line) (l : Line) → named_read s g ls l ≡ field_on_line (line_read s) g ls (strip_prefix (codes " ") l)
+IsOnLine s = (g : List Line → ResultOrBadLine Plains) (ls : List Line) (l : Line) → named_read s g ls l ≡ fields_read_with_value_on_line (line_read s) g ls (strip_prefix (codes " ") l)
 
 -- the shape's value is below its field's name
 abbrev pub IsBelow : Shape → Type 0
-IsBelow s = (g : List Line → ResultOrBadLine Plains) (ls : List Line) (l : Line) → named_read s g ls l ≡ field_with_value_below (block_read s) g (split_block ls) l
+IsBelow s = (g : List Line → ResultOrBadLine Plains) (ls : List Line) (l : Line) → named_read s g ls l ≡ fields_read_with_value_below (block_read s) g (block_and_lines_after ls) l
 
 some_line : (ls : List Line) → 0 < length ls → (line : Line) × (Some line ≡ line_of_block ls)
 some_line [] lt = absurd (omega arith)
@@ -283,14 +283,14 @@ zero_more n = let e : n + 0 ≡ n = omega arith in ap bad_at e
 
 pub no_space : (s : Shape) → IsOnLine s → (g : List Line → ResultOrBadLine Plains) (ls : List Line) (value : Line) (block : Split) (d : DraftState) (c : CursorState) → None ≡ strip_prefix (codes " ") value → values_taken (named_read s g ls value) block d c ≡ bad_at c.number
 no_space s h g ls value block d c e =
-    ap (λ (r : ResultOrBadLine Plains). values_taken r block d c) (h g ls value ∙ ap (field_on_line (line_read s) g ls) (sym e)) ∙ zero_more c.number
+    ap (λ (r : ResultOrBadLine Plains). values_taken r block d c) (h g ls value ∙ ap (fields_read_with_value_on_line (line_read s) g ls) (sym e)) ∙ zero_more c.number
 
 pub line_bad : (s : Shape) → IsOnLine s → (g : List Line → ResultOrBadLine Plains) (ls : List Line) (value word : Line) (block : Split) (d : DraftState) (c : CursorState) (n : ℕ) → Some word ≡ strip_prefix (codes " ") value → draft_and_cursor_after_line (line_read s word) d c ≡ bad_at n
     → values_taken (named_read s g ls value) block d c ≡ bad_at n
 line_bad s h g ls value word block d c n e bad =
-    ap (λ (r : ResultOrBadLine Plains). values_taken r block d c) (h g ls value ∙ ap (field_on_line (line_read s) g ls) (sym e)) ∙ go (line_read s word) bad
+    ap (λ (r : ResultOrBadLine Plains). values_taken r block d c) (h g ls value ∙ ap (fields_read_with_value_on_line (line_read s) g ls) (sym e)) ∙ go (line_read s word) bad
   where
-    go : (x : ResultOrBadLine Plain) → draft_and_cursor_after_line x d c ≡ bad_at n → values_taken (and_then x (λ v. after_lines 1 (more v) (g ls))) block d c ≡ bad_at n
+    go : (x : ResultOrBadLine Plain) → draft_and_cursor_after_line x d c ≡ bad_at n → values_taken (and_then x (λ v. mapped_or_bad_line_shifted_by 1 (more v) (g ls))) block d c ≡ bad_at n
     go (Ok v) bad = absurd cc
     go (Err k) bad = bad
 
@@ -323,8 +323,8 @@ line_left s h depth value word d c some e later ok = go (line_read s word) refl 
       levels = refl;
       goes = λ g.
           ap (λ (b : Split). values_taken (named_read s g (drop 1 b.0) value) b d c) f.block
-          ∙ ap (λ (r : ResultOrBadLine Plains). values_taken r (first.0 ∷ t.0, t.1) d c) (h g t.0 value ∙ ap (field_on_line (line_read s) g t.0) (sym e))
-          ∙ ap (λ (x : ResultOrBadLine Plain). values_taken (and_then x (λ v. after_lines 1 (more v) (g t.0))) (first.0 ∷ t.0, t.1) d c) is
+          ∙ ap (λ (r : ResultOrBadLine Plains). values_taken r (first.0 ∷ t.0, t.1) d c) (h g t.0 value ∙ ap (fields_read_with_value_on_line (line_read s) g t.0) (sym e))
+          ∙ ap (λ (x : ResultOrBadLine Plain). values_taken (and_then x (λ v. mapped_or_bad_line_shifted_by 1 (more v) (g t.0))) (first.0 ∷ t.0, t.1) d c) is
           ∙ later_values (first.0 ∷ t.0, t.1) t 1 d c (cursor_from_parts f.others (c.number + 1) 0) goes v (g t.0);
     }
 
@@ -342,8 +342,8 @@ record Below (depth : ℕ) (c : CursorState) : Type 0 where
   line : Line
   first : FirstLine depth c.lines line
   next : cursor_after_line c.lines c ≡ cursor_from_parts first.others (c.number + 1) 0
-  inner : (block_at (depth + 1) (cursor_after_line c.lines c).lines) ≡ ((split_block (block_at depth first.others).0).0, (block_at (depth + 1) first.others).1)
-  later : block_at depth (block_at (depth + 1) first.others).1 ≡ ((split_block (block_at depth first.others).0).1, (block_at depth first.others).1)
+  inner : (block_at (depth + 1) (cursor_after_line c.lines c).lines) ≡ ((block_and_lines_after (block_at depth first.others).0).0, (block_at (depth + 1) first.others).1)
+  later : block_at depth (block_at (depth + 1) first.others).1 ≡ ((block_and_lines_after (block_at depth first.others).0).1, (block_at depth first.others).1)
 
 below : (depth : ℕ) (c : CursorState) → 0 < length (block_at depth c.lines).0 → Below depth c
 below depth c some =
@@ -359,21 +359,21 @@ below depth c some =
     }
 
 -- what is read of a field whose value is below
-below_read : (s : Shape) → IsBelow s → (depth : ℕ) (value : Line) (d : DraftState) (c : CursorState) (b : Below depth c) → value ≡ [] → (g : List Line → ResultOrBadLine Plains) → (x : ResultOrBadLine Plain) → block_read s (split_block (block_at depth b.first.others).0).0 ≡ x
+below_read : (s : Shape) → IsBelow s → (depth : ℕ) (value : Line) (d : DraftState) (c : CursorState) (b : Below depth c) → value ≡ [] → (g : List Line → ResultOrBadLine Plains) → (x : ResultOrBadLine Plain) → block_read s (block_and_lines_after (block_at depth b.first.others).0).0 ≡ x
     → values_taken (named_read s g (drop 1 (block_at depth c.lines).0) value) (block_at depth c.lines) d c
-    ≡ values_taken (and_then (after_lines 1 (λ v. v) x) (λ v. after_lines (1 + length (split_block (block_at depth b.first.others).0).0) (more v) (g (split_block (block_at depth b.first.others).0).1))) (b.line ∷ (block_at depth b.first.others).0, (block_at depth b.first.others).1) d c
+    ≡ values_taken (and_then (mapped_or_bad_line_shifted_by 1 (λ v. v) x) (λ v. mapped_or_bad_line_shifted_by (1 + length (block_and_lines_after (block_at depth b.first.others).0).0) (more v) (g (block_and_lines_after (block_at depth b.first.others).0).1))) (b.line ∷ (block_at depth b.first.others).0, (block_at depth b.first.others).1) d c
 below_read s h depth value d c b e g x is =
     let t = block_at depth b.first.others in
-    let r = split_block t.0 in
+    let r = block_and_lines_after t.0 in
     ap (λ (y : Split). values_taken (named_read s g (drop 1 y.0) value) y d c) b.first.block
-    ∙ ap (λ (y : ResultOrBadLine Plains). values_taken y (b.line ∷ t.0, t.1) d c) (h g t.0 value ∙ ap (field_with_value_below (block_read s) g r) e)
-    ∙ ap (λ (y : ResultOrBadLine Plain). values_taken (and_then (after_lines 1 (λ v. v) y) (λ v. after_lines (1 + length r.0) (more v) (g r.1))) (b.line ∷ t.0, t.1) d c) is
+    ∙ ap (λ (y : ResultOrBadLine Plains). values_taken y (b.line ∷ t.0, t.1) d c) (h g t.0 value ∙ ap (fields_read_with_value_below (block_read s) g r) e)
+    ∙ ap (λ (y : ResultOrBadLine Plain). values_taken (and_then (mapped_or_bad_line_shifted_by 1 (λ v. v) y) (λ v. mapped_or_bad_line_shifted_by (1 + length r.0) (more v) (g r.1))) (b.line ∷ t.0, t.1) d c) is
 
 -- the block below, as it was taken
 below_taken : (s : Shape) (depth : ℕ) (d : DraftState) (c : CursorState) (b : Below depth c) (y : DraftOrBadLine) → block_taken (block_read s (block_at (depth + 1) (cursor_after_line c.lines c).lines).0) (block_at (depth + 1) (cursor_after_line c.lines c).lines) d (cursor_after_line c.lines c) ≡ y
-    → block_taken (block_read s (split_block (block_at depth b.first.others).0).0) ((split_block (block_at depth b.first.others).0).0, (block_at (depth + 1) b.first.others).1) d (cursor_from_parts b.first.others (c.number + 1) 0) ≡ y
+    → block_taken (block_read s (block_and_lines_after (block_at depth b.first.others).0).0) ((block_and_lines_after (block_at depth b.first.others).0).0, (block_at (depth + 1) b.first.others).1) d (cursor_from_parts b.first.others (c.number + 1) 0) ≡ y
 below_taken s depth d c b y e =
-    let r = split_block (block_at depth b.first.others).0 in
+    let r = block_and_lines_after (block_at depth b.first.others).0 in
     let left = (block_at (depth + 1) b.first.others).1 in
     ap (λ (p : CursorState). block_taken (block_read s r.0) (r.0, left) d p) (sym b.next)
     ∙ ap (λ (x : Split). block_taken (block_read s x.0) x d (cursor_after_line c.lines c)) (sym b.inner) ∙ e
@@ -387,7 +387,7 @@ below_bad s h depth value d c some e n bad g = go (block_read s r.0) refl (below
     b = below depth c some
 
     r : Split
-    r = split_block (block_at depth b.first.others).0
+    r = block_and_lines_after (block_at depth b.first.others).0
 
     go : (x : ResultOrBadLine Plain) → block_read s r.0 ≡ x → block_taken x (r.0, (block_at (depth + 1) b.first.others).1) d (cursor_from_parts b.first.others (c.number + 1) 0) ≡ bad_at n
         → values_taken (named_read s g (drop 1 (block_at depth c.lines).0) value) (block_at depth c.lines) d c ≡ bad_at n
@@ -407,7 +407,7 @@ below_left s h depth value d c some e later ok = go (block_read s r.0) refl (bel
     t = block_at depth b.first.others
 
     r : Split
-    r = split_block t.0
+    r = block_and_lines_after t.0
 
     left : List Line
     left = (block_at (depth + 1) b.first.others).1

@@ -6,7 +6,7 @@ use Rattle.std.proofs.lemmas.Bool.{cases_lt, eqb-true, leb-true, not-true, and_p
 use Rattle.std.proofs.lemmas.List.{append-nil}
 use Rattle.std.proofs.lemmas.List.Concat.{flat_map-cons}
 use Rattle.hex.specs.Hex.{encode_with, encode_lower, lower_digits}
-use Rattle.adb_dump.specs.Dump.{is_printable, escape_of, begins_with_byte, needs_no_quotes, bare_or_quoted_text}
+use Rattle.adb_dump.specs.Dump.{is_printable, quoted_form_of_byte, begins_with_byte, needs_no_quotes, bare_or_quoted_text}
 use Rattle.adb_dump.proofs.Booleans.{chosen}
 use Rattle.adb_dump.proofs.LineBack.{AreBytes}
 use Rattle.gen_core.specs.Reads.{IsFormOf}
@@ -107,7 +107,7 @@ pair_some (h ∷ l ∷ cs) b e =
 
 -- ---- a byte between quotes
 
-pub escape_back : (c : ℕ) (more : List ℕ) → c < 256 → unescaped_at (escape_of c ++ more) ≡ Some (c, more)
+pub escape_back : (c : ℕ) (more : List ℕ) → c < 256 → unescaped_at (quoted_form_of_byte c ++ more) ≡ Some (c, more)
 escape_back c more lt = go (eqb c 10) refl
   where
     digits : List ℕ
@@ -131,7 +131,7 @@ escape_back c more lt = go (eqb c 10) refl
 
 -- what a byte that came first is
 abbrev IsFirst : List ℕ → FirstByte → Type 0
-IsFirst cs b = (escape_of b.0 ++ b.1 ≡ cs) × (b.0 < 256)
+IsFirst cs b = (quoted_form_of_byte b.0 ++ b.1 ≡ cs) × (b.0 < 256)
 
 shorter_some : (o : Option FirstByte) (b : FirstByte) → if_only_hex o ≡ Some b → (o ≡ Some b) × (eqb b.0 10 ≡ false) × (is_printable b.0 ≡ false)
 shorter_some None b e = absurd cc
@@ -184,7 +184,7 @@ escape_first (d ∷ cs) b e =
           ]
     ]
 
-pub first_some : (cs : List ℕ) (b : FirstByte) → unescaped_at cs ≡ Some b → (escape_of b.0 ++ b.1 ≡ cs) × (b.0 < 256)
+pub first_some : (cs : List ℕ) (b : FirstByte) → unescaped_at cs ≡ Some b → (quoted_form_of_byte b.0 ++ b.1 ≡ cs) × (b.0 < 256)
 first_some [] b e = absurd cc
 first_some (c ∷ cs) b e =
     elim (chosen (eqb c 0x5c) _ _ _ e) [
@@ -203,7 +203,7 @@ first_some (c ∷ cs) b e =
     small : (c : ℕ) → is_printable c ≡ true → c < 256
     small c p = let le : c ≤ 0x7e = leb-true _ _ (and_parts (leb 0x20 c) (leb c 0x7e) p).1 in omega (arith, le)
 
-    as_it_is : (c : ℕ) (cs : List ℕ) → eqb c 92 ≡ false → eqb c 34 ≡ false → is_printable c ≡ true → escape_of c ++ cs ≡ c ∷ cs
+    as_it_is : (c : ℕ) (cs : List ℕ) → eqb c 92 ≡ false → eqb c 34 ≡ false → is_printable c ≡ true → quoted_form_of_byte c ++ cs ≡ c ∷ cs
     as_it_is c cs e f p = let end : eqb c 10 ≡ false = no_end (eqb c 10) refl in rw (end, e, f, p) refl
       where
         no_end : (b : Bool) → eqb c 10 ≡ b → b ≡ false
@@ -230,11 +230,11 @@ hash_left (d ∷ ds) (x ∷ xs) rest a b e = hash_left ds xs rest a.1 b.1 (tails
 
 -- bytes between quotes, with the last quote
 abbrev pub quoted_rest : List ℕ → List ℕ
-quoted_rest b = flat_map escape_of b ++ codes "\""
+quoted_rest b = flat_map quoted_form_of_byte b ++ codes "\""
 
 first_of_rest : (b : ℕ) (bs : List ℕ) → b < 256 → unescaped_at (quoted_rest (b ∷ bs)) ≡ Some (b, quoted_rest bs)
 first_of_rest b bs lt =
-    ap unescaped_at (ap (λ (x : List ℕ). x ++ codes "\"") (flat_map-cons escape_of b bs) ∙ append_assoc (escape_of b) (flat_map escape_of bs) (codes "\""))
+    ap unescaped_at (ap (λ (x : List ℕ). x ++ codes "\"") (flat_map-cons quoted_form_of_byte b bs) ∙ append_assoc (quoted_form_of_byte b) (flat_map quoted_form_of_byte bs) (codes "\""))
     ∙ escape_back b (quoted_rest bs) lt
 
 firsts : (x y : FirstByte) → Some x ≡ Some y → x.0 ≡ y.0
@@ -249,16 +249,16 @@ rests x y e = ap (λ (r : FirstByte). r.1) (inner e)
     inner : Some x ≡ Some y → x ≡ y
     inner e = cc
 
-pub quoted_left : (done other rest : List ℕ) → AreBytes done → AreBytes other → quoted_rest other ≡ flat_map escape_of done ++ rest → Left quoted_rest rest
+pub quoted_left : (done other rest : List ℕ) → AreBytes done → AreBytes other → quoted_rest other ≡ flat_map quoted_form_of_byte done ++ rest → Left quoted_rest rest
 quoted_left [] other rest a b e = record { bytes = other; fits = b; is = e }
 quoted_left (d ∷ ds) [] rest a b e =
-    let there = e ∙ ap (λ (x : List ℕ). x ++ rest) (flat_map-cons escape_of d ds) ∙ append_assoc (escape_of d) (flat_map escape_of ds) rest in
-    let f = ap unescaped_at there ∙ escape_back d (flat_map escape_of ds ++ rest) a.0 in
+    let there = e ∙ ap (λ (x : List ℕ). x ++ rest) (flat_map-cons quoted_form_of_byte d ds) ∙ append_assoc (quoted_form_of_byte d) (flat_map quoted_form_of_byte ds) rest in
+    let f = ap unescaped_at there ∙ escape_back d (flat_map quoted_form_of_byte ds ++ rest) a.0 in
     absurd cc
 quoted_left (d ∷ ds) (x ∷ xs) rest a b e =
-    let there = e ∙ ap (λ (x : List ℕ). x ++ rest) (flat_map-cons escape_of d ds) ∙ append_assoc (escape_of d) (flat_map escape_of ds) rest in
-    let both = sym (first_of_rest x xs b.0) ∙ ap unescaped_at there ∙ escape_back d (flat_map escape_of ds ++ rest) a.0 in
-    quoted_left ds xs rest a.1 b.1 (rests (x, quoted_rest xs) (d, flat_map escape_of ds ++ rest) both)
+    let there = e ∙ ap (λ (x : List ℕ). x ++ rest) (flat_map-cons quoted_form_of_byte d ds) ∙ append_assoc (quoted_form_of_byte d) (flat_map quoted_form_of_byte ds) rest in
+    let both = sym (first_of_rest x xs b.0) ∙ ap unescaped_at there ∙ escape_back d (flat_map quoted_form_of_byte ds ++ rest) a.0 in
+    quoted_left ds xs rest a.1 b.1 (rests (x, quoted_rest xs) (d, flat_map quoted_form_of_byte ds ++ rest) both)
 
 -- where no byte comes first, only the last quote is left
 pub quote_alone : (rest : List ℕ) → Left quoted_rest rest → unescaped_at rest ≡ None → rest ≡ codes "\""
@@ -292,12 +292,12 @@ unfolding encode_with
 digits_more [] b = refl
 digits_more (c ∷ cs) b = ap (λ (x : List ℕ). slice_index lower_digits (c / 16) ∷ slice_index lower_digits (c % 16) ∷ x) (digits_more cs b)
 
-escapes_more : (bytes : List ℕ) (b : ℕ) → flat_map escape_of (bytes ++ b ∷ []) ≡ flat_map escape_of bytes ++ escape_of b
-escapes_more [] b = flat_map-cons escape_of b [] ∙ append-nil (escape_of b)
+escapes_more : (bytes : List ℕ) (b : ℕ) → flat_map quoted_form_of_byte (bytes ++ b ∷ []) ≡ flat_map quoted_form_of_byte bytes ++ quoted_form_of_byte b
+escapes_more [] b = flat_map-cons quoted_form_of_byte b [] ∙ append-nil (quoted_form_of_byte b)
 escapes_more (c ∷ cs) b =
-    flat_map-cons escape_of c (cs ++ b ∷ []) ∙ ap (λ (x : List ℕ). escape_of c ++ x) (escapes_more cs b)
-    ∙ sym (append_assoc (escape_of c) (flat_map escape_of cs) (escape_of b))
-    ∙ ap (λ (x : List ℕ). x ++ escape_of b) (sym (flat_map-cons escape_of c cs))
+    flat_map-cons quoted_form_of_byte c (cs ++ b ∷ []) ∙ ap (λ (x : List ℕ). quoted_form_of_byte c ++ x) (escapes_more cs b)
+    ∙ sym (append_assoc (quoted_form_of_byte c) (flat_map quoted_form_of_byte cs) (quoted_form_of_byte b))
+    ∙ ap (λ (x : List ℕ). x ++ quoted_form_of_byte b) (sym (flat_map-cons quoted_form_of_byte c cs))
 
 all_more : (bytes : List ℕ) (b : ℕ) → AreBytes bytes → b < 256 → AreBytes (bytes ++ b ∷ [])
 all_more [] b a lt = (lt, tt)
@@ -327,16 +327,16 @@ hash_more bytes rest line further new b r e is =
           ∙ ap (λ (x : List ℕ). encode_lower bytes ++ x) first.0 ∙ r.is;
     }
 
-pub quoted_more : (bytes rest line further new : List ℕ) (b : ℕ) → AreRead (flat_map escape_of) bytes rest line → first_byte b further ≡ unescaped_at rest → new ≡ bytes ++ b ∷ [] → AreRead (flat_map escape_of) new further line
+pub quoted_more : (bytes rest line further new : List ℕ) (b : ℕ) → AreRead (flat_map quoted_form_of_byte) bytes rest line → first_byte b further ≡ unescaped_at rest → new ≡ bytes ++ b ∷ [] → AreRead (flat_map quoted_form_of_byte) new further line
 quoted_more bytes rest line further new b r e is =
     let first = first_some rest (b, further) (sym e) in
     record {
       fits = subst AreBytes (sym is) (all_more bytes b r.fits first.1);
       is =
-          ap (λ (x : List ℕ). flat_map escape_of x ++ further) is
+          ap (λ (x : List ℕ). flat_map quoted_form_of_byte x ++ further) is
           ∙ ap (λ (x : List ℕ). x ++ further) (escapes_more bytes b)
-          ∙ append_assoc (flat_map escape_of bytes) (escape_of b) further
-          ∙ ap (λ (x : List ℕ). flat_map escape_of bytes ++ x) first.0 ∙ r.is;
+          ∙ append_assoc (flat_map quoted_form_of_byte bytes) (quoted_form_of_byte b) further
+          ∙ ap (λ (x : List ℕ). flat_map quoted_form_of_byte bytes ++ x) first.0 ∙ r.is;
     }
 
 pub empty_line : (xs : List ℕ) → true ≡ eqb (length xs) 0 → xs ≡ []
@@ -399,7 +399,7 @@ only_quoted (d ∷ ds) (x ∷ xs) a b e =
     let one : x ≡ d = firsts (x, quoted_rest xs) (d, quoted_rest ds) both in
     cc
 
-pub quoted_not_read : (bytes rest quoted : List ℕ) → AreRead (flat_map escape_of) bytes rest quoted → None ≡ unescaped_at rest → rest ≢ codes "\"" → IsFormOf bare_or_quoted_text false bytes (34 ∷ quoted)
+pub quoted_not_read : (bytes rest quoted : List ℕ) → AreRead (flat_map quoted_form_of_byte) bytes rest quoted → None ≡ unescaped_at rest → rest ≢ codes "\"" → IsFormOf bare_or_quoted_text false bytes (34 ∷ quoted)
 quoted_not_read bytes rest quoted r stop some other b ne e =
     some (quote_alone rest (quoted_left bytes other rest r.fits b (quoted_other other quoted e ∙ sym r.is)) (sym stop))
 
@@ -407,12 +407,12 @@ pub quoted_of_none : (bytes quoted : List ℕ) → quoted ≡ codes "\"" → IsF
 quoted_of_none bytes quoted is other b ne e = ne (only_quoted [] other tt b (quoted_other other quoted e ∙ is))
 
 -- all was read: whether the text has to stand between quotes
-pub quoted_all : (bytes rest quoted : List ℕ) (bare : Bool) → AreRead (flat_map escape_of) bytes rest quoted → quoted ≢ codes "\"" → rest ≡ codes "\"" → bare ≡ needs_no_quotes bytes → IsFormOf bare_or_quoted_text (not bare) bytes (34 ∷ quoted)
+pub quoted_all : (bytes rest quoted : List ℕ) (bare : Bool) → AreRead (flat_map quoted_form_of_byte) bytes rest quoted → quoted ≢ codes "\"" → rest ≡ codes "\"" → bare ≡ needs_no_quotes bytes → IsFormOf bare_or_quoted_text (not bare) bytes (34 ∷ quoted)
 quoted_all bytes rest quoted true r some e is = λ other b ne f.
-    let whole : quoted_rest bytes ≡ quoted = ap (λ (x : List ℕ). flat_map escape_of bytes ++ x) (sym e) ∙ r.is in
+    let whole : quoted_rest bytes ≡ quoted = ap (λ (x : List ℕ). flat_map quoted_form_of_byte bytes ++ x) (sym e) ∙ r.is in
     let same = only_quoted bytes other r.fits b (quoted_other other quoted f ∙ sym whole) in
     let bare : needs_no_quotes other ≡ true = ap needs_no_quotes same ∙ sym is in
     bare_unquoted other quoted bare (bare_form other bare ∙ f)
 quoted_all bytes rest quoted false r some e is =
-    let whole : quoted_rest bytes ≡ quoted = ap (λ (x : List ℕ). flat_map escape_of bytes ++ x) (sym e) ∙ r.is in
+    let whole : quoted_rest bytes ≡ quoted = ap (λ (x : List ℕ). flat_map quoted_form_of_byte bytes ++ x) (sym e) ∙ r.is in
     (λ none. some (sym whole ∙ ap quoted_rest none), quoted_form bytes (sym is) ∙ ap (λ (x : List ℕ). 34 ∷ x) whole)

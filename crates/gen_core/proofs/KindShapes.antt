@@ -11,7 +11,7 @@ use Rattle.base_core.specs.Lists.{and_then}
 use Rattle.adb_view.specs.declared.tables.Kind.{Kind}
 use Rattle.adb_view.specs.declared.tables.Kind.TheVariants.{Int, Text, Hash, Obj, TextArr, ObjArr}
 use Rattle.adb_dump.specs.Dump.{Line}
-use Rattle.adb_dump.specs.ReadBack.{ResultOrBadLine, arr_read, entries_read, fields_read, obj_read, value_read, single_line_value, field_on_line, field_with_value_below, block_read, named_read, split_block, strip_prefix}
+use Rattle.adb_dump.specs.ReadBack.{ResultOrBadLine, array_unless_empty, entries_read, fields_read, object_unless_empty, value_read, single_line_value, fields_read_with_value_on_line, fields_read_with_value_below, block_read, named_read, block_and_lines_after, strip_prefix}
 use Rattle.adb_dump.specs.Words.{has_one_line}
 use Rattle.gen_core.specs.Cursors.{CursorState, block_at, line_of_block}
 use Rattle.gen_core.specs.Reads.{block_taken, line_read}
@@ -80,16 +80,16 @@ below_name (ObjArr which) e = array_below _
 
 -- ---- lists
 
-pub array_read : (s : Shape) (ls : List Line) → block_read (array s) ls ≡ and_then (entries_read (block_read s) (length ls) ls) arr_read
+pub array_read : (s : Shape) (ls : List Line) → block_read (array s) ls ≡ and_then (entries_read (block_read s) (length ls) ls) array_unless_empty
 unfolding block_read
 array_read s ls = refl
 
-pub object_read : (which : ℕ) (fs : Fields) (ls : List Line) → block_read (object which fs) ls ≡ and_then (fields_read fs ls) obj_read
+pub object_read : (which : ℕ) (fs : Fields) (ls : List Line) → block_read (object which fs) ls ≡ and_then (fields_read fs ls) object_unless_empty
 unfolding block_read
 object_read which fs ls = refl
 
 -- an object of a table
-pub table_read : (w : Which) (ls : List Line) → block_read (shape_of (Obj w)) ls ≡ and_then (fields_read (shapes_of (table w)) ls) obj_read
+pub table_read : (w : Which) (ls : List Line) → block_read (shape_of (Obj w)) ls ≡ and_then (fields_read (shapes_of (table w)) ls) object_unless_empty
 table_read w ls = ap (λ (s : Shape). block_read s ls) (object_shape w) ∙ object_read (table_number w) (shapes_of (table w)) ls
 
 -- ---- one line by its kind

@@ -8,10 +8,10 @@ use Rattle.std.proofs.lemmas.List.Concat.{flat_map-cons}
 use Rattle.hex.specs.Hex.{encode_with, encode_lower, lower_digits}
 use Rattle.base_core.proofs.AtName.{other_name}
 use Rattle.adb_view.specs.Plain.{Plain, int, blob, number, text, hash}
-use Rattle.adb_dump.specs.Dump.{Line, is_printable, begins_with_byte, needs_no_quotes, escape_of, bare_or_quoted_text, int_line, text_line, hash_line}
-use Rattle.adb_dump.specs.ReadBack.{ResultOrBadLine, hex_value, quoted_read, unhex, blob_read, int_read, text_read, hash_read, if_line_prints_value}
+use Rattle.adb_dump.specs.Dump.{Line, is_printable, begins_with_byte, needs_no_quotes, quoted_form_of_byte, bare_or_quoted_text, int_line, text_line, hash_line}
+use Rattle.adb_dump.specs.ReadBack.{ResultOrBadLine, hex_digit_value_unchecked, quoted_read, bytes_of_hex_digits, blob_unless_empty, int_read, text_read, hash_read, if_line_prints_value}
 use Rattle.adb_dump.proofs.Booleans.{chosen}
-use Rattle.adb_dump.proofs.LineBack.{AreBytes, int_back, text_back, hash_back, hex_value-digit, unquoted-escaped}
+use Rattle.adb_dump.proofs.LineBack.{AreBytes, int_back, text_back, hash_back, hex_digit_value_unchecked-digit, unquoted-escaped}
 use Rattle.adb_dump.proofs.ReadOnly.{made_blob_some}
 use Rattle.gen_core.specs.Reads.{IsFormOf, line_read}
 use Rattle.gen_core.proofs.Escapes.{quoted_rest}
@@ -42,20 +42,20 @@ past_digits n le = past lower_digits n le
     past (x ∷ xs) (suc n) le = past xs n (omega (arith, le))
 
 -- the digits of a number that is no byte are those of a lesser one
-over_byte : (c : ℕ) → 256 ≤ c → hex_value (slice_index lower_digits (c / 16)) * 16 + hex_value (slice_index lower_digits (c % 16)) ≡ c % 16
+over_byte : (c : ℕ) → 256 ≤ c → hex_digit_value_unchecked (slice_index lower_digits (c / 16)) * 16 + hex_digit_value_unchecked (slice_index lower_digits (c % 16)) ≡ c % 16
 over_byte c le =
     let high : slice_index lower_digits (c / 16) ≡ 0 = past_digits (c / 16) (omega (arith, le)) in
-    let low : hex_value (slice_index lower_digits (c % 16)) ≡ c % 16 = hex_value-digit (c % 16) (omega arith) in
-    ap (λ (d : ℕ). hex_value d * 16 + hex_value (slice_index lower_digits (c % 16))) high ∙ ap (λ (d : ℕ). 0 * 16 + d) low ∙ omega arith
+    let low : hex_digit_value_unchecked (slice_index lower_digits (c % 16)) ≡ c % 16 = hex_digit_value_unchecked-digit (c % 16) (omega arith) in
+    ap (λ (d : ℕ). hex_digit_value_unchecked d * 16 + hex_digit_value_unchecked (slice_index lower_digits (c % 16))) high ∙ ap (λ (d : ℕ). 0 * 16 + d) low ∙ omega arith
 
-pub hash_bytes : (b : List ℕ) → unhex (encode_lower b) ≡ b → AreBytes b
+pub hash_bytes : (b : List ℕ) → bytes_of_hex_digits (encode_lower b) ≡ b → AreBytes b
 unfolding encode_with
 hash_bytes [] e = tt
 hash_bytes (c ∷ cs) e =
-    let value = hex_value (slice_index lower_digits (c / 16)) * 16 + hex_value (slice_index lower_digits (c % 16)) in
-    let head : value ≡ c = heads value c (unhex (encode_lower cs)) cs e in
+    let value = hex_digit_value_unchecked (slice_index lower_digits (c / 16)) * 16 + hex_digit_value_unchecked (slice_index lower_digits (c % 16)) in
+    let head : value ≡ c = heads value c (bytes_of_hex_digits (encode_lower cs)) cs e in
     elim (cases_lt c 256) [
-      | inl less ↦ (less, hash_bytes cs (tails value c (unhex (encode_lower cs)) cs e))
+      | inl less ↦ (less, hash_bytes cs (tails value c (bytes_of_hex_digits (encode_lower cs)) cs e))
       | inr more ↦ absurd (let o = over_byte c (omega (arith, more)) in omega (arith, o, head, more))
     ]
   where
@@ -66,7 +66,7 @@ hash_bytes (c ∷ cs) e =
     tails x y xs ys e = cc
 
 -- a number that is no byte, between quotes
-over_escape : (c : ℕ) → 256 ≤ c → escape_of c ≡ codes "\\x" ++ encode_lower (c ∷ [])
+over_escape : (c : ℕ) → 256 ≤ c → quoted_form_of_byte c ≡ codes "\\x" ++ encode_lower (c ∷ [])
 over_escape c le =
     let a : eqb c 0x0a ≡ false = ne_eqb c 0x0a (λ e. omega (arith, e, le)) in
     let b : eqb c 0x5c ≡ false = ne_eqb c 0x5c (λ e. omega (arith, e, le)) in
@@ -82,7 +82,7 @@ mapped : (c : ℕ) (o : Option (List ℕ)) (d : ℕ) (ds : List ℕ) → option_
 mapped c None d ds e = absurd cc
 mapped c (Some b) d ds e = let f : c ∷ b ≡ d ∷ ds = cc in (cc, cc)
 
-over : (n c : ℕ) (more : List ℕ) → 256 ≤ c → option_map (λ (b : List ℕ). (hex_value (slice_index lower_digits (c / 16)) * 16 + hex_value (slice_index lower_digits (c % 16))) ∷ b) (quoted_read n more) ≡ quoted_read (suc n) (escape_of c ++ more)
+over : (n c : ℕ) (more : List ℕ) → 256 ≤ c → option_map (λ (b : List ℕ). (hex_digit_value_unchecked (slice_index lower_digits (c / 16)) * 16 + hex_digit_value_unchecked (slice_index lower_digits (c % 16))) ∷ b) (quoted_read n more) ≡ quoted_read (suc n) (quoted_form_of_byte c ++ more)
 unfolding encode_with
 over n c more le = sym (ap (λ (e : List ℕ). quoted_read (suc n) (e ++ more)) (over_escape c le))
 
@@ -90,14 +90,14 @@ quoted_bytes : (b : List ℕ) (n : ℕ) → quoted_read n (quoted_rest b) ≡ So
 quoted_bytes [] n e = tt
 quoted_bytes (c ∷ cs) zero e = absurd cc
 quoted_bytes (c ∷ cs) (suc n) e =
-    let there : quoted_rest (c ∷ cs) ≡ escape_of c ++ quoted_rest cs = ap (λ (x : List ℕ). x ++ codes "\"") (flat_map-cons escape_of c cs) ∙ append_assoc (escape_of c) (flat_map escape_of cs) (codes "\"") in
+    let there : quoted_rest (c ∷ cs) ≡ quoted_form_of_byte c ++ quoted_rest cs = ap (λ (x : List ℕ). x ++ codes "\"") (flat_map-cons quoted_form_of_byte c cs) ∙ append_assoc (quoted_form_of_byte c) (flat_map quoted_form_of_byte cs) (codes "\"") in
     elim (cases_lt c 256) [
       | inl less ↦
           let r = mapped c (quoted_read n (quoted_rest cs)) c cs (sym (unquoted-escaped n c (quoted_rest cs) less) ∙ ap (quoted_read (suc n)) (sym there) ∙ e) in
           (less, quoted_bytes cs n r.1)
       | inr more ↦
           let le : 256 ≤ c = omega (arith, more) in
-          let value = hex_value (slice_index lower_digits (c / 16)) * 16 + hex_value (slice_index lower_digits (c % 16)) in
+          let value = hex_digit_value_unchecked (slice_index lower_digits (c / 16)) * 16 + hex_digit_value_unchecked (slice_index lower_digits (c % 16)) in
           let r = mapped value (quoted_read n (quoted_rest cs)) c cs (over n c (quoted_rest cs) le ∙ ap (quoted_read (suc n)) (sym there) ∙ e) in
           absurd (let o = over_byte c le in omega (arith, o, r.0, le))
     ]
@@ -109,11 +109,11 @@ bare_bytes (c ∷ cs) e =
     let le : c ≤ 0x7e = leb-true _ _ (and_parts (leb 0x20 c) (leb c 0x7e) a.0).1 in
     (omega (arith, le), bare_bytes cs a.1)
 
-blob_some : (b c : List ℕ) → blob_read b ≡ Some (blob c) → b ≡ c
+blob_some : (b c : List ℕ) → blob_unless_empty b ≡ Some (blob c) → b ≡ c
 blob_some [] c e = absurd cc
 blob_some (x ∷ xs) c e = cc
 
-then_some : (o : Option (List ℕ)) (c : List ℕ) → option_and_then blob_read o ≡ Some (blob c) → o ≡ Some c
+then_some : (o : Option (List ℕ)) (c : List ℕ) → option_and_then blob_unless_empty o ≡ Some (blob c) → o ≡ Some c
 then_some None c e = absurd cc
 then_some (Some b) c e = ap Some (blob_some b c e)
 
@@ -145,7 +145,7 @@ some_text l v e =
       | inr x ↦ let m = made_blob_some l v x.1 in (l, m.0, m.1)
     ]
   where
-    quoted : (o : Option (List ℕ)) → option_and_then blob_read o ≡ Some v → (b : List ℕ) × (v ≡ blob b) × (b ≢ [])
+    quoted : (o : Option (List ℕ)) → option_and_then blob_unless_empty o ≡ Some v → (b : List ℕ) × (v ≡ blob b) × (b ≢ [])
     quoted None e = absurd cc
     quoted (Some b) e = let m = made_blob_some b v e in (b, m.0, m.1)
 
@@ -163,4 +163,4 @@ hash_taken b l fits is = subst (λ (x : Line). line_read hash x ≡ Ok (blob b))
 pub hash_not_taken : (b : List ℕ) (l : Line) → IsFormOf encode_lower false b l → line_read hash l ≡ Err 0
 hash_not_taken b l other =
     no_blob encode_lower l (hash_read l) hash_line (λ b. refl)
-    (λ v e. let m = made_blob_some (unhex l) v e in (unhex l, m.0, m.1, λ f. hash_bytes (unhex l) (ap unhex f))) other
+    (λ v e. let m = made_blob_some (bytes_of_hex_digits l) v e in (bytes_of_hex_digits l, m.0, m.1, λ f. hash_bytes (bytes_of_hex_digits l) (ap bytes_of_hex_digits f))) other

@@ -7,7 +7,7 @@ use Rattle.base_core.specs.Lists.{and_then}
 use Rattle.base_core.proofs.AtName.{is_name}
 use Rattle.adb_dump.specs.Dump.{Line, int_line, text_line, hash_line}
 use Rattle.adb_dump.specs.Values.{IsOfBytes, AreOfBytes}
-use Rattle.adb_dump.specs.ReadBack.{ResultOrBadLine, after_lines, strip_prefix, split_block, unhex, single_line_value, entry_read, entries_after_dash, entries_read, arr_read, obj_read, field_on_line, field_with_value_below, if_line_prints_value, if_named, block_read, named_read, fields_read, int_read, text_read, hash_read}
+use Rattle.adb_dump.specs.ReadBack.{ResultOrBadLine, mapped_or_bad_line_shifted_by, strip_prefix, block_and_lines_after, bytes_of_hex_digits, single_line_value, entry_read, entries_from_dash_line, entries_read, array_unless_empty, object_unless_empty, fields_read_with_value_on_line, fields_read_with_value_below, if_line_prints_value, fields_read_by_name_match, block_read, named_read, fields_read, int_read, text_read, hash_read}
 use Rattle.adb_dump.proofs.Booleans.{chosen}
 use Rattle.adb_dump.proofs.ReadOnly.{if_form_ok, made_blob_some}
 use Rattle.gen_core.proofs.LineReads.{hash_bytes, some_text, text_bytes}
@@ -18,7 +18,7 @@ pub bound : {A B : Type 0} (r : ResultOrBadLine A) (f : A → ResultOrBadLine B)
 bound (Ok x) f y e = (x, refl, e)
 bound (Err k) f y e = absurd cc
 
-pub read_after : {A B : Type 0} (n : ℕ) (f : A → B) (r : ResultOrBadLine A) (y : B) → after_lines n f r ≡ Ok y → (x : A) × (r ≡ Ok x) × (f x ≡ y)
+pub read_after : {A B : Type 0} (n : ℕ) (f : A → B) (r : ResultOrBadLine A) (y : B) → mapped_or_bad_line_shifted_by n f r ≡ Ok y → (x : A) × (r ≡ Ok x) × (f x ≡ y)
 read_after n f (Ok x) y e = (x, refl, cc)
 read_after n f (Err k) y e = absurd cc
 
@@ -48,8 +48,8 @@ pub hash_of_bytes : (l : Line) (v : Plain) → if_line_prints_value hash_line l 
 unfolding IsOfBytes
 hash_of_bytes l v e =
     let (read, form) = if_form_ok hash_line l (hash_read l) v e in
-    let m = made_blob_some (unhex l) v read in
-    subst IsOfBytes (sym m.0) (hash_bytes (unhex l) (ap unhex (ap hash_line (sym m.0) ∙ form)))
+    let m = made_blob_some (bytes_of_hex_digits l) v read in
+    subst IsOfBytes (sym m.0) (hash_bytes (bytes_of_hex_digits l) (ap bytes_of_hex_digits (ap hash_line (sym m.0) ∙ form)))
 
 -- ---- lists
 
@@ -69,21 +69,21 @@ entries_bytes : (f : List Line → ResultOrBadLine Plain) → ReadsBytes f → (
 unfolding IsOfBytes
 entries_bytes f h zero ls vs e = let same : none ≡ vs = cc in subst AreOfBytes same tt
 entries_bytes f h (suc n) [] vs e = let same : none ≡ vs = cc in subst AreOfBytes same tt
-entries_bytes f h (suc n) (l ∷ ls) vs e = go (strip_prefix (codes "- ") l) (entries_bytes f h n (split_block ls).1) e
+entries_bytes f h (suc n) (l ∷ ls) vs e = go (strip_prefix (codes "- ") l) (entries_bytes f h n (block_and_lines_after ls).1) e
   where
-    go : (o : Option Line) → ((us : Plains) → entries_read f n (split_block ls).1 ≡ Ok us → AreOfBytes us) → entries_after_dash f (entries_read f n) (split_block ls) o ≡ Ok vs → AreOfBytes vs
+    go : (o : Option Line) → ((us : Plains) → entries_read f n (block_and_lines_after ls).1 ≡ Ok us → AreOfBytes us) → entries_from_dash_line f (entries_read f n) (block_and_lines_after ls) o ≡ Ok vs → AreOfBytes vs
     go None k e = absurd cc
     go (Some m) k e =
-        let (v, one, a) = bound (entry_read f m (split_block ls).0) (λ v. after_lines (1 + length (split_block ls).0) (more v) (entries_read f n (split_block ls).1)) vs e in
-        let (us, others, is) = read_after (1 + length (split_block ls).0) (more v) (entries_read f n (split_block ls).1) vs a in
-        subst AreOfBytes is (entry_bytes f h m (split_block ls).0 v one, k us others)
+        let (v, one, a) = bound (entry_read f m (block_and_lines_after ls).0) (λ v. mapped_or_bad_line_shifted_by (1 + length (block_and_lines_after ls).0) (more v) (entries_read f n (block_and_lines_after ls).1)) vs e in
+        let (us, others, is) = read_after (1 + length (block_and_lines_after ls).0) (more v) (entries_read f n (block_and_lines_after ls).1) vs a in
+        subst AreOfBytes is (entry_bytes f h m (block_and_lines_after ls).0 v one, k us others)
 
-arr_bytes : (vs : Plains) (v : Plain) → AreOfBytes vs → arr_read vs ≡ Ok v → IsOfBytes v
+arr_bytes : (vs : Plains) (v : Plain) → AreOfBytes vs → array_unless_empty vs ≡ Ok v → IsOfBytes v
 unfolding IsOfBytes
 arr_bytes none v b e = absurd cc
 arr_bytes (more u us) v b e = let same : arr (more u us) ≡ v = cc in subst IsOfBytes same b
 
-obj_bytes : (vs : Plains) (v : Plain) → AreOfBytes vs → obj_read vs ≡ Ok v → IsOfBytes v
+obj_bytes : (vs : Plains) (v : Plain) → AreOfBytes vs → object_unless_empty vs ≡ Ok v → IsOfBytes v
 unfolding IsOfBytes
 obj_bytes none v b e = absurd cc
 obj_bytes (more u us) v b e = let same : obj (more u us) ≡ v = cc in subst IsOfBytes same b
@@ -91,7 +91,7 @@ obj_bytes (more u us) v b e = let same : obj (more u us) ≡ v = cc in subst IsO
 array_bytes : (s : Shape) → ReadsBytes (block_read s) → ReadsBytes (block_read (array s))
 unfolding block_read
 array_bytes s h ls v e =
-    let (vs, some, made) = bound (entries_read (block_read s) (length ls) ls) arr_read v e in
+    let (vs, some, made) = bound (entries_read (block_read s) (length ls) ls) array_unless_empty v e in
     arr_bytes vs v (entries_bytes (block_read s) h (length ls) ls vs some) made
 
 -- fields that are read are of bytes
@@ -101,25 +101,25 @@ ReadsAllBytes f = (ls : List Line) (vs : Plains) → f ls ≡ Ok vs → AreOfByt
 object_bytes : (which : ℕ) (fs : Fields) → ReadsAllBytes (fields_read fs) → ReadsBytes (block_read (object which fs))
 unfolding block_read
 object_bytes which fs h ls v e =
-    let (vs, some, made) = bound (fields_read fs ls) obj_read v e in
+    let (vs, some, made) = bound (fields_read fs ls) object_unless_empty v e in
     obj_bytes vs v (h ls vs some) made
 
-on_line_bytes : (g : Line → ResultOrBadLine Plain) (f : List Line → ResultOrBadLine Plains) → ((l : Line) (v : Plain) → g l ≡ Ok v → IsOfBytes v) → ReadsAllBytes f → (ls : List Line) (o : Option Line) (vs : Plains) → field_on_line g f ls o ≡ Ok vs → AreOfBytes vs
+on_line_bytes : (g : Line → ResultOrBadLine Plain) (f : List Line → ResultOrBadLine Plains) → ((l : Line) (v : Plain) → g l ≡ Ok v → IsOfBytes v) → ReadsAllBytes f → (ls : List Line) (o : Option Line) (vs : Plains) → fields_read_with_value_on_line g f ls o ≡ Ok vs → AreOfBytes vs
 unfolding IsOfBytes
 on_line_bytes g f hg hf ls None vs e = absurd cc
 on_line_bytes g f hg hf ls (Some l) vs e =
-    let (v, one, a) = bound (g l) (λ v. after_lines 1 (more v) (f ls)) vs e in
+    let (v, one, a) = bound (g l) (λ v. mapped_or_bad_line_shifted_by 1 (more v) (f ls)) vs e in
     let (us, others, is) = read_after 1 (more v) (f ls) vs a in
     subst AreOfBytes is (hg l v one, hf ls us others)
 
-below_bytes : (b : List Line → ResultOrBadLine Plain) (f : List Line → ResultOrBadLine Plains) → ReadsBytes b → ReadsAllBytes f → (ls : List Line) (rest : Line) (vs : Plains) → field_with_value_below b f (split_block ls) rest ≡ Ok vs → AreOfBytes vs
+below_bytes : (b : List Line → ResultOrBadLine Plain) (f : List Line → ResultOrBadLine Plains) → ReadsBytes b → ReadsAllBytes f → (ls : List Line) (rest : Line) (vs : Plains) → fields_read_with_value_below b f (block_and_lines_after ls) rest ≡ Ok vs → AreOfBytes vs
 unfolding IsOfBytes
 below_bytes b f hb hf ls (c ∷ cs) vs e = absurd cc
 below_bytes b f hb hf ls [] vs e =
-    let (v, one, a) = bound (after_lines 1 (λ v. v) (b (split_block ls).0)) (λ v. after_lines (1 + length (split_block ls).0) (more v) (f (split_block ls).1)) vs e in
-    let (u, some, same) = read_after 1 (λ v. v) (b (split_block ls).0) v one in
-    let (us, others, is) = read_after (1 + length (split_block ls).0) (more v) (f (split_block ls).1) vs a in
-    subst AreOfBytes is (subst IsOfBytes same (hb (split_block ls).0 u some), hf (split_block ls).1 us others)
+    let (v, one, a) = bound (mapped_or_bad_line_shifted_by 1 (λ v. v) (b (block_and_lines_after ls).0)) (λ v. mapped_or_bad_line_shifted_by (1 + length (block_and_lines_after ls).0) (more v) (f (block_and_lines_after ls).1)) vs e in
+    let (u, some, same) = read_after 1 (λ v. v) (b (block_and_lines_after ls).0) v one in
+    let (us, others, is) = read_after (1 + length (block_and_lines_after ls).0) (more v) (f (block_and_lines_after ls).1) vs a in
+    subst AreOfBytes is (subst IsOfBytes same (hb (block_and_lines_after ls).0 u some), hf (block_and_lines_after ls).1 us others)
 
 named_bytes : (s : Shape) (f : List Line → ResultOrBadLine Plains) → ReadsBytes (block_read s) → ReadsAllBytes f → (ls : List Line) (rest : Line) (vs : Plains) → named_read s f ls rest ≡ Ok vs → AreOfBytes vs
 unfolding named_read block_read
@@ -134,7 +134,7 @@ unfolding fields_read IsOfBytes
 field_bytes name s fs hb hf [] vs e = let same : none ≡ vs = cc in subst AreOfBytes same tt
 field_bytes name s fs hb hf (l ∷ ls) vs e = go (strip_prefix (name ++ codes ":") l) e
   where
-    go : (o : Option Line) → if_named (after_lines 0 (more null) (fields_read fs (l ∷ ls))) (named_read s (fields_read fs) ls) o ≡ Ok vs → AreOfBytes vs
+    go : (o : Option Line) → fields_read_by_name_match (mapped_or_bad_line_shifted_by 0 (more null) (fields_read fs (l ∷ ls))) (named_read s (fields_read fs) ls) o ≡ Ok vs → AreOfBytes vs
     go None e = let (us, some, is) = read_after 0 (more null) (fields_read fs (l ∷ ls)) vs e in subst AreOfBytes is (tt, hf (l ∷ ls) us some)
     go (Some rest) e = named_bytes s (fields_read fs) hb hf ls rest vs e
 

@@ -6,7 +6,7 @@ use Rattle.adb_values.specs.Drafts.{DraftState, draft_with, draft_with_all, draf
 use Rattle.base_core.specs.Lists.{and_then}
 use Rattle.adb_dump.specs.Dump.{Line}
 use Rattle.adb_dump.specs.Margin.{margin}
-use Rattle.adb_dump.specs.ReadBack.{ResultOrBadLine, after_lines, strip_prefix, end_block_or_add_line, split_block, single_line_value, entry_read, entries_after_dash, entries_read, arr_read, obj_read, field_on_line, field_with_value_below, if_named, block_read, named_read, fields_read}
+use Rattle.adb_dump.specs.ReadBack.{ResultOrBadLine, mapped_or_bad_line_shifted_by, strip_prefix, end_block_or_add_line, block_and_lines_after, single_line_value, entry_read, entries_from_dash_line, entries_read, array_unless_empty, object_unless_empty, fields_read_with_value_on_line, fields_read_with_value_below, fields_read_by_name_match, block_read, named_read, fields_read}
 use Rattle.gen_core.specs.Cursors.{CursorState, cursor_after_block, cursor_after_line, cursor_at_entry, block_at, cursor_from_parts, line_of_block, margin_levels_after_block}
 use Rattle.gen_core.specs.Reads.{DraftOrBadLine, block_taken, end_or_bad_line, entry_block_read, is_null_line, line_read, draft_and_cursor_after_line, values_taken, IsTextFault}
 use Rattle.gen_core.specs.declared.generate.GenFault.{GenFault}
@@ -106,7 +106,7 @@ pub record CountsOnlyRise (block later : Split) (n : ℕ) (c new : CursorState) 
   pub count : n + length later.0 ≡ length block.0
   pub levels : margin_levels_after_block later.0 new.levels ≡ margin_levels_after_block block.0 c.levels
 
-pub later_values : (block later : Split) (n : ℕ) (d : DraftState) (c new : CursorState) → CountsOnlyRise block later n c new → (v : Plain) (r : ResultOrBadLine Plains) → values_taken (after_lines n (more v) r) block d c ≡ values_taken r later (draft_with v d) new
+pub later_values : (block later : Split) (n : ℕ) (d : DraftState) (c new : CursorState) → CountsOnlyRise block later n c new → (v : Plain) (r : ResultOrBadLine Plains) → values_taken (mapped_or_bad_line_shifted_by n (more v) r) block d c ≡ values_taken r later (draft_with v d) new
 later_values block later n d c new g v (Ok vs) =
     let count : c.number + length block.0 ≡ new.number + length later.0 = omega (arith, g.number, g.count) in
     ap (λ (x : CursorState). taken (draft_with_all vs (draft_with v d)) x)
@@ -174,7 +174,7 @@ only_line_ends s h depth line d c e later ok r is =
 
 -- ---- fields
 
-after_null : (r : ResultOrBadLine Plains) (block : Split) (d : DraftState) (c : CursorState) → values_taken r block (draft_with null d) c ≡ values_taken (after_lines 0 (more null) r) block d c
+after_null : (r : ResultOrBadLine Plains) (block : Split) (d : DraftState) (c : CursorState) → values_taken r block (draft_with null d) c ≡ values_taken (mapped_or_bad_line_shifted_by 0 (more null) r) block d c
 after_null (Ok vs) block d c = refl
 after_null (Err k) block d c = let e : c.number + k ≡ c.number + (0 + k) = omega arith in ap bad_at e
 
@@ -184,7 +184,7 @@ unfolding fields_read
 field_absent name s fs depth line d c e absent =
     let f = first_line depth c.lines line e in
     let t = block_at depth f.others in
-    let read : fields_read (field name s fs) (line ∷ t.0) ≡ after_lines 0 (more null) (fields_read fs (line ∷ t.0)) = ap (if_named (after_lines 0 (more null) (fields_read fs (line ∷ t.0))) (named_read s (fields_read fs) t.0)) (sym absent) in
+    let read : fields_read (field name s fs) (line ∷ t.0) ≡ mapped_or_bad_line_shifted_by 0 (more null) (fields_read fs (line ∷ t.0)) = ap (fields_read_by_name_match (mapped_or_bad_line_shifted_by 0 (more null) (fields_read fs (line ∷ t.0))) (named_read s (fields_read fs) t.0)) (sym absent) in
     ap (λ (b : Split). values_taken (fields_read fs b.0) b (draft_with null d) c) f.block
     ∙ after_null (fields_read fs (line ∷ t.0)) (line ∷ t.0, t.1) d c
     ∙ ap (λ (r : ResultOrBadLine Plains). values_taken r (line ∷ t.0, t.1) d c) (sym read)
@@ -198,7 +198,7 @@ field_there name s fs depth line value c e there =
     let f = first_line depth c.lines line e in
     let t = block_at depth f.others in
     ap (λ (b : Split). fields_read (field name s fs) b.0) f.block
-    ∙ ap (if_named (after_lines 0 (more null) (fields_read fs (line ∷ t.0))) (named_read s (fields_read fs) t.0)) (sym there)
+    ∙ ap (fields_read_by_name_match (mapped_or_bad_line_shifted_by 0 (more null) (fields_read fs (line ∷ t.0))) (named_read s (fields_read fs) t.0)) (sym there)
     ∙ ap (λ (b : Split). named_read s (fields_read fs) (drop 1 b.0) value) (sym f.block)
 
 pub some_first : (ls : List Line) (line : Line) → Some line ≡ line_of_block ls → 0 < length ls

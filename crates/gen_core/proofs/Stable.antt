@@ -4,7 +4,7 @@ use Rattle.std.specs.Prelude.{codes, bytes_eq}
 use Rattle.adb_view.specs.Plain.{Plain, Plains, null, none, more, Shape, number, text, hash, array, object, Fields, no_fields, field}
 use Rattle.base_core.specs.Lists.{and_then}
 use Rattle.adb_dump.specs.Dump.{Line, fields_lines, int_line, text_line, hash_line}
-use Rattle.adb_dump.specs.ReadBack.{ResultOrBadLine, after_lines, strip_prefix, end_block_or_add_line, split_block, single_line_value, entry_read, entries_after_dash, entries_read, arr_read, obj_read, field_on_line, field_with_value_below, if_line_prints_value, if_named, block_read, named_read, fields_read, int_read, text_read, hash_read}
+use Rattle.adb_dump.specs.ReadBack.{ResultOrBadLine, mapped_or_bad_line_shifted_by, strip_prefix, end_block_or_add_line, block_and_lines_after, single_line_value, entry_read, entries_from_dash_line, entries_read, array_unless_empty, object_unless_empty, fields_read_with_value_on_line, fields_read_with_value_below, if_line_prints_value, fields_read_by_name_match, block_read, named_read, fields_read, int_read, text_read, hash_read}
 use Rattle.adb_dump.proofs.Booleans.{chosen}
 use Rattle.adb_dump.proofs.ReadOnly.{FieldsOnly, fields_only, some_line}
 use Rattle.gen_core.specs.Reads.{entry_block_read}
@@ -33,15 +33,15 @@ pub record Past (n : ℕ) (p q : Split) : Type 0 where
   pub same : p.0 ≡ q.0
   pub agree : Agree left p.1 q.1
 
-pub split_agree : (n : ℕ) (xs ys : List Line) → Agree n xs ys → Inside n (split_block xs) (split_block ys) ⊎ Past n (split_block xs) (split_block ys)
+pub split_agree : (n : ℕ) (xs ys : List Line) → Agree n xs ys → Inside n (block_and_lines_after xs) (block_and_lines_after ys) ⊎ Past n (block_and_lines_after xs) (block_and_lines_after ys)
 split_agree zero xs ys a = inl (record { le = omega arith; agree = tt })
 split_agree (suc n) [] ys a = absurd a
 split_agree (suc n) (x ∷ xs) [] a = absurd a
 split_agree (suc n) (x ∷ xs) (y ∷ ys) a =
-    subst (λ (l : Line). Inside (suc n) (split_block (x ∷ xs)) (split_block (l ∷ ys)) ⊎ Past (suc n) (split_block (x ∷ xs)) (split_block (l ∷ ys))) a.0 (go (strip_prefix (codes "  ") x) (split_agree n xs ys a.1))
+    subst (λ (l : Line). Inside (suc n) (block_and_lines_after (x ∷ xs)) (block_and_lines_after (l ∷ ys)) ⊎ Past (suc n) (block_and_lines_after (x ∷ xs)) (block_and_lines_after (l ∷ ys))) a.0 (go (strip_prefix (codes "  ") x) (split_agree n xs ys a.1))
   where
-    go : (o : Option Line) → Inside n (split_block xs) (split_block ys) ⊎ Past n (split_block xs) (split_block ys)
-        → Inside (suc n) (end_block_or_add_line x xs o (split_block xs)) (end_block_or_add_line x ys o (split_block ys)) ⊎ Past (suc n) (end_block_or_add_line x xs o (split_block xs)) (end_block_or_add_line x ys o (split_block ys))
+    go : (o : Option Line) → Inside n (block_and_lines_after xs) (block_and_lines_after ys) ⊎ Past n (block_and_lines_after xs) (block_and_lines_after ys)
+        → Inside (suc n) (end_block_or_add_line x xs o (block_and_lines_after xs)) (end_block_or_add_line x ys o (block_and_lines_after ys)) ⊎ Past (suc n) (end_block_or_add_line x xs o (block_and_lines_after xs)) (end_block_or_add_line x ys o (block_and_lines_after ys))
     go None h = inr (record { left = suc n; count = omega arith; some = omega arith; same = refl; agree = (refl, a.1) })
     go (Some i) (inl h) = inl (record { le = omega (arith, h.le); agree = (refl, h.agree) })
     go (Some i) (inr h) = inr (record { left = h.left; count = omega (arith, h.count); some = h.some; same = ap (λ (ls : List Line). i ∷ ls) h.same; agree = h.agree })
@@ -88,38 +88,38 @@ entry_stable f h (x ∷ xs) (y ∷ ys) k e a = subst (λ (l : Line). entry_block
     go false e = h (x ∷ xs) (x ∷ ys) k e (refl, a.1)
 
 -- values after a value
-pub later : (n : ℕ) (v : Plain) (r : ResultOrBadLine Plains) (k : ℕ) → after_lines n (more v) r ≡ no_values k → (j : ℕ) × (r ≡ Err j) × (k ≡ n + j)
+pub later : (n : ℕ) (v : Plain) (r : ResultOrBadLine Plains) (k : ℕ) → mapped_or_bad_line_shifted_by n (more v) r ≡ no_values k → (j : ℕ) × (r ≡ Err j) × (k ≡ n + j)
 later n v (Ok vs) k e = absurd cc
 later n v (Err j) k e = (j, refl, sym (values_number (n + j) k e))
 
 -- an entry, and those after it
 entry_step : (f : List Line → ResultOrBadLine Plain) → IsStable f → (g h : List Line → ResultOrBadLine Plains) (l : Line) (xs ys : List Line) (k : ℕ) → Agree k xs ys
-    → ((j : ℕ) → g (split_block xs).1 ≡ Err j → Agree (suc j) (split_block xs).1 (split_block ys).1 → h (split_block ys).1 ≡ Err j)
-    → entries_after_dash f g (split_block xs) (Some l) ≡ no_values k → entries_after_dash f h (split_block ys) (Some l) ≡ no_values k
+    → ((j : ℕ) → g (block_and_lines_after xs).1 ≡ Err j → Agree (suc j) (block_and_lines_after xs).1 (block_and_lines_after ys).1 → h (block_and_lines_after ys).1 ≡ Err j)
+    → entries_from_dash_line f g (block_and_lines_after xs) (Some l) ≡ no_values k → entries_from_dash_line f h (block_and_lines_after ys) (Some l) ≡ no_values k
 entry_step f s g h l xs ys k a next e = go (entry_read f l r.0) refl e
   where
     r : Split
-    r = split_block xs
+    r = block_and_lines_after xs
 
     q : Split
-    q = split_block ys
+    q = block_and_lines_after ys
 
     here : (j : ℕ) → entry_read f l r.0 ≡ Err j → j ≡ k → Inside k r q ⊎ Past k r q → entry_read f l q.0 ≡ no_value k
     here j e is (inl i) = entry_stable f s (l ∷ r.0) (l ∷ q.0) k (e ∙ ap no_value is) (refl, i.agree)
     here j e is (inr p) = ap (entry_read f l) (sym p.same) ∙ e ∙ ap no_value is
 
-    beyond : (v : Plain) (j : ℕ) → entry_read f l r.0 ≡ Ok v → g r.1 ≡ Err j → k ≡ 1 + length r.0 + j → Inside k r q ⊎ Past k r q → entries_after_dash f h q (Some l) ≡ no_values k
+    beyond : (v : Plain) (j : ℕ) → entry_read f l r.0 ≡ Ok v → g r.1 ≡ Err j → k ≡ 1 + length r.0 + j → Inside k r q ⊎ Past k r q → entries_from_dash_line f h q (Some l) ≡ no_values k
     beyond v j e bad is (inl i) = absurd (omega (arith, i.le, is))
     beyond v j e bad is (inr p) =
         let left : p.left ≡ suc j = omega (arith, p.count, is) in
         let same : entry_read f l q.0 ≡ Ok v = ap (entry_read f l) (sym p.same) ∙ e in
         let after : h q.1 ≡ Err j = next j bad (subst (λ (n : ℕ). Agree n r.1 q.1) left p.agree) in
         let len : 1 + length q.0 + j ≡ k = ap (λ (ls : List Line). 1 + length ls + j) (sym p.same) ∙ sym is in
-        ap (λ (x : ResultOrBadLine Plain). and_then x (λ v. after_lines (1 + length q.0) (more v) (h q.1))) same
-        ∙ ap (after_lines (1 + length q.0) (more v)) after ∙ ap no_values len
+        ap (λ (x : ResultOrBadLine Plain). and_then x (λ v. mapped_or_bad_line_shifted_by (1 + length q.0) (more v) (h q.1))) same
+        ∙ ap (mapped_or_bad_line_shifted_by (1 + length q.0) (more v)) after ∙ ap no_values len
 
-    go : (x : ResultOrBadLine Plain) → entry_read f l r.0 ≡ x → and_then x (λ v. after_lines (1 + length r.0) (more v) (g r.1)) ≡ no_values k → entries_after_dash f h q (Some l) ≡ no_values k
-    go (Err j) is e = ap (λ (x : ResultOrBadLine Plain). and_then x (λ v. after_lines (1 + length q.0) (more v) (h q.1))) (here j is (values_number j k e) (split_agree k xs ys a))
+    go : (x : ResultOrBadLine Plain) → entry_read f l r.0 ≡ x → and_then x (λ v. mapped_or_bad_line_shifted_by (1 + length r.0) (more v) (g r.1)) ≡ no_values k → entries_from_dash_line f h q (Some l) ≡ no_values k
+    go (Err j) is e = ap (λ (x : ResultOrBadLine Plain). and_then x (λ v. mapped_or_bad_line_shifted_by (1 + length q.0) (more v) (h q.1))) (here j is (values_number j k e) (split_agree k xs ys a))
     go (Ok v) is e = let (j, bad, count) = later (1 + length r.0) v (g r.1) k e in beyond v j is bad count (split_agree k xs ys a)
 
 entries_stable : (f : List Line → ResultOrBadLine Plain) → IsStable f → (n m : ℕ) (xs ys : List Line) (k : ℕ) → length xs ≤ n → length ys ≤ m → entries_read f n xs ≡ Err k → Agree (suc k) xs ys → entries_read f m ys ≡ Err k
@@ -129,21 +129,21 @@ entries_stable f s (suc n) m (x ∷ xs) [] k a b e agree = absurd agree
 entries_stable f s (suc n) zero (x ∷ xs) (y ∷ ys) k a b e agree = absurd (omega (arith, b))
 entries_stable f s (suc n) (suc m) (x ∷ xs) (y ∷ ys) k a b e agree =
     subst (λ (l : Line). entries_read f (suc m) (l ∷ ys) ≡ Err k) agree.0
-    (go (strip_prefix (codes "- ") x) (λ j bad more_agree. entries_stable f s n m (split_block xs).1 (split_block ys).1 j (omega (arith, a, split_count xs)) (omega (arith, b, split_count ys)) bad more_agree) e)
+    (go (strip_prefix (codes "- ") x) (λ j bad more_agree. entries_stable f s n m (block_and_lines_after xs).1 (block_and_lines_after ys).1 j (omega (arith, a, split_count xs)) (omega (arith, b, split_count ys)) bad more_agree) e)
   where
-    go : (o : Option Line) → ((j : ℕ) → entries_read f n (split_block xs).1 ≡ Err j → Agree (suc j) (split_block xs).1 (split_block ys).1 → entries_read f m (split_block ys).1 ≡ Err j)
-        → entries_after_dash f (entries_read f n) (split_block xs) o ≡ no_values k → entries_after_dash f (entries_read f m) (split_block ys) o ≡ no_values k
+    go : (o : Option Line) → ((j : ℕ) → entries_read f n (block_and_lines_after xs).1 ≡ Err j → Agree (suc j) (block_and_lines_after xs).1 (block_and_lines_after ys).1 → entries_read f m (block_and_lines_after ys).1 ≡ Err j)
+        → entries_from_dash_line f (entries_read f n) (block_and_lines_after xs) o ≡ no_values k → entries_from_dash_line f (entries_read f m) (block_and_lines_after ys) o ≡ no_values k
     go None next e = e
     go (Some l) next e = entry_step f s (entries_read f n) (entries_read f m) l xs ys k agree.1 next e
 
 -- ---- whole lists
 
-pub arr_bad : (r : ResultOrBadLine Plains) (k : ℕ) → and_then r arr_read ≡ no_value k → (r ≡ Err k) ⊎ (r ≡ Ok none)
+pub arr_bad : (r : ResultOrBadLine Plains) (k : ℕ) → and_then r array_unless_empty ≡ no_value k → (r ≡ Err k) ⊎ (r ≡ Ok none)
 arr_bad (Err j) k e = inl (ap no_values (value_number j k e))
 arr_bad (Ok none) k e = inr refl
 arr_bad (Ok (more v vs)) k e = absurd cc
 
-pub obj_bad : (r : ResultOrBadLine Plains) (k : ℕ) → and_then r obj_read ≡ no_value k → (r ≡ Err k) ⊎ (r ≡ Ok none)
+pub obj_bad : (r : ResultOrBadLine Plains) (k : ℕ) → and_then r object_unless_empty ≡ no_value k → (r ≡ Err k) ⊎ (r ≡ Ok none)
 obj_bad (Err j) k e = inl (ap no_values (value_number j k e))
 obj_bad (Ok none) k e = inr refl
 obj_bad (Ok (more v vs)) k e = absurd cc
@@ -153,7 +153,7 @@ unfolding block_read
 array_stable s h [] ys k e a = absurd a
 array_stable s h (x ∷ xs) ys k e a =
     elim (arr_bad (entries_read (block_read s) (length (x ∷ xs)) (x ∷ xs)) k e) [
-      | inl bad ↦ ap (λ (r : ResultOrBadLine Plains). and_then r arr_read) (entries_stable (block_read s) h (length (x ∷ xs)) (length ys) (x ∷ xs) ys k (omega arith) (omega arith) bad a)
+      | inl bad ↦ ap (λ (r : ResultOrBadLine Plains). and_then r array_unless_empty) (entries_stable (block_read s) h (length (x ∷ xs)) (length ys) (x ∷ xs) ys k (omega arith) (omega arith) bad a)
       | inr nothing ↦ absurd (some_entries (block_read s) (x ∷ xs) x refl nothing)
     ]
 
@@ -165,7 +165,7 @@ unfolding block_read
 object_stable which fs h [] ys k e a = absurd a
 object_stable which fs h (x ∷ xs) ys k e a =
     elim (obj_bad (fields_read fs (x ∷ xs)) k e) [
-      | inl bad ↦ ap (λ (r : ResultOrBadLine Plains). and_then r obj_read) (h (x ∷ xs) ys k bad a)
+      | inl bad ↦ ap (λ (r : ResultOrBadLine Plains). and_then r object_unless_empty) (h (x ∷ xs) ys k bad a)
       | inr nothing ↦ absurd (some_fields fs x xs nothing)
     ]
 
@@ -175,49 +175,49 @@ object_stable which fs h (x ∷ xs) ys k e a =
 abbrev StableNamed : (List Line → Line → ResultOrBadLine Plains) → Type 0
 StableNamed f = (rest : Line) (xs ys : List Line) (k : ℕ) → Agree k xs ys → f xs rest ≡ Err k → f ys rest ≡ Err k
 
-on_line_stable : (g : Line → ResultOrBadLine Plain) (f : List Line → ResultOrBadLine Plains) → IsStable f → StableNamed (λ ls rest. field_on_line g f ls (strip_prefix (codes " ") rest))
+on_line_stable : (g : Line → ResultOrBadLine Plain) (f : List Line → ResultOrBadLine Plains) → IsStable f → StableNamed (λ ls rest. fields_read_with_value_on_line g f ls (strip_prefix (codes " ") rest))
 on_line_stable g f s rest xs ys k a e = go (strip_prefix (codes " ") rest) e
   where
-    then : (x : ResultOrBadLine Plain) → and_then x (λ v. after_lines 1 (more v) (f xs)) ≡ no_values k → and_then x (λ v. after_lines 1 (more v) (f ys)) ≡ no_values k
+    then : (x : ResultOrBadLine Plain) → and_then x (λ v. mapped_or_bad_line_shifted_by 1 (more v) (f xs)) ≡ no_values k → and_then x (λ v. mapped_or_bad_line_shifted_by 1 (more v) (f ys)) ≡ no_values k
     then (Err j) e = e
     then (Ok v) e =
         let (j, bad, count) = later 1 v (f xs) k e in
         let same : k ≡ suc j = omega (arith, count) in
         let agree : Agree (suc j) xs ys = subst (λ (n : ℕ). Agree n xs ys) same a in
-        ap (after_lines 1 (more v)) (s xs ys j bad agree) ∙ ap no_values (sym count)
+        ap (mapped_or_bad_line_shifted_by 1 (more v)) (s xs ys j bad agree) ∙ ap no_values (sym count)
 
-    go : (o : Option Line) → field_on_line g f xs o ≡ no_values k → field_on_line g f ys o ≡ no_values k
+    go : (o : Option Line) → fields_read_with_value_on_line g f xs o ≡ no_values k → fields_read_with_value_on_line g f ys o ≡ no_values k
     go None e = e
     go (Some l) e = then (g l) e
 
-below_stable : (b : List Line → ResultOrBadLine Plain) (f : List Line → ResultOrBadLine Plains) → IsStable b → IsStable f → StableNamed (λ ls rest. field_with_value_below b f (split_block ls) rest)
+below_stable : (b : List Line → ResultOrBadLine Plain) (f : List Line → ResultOrBadLine Plains) → IsStable b → IsStable f → StableNamed (λ ls rest. fields_read_with_value_below b f (block_and_lines_after ls) rest)
 below_stable b f sb sf (c ∷ cs) xs ys k a e = e
 below_stable b f sb sf [] xs ys k a e = go (b r.0) refl e
   where
     r : Split
-    r = split_block xs
+    r = block_and_lines_after xs
 
     q : Split
-    q = split_block ys
+    q = block_and_lines_after ys
 
-    here : (j : ℕ) → b r.0 ≡ Err j → 1 + j ≡ k → Inside k r q ⊎ Past k r q → field_with_value_below b f q [] ≡ no_values k
+    here : (j : ℕ) → b r.0 ≡ Err j → 1 + j ≡ k → Inside k r q ⊎ Past k r q → fields_read_with_value_below b f q [] ≡ no_values k
     here j bad is (inl i) =
         let same : k ≡ suc j = omega (arith, is) in
         let agree : Agree (suc j) r.0 q.0 = subst (λ (n : ℕ). Agree n r.0 q.0) same i.agree in
-        ap (λ (x : ResultOrBadLine Plain). and_then (after_lines 1 (λ v. v) x) (λ v. after_lines (1 + length q.0) (more v) (f q.1))) (sb r.0 q.0 j bad agree) ∙ ap no_values is
+        ap (λ (x : ResultOrBadLine Plain). and_then (mapped_or_bad_line_shifted_by 1 (λ v. v) x) (λ v. mapped_or_bad_line_shifted_by (1 + length q.0) (more v) (f q.1))) (sb r.0 q.0 j bad agree) ∙ ap no_values is
     here j bad is (inr p) =
-        ap (λ (x : ResultOrBadLine Plain). and_then (after_lines 1 (λ v. v) x) (λ v. after_lines (1 + length q.0) (more v) (f q.1))) (ap b (sym p.same) ∙ bad) ∙ ap no_values is
+        ap (λ (x : ResultOrBadLine Plain). and_then (mapped_or_bad_line_shifted_by 1 (λ v. v) x) (λ v. mapped_or_bad_line_shifted_by (1 + length q.0) (more v) (f q.1))) (ap b (sym p.same) ∙ bad) ∙ ap no_values is
 
-    beyond : (v : Plain) (j : ℕ) → b r.0 ≡ Ok v → f r.1 ≡ Err j → k ≡ 1 + length r.0 + j → Inside k r q ⊎ Past k r q → field_with_value_below b f q [] ≡ no_values k
+    beyond : (v : Plain) (j : ℕ) → b r.0 ≡ Ok v → f r.1 ≡ Err j → k ≡ 1 + length r.0 + j → Inside k r q ⊎ Past k r q → fields_read_with_value_below b f q [] ≡ no_values k
     beyond v j ok bad is (inl i) = absurd (omega (arith, i.le, is))
     beyond v j ok bad is (inr p) =
         let left : p.left ≡ suc j = omega (arith, p.count, is) in
         let after : f q.1 ≡ Err j = sf r.1 q.1 j bad (subst (λ (n : ℕ). Agree n r.1 q.1) left p.agree) in
         let len : 1 + length q.0 + j ≡ k = ap (λ (ls : List Line). 1 + length ls + j) (sym p.same) ∙ sym is in
-        ap (λ (x : ResultOrBadLine Plain). and_then (after_lines 1 (λ v. v) x) (λ v. after_lines (1 + length q.0) (more v) (f q.1))) (ap b (sym p.same) ∙ ok)
-        ∙ ap (after_lines (1 + length q.0) (more v)) after ∙ ap no_values len
+        ap (λ (x : ResultOrBadLine Plain). and_then (mapped_or_bad_line_shifted_by 1 (λ v. v) x) (λ v. mapped_or_bad_line_shifted_by (1 + length q.0) (more v) (f q.1))) (ap b (sym p.same) ∙ ok)
+        ∙ ap (mapped_or_bad_line_shifted_by (1 + length q.0) (more v)) after ∙ ap no_values len
 
-    go : (x : ResultOrBadLine Plain) → b r.0 ≡ x → and_then (after_lines 1 (λ v. v) x) (λ v. after_lines (1 + length r.0) (more v) (f r.1)) ≡ no_values k → field_with_value_below b f q [] ≡ no_values k
+    go : (x : ResultOrBadLine Plain) → b r.0 ≡ x → and_then (mapped_or_bad_line_shifted_by 1 (λ v. v) x) (λ v. mapped_or_bad_line_shifted_by (1 + length r.0) (more v) (f r.1)) ≡ no_values k → fields_read_with_value_below b f q [] ≡ no_values k
     go (Err j) is e = here j is (values_number (1 + j) k e) (split_agree k xs ys a)
     go (Ok v) is e = let (j, bad, count) = later (1 + length r.0) v (f r.1) k e in beyond v j is bad count (split_agree k xs ys a)
 
@@ -235,11 +235,11 @@ field_stable name s fs sb sf [] ys k e a = absurd a
 field_stable name s fs sb sf (x ∷ xs) [] k e a = absurd a
 field_stable name s fs sb sf (x ∷ xs) (y ∷ ys) k e a = subst (λ (l : Line). fields_read (field name s fs) (l ∷ ys) ≡ Err k) a.0 (go (strip_prefix (name ++ codes ":") x) e)
   where
-    go : (o : Option Line) → if_named (after_lines 0 (more null) (fields_read fs (x ∷ xs))) (named_read s (fields_read fs) xs) o ≡ no_values k → if_named (after_lines 0 (more null) (fields_read fs (x ∷ ys))) (named_read s (fields_read fs) ys) o ≡ no_values k
+    go : (o : Option Line) → fields_read_by_name_match (mapped_or_bad_line_shifted_by 0 (more null) (fields_read fs (x ∷ xs))) (named_read s (fields_read fs) xs) o ≡ no_values k → fields_read_by_name_match (mapped_or_bad_line_shifted_by 0 (more null) (fields_read fs (x ∷ ys))) (named_read s (fields_read fs) ys) o ≡ no_values k
     go None e =
         let (j, bad, count) = later 0 null (fields_read fs (x ∷ xs)) k e in
         let same : j ≡ k = omega (arith, count) in
-        ap (after_lines 0 (more null)) (sf (x ∷ xs) (x ∷ ys) j bad (refl, subst (λ (n : ℕ). Agree n xs ys) (sym same) a.1)) ∙ ap no_values (sym count)
+        ap (mapped_or_bad_line_shifted_by 0 (more null)) (sf (x ∷ xs) (x ∷ ys) j bad (refl, subst (λ (n : ℕ). Agree n xs ys) (sym same) a.1)) ∙ ap no_values (sym count)
     go (Some rest) e = named_stable s (fields_read fs) sb sf rest xs ys k a.1 e
 
 no_fields_stable : IsStable (fields_read no_fields)

@@ -11,7 +11,7 @@ use Rattle.adb_dump.proofs.adb_schema.Below.{eqb-sym}
 use Rattle.adb_dump.proofs.Pieces.{ends_some, ends_none}
 use Rattle.adb_dump.proofs.ReadOnly.{strip_prefix_some}
 use Rattle.adb_dump.proofs.ValueBack.{strip_prefix-append}
-use Rattle.gen_core.specs.Generated.{TextLines, lines_with_byte, with_first_byte, text_lines}
+use Rattle.gen_core.specs.Generated.{TextLines, lines_with_byte_in_front, lines_with_nonend_byte_in_front, text_lines}
 use Rattle.gen_core.specs.Reads.{has_rest}
 
 -- ---- prefixes
@@ -105,18 +105,18 @@ pub all_rest : (t : List ℕ) → (text_lines t).0 ≡ [] → (text_lines t).1 �
 all_rest [] e = refl
 all_rest (c ∷ cs) e = go (eqb c 10) (text_lines cs).0 (text_lines cs).1 (all_rest cs) e
   where
-    first : (ls : List Line) (rest : List ℕ) → (ls ≡ [] → rest ≡ cs) → (with_first_byte c ls rest).0 ≡ [] → (with_first_byte c ls rest).1 ≡ c ∷ cs
+    first : (ls : List Line) (rest : List ℕ) → (ls ≡ [] → rest ≡ cs) → (lines_with_nonend_byte_in_front c ls rest).0 ≡ [] → (lines_with_nonend_byte_in_front c ls rest).1 ≡ c ∷ cs
     first [] rest h e = ap (λ (x : List ℕ). c ∷ x) (h refl)
     first (l ∷ ls) rest h e = absurd cc
 
-    go : (b : Bool) (ls : List Line) (rest : List ℕ) → (ls ≡ [] → rest ≡ cs) → (cond {A = TextLines} b ([] ∷ ls, rest) (with_first_byte c ls rest)).0 ≡ [] → (cond {A = TextLines} b ([] ∷ ls, rest) (with_first_byte c ls rest)).1 ≡ c ∷ cs
+    go : (b : Bool) (ls : List Line) (rest : List ℕ) → (ls ≡ [] → rest ≡ cs) → (cond {A = TextLines} b ([] ∷ ls, rest) (lines_with_nonend_byte_in_front c ls rest)).0 ≡ [] → (cond {A = TextLines} b ([] ∷ ls, rest) (lines_with_nonend_byte_in_front c ls rest)).1 ≡ c ∷ cs
     go true ls rest h e = absurd cc
     go false ls rest h e = first ls rest h e
 
-rest_same : (c : ℕ) (ls : List Line) (rest : List ℕ) → (ls ≡ [] → has_rest rest ≡ true) → has_rest (lines_with_byte c (ls, rest)).1 ≡ has_rest rest
+rest_same : (c : ℕ) (ls : List Line) (rest : List ℕ) → (ls ≡ [] → has_rest rest ≡ true) → has_rest (lines_with_byte_in_front c (ls, rest)).1 ≡ has_rest rest
 rest_same c ls rest h = go (eqb c 10) ls h
   where
-    go : (b : Bool) (ls : List Line) → (ls ≡ [] → has_rest rest ≡ true) → has_rest (cond {A = TextLines} b ([] ∷ ls, rest) (with_first_byte c ls rest)).1 ≡ has_rest rest
+    go : (b : Bool) (ls : List Line) → (ls ≡ [] → has_rest rest ≡ true) → has_rest (cond {A = TextLines} b ([] ∷ ls, rest) (lines_with_nonend_byte_in_front c ls rest)).1 ≡ has_rest rest
     go true ls h = refl
     go false [] h = sym (h refl)
     go false (l ∷ ls) h = refl

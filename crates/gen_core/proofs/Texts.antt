@@ -11,7 +11,7 @@ use Rattle.adb_view.specs.declared.tables.Which.TheVariants.{Dep, Acl, PkgInfo, 
 use Rattle.adb_dump.specs.adb_schema.Soundness.{schema_word}
 use Rattle.base_core.specs.Lists.{and_then}
 use Rattle.base_core.proofs.AtName.{is_name}
-use Rattle.adb_dump.specs.Dump.{Line, dump_lines, dump_text, schema_line, text_of, value_lines}
+use Rattle.adb_dump.specs.Dump.{Line, dump_lines, dump_text, schema_line, dump_text_of_lines, value_lines}
 use Rattle.adb_dump.specs.ReadBack.{ResultOrBadLine, add_char, split_lines, value_read}
 use Rattle.adb_dump.specs.Values.{IsOfBytes, IsNormalValueOfTable}
 use Rattle.adb_dump.proofs.Booleans.{chosen}
@@ -21,22 +21,22 @@ use Rattle.adb_view.specs.Schema.{shape_of}
 use Rattle.adb_view.specs.declared.tables.Kind.TheVariants.{Obj}
 use Rattle.gen_core.specs.Dumps.{IsRootValue}
 use Rattle.gen_core.proofs.ReadBytes.{block_bytes}
-use Rattle.gen_core.specs.Generated.{DumpedRoot, TextLines, dumped_root, root_of_lines, root_of_table, root_read, root_tables, table_of_line, text_lines, unless_unfinished_line, lines_with_byte, with_first_byte}
+use Rattle.gen_core.specs.Generated.{DumpedRoot, TextLines, dumped_root, root_of_lines, root_of_table, root_read, root_tables, table_of_line, text_lines, unless_unfinished_line, lines_with_byte_in_front, lines_with_nonend_byte_in_front}
 
 -- ---- lines and texts
 
 -- a text has its lines, and after them the rest
-pub text_of_lines : (t : List ℕ) → text_of (text_lines t).0 ++ (text_lines t).1 ≡ t
+pub text_of_lines : (t : List ℕ) → dump_text_of_lines (text_lines t).0 ++ (text_lines t).1 ≡ t
 text_of_lines [] = refl
 text_of_lines (c ∷ cs) = go (eqb c 10) refl (text_lines cs).0 (text_lines cs).1 (text_of_lines cs)
   where
-    first : (ls : List Line) (rest : List ℕ) → text_of ls ++ rest ≡ cs → text_of (with_first_byte c ls rest).0 ++ (with_first_byte c ls rest).1 ≡ c ∷ cs
+    first : (ls : List Line) (rest : List ℕ) → dump_text_of_lines ls ++ rest ≡ cs → dump_text_of_lines (lines_with_nonend_byte_in_front c ls rest).0 ++ (lines_with_nonend_byte_in_front c ls rest).1 ≡ c ∷ cs
     first [] rest h = ap (λ (x : List ℕ). c ∷ x) h
     first (l ∷ ls) rest h =
         ap (λ (x : List ℕ). x ++ rest) (line_first (c ∷ l) ls)
         ∙ ap (λ (x : List ℕ). c ∷ x) (sym (ap (λ (x : List ℕ). x ++ rest) (line_first l ls)) ∙ h)
 
-    go : (b : Bool) → eqb c 10 ≡ b → (ls : List Line) (rest : List ℕ) → text_of ls ++ rest ≡ cs → text_of (cond {A = TextLines} b ([] ∷ ls, rest) (with_first_byte c ls rest)).0 ++ (cond {A = TextLines} b ([] ∷ ls, rest) (with_first_byte c ls rest)).1 ≡ c ∷ cs
+    go : (b : Bool) → eqb c 10 ≡ b → (ls : List Line) (rest : List ℕ) → dump_text_of_lines ls ++ rest ≡ cs → dump_text_of_lines (cond {A = TextLines} b ([] ∷ ls, rest) (lines_with_nonend_byte_in_front c ls rest)).0 ++ (cond {A = TextLines} b ([] ∷ ls, rest) (lines_with_nonend_byte_in_front c ls rest)).1 ≡ c ∷ cs
     go true e ls rest h =
         let end : c ≡ 10 = eqb-true c 10 e in
         ap (λ (x : List ℕ). x ++ rest) (line_first [] ls) ∙ ap (λ (x : List ℕ). 10 ∷ x) h ∙ ap (λ (x : ℕ). x ∷ cs) (sym end)
@@ -49,13 +49,13 @@ some_same x y e = cc
 ended : (c : ℕ) (cs : List ℕ) (ls : List Line) (o : Option (List Line)) → ((xs : List Line) → o ≡ Some xs → text_lines cs ≡ (xs, [])) → eqb c 10 ≡ true → option_map (λ (xs : List Line). [] ∷ xs) o ≡ Some ls → text_lines (c ∷ cs) ≡ (ls, [])
 ended c cs ls None h t e = absurd cc
 ended c cs ls (Some xs) h t e =
-    ap (lines_with_byte c) (h xs refl) ∙ ap (λ (b : Bool). cond {A = TextLines} b ([] ∷ xs, []) (with_first_byte c xs [])) t ∙ ap (λ (x : List Line). (x, [])) (some_same ([] ∷ xs) ls e)
+    ap (lines_with_byte_in_front c) (h xs refl) ∙ ap (λ (b : Bool). cond {A = TextLines} b ([] ∷ xs, []) (lines_with_nonend_byte_in_front c xs [])) t ∙ ap (λ (x : List Line). (x, [])) (some_same ([] ∷ xs) ls e)
 
 added : (c : ℕ) (cs : List ℕ) (ls : List Line) (o : Option (List Line)) → ((xs : List Line) → o ≡ Some xs → text_lines cs ≡ (xs, [])) → eqb c 10 ≡ false → add_char c o ≡ Some ls → text_lines (c ∷ cs) ≡ (ls, [])
 added c cs ls None h t e = absurd cc
 added c cs ls (Some []) h t e = absurd cc
 added c cs ls (Some (l ∷ xs)) h t e =
-    ap (lines_with_byte c) (h (l ∷ xs) refl) ∙ ap (λ (b : Bool). cond {A = TextLines} b ([] ∷ l ∷ xs, []) (with_first_byte c (l ∷ xs) [])) t ∙ ap (λ (x : List Line). (x, [])) (some_same ((c ∷ l) ∷ xs) ls e)
+    ap (lines_with_byte_in_front c) (h (l ∷ xs) refl) ∙ ap (λ (b : Bool). cond {A = TextLines} b ([] ∷ l ∷ xs, []) (lines_with_nonend_byte_in_front c (l ∷ xs) [])) t ∙ ap (λ (x : List Line). (x, [])) (some_same ((c ∷ l) ∷ xs) ls e)
 
 pub whole_lines : (t : List ℕ) (ls : List Line) → split_lines t ≡ Some ls → text_lines t ≡ (ls, [])
 whole_lines [] ls e = ap (λ (x : List Line). (x, [])) (some_same [] ls e)
@@ -176,5 +176,5 @@ what_is_read t root e =
     let (ok, rest) = parts_read t root e in
     let r = lines_of_root (text_lines t).0 root ok in (
       r.is,
-      ap text_of r.lines ∙ sym (append-nil (text_of (text_lines t).0)) ∙ ap (λ (x : List ℕ). text_of (text_lines t).0 ++ x) (sym rest) ∙ text_of_lines t,
+      ap dump_text_of_lines r.lines ∙ sym (append-nil (dump_text_of_lines (text_lines t).0)) ∙ ap (λ (x : List ℕ). dump_text_of_lines (text_lines t).0 ++ x) (sym rest) ∙ text_of_lines t,
     )

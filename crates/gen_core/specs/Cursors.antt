@@ -26,7 +26,7 @@ abbrev pub lines_at_cursor : ℕ → Option Line → List ℕ → List Line
 lines_at_cursor levels None rest = []
 lines_at_cursor levels (Some l) rest = (margin levels ++ l) ∷ (text_lines rest).0
 
--- how many line ends the line that is read has: one, if there is such a line
+-- how many line ends the current line has: one, if there is such a line
 abbrev pub line_end_count : Option Line → ℕ
 line_end_count None = 0
 line_end_count (Some l) = 1
@@ -36,13 +36,14 @@ abbrev pub line_of_block : List Line → Option Line
 line_of_block [] = None
 line_of_block (l ∷ ls) = Some l
 
--- the lines in front that are indented by so many levels, without these spaces, which are a block;
--- and the lines after them
+-- the block at the front: the lines that are indented by this many levels, without these spaces; and
+-- the lines after the block
 abbrev pub block_at : ℕ → List Line → List Line × List Line
 block_at depth [] = ([], [])
 block_at depth (l ∷ ls) = end_block_or_add_line l ls (strip_prefix (margin depth) l) (block_at depth ls)
 
--- how many levels were read of the line after a block: none, unless the block has no line
+-- how many levels were already read of the line after a block: none, or those read before (`levels`)
+-- if the block has no line
 abbrev pub margin_levels_after_block : List Line → ℕ → ℕ
 margin_levels_after_block [] levels = levels
 margin_levels_after_block (l ∷ ls) levels = 0
@@ -52,13 +53,13 @@ abbrev pub cursor_after_block : List Line × List Line → CursorState → Curso
 cursor_after_block block c =
     cursor_from_parts block.1 (c.number + length block.0) (margin_levels_after_block block.0 c.levels)
 
--- the place after the line that is read; the same place if there is none
+-- the place after the current line; the same place if no line is left
 abbrev pub cursor_after_line : List Line → CursorState → CursorState
 cursor_after_line [] c = c
 cursor_after_line (l ∷ ls) c = cursor_from_parts ls (c.number + 1) 0
 
--- the place after the dash of an entry: the line counts as `entry` with a margin of this many levels, in
--- the last of which the dash is
+-- the place after the dash of an array's entry. The rest of the line (`entry`) counts as a line with a
+-- margin of this many levels, all of which were read
 abbrev pub cursor_at_entry : ℕ → Line → List Line → CursorState → CursorState
 cursor_at_entry levels entry [] c = c
 cursor_at_entry levels entry (l ∷ ls) c = cursor_from_parts ((margin levels ++ entry) ∷ ls) c.number levels

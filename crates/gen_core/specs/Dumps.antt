@@ -22,7 +22,9 @@ pub record IsRootValue (which : Which) (value : Plain) : Type 0 where
 pub record AreDumpLines (lines : List Line) : Type 0 where
   -- the root
   pub which : Which
+  -- the value of the root
   pub value : Plain
+  -- it is a value that the root may have
   pub is : IsRootValue which value
   -- its dump has these lines
   pub lines_are : dump_lines which value ≡ lines
@@ -33,8 +35,8 @@ pub record BeginsADump (front : List Line) : Type 0 where
   pub others : List Line
   pub whole : AreDumpLines (front ++ others)
 
--- the line with this number, from 1, is the first that no dump has after the lines before it. Where
--- another line must follow, or the last line has no end, it is the number of whole lines plus 1
+-- the line with this number, from 1, is the first that no dump has after the lines before it. If another
+-- line must follow, or the last line has no line end, it is the number of whole lines plus 1
 pub record IsFirstBadDumpLine (text : List ℕ) (number : ℕ) : Type 0 where
   -- lines are numbered from 1, up to the number of whole lines plus 1
   pub low : 1 ≤ number

@@ -22,21 +22,21 @@ TextLines = List Line × List ℕ
 
 -- the lines of a text with one byte more in front, which is no line end: it belongs to the first
 -- line, or to the bytes after the last line end
-abbrev pub with_first_byte : ℕ → List Line → List ℕ → TextLines
-with_first_byte c [] rest = ([], c ∷ rest)
-with_first_byte c (l ∷ ls) rest = ((c ∷ l) ∷ ls, rest)
+abbrev pub lines_with_nonend_byte_in_front : ℕ → List Line → List ℕ → TextLines
+lines_with_nonend_byte_in_front c [] rest = ([], c ∷ rest)
+lines_with_nonend_byte_in_front c (l ∷ ls) rest = ((c ∷ l) ∷ ls, rest)
 
 -- the lines of a text with one byte more in front; a line end is the end of an empty first line
-abbrev pub lines_with_byte : ℕ → TextLines → TextLines
-lines_with_byte c lines =
-    if c == 0x0a then ([] ∷ lines.0, lines.1) else with_first_byte c lines.0 lines.1
+abbrev pub lines_with_byte_in_front : ℕ → TextLines → TextLines
+lines_with_byte_in_front c lines =
+    if c == 0x0a then ([] ∷ lines.0, lines.1) else lines_with_nonend_byte_in_front c lines.0 lines.1
 
 -- the lines of a text that have their line end, and the bytes after the last line end
 abbrev pub text_lines : List ℕ → TextLines
 text_lines [] = ([], [])
-text_lines (c ∷ cs) = lines_with_byte c (text_lines cs)
+text_lines (c ∷ cs) = lines_with_byte_in_front c (text_lines cs)
 
--- ---- the root that a text says
+-- ---- the root that is read from a text
 
 -- the root of a container: its table, and its plain value
 pub record DumpedRoot : Type 0 where
@@ -49,33 +49,37 @@ pub record DumpedRoot : Type 0 where
 abbrev pub root_tables : List Which
 root_tables = Package ∷ Index ∷ Idb ∷ Intent ∷ []
 
--- the table of the root whose schema a first line names; None where it names none of the four
+-- the table of the root whose schema a first line names; None if it names none of the four
 abbrev pub table_of_line : Line → Option Which
 table_of_line l = find (λ which. bytes_eq l (schema_line (schema_word which))) root_tables
 
--- the root of a value that was read from the lines after the first. A bad line has its number among
--- those lines, from 0; among all lines, from 1, it has this number plus 2
+-- the root with the value that was read from the lines after the first; or the number of a bad line.
+-- That number counts from 0 after the first line; the result counts all lines from 1, so it is greater
+-- by 2
 abbrev pub root_read : Which → ResultOrBadLine Plain → Result DumpedRoot ℕ
 root_read which (Ok v) = Ok (record { which = which; value = v })
 root_read which (Err k) = Err (k + 2)
 
--- the root by the table that the first line names, and the other lines
+-- the root that is read from the lines after the first (`ls`), as an object of the table that the
+-- first line names. Without a table line 1 is bad
 abbrev pub root_of_table : Option Which → List Line → Result DumpedRoot ℕ
 root_of_table None ls = Err 1
 root_of_table (Some which) ls = root_read which (value_read which ls)
 
--- the root that lines say, or the number of the first bad line, from 1; no lines lack the first
+-- the root that is read from some lines, or the number of the first bad line, counted from 1; without
+-- any line, line 1 is bad
 abbrev pub root_of_lines : List Line → Result DumpedRoot ℕ
 root_of_lines [] = Err 1
 root_of_lines (l ∷ ls) = root_of_table (table_of_line l) ls
 
--- the root, unless there are bytes after the last line end: they are the bad line after so many
+-- the root, unless bytes follow the last line end. These are a bad line, whose number is one more than
+-- the number of whole lines (`lines`)
 abbrev pub unless_unfinished_line : List ℕ → ℕ → DumpedRoot → Result DumpedRoot ℕ
 unless_unfinished_line [] lines root = Ok root
 unless_unfinished_line (c ∷ cs) lines root = Err (lines + 1)
 
--- the root that a text says, or the number, from 1, of the first line that no dump has after the
--- lines before it
+-- the root that is read from a text, or the number, from 1, of the first line that no dump has after
+-- the lines before it
 unfoldable pub dumped_root : List ℕ → Result DumpedRoot ℕ
 dumped_root text = let lines = text_lines text in
     and_then (root_of_lines lines.0) (unless_unfinished_line lines.1 (length lines.0))
@@ -83,8 +87,8 @@ dumped_root text = let lines = text_lines text in
 -- ---- the container of a text
 
 -- the schema in the header of a container with this root; 0 for a table that is no root
-abbrev pub word_of_root : Which → ℕ
-word_of_root which = unwrap_or (schema_word which) 0
+abbrev pub schema_word_or_zero : Which → ℕ
+schema_word_or_zero which = unwrap_or (schema_word which) 0
 
 -- the container of this schema and a payload, or the counts of a payload that is too large
 abbrev pub file_unless_too_large :
@@ -94,7 +98,8 @@ file_unless_too_large word (Err counts) = Err (TooLarge counts.0 counts.1)
 
 -- the container of a root, in its canonical layout; or the bad line
 abbrev pub file_of_root : Result DumpedRoot ℕ → Result (List ℕ) GenFault
-file_of_root (Ok root) = file_unless_too_large (word_of_root root.which) (payload_or_overflow root.value)
+file_of_root (Ok root) =
+    file_unless_too_large (schema_word_or_zero root.which) (payload_or_overflow root.value)
 file_of_root (Err line) = Err (Bad line)
 
 -- the container that is generated from a dump text; or what is reported: the first bad line, else the

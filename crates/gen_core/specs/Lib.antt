@@ -6,9 +6,9 @@ pub use Rattle.adb_dump.specs.adb_schema as adb_schema
 pub use Rattle.adb_values.specs.adb_write as adb_write
 -- cited by the contract of `apk`
 pub mod Generated
--- what the laws say
+-- cited by the laws
 pub mod Dumps
--- what only inner contracts and proofs use
+-- used by inner contracts and proofs only
 pub mod Cursors
 pub mod Reads
 pub mod Quoted

@@ -1,4 +1,4 @@
--- What reading does to a draft and to the place in the text, by what lines are read as.
+-- The effect of reading on a draft and on the place in the text, by the values that are read.
 -- The rule is in `docs/formats.md`, "Dump text". Serves the contracts of `src/read.rt` and
 -- `src/value.rt`.
 use Rattle.std.specs.Prelude.{◌≡◌, ◌≢◌, ℕ, ⊤, ◌+◌, ◌<◌, Bool, true, false, List, [], ◌∷◌, Option, Some, None, Result, Ok, Err, bytes_eq, codes}
@@ -17,7 +17,8 @@ use Rattle.gen_core.specs.declared.generate.GenFault.TheVariants.{Bad, TooLarge,
 
 -- ---- a value on one line
 
--- bytes that are not empty have this form on their line; or no such bytes have
+-- true: these bytes are not empty, and their form on a line is `l`. False: no bytes that are not empty
+-- have this form
 abbrev pub IsFormOf : (List ℕ → Line) → Bool → List ℕ → Line → Type 0
 IsFormOf form true bytes l = (bytes ≢ []) × (form bytes ≡ l)
 IsFormOf form false bytes l =
@@ -31,36 +32,40 @@ line_read hash l = if_line_prints_value hash_line l (hash_read l)
 line_read (array s) l = Err 0
 line_read (object schema fs) l = Err 0
 
--- a draft has the value that was read more; or the line cannot be read
+-- true: the new draft is the old one with the value that was read. False: the line cannot be read
 abbrev pub IsLineRead : Bool → ResultOrBadLine Plain → DraftState → DraftState → Type 0
 IsLineRead true read old new = (v : Plain) × (read ≡ Ok v) × (new ≡ draft_with v old)
 IsLineRead false read old new = read ≡ Err 0
 
 -- ---- blocks
 
--- what reading comes to: a draft, and the place from which more is read into it; or the number of
--- the first bad line, from 1
+-- the result of reading: a draft, and the place from which more is read into it; or the number of the
+-- first bad line, from 1
 abbrev pub DraftOrBadLine : Type 0
 DraftOrBadLine = Result (DraftState × CursorState) ℕ
 
--- the line that is read is read as a value
+-- the result of reading the current line as a value. In `Err k` the bad line is `k` lines after the
+-- current one
 abbrev pub draft_and_cursor_after_line : ResultOrBadLine Plain → DraftState → CursorState → DraftOrBadLine
 draft_and_cursor_after_line (Ok v) d c = Ok (draft_with v d, cursor_after_line c.lines c)
 draft_and_cursor_after_line (Err k) d c = Err (c.number + k)
 
--- a block is read as a value
+-- the result of reading a block as a value, which is added to the draft; a bad line `k` counts from 0
+-- in the block
 abbrev pub block_taken :
     ResultOrBadLine Plain → List Line × List Line → DraftState → CursorState → DraftOrBadLine
 block_taken (Ok v) block d c = Ok (draft_with v d, cursor_after_block block c)
 block_taken (Err k) block d c = Err (c.number + k)
 
--- a block is read as values
+-- the result of reading a block as several values, which are added to the draft; a bad line `k` counts
+-- from 0 in the block
 abbrev pub values_taken :
     ResultOrBadLine Plains → List Line × List Line → DraftState → CursorState → DraftOrBadLine
 values_taken (Ok vs) block d c = Ok (draft_with_all vs d, cursor_after_block block c)
 values_taken (Err k) block d c = Err (c.number + k)
 
--- a block is read as an entry of an array
+-- the value of a block that is an entry of an array, as in *entry_read*; `f` reads the value if it is
+-- not Null
 abbrev pub entry_block_read : (List Line → ResultOrBadLine Plain) → List Line → ResultOrBadLine Plain
 entry_block_read f [] = f []
 entry_block_read f (l ∷ ls) = entry_read f l ls
@@ -70,13 +75,13 @@ abbrev pub is_null_line : Option Line → Bool
 is_null_line None = false
 is_null_line (Some l) = bytes_eq l (codes "null")
 
--- nothing is left of a block; or its first line is bad
+-- Ok if no line is left of a block; else its next line, which has this number, is bad
 abbrev pub end_or_bad_line : List Line → ℕ → Result (Unit {0}) GenFault
 end_or_bad_line [] n = Ok tt
 end_or_bad_line (l ∷ ls) n = Err (Bad n)
 
--- a fault is the bad line that reading comes to; out of memory may be reported at any place, and a
--- payload that is too large is reported at the end of the text alone
+-- the fault is the bad line of the result. Out of memory may be reported at any place. A payload that
+-- is too large is reported only at the end of the text
 abbrev pub IsTextFault : {A : Type 0} → GenFault → Result A ℕ → Type 0
 IsTextFault (Bad line) read = read ≡ Err line
 IsTextFault (TooLarge bytes values) read = ⊥
@@ -84,7 +89,7 @@ IsTextFault Memory read = ⊤
 
 -- ---- the text
 
--- the table that the first of some lines names
+-- the table that the first of some lines names; None if it names none, or there is no line
 abbrev pub table_read : List Line → Option Which
 table_read [] = None
 table_read (l ∷ ls) = table_of_line l
@@ -94,7 +99,8 @@ abbrev pub has_rest : List ℕ → Bool
 has_rest [] = false
 has_rest (c ∷ cs) = true
 
--- the table of the root, and a draft that has its value more; or the number of the first bad line
+-- the table of the root, and the draft to which the root's value was added; or the number of the first
+-- bad line
 abbrev pub table_and_draft_of_root : Result DumpedRoot ℕ → DraftState → Result (Which × DraftState) ℕ
 table_and_draft_of_root (Ok root) d = Ok (root.which, draft_with root.value d)
 table_and_draft_of_root (Err line) d = Err line

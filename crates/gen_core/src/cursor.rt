@@ -32,7 +32,8 @@ impl<'a> Model for Cursor<'a> {
 
     ghost Value = { CursorState };
 
-    ghost view = { λ c. cursor_from_parts (lines_at_cursor c.levels (option_copied c.line) c.rest.now) c.number
+    ghost view = { λ c. cursor_from_parts (lines_at_cursor c.levels
+        (option_copied c.line) c.rest.now) c.number
         c.levels };
 
     ghost invariant = { λ c. c.number + line_end_count (option_copied c.line) + length c.rest.now
@@ -90,7 +91,8 @@ impl<'a> Cursor<'a> {
         }
     }
 
-    /// Reads the dash of an entry, of whose line this is left: the line is then one of this depth.
+    /// Reads the dash of an array's entry. `entry` is the rest of the line after the dash; it
+    /// counts as a line of this depth.
     pub(crate) fn read_dash(&mut self, entry: &'a [u8], depth: u32)
         ensures { self.new ≡ cursor_at_entry depth entry.entry.now self.old.lines self.old }
     {
@@ -100,7 +102,7 @@ impl<'a> Cursor<'a> {
         }
     }
 
-    /// That the line cannot stand there.
+    /// The fault that the line is not allowed there.
     pub(crate) fn bad_line(&self) -> GenFault
         ensures { result ≡ Bad self.now.number }
     {
@@ -136,7 +138,7 @@ fn without_levels(line: &[u8], levels: u32) -> Option<&[u8]>
     Some(inner)
 }
 
-/// What a line has after a prefix, if it begins with that.
+/// The rest of a line after a prefix, if the line begins with it.
 pub(crate) fn without_prefix<'a>(line: &'a [u8], prefix: &[u8]) -> Option<&'a [u8]>
     ensures { option_copied result ≡ strip_prefix prefix.now line.entry.now }
 {

@@ -4,7 +4,7 @@
 ghost use Rattle.std.specs.Prelude.{◌≡◌, IfErr, IfOk, OnOk, Ok, Err, Some, None};
 ghost use Rattle.gen_core.specs.declared.generate.GenFault.TheVariants.{Bad};
 ghost use Rattle.gen_core.specs.Cursors.{cursor_after_line};
-ghost use Rattle.gen_core.specs.Generated.{IsGenFault, dumped_root, generated_file, table_of_line, text_lines, word_of_root};
+ghost use Rattle.gen_core.specs.Generated.{IsGenFault, dumped_root, generated_file, table_of_line, text_lines, schema_word_or_zero};
 ghost use Rattle.gen_core.specs.Reads.{IsTextFault, fault_of_writer, has_rest, table_and_draft_of_root, table_read};
 
 use crate::cursor::Cursor;
@@ -14,9 +14,8 @@ use adb_values::{Draft, WriteFault, file_of};
 use std::alloc::{AllocError, Global};
 use thiserror::Error;
 
-/// The container that a dump text is of: the text that `adbdump` prints of it is `text`. It has the
-/// canonical layout, and no contents of files. Rules of texts, such as that of versions, are not
-/// tested.
+/// The container for which `adbdump` prints `text`. It has the canonical layout, and no contents of
+/// files. Rules of texts, such as that of versions, are not tested.
 ///
 /// # Errors
 ///
@@ -29,7 +28,7 @@ pub fn gen_(alloc: Global, text: &[u8]) -> Result<Vec<u8>, GenFault>
     let mut draft = Draft::new(alloc);
     let which = read_text(alloc, &mut draft, text)?;
     match draft.finish() {
-        Ok(payload) => Ok(file_of(alloc, word_of_root(which), &payload)?),
+        Ok(payload) => Ok(file_of(alloc, schema_word_or_zero(which), &payload)?),
         Err(fault) => Err(fault_of_writer(fault)),
     }
 }
@@ -44,7 +43,7 @@ fn fault_of_writer(fault: WriteFault) -> GenFault
     }
 }
 
-/// Reads a text: the value of its root is added to the draft, and its table is the answer.
+/// Reads a text: adds the value of its root to the draft, and returns the table of the root.
 fn read_text(alloc: Global, draft: &mut Draft, text: &[u8]) -> Result<Which, GenFault>
     ensures ok { IfOk result (λ which. table_and_draft_of_root (dumped_root text.now) draft.old
         ≡ Ok (which, draft.new)) }
@@ -122,8 +121,8 @@ fn table_of_line(line: &[u8]) -> Option<Which>
 }
 
 /// The schema in the header of a container with this root.
-fn word_of_root(which: Which) -> u32
-    ensures { result ≡ word_of_root which }
+fn schema_word_or_zero(which: Which) -> u32
+    ensures { result ≡ schema_word_or_zero which }
 {
     schema_word(which).unwrap_or(0)
 }

@@ -21,17 +21,19 @@ use adb_dump::{Field, FieldName, Kind, Which, fields_of, has_one_line};
 use adb_values::Draft;
 use std::alloc::{AllocError, Global};
 
-/// Reads the root of a text, an object of this table, of all lines that are left; where none is,
-/// the root is Null.
+/// Reads the root of a text, an object of this table, from all lines that are left. If no line is
+/// left, the root is Null.
 pub(crate) fn read_root(
     alloc: Global,
     draft: &mut Draft,
     cursor: &mut Cursor<'_>,
     which: Which,
 ) -> Result<(), GenFault>
+    // Nothing of the line's indentation was read yet.
     requires { cursor.old.levels ≡ 0 }
     ensures ok { OnOk result (block_taken (value_read which cursor.old.lines) (cursor.old.lines, [])
         draft.old cursor.old ≡ Ok (draft.new, cursor.new)) }
+    // An error is the bad line of the definition, or out of memory.
     ensures err { IfErr result (λ fault. IsTextFault fault (block_taken
         (value_read which cursor.old.lines) (cursor.old.lines, []) draft.old cursor.old)) }
 {
@@ -52,11 +54,14 @@ fn read_block(
     kind: Kind,
     depth: u32,
 ) -> Result<(), GenFault>
+    // No more levels of the line's indentation were read than the block has.
     requires within { cursor.old.levels ≤ depth }
+    // No value is so deep that its lines exceed the greatest depth.
     requires deep { depth + rank kind ≤ DEPTH_LIMIT }
     ensures ok { let block = block_at depth cursor.old.lines in OnOk result
         (block_taken (block_read (shape_of kind) block.0)
         block draft.old cursor.old ≡ Ok (draft.new, cursor.new)) }
+    // An error is the bad line of the definition, or out of memory.
     ensures err { let block = block_at depth cursor.old.lines in IfErr result (λ fault.
         IsTextFault fault (block_taken (block_read (shape_of kind) block.0)
         block draft.old cursor.old)) }
@@ -69,7 +74,7 @@ fn read_block(
     }
 }
 
-/// Reads a block that is one line as a value of the kind.
+/// Reads a block of one line as a value of the kind.
 fn read_only_line(
     draft: &mut Draft,
     cursor: &mut Cursor<'_>,
@@ -77,11 +82,14 @@ fn read_only_line(
     kind: Kind,
     depth: u32,
 ) -> Result<(), GenFault>
+    // No more levels of the line's indentation were read than the block has.
     requires within { cursor.old.levels ≤ depth }
+    // A value of the kind has one line.
     requires line { has_one_line kind ≡ true }
     ensures ok { let block = block_at depth cursor.old.lines in OnOk result
         (block_taken (block_read (shape_of kind) block.0)
         block draft.old cursor.old ≡ Ok (draft.new, cursor.new)) }
+    // An error is the bad line of the definition, or out of memory.
     ensures err { let block = block_at depth cursor.old.lines in IfErr result (λ fault.
         IsTextFault fault (block_taken (block_read (shape_of kind) block.0)
         block draft.old cursor.old)) }
@@ -93,7 +101,7 @@ fn read_only_line(
     end_block(cursor, depth)
 }
 
-/// Reads what is left of the line as a value of the kind, and goes to the next line.
+/// Reads the rest of the current line as a value of the kind, and goes to the next line.
 fn read_line(
     draft: &mut Draft,
     cursor: &mut Cursor<'_>,
@@ -101,8 +109,10 @@ fn read_line(
     kind: Kind,
     line: &[u8],
 ) -> Result<(), GenFault>
-    ensures ok { OnOk result (draft_and_cursor_after_line (line_read (shape_of kind) line.now) draft.old cursor.old
+    ensures ok { OnOk result (draft_and_cursor_after_line (line_read
+        (shape_of kind) line.now) draft.old cursor.old
         ≡ Ok (draft.new, cursor.new)) }
+    // An error is the bad line of the definition, or out of memory.
     ensures err { IfErr result (λ fault. IsTextFault fault
         (draft_and_cursor_after_line (line_read (shape_of kind) line.now) draft.old cursor.old)) }
 {
@@ -113,7 +123,7 @@ fn read_line(
     Ok(())
 }
 
-/// Reads a line as a value of the kind; false where it is that of none.
+/// Reads a line as a value of the kind; false if it is the line of no such value.
 fn read_value(
     draft: &mut Draft,
     scratch: &mut Vec<u8>,
@@ -172,11 +182,14 @@ fn read_array(
     kind: Kind,
     depth: u32,
 ) -> Result<(), GenFault>
+    // No more levels of the line's indentation were read than the block has.
     requires within { cursor.old.levels ≤ depth }
+    // No value is so deep that its lines exceed the greatest depth.
     requires deep { depth + rank kind < DEPTH_LIMIT }
     ensures ok { let block = block_at depth cursor.old.lines in OnOk result
         (block_taken (block_read (array (shape_of kind)) block.0)
         block draft.old cursor.old ≡ Ok (draft.new, cursor.new)) }
+    // An error is the bad line of the definition, or out of memory.
     ensures err { let block = block_at depth cursor.old.lines in IfErr result (λ fault.
         IsTextFault fault (block_taken (block_read (array (shape_of kind)) block.0)
         block draft.old cursor.old)) }
@@ -190,7 +203,7 @@ fn read_array(
     Ok(())
 }
 
-/// Reads a block as values of the kind, each behind a dash.
+/// Reads a block as values of the kind, each after a dash.
 #[cycle(block)]
 fn read_entries(
     draft: &mut Draft,
@@ -199,11 +212,14 @@ fn read_entries(
     kind: Kind,
     depth: u32,
 ) -> Result<(), GenFault>
+    // No more levels of the line's indentation were read than the block has.
     requires within { cursor.old.levels ≤ depth }
+    // No value is so deep that its lines exceed the greatest depth.
     requires deep { depth + rank kind < DEPTH_LIMIT }
     ensures ok { let block = block_at depth cursor.old.lines in OnOk result
         (values_taken (entries_read (block_read (shape_of kind)) (length block.0) block.0)
         block draft.old cursor.old ≡ Ok (draft.new, cursor.new)) }
+    // An error is the bad line of the definition, or out of memory.
     ensures err { let block = block_at depth cursor.old.lines in IfErr result (λ fault.
         IsTextFault fault (values_taken
         (entries_read (block_read (shape_of kind)) (length block.0) block.0)
@@ -228,11 +244,14 @@ fn read_entry(
     kind: Kind,
     depth: u32,
 ) -> Result<(), GenFault>
+    // No more levels of the line's indentation were read than the block has.
     requires within { cursor.old.levels ≤ depth }
+    // No value is so deep that its lines exceed the greatest depth.
     requires deep { depth + rank kind ≤ DEPTH_LIMIT }
     ensures ok { let block = block_at depth cursor.old.lines in OnOk result
         (block_taken (entry_block_read (block_read (shape_of kind)) block.0)
         block draft.old cursor.old ≡ Ok (draft.new, cursor.new)) }
+    // An error is the bad line of the definition, or out of memory.
     ensures err { let block = block_at depth cursor.old.lines in IfErr result (λ fault.
         IsTextFault fault (block_taken (entry_block_read (block_read (shape_of kind)) block.0)
         block draft.old cursor.old)) }
@@ -266,11 +285,14 @@ fn read_object(
     which: Which,
     depth: u32,
 ) -> Result<(), GenFault>
+    // No more levels of the line's indentation were read than the block has.
     requires within { cursor.old.levels ≤ depth }
+    // No value is so deep that its lines exceed the greatest depth.
     requires deep { depth + rank (Kinds.Obj which) ≤ DEPTH_LIMIT }
     ensures ok { let block = block_at depth cursor.old.lines in OnOk result
         (block_taken (block_read (shape_of (Kinds.Obj which)) block.0)
         block draft.old cursor.old ≡ Ok (draft.new, cursor.new)) }
+    // An error is the bad line of the definition, or out of memory.
     ensures err { let block = block_at depth cursor.old.lines in IfErr result (λ fault.
         IsTextFault fault (block_taken (block_read (shape_of (Kinds.Obj which)) block.0)
         block draft.old cursor.old)) }
@@ -294,11 +316,14 @@ fn read_fields(
     fields: &[Field],
     depth: u32,
 ) -> Result<(), GenFault>
+    // No more levels of the line's indentation were read than the block has.
     requires within { cursor.old.levels ≤ depth }
+    // No value is so deep that its lines exceed the greatest depth.
     requires deep { depth + rank_of_all fields.now < DEPTH_LIMIT }
     ensures ok { let block = block_at depth cursor.old.lines in OnOk result
         (values_taken (fields_read (shapes_of fields.now) block.0)
         block draft.old cursor.old ≡ Ok (draft.new, cursor.new)) }
+    // An error is the bad line of the definition, or out of memory.
     ensures err { let block = block_at depth cursor.old.lines in IfErr result (λ fault.
         IsTextFault fault (values_taken (fields_read (shapes_of fields.now) block.0)
         block draft.old cursor.old)) }
@@ -319,7 +344,7 @@ fn read_fields(
     end_block(cursor, depth)
 }
 
-/// What a line has after the name of a field and a colon, if it begins with these.
+/// The rest of a line after the name of a field and a colon, if the line begins with these.
 fn after_name(line: &[u8], name: FieldName) -> Option<&[u8]>
     ensures { option_copied result
         ≡ strip_prefix (field_name_text name ++ codes ":") line.entry.now }
@@ -330,8 +355,8 @@ fn after_name(line: &[u8], name: FieldName) -> Option<&[u8]>
     }
 }
 
-/// Reads the value of a field, of whose first line this is left after its name: on that line, or
-/// in the block below it.
+/// Reads the value of a field. `value` is the rest of the field's first line after its name and
+/// colon; the value is there, or in the block below.
 #[cycle(block)]
 fn read_named(
     draft: &mut Draft,
@@ -343,7 +368,9 @@ fn read_named(
 ) -> Result<(), GenFault>
     // No more levels of the current line's indentation were read than the block has.
     requires within { cursor.old.levels ≤ depth }
+    // No value is so deep that its lines exceed the greatest depth.
     requires deep { depth + rank kind < DEPTH_LIMIT }
+    // The block has a line.
     requires some { 0 < length (block_at depth cursor.old.lines).0 }
     ensures ok { let block = block_at depth cursor.old.lines in OnOk result
         ((others : List Line → ResultOrBadLine Plains)
@@ -351,7 +378,9 @@ fn read_named(
         block draft.old cursor.old
         ≡ values_taken (others (block_at depth cursor.new.lines).0)
         (block_at depth cursor.new.lines) draft.new cursor.new) }
+    // Nothing of the next line's indentation was read yet.
     ensures begun { OnOk result (cursor.new.levels ≡ 0) }
+    // An error is the bad line of the definition, or out of memory.
     ensures err { let block = block_at depth cursor.old.lines in IfErr result (λ fault.
         (others : List Line → ResultOrBadLine Plains) → IsTextFault fault
         (values_taken (named_read (shape_of kind) others (drop 1 block.0) value.now)

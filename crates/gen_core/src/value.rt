@@ -103,7 +103,8 @@ fn read_bare(bytes: &mut Vec<u8>, line: &[u8]) -> Result<bool, AllocError>
 
 /// Reads a text that is on its line between quotes, from after the first of them on.
 fn read_quoted(bytes: &mut Vec<u8>, quoted: &[u8]) -> Result<bool, AllocError>
-    ensures { IfOk result (λ is. IsFormOf bare_or_quoted_text is bytes.new.items (codes "\"" ++ quoted.now)) }
+    ensures { IfOk result (λ is. IsFormOf bare_or_quoted_text is bytes.new.items (codes "\""
+        ++ quoted.now)) }
 {
     if is_quote(quoted) {
         return Ok(false);

@@ -12,9 +12,9 @@ use Rattle.refusal_laws.specs.outcome.Effect.{Changes, does_recover, effect_of_a
 use Rattle.refusal_laws.specs.outcome.Outcome.{Outcome}
 use Rattle.refusal_laws.specs.outcome.Words.{IsOutcome}
 use Rattle.refusal_laws.specs.words_core.Grammar.{command_of}
-use Rattle.run_lists.specs.Events.{RootEvent, HasNoPendingRun, Reaches, ReachesWithoutCommit, ReachesOneState, IsRunWithoutCommit, IsOutcomeFrom, IsRunFrom, IsPossibleStop, Run, ignored_after, ignored_during_run, ignored_with_all_touched, ignored_with_scratch}
-use Rattle.run_lists.specs.Recovered.{ReachesWithoutBadIntent, HasStateBefore, HasStateBeforeOrOutcome, HasSameState, IsRecoveredBy, LeavesNoBadIntent}
-use Rattle.run_lists.specs.Safety.{HasOldOrOutcome, IsAtomicAfterAnyEvents, IsSafeRun, IsSafeAfterAnyEvents, LeavesOutcome}
+use Rattle.run_lists.specs.Events.{RootEvent, HasNoUnfinishedRunSinceCrash, Reaches, ReachesWithoutCommit, ReachesOneCrashState, IsRunWithoutCommit, IsOutcomeFrom, IsRunFrom, IsPossibleStop, Run, ignored_after, ignored_during_run, ignored_with_all_touched, ignored_with_scratch}
+use Rattle.run_lists.specs.Recovered.{ReachesWithoutBadIntent, HasStateOfSomeCrashBefore, HasStateOfCrashBeforeOrOutcome, HasSameState, IsRecoveredBy, LeavesNoBadIntent}
+use Rattle.run_lists.specs.Safety.{HasStateAsReadOrOutcome, IsAtomicAfterAnyEvents, IsSafeRun, IsSafeAfterAnyEvents, LeavesFilesOfAnsweredOutcome}
 use Rattle.run_lists.proofs.AtMoments.{History}
 use Rattle.run_lists.proofs.Facts.{AreMore, Ignored}
 use Rattle.run_lists.proofs.Moments.{last_moment}
@@ -48,20 +48,20 @@ recovers_to names m left HasState rests crash = record {
 state_rests : (files : Files) → RestsOnState (λ names. HasSameState names files)
 state_rests files = record { same = λ names a b is has. is ∙ has; more = λ few many more a has. states_same few many more a files has }
 
-before_rests : (v : TreeState) → RestsOnState (λ names. HasStateBefore names v)
+before_rests : (v : TreeState) → RestsOnState (λ names. HasStateOfSomeCrashBefore names v)
 before_rests v = record { same = λ names a b is has. (has.0, has.1, is ∙ has.2); more = λ few many more. before_more few many v more }
 
-either_rests : (v : TreeState) (run : Run) → RestsOnState (λ names. HasStateBeforeOrOutcome names v run)
+either_rests : (v : TreeState) (run : Run) → RestsOnState (λ names. HasStateOfCrashBeforeOrOutcome names v run)
 either_rests v run = record { same = λ names. state_on names v run; more = λ few many more. before_or_outcome_more few many v run more }
 
-old_rests : (v : TreeState) (run : Run) → RestsOnState (λ names. HasOldOrOutcome names v run)
+old_rests : (v : TreeState) (run : Run) → RestsOnState (λ names. HasStateAsReadOrOutcome names v run)
 old_rests v run = record { same = same; more = more }
   where
-    same : (names : Ignored) (a b : Files) → HasSameState names b a → HasOldOrOutcome names v run b → HasOldOrOutcome names v run a
+    same : (names : Ignored) (a b : Files) → HasSameState names b a → HasStateAsReadOrOutcome names v run b → HasStateAsReadOrOutcome names v run a
     same names a b is (inl old) = inl (is ∙ old)
     same names a b is (inr (o, one, commits, new)) = inr (o, one, commits, is ∙ new)
 
-    more : (few many : Ignored) → AreMore few many → (files : Files) → HasOldOrOutcome few v run files → HasOldOrOutcome many v run files
+    more : (few many : Ignored) → AreMore few many → (files : Files) → HasStateAsReadOrOutcome few v run files → HasStateAsReadOrOutcome many v run files
     more few many up files (inl old) = inl (states_same few many up files (files_of v) old)
     more few many up files (inr (o, one, commits, new)) = inr (o, one, commits, states_same few many up files o.files new)
 
@@ -74,12 +74,12 @@ now_last (w ∷ rest) A B f a = f w refl a
 module _ (begins : (ignored : Ignored) (first v : TreeState) (events : List RootEvent) (words : List (List ℕ)) → ignored intent_name ≡ false → IsDurable (StateDependsOn ignored) first → Reaches first events v
     → IsDurable (StateDependsOn (ignored_with_scratch (output words) (ignored_after ignored events))) v × IgnoresScratchOf (output words) (ignored_with_scratch (output words) (ignored_after ignored events)))
     (safe : (v : TreeState) (run : Run) → IsRunFrom v run → IsSafeAfterAnyEvents v run)
-    (one_state : (ignored : Ignored) (first v : TreeState) (events : List RootEvent) → ignored intent_name ≡ false → IsDurableState ignored (files_of first) first → ReachesOneState first events v → IsDurableState (ignored_after ignored events) (files_of v) v)
-    (unbroken : (first v : TreeState) (events : List RootEvent) → Reaches first events v → HasNoPendingRun events → ReachesOneState first events v)
+    (one_state : (ignored : Ignored) (first v : TreeState) (events : List RootEvent) → ignored intent_name ≡ false → IsDurableState ignored (files_of first) first → ReachesOneCrashState first events v → IsDurableState (ignored_after ignored events) (files_of v) v)
+    (unbroken : (first v : TreeState) (events : List RootEvent) → Reaches first events v → HasNoUnfinishedRunSinceCrash events → ReachesOneCrashState first events v)
     (left : (ignored : Ignored) (first v m w : TreeState) (events later : List RootEvent) (run next : Run) → ignored intent_name ≡ false → IsDurable (StateDependsOn ignored) first → LeavesNoBadIntent first
     → ReachesWithoutBadIntent first events v → IsRunFrom v run → IsPossibleStop run m → ReachesWithoutCommit m later w → IsRunFrom w next → does_recover (effect_of_arguments (command_of next.words)) ≡ true
     → (image : Files) × IsCrashImage m image × IsRecoveredBy (HasSameState (ignored_with_all_touched later (ignored_during_run run (ignored_after ignored events))) image) w next)
-    (two : (ignored : Ignored) (v : TreeState) (run : Run) (files : Files) → EachCrashLeaves ignored (files_of v) v → HasStateBeforeOrOutcome ignored v run files → HasOldOrOutcome ignored v run files)
+    (two : (ignored : Ignored) (v : TreeState) (run : Run) (files : Files) → EachCrashLeaves ignored (files_of v) v → HasStateOfCrashBeforeOrOutcome ignored v run files → HasStateAsReadOrOutcome ignored v run files)
     (more_settled : (few many : Ignored) (files : Files) (v : TreeState) → AreMore few many → EachCrashLeaves few files v → EachCrashLeaves many files v)
     (unique : (words : List (List ℕ)) (files : Files) (a b : Outcome) → IsOutcome (command_of words) files a → IsOutcome (command_of words) files b → a ≡ b)
     (ended : (words : List (List ℕ)) (command : CommandLine) (files : Files) (o : Outcome) → command_of words ≡ Ok command → effect_of command.applet ≡ Changes → IsOutcome (command_of words) files o → EndsInTrueRefusalOrFirstSelection command files o)
@@ -99,35 +99,35 @@ module _ (begins : (ignored : Ignored) (first v : TreeState) (events : List Root
   left_at : (m : TreeState) → IsPossibleStop run m → IsLeftAt Names m
   left_at m stop w later next idly is_next recovers = left ignored first v m w events later run next past.counts past.durable past.good past.seen is_run stop idly is_next recovers
 
-  either : (m : TreeState) → IsPossibleStop run m → (image : Files) → IsCrashImage m image → HasStateBeforeOrOutcome Names v run image
+  either : (m : TreeState) → IsPossibleStop run m → (image : Files) → IsCrashImage m image → HasStateOfCrashBeforeOrOutcome Names v run image
   either m (at, moment, torn) image is = left_state Names v run at (here.moments at moment) image (torn_image at m torn image is)
 
-  moments : (m : TreeState) → IsPossibleStop run m → RootRecoversTo (λ names. HasStateBeforeOrOutcome names v run) Names m
-  moments m stop = recovers_to Names m (left_at m stop) (λ names. HasStateBeforeOrOutcome names v run) (either_rests v run) (either m stop)
+  moments : (m : TreeState) → IsPossibleStop run m → RootRecoversTo (λ names. HasStateOfCrashBeforeOrOutcome names v run) Names m
+  moments m stop = recovers_to Names m (left_at m stop) (λ names. HasStateOfCrashBeforeOrOutcome names v run) (either_rests v run) (either m stop)
 
-  one : EachCrashLeaves Names (files_of v) v → (m : TreeState) → IsPossibleStop run m → RootRecoversTo (λ names. HasOldOrOutcome names v run) Names m
-  one settled m stop = recovers_to Names m (left_at m stop) (λ names. HasOldOrOutcome names v run) (old_rests v run) (λ image is. two Names v run image settled (either m stop image is))
+  one : EachCrashLeaves Names (files_of v) v → (m : TreeState) → IsPossibleStop run m → RootRecoversTo (λ names. HasStateAsReadOrOutcome names v run) Names m
+  one settled m stop = recovers_to Names m (left_at m stop) (λ names. HasStateAsReadOrOutcome names v run) (old_rests v run) (λ image is. two Names v run image settled (either m stop image is))
 
-  kept : IsRunWithoutCommit v run → (m : TreeState) → IsPossibleStop run m → RootRecoversTo (λ names. HasStateBefore names v) Names m
+  kept : IsRunWithoutCommit v run → (m : TreeState) → IsPossibleStop run m → RootRecoversTo (λ names. HasStateOfSomeCrashBefore names v) Names m
   kept idle m (at, moment, torn) =
-      recovers_to Names m (left_at m (at, moment, torn)) (λ names. HasStateBefore names v) (before_rests v)
+      recovers_to Names m (left_at m (at, moment, torn)) (λ names. HasStateOfSomeCrashBefore names v) (before_rests v)
       (λ image is. (idle_moment Names v run is_run durable idle at moment).quiet image (torn_image at m torn image is))
 
-  ends_settled : (o : Outcome) → IsOutcomeFrom v run o → MustOutcomeBeDurable (effect_of_arguments (command_of run.words)) Names v o → (w : TreeState) → LeavesOutcome (ignored_after ignored events) v run w → EachCrashLeaves Names o.files w
+  ends_settled : (o : Outcome) → IsOutcomeFrom v run o → MustOutcomeBeDurable (effect_of_arguments (command_of run.words)) Names v o → (w : TreeState) → LeavesFilesOfAnsweredOutcome (ignored_after ignored events) v run w → EachCrashLeaves Names o.files w
   ends_settled o is settles w leaves =
       subst (λ (p : Outcome). (MustOutcomeBeDurable (effect_of_arguments (command_of run.words)) Names v p → EachCrashLeaves Names p.files w)) (unique run.words (files_of v) leaves.outcome o leaves.is_outcome is) leaves.settled settles
 
   answered : AnswersOutcome run.answer → (o : Outcome) → IsOutcomeFrom v run o → MustOutcomeBeDurable (effect_of_arguments (command_of run.words)) Names v o → HoldsNow run.now (RootRecoversTo (λ names. HasSameState names o.files) Names)
   answered answers o is settles =
-      now_last run.now (LeavesOutcome (ignored_after ignored events) v run) (RootRecoversTo (λ names. HasSameState names o.files) Names)
+      now_last run.now (LeavesFilesOfAnsweredOutcome (ignored_after ignored events) v run) (RootRecoversTo (λ names. HasSameState names o.files) Names)
       (λ w ends leaves. recovers_to Names w (left_at w (w, last_moment run v w is_run ends, torn_self w)) (λ names. HasSameState names o.files) (state_rests o.files) (ends_settled o is settles w leaves))
       (here.answered answers)
 
-  to_one : ReachesOneState first events v ⊎ HasNoPendingRun events → ReachesOneState first events v
+  to_one : ReachesOneCrashState first events v ⊎ HasNoUnfinishedRunSinceCrash events → ReachesOneCrashState first events v
   to_one (inl to) = to
   to_one (inr none) = unbroken first v events seen none
 
-  pub promised : IsAsPromised Names v run × (IsDurableState ignored (files_of first) first → ReachesOneState first events v ⊎ HasNoPendingRun events → EachCrashLeaves Names (files_of v) v)
+  pub promised : IsAsPromised Names v run × (IsDurableState ignored (files_of first) first → ReachesOneCrashState first events v ⊎ HasNoUnfinishedRunSinceCrash events → EachCrashLeaves Names (files_of v) v)
   promised = (
     record {
       moments = moments;

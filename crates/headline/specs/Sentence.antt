@@ -2,25 +2,25 @@
 -- defined in `run_lists` (runs, and what a root has seen), `apk_front` (answers), `journal_core`
 -- (states), `outcome` (what a command comes to) and `refusal_laws` (what a refusal says).
 use Rattle.std.specs.Prelude.{◌≡◌, ◌⊎◌, ℕ, Bool, true, false, List, Some, None, Ok}
-use Rattle.run_lists.specs.apk_front.Answers.{IsAnswerOf, LeavesFiles}
+use Rattle.run_lists.specs.apk_front.Answers.{IsAnswerOfSomeOutcome, LeavesFiles}
 use Rattle.run_lists.specs.apk_front.Moments.{AnswersOutcome, IsDurableState, MustOutcomeBeDurable}
 use Rattle.base_core.specs.Calls.{HoldsNow}
 use Rattle.base_core.specs.Undone.{IsDurable, IsCrashImage}
-use Rattle.base_core.specs.Faults.{HasCause}
+use Rattle.base_core.specs.Faults.{IsFaultCountedWithCause}
 use Rattle.base_core.specs.Files.{Files}
 use Rattle.base_core.specs.Tree.{TreeState, files_of}
 use Rattle.command_core.specs.Command.{CommandLine}
 use Rattle.run_lists.specs.journal_core.Recovery.{EachCrashLeaves, StateDependsOn, intent_name}
 use Rattle.run_lists.specs.journal_core.Staged.{unstaged_files}
-use Rattle.refusal_laws.specs.outcome.ChangeEnd.{IsRunEnd, TakesFirstSelection}
+use Rattle.refusal_laws.specs.outcome.ChangeEnd.{IsChangeEndOrIntentRefusal, TakesFirstPreferredSelection}
 use Rattle.refusal_laws.specs.outcome.Effect.{Changes, does_recover, effect_of_arguments, effect_of}
 use Rattle.refusal_laws.specs.outcome.Outcome.{Outcome}
 use Rattle.refusal_laws.specs.RunFaults.{IsFaultOfRun}
-use Rattle.refusal_laws.specs.RunMade.{HasFirstSelection}
+use Rattle.refusal_laws.specs.RunMade.{HasFaultlessFirstPreferredSelection}
 use Rattle.report_core.specs.declared.refusal.Refusal.{Refusal}
-use Rattle.run_lists.specs.Events.{RootEvent, HasNoPendingRun, ReachesWithoutCommit, ReachesOneState, IsRunWithoutCommit, IsOutcomeFrom, IsRunFrom, IsPossibleStop, Run, ignored_after, ignored_during_run, ignored_with_all_touched}
-use Rattle.run_lists.specs.Recovered.{ReachesWithoutBadIntent, HasStateBefore, HasStateBeforeOrOutcome, HasSameState, IsRecoveredBy, LeavesNoBadIntent}
-use Rattle.run_lists.specs.Safety.{HasOldOrOutcome}
+use Rattle.run_lists.specs.Events.{RootEvent, HasNoUnfinishedRunSinceCrash, ReachesWithoutCommit, ReachesOneCrashState, IsRunWithoutCommit, IsOutcomeFrom, IsRunFrom, IsPossibleStop, Run, ignored_after, ignored_during_run, ignored_with_all_touched}
+use Rattle.run_lists.specs.Recovered.{ReachesWithoutBadIntent, HasStateOfSomeCrashBefore, HasStateOfCrashBeforeOrOutcome, HasSameState, IsRecoveredBy, LeavesNoBadIntent}
+use Rattle.run_lists.specs.Safety.{HasStateAsReadOrOutcome}
 use Rattle.refusal_laws.specs.words_core.Grammar.{command_of}
 
 -- A root has seen any list of runs, stops, crashes and changes by others. Its files were durable at
@@ -32,9 +32,10 @@ pub record HasGoodPast (ignored : List ℕ → Bool) (first : TreeState) (events
   pub good : LeavesNoBadIntent first
   pub seen : ReachesWithoutBadIntent first events v
 
--- From a moment on a root recovers to such files, apart from the ignored names. Each crash then leaves
--- such files. The next run that recovers works on such files, after any crashes, any touches by others,
--- and any runs, ended or stopped, that commit nothing; what others touched is then ignored too.
+-- From the state m on, a root recovers to files with the state *HasState*, apart from the ignored names.
+-- Each crash in m leaves such files. The next run that recovers works on such files, after any crashes,
+-- any touches by others, and any runs, ended or stopped, that commit nothing. What others touched is then
+-- ignored too.
 pub record RootRecoversTo (HasState : (List ℕ → Bool) → Files → Type 0) (ignored : List ℕ → Bool)
     (m : TreeState) : Type 0 where
   pub crash : (image : Files) → IsCrashImage m image → HasState ignored image
@@ -45,23 +46,24 @@ pub record RootRecoversTo (HasState : (List ℕ → Bool) → Files → Type 0) 
 -- A change is refused only for what is so, or because no selection satisfies the new world. Else the
 -- first preferred selection is carried out and reported. The packages are then just the selected ones,
 -- unless the change is only simulated.
-pub record EndsInTrueRefusalOrFirstSelection (command : CommandLine) (files : Files) (o : Outcome) : Type 0 where
-  pub end : IsRunEnd command files o
+pub record EndsInTrueRefusalOrFirstSelection (command : CommandLine) (files : Files)
+    (o : Outcome) : Type 0 where
+  pub end : IsChangeEndOrIntentRefusal command files o
   pub fault : (refusal : Refusal) → o.refusal ≡ Some refusal → IsFaultOfRun command files refusal
-  pub first : o.refusal ≡ None → TakesFirstSelection command (unstaged_files files) o
+  pub first : o.refusal ≡ None → TakesFirstPreferredSelection command (unstaged_files files) o
   pub packages : o.refusal ≡ None → command.flags.simulate ≡ false
-      → HasFirstSelection command (unstaged_files files)
+      → HasFaultlessFirstPreferredSelection command (unstaged_files files)
 
 -- what is promised of a run that begins in the state v, apart from the ignored names
 pub record IsAsPromised (ignored : List ℕ → Bool) (v : TreeState) (run : Run) : Type 0 where
   -- Suppose that the run ended, or was stopped at any moment, also inside a call. The root then recovers
   -- to a state from before the run, or to that of its outcome, which commits.
   pub moments : (m : TreeState) → IsPossibleStop run m
-      → RootRecoversTo (λ names. HasStateBeforeOrOutcome names v run) ignored m
+      → RootRecoversTo (λ names. HasStateOfCrashBeforeOrOutcome names v run) ignored m
   -- Suppose that each crash before the run left the state of the files as read. The root then recovers
   -- to this state, or to that of the outcome, which commits.
   pub one : EachCrashLeaves ignored (files_of v) v → (m : TreeState) → IsPossibleStop run m
-      → RootRecoversTo (λ names. HasOldOrOutcome names v run) ignored m
+      → RootRecoversTo (λ names. HasStateAsReadOrOutcome names v run) ignored m
   -- Suppose that the run answered by its outcome: Ok, a refusal, or a fault of an output stream. The root
   -- then recovers to the outcome's state, if this is made durable: the outcome commits, or each crash
   -- before the run left the state of the files as read, or an intent was found.
@@ -71,11 +73,11 @@ pub record IsAsPromised (ignored : List ℕ → Bool) (v : TreeState) (run : Run
   -- If the run is refused, runs out of memory, or commits nothing, the root recovers to a state from
   -- before the run.
   pub left : IsRunWithoutCommit v run → (m : TreeState) → IsPossibleStop run m
-      → RootRecoversTo (λ names. HasStateBefore names v) ignored m
+      → RootRecoversTo (λ names. HasStateOfSomeCrashBefore names v) ignored m
   -- The answer, the printed bytes and the files left are the outcome's; or the run reports a fault of
   -- the tree or of an output stream, with its cause, or that it is out of memory.
-  pub answer : IsAnswerOf (IsOutcomeFrom v run) (LeavesFiles run.now)
-      (HasCause run.before run.after) run.answer run.out run.err
+  pub answer : IsAnswerOfSomeOutcome (IsOutcomeFrom v run) (LeavesFiles run.now)
+      (IsFaultCountedWithCause run.before run.after) run.answer run.out run.err
   -- A run that changes the installed packages ends in one of the stated ways (*EndsInTrueRefusalOrFirstSelection*).
   pub change : (command : CommandLine) (o : Outcome) → command_of run.words ≡ Ok command
       → effect_of command.applet ≡ Changes → IsOutcomeFrom v run o
@@ -83,12 +85,12 @@ pub record IsAsPromised (ignored : List ℕ → Bool) (v : TreeState) (run : Run
 
 -- The sentence: whatever list a root has seen, the run is as promised. If a root had one state at
 -- first, it has one when the run begins, unless a run that might commit was stopped or the tree failed.
--- Even then it has one again after a crash, or after an event that *ReachesOneState* names.
+-- Even then it has one again after a crash, or after an event that *ReachesOneCrashState* names.
 abbrev pub IsAsPromisedAfterAnyEvents : TreeState → Run → Type 0
 IsAsPromisedAfterAnyEvents v run =
     (ignored : List ℕ → Bool) (first : TreeState) (events : List RootEvent)
     → HasGoodPast ignored first events v
     → IsAsPromised (ignored_during_run run (ignored_after ignored events)) v run
     × (IsDurableState ignored (files_of first) first
-    → ReachesOneState first events v ⊎ HasNoPendingRun events
+    → ReachesOneCrashState first events v ⊎ HasNoUnfinishedRunSinceCrash events
     → EachCrashLeaves (ignored_during_run run (ignored_after ignored events)) (files_of v) v)

@@ -1,12 +1,12 @@
 //! The sentence, of a call of `apk`, beside those clauses of `apk` that are about every tree, or
 //! about one run alone.
 ghost use Rattle.std.specs.Prelude.{◌≡◌, IsTrue};
-ghost use Rattle.run_lists.specs.apk_front.Answers.{name_a_command, HasCauses, IsAnswerOf, AnswersOutcomeUnlessMemory, IsFaultless, IsOutcomeUnlessMemory, HasNoPlannedFailure, LeavesAnyFiles, LeavesFiles};
-ghost use Rattle.run_lists.specs.apk_front.Moments.{TargetsAreAcceptedThroughout, AreRunPathsFree};
+ghost use Rattle.run_lists.specs.apk_front.Answers.{is_command_named, IsAnswerExplainedByCounts, IsAnswerOfSomeOutcome, AnswersOutcomeUnlessMemory, IsFaultless, IsAnsweredInFullUnlessMemory, HasNoPlannedFailure, LeavesAnyFiles, LeavesFiles};
+ghost use Rattle.run_lists.specs.apk_front.Moments.{AreRecoveryTargetsAccepted, AreRunPathsFree};
 ghost use Rattle.base_core.specs.Calls.{IfObservable};
-ghost use Rattle.base_core.specs.Faults.{CountsOnlyRise, HasCause};
+ghost use Rattle.base_core.specs.Faults.{CountsOnlyRise, IsFaultCountedWithCause};
 ghost use Rattle.base_core.specs.Files.{no_names};
-ghost use Rattle.base_core.specs.Sink.{sink_before_and_after, IsProperUse};
+ghost use Rattle.base_core.specs.Sink.{sink_before_and_after, IsUseWithoutMisuse};
 ghost use Rattle.base_core.specs.Tree.{files_of};
 ghost use Rattle.headline.specs.Sentence.{IsAsPromisedAfterAnyEvents};
 ghost use Rattle.refusal_laws.specs.outcome.Effect.{Changes, effect_of_arguments, reads_only, depends_only_on_arguments};
@@ -48,28 +48,31 @@ pub fn apk_as_promised<T: Tree, O: Sink, E: Sink>(
         (sink_before_and_after E.bytes E.counts err.old err.new)
         → AnswersOutcomeUnlessMemory words.now (files_of v) result) }
     ensures every_tree { IsTrue (depends_only_on_arguments (command_of words.now))
-        → IsAnswerOf (IsOutcome (command_of words.now) no_names) LeavesAnyFiles ⊥ result
+        → IsAnswerOfSomeOutcome (IsOutcome (command_of words.now) no_names) LeavesAnyFiles ⊥ result
         (sink_before_and_after O.bytes O.counts out.old out.new)
         (sink_before_and_after E.bytes E.counts err.old err.new) }
-    ensures found { IsAnswerOf (IsPossibleOutcome (command_of words.now)) LeavesAnyFiles
-        (HasCause (T.counts tree.old) (T.counts tree.new)) result
+    ensures found { IsAnswerOfSomeOutcome (IsPossibleOutcome (command_of words.now)) LeavesAnyFiles
+        (IsFaultCountedWithCause (T.counts tree.old) (T.counts tree.new)) result
         (sink_before_and_after O.bytes O.counts out.old out.new)
         (sink_before_and_after E.bytes E.counts err.old err.new) }
     ensures asked { effect_of_arguments (command_of words.now) ≡ Changes
-        → TargetsAreAcceptedThroughout T.accepts (T.history tree.old) (T.history tree.new) }
-    ensures causes { HasCauses result (T.counts tree.old) (T.counts tree.new)
+        → AreRecoveryTargetsAccepted T.accepts (T.history tree.old) (T.history tree.new) }
+    ensures causes { IsAnswerExplainedByCounts result (T.counts tree.old) (T.counts tree.new)
         (sink_before_and_after O.bytes O.counts out.old out.new)
         (sink_before_and_after E.bytes E.counts err.old err.new) }
     ensures tree_counts { CountsOnlyRise (T.counts tree.old) (T.counts tree.new) }
-    ensures out_counts { IsProperUse (sink_before_and_after O.bytes O.counts out.old out.new) }
-    ensures err_counts { IsProperUse (sink_before_and_after E.bytes E.counts err.old err.new) }
-    ensures memory { result ≡ Answer.Memory → IsTrue (name_a_command words.now) }
+    ensures out_counts { IsUseWithoutMisuse
+        (sink_before_and_after O.bytes O.counts out.old out.new) }
+    ensures err_counts { IsUseWithoutMisuse
+        (sink_before_and_after E.bytes E.counts err.old err.new) }
+    ensures memory { result ≡ Answer.Memory → IsTrue (is_command_named words.now) }
     ensures proper { IfObservable (T.history tree.old) (λ v. AreRunPathsFree words.now (files_of v)
         → (T.counts tree.new).misuses ≡ (T.counts tree.old).misuses) }
     ensures unless_memory { IfObservable (T.history tree.old) (λ v.
         AreRunPathsFree words.now (files_of v) → HasNoPlannedFailure (T.counts tree.old)
         → HasNoPlannedFailure (O.counts out.old) → HasNoPlannedFailure (E.counts err.old)
-        → IsOutcomeUnlessMemory words.now (files_of v) (LeavesFiles (T.history tree.new)) result
+        → IsAnsweredInFullUnlessMemory words.now (files_of v) (LeavesFiles
+        (T.history tree.new)) result
         (T.counts tree.old) (T.counts tree.new)
         (sink_before_and_after O.bytes O.counts out.old out.new)
         (sink_before_and_after E.bytes E.counts err.old err.new)) }

@@ -8,7 +8,7 @@ use Rattle.base_core.specs.Tree.{TreeState, files_of}
 use Rattle.base_core.specs.declared.cause.Cause.{Cause}
 use Rattle.base_core.specs.declared.tree.TreeFault.{TreeFault}
 use Rattle.pkg_core.specs.Front.{IsFrontOf, IsFrontRead, front_fault, front_payload}
-use Rattle.pkg_core.specs.adb_schema.Soundness.{first_fault, payload_fault, payload_in, root_value}
+use Rattle.pkg_core.specs.adb_schema.Soundness.{container_fault_except_contents, payload_fault, payload_in, root_value}
 use Rattle.pkg_core.specs.declared.front.Front.{Front}
 use Rattle.pkg_core.specs.declared.front.FrontFault.{FrontFault}
 use Rattle.pkg_core.specs.declared.front.FrontFault.TheVariants.{Bad, Disk, Memory}
@@ -16,15 +16,15 @@ use Rattle.hint_core.specs.Contents.{AreLinesOfRead, ExplainsFile, contents_line
 use Rattle.hint_core.specs.declared.contents.MixedUp.{MixedUp}
 
 module _ (schema : ℕ)
-    (bad : (file : List ℕ) (cause : Cause) → front_fault schema file ≡ Some cause → first_fault Package file ≡ Some cause)
-    (tested : (file : List ℕ) (front : Front) → IsFrontOf schema file front → first_fault Package file ≡ payload_fault Package (front_payload front))
+    (bad : (file : List ℕ) (cause : Cause) → front_fault schema file ≡ Some cause → container_fault_except_contents Package file ≡ Some cause)
+    (tested : (file : List ℕ) (front : Front) → IsFrontOf schema file front → container_fault_except_contents Package file ≡ payload_fault Package (front_payload front))
     (held : (file : List ℕ) (front : Front) → IsFrontOf schema file front → payload_in file ≡ front_payload front) where
   lines_of : (name : List ℕ) (mixed : MixedUp) (found : Option (List ℕ)) (read : Result (Option Front) FrontFault) (lines : List ℕ) → IsFrontRead schema found read → AreLinesOfRead name mixed read lines → lines ≡ contents_lines name mixed found
   lines_of name mixed None (Ok (Some front)) lines is says = absurd is
   lines_of name mixed (Some file) (Ok (Some front)) lines is says =
       says
       ∙ (ap (λ (f : Option Cause). lines_unless f (package_lines name mixed (root_value Package (front_payload front)))) (sym (tested file front is))
-      ∙ ap (λ (p : List ℕ). lines_unless (first_fault Package file) (package_lines name mixed (root_value Package p))) (sym (held file front is)))
+      ∙ ap (λ (p : List ℕ). lines_unless (container_fault_except_contents Package file) (package_lines name mixed (root_value Package p))) (sym (held file front is)))
   lines_of name mixed None (Ok None) lines is says = says
   lines_of name mixed (Some file) (Ok None) lines is says = absurd is
   lines_of name mixed None (Err (Bad cause)) lines is says = absurd is

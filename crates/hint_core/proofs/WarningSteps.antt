@@ -13,7 +13,7 @@ use Rattle.command_core.specs.declared.operands.Operand.{Operand}
 use Rattle.dep_core.specs.Repositories.{Repository, repositories_of}
 use Rattle.root_names.specs.RootNames.{repositories_name}
 use Rattle.words_core.proofs.OneMore.{left_at}
-use Rattle.hint_core.specs.Warnings.{HasFileBelow, WarnsOfFolder, WarnsOfTags, folder_line, is_tag_of, has_repository_with_tag, tag_line, tag_of, tag_warning, tag_warnings, text_of_found, tag_warnings_if_read}
+use Rattle.hint_core.specs.Warnings.{HasFileBelow, WarnsOfFolder, WarnsOfTags, empty_folder_line, is_tag_of, has_repository_with_tag, unknown_tag_line, tag_of, tag_warning, tag_warnings, text_of_found, tag_warnings_if_read}
 
 -- ---- a folder
 
@@ -26,7 +26,7 @@ something_below v folder [] listed some = absurd (some refl)
 something_below v folder (name ∷ names) listed some =
     let at = (listed.each name).0 (0, omega arith, refl) in (name, at.0, at.1)
 
-pub warned_below : (history : List TreeState) (folder lines : List ℕ) (names : List (List ℕ)) → IfObservable history (λ v. IsListOf folder v names) → length names ≡ 0 → lines ≡ folder_line folder → IfObservable history (WarnsOfFolder folder lines)
+pub warned_below : (history : List TreeState) (folder lines : List ℕ) (names : List (List ℕ)) → IfObservable history (λ v. IsListOf folder v names) → length names ≡ 0 → lines ≡ empty_folder_line folder → IfObservable history (WarnsOfFolder folder lines)
 warned_below [] folder lines names listed none is = tt
 warned_below (v ∷ earlier) folder lines names listed none is = inr (is, nothing_below v folder names listed none)
 
@@ -106,7 +106,7 @@ tagged (x ∷ rs) tag zero r lt is e =
 tagged (x ∷ rs) tag (suc k) r lt is e =
     ap (λ b. is_tag_of tag x.tag || b) (tagged rs tag k r (omega (arith, lt)) is e) ∙ or_true (is_tag_of tag x.tag)
 
-pub warned_if_none : (rs : List Repository) (tag : List ℕ) → ((r : Repository) → Contains rs r → r.tag ≡ Some tag → ⊥) → tag_warning rs (Some tag) ≡ tag_line tag
+pub warned_if_none : (rs : List Repository) (tag : List ℕ) → ((r : Repository) → Contains rs r → r.tag ≡ Some tag → ⊥) → tag_warning rs (Some tag) ≡ unknown_tag_line tag
 warned_if_none rs tag none = rw (untagged rs tag none) refl
 
 pub silent_if_one : (rs : List Repository) (tag : List ℕ) (r : Repository) → Contains rs r → r.tag ≡ Some tag → tag_warning rs (Some tag) ≡ []

@@ -17,7 +17,7 @@ use Rattle.pkg_core.specs.Front.{front_payload}
 use Rattle.pkg_core.specs.declared.front.Front.{Front}
 use Rattle.pkg_core.specs.declared.front.FrontFault.{FrontFault}
 use Rattle.pkg_core.specs.declared.front.FrontFault.TheVariants.{Bad, Disk, Memory}
-use Rattle.pkg_core.specs.adb_schema.Soundness.{first_fault, payload_fault, payload_in, root_value}
+use Rattle.pkg_core.specs.adb_schema.Soundness.{container_fault_except_contents, payload_fault, payload_in, root_value}
 use Rattle.pkg_core.specs.adb_schema.adb_fields.Paths.{path_of}
 use Rattle.pkg_core.specs.adb_schema.adb_fields.Repeated.{name_of}
 use Rattle.report_core.specs.declared.refusal.Refusal.{Refusal}
@@ -32,7 +32,8 @@ use Rattle.hint_core.specs.Lines.{printed_text}
 
 -- the positions that a cause names
 abbrev pub mixed_up_positions_of_cause : Cause → Option MixedUp
-mixed_up_positions_of_cause (DataOrder expected found) = Some (record { expected = expected; found = found })
+mixed_up_positions_of_cause (DataOrder expected found) =
+    Some (record { expected = expected; found = found })
 mixed_up_positions_of_cause cause = None
 
 -- the positions that the cause of a refusal names
@@ -85,7 +86,7 @@ abbrev pub package_lines : List ℕ → MixedUp → Plain → List ℕ
 package_lines name mixed pkg =
     position_line name pkg mixed.expected ++ position_line name pkg mixed.found
 
--- lines, unless a test fails
+-- the lines; none if a test failed with this cause
 abbrev pub lines_unless : Option Cause → List ℕ → List ℕ
 lines_unless None lines = lines
 lines_unless (Some cause) lines = []
@@ -96,7 +97,8 @@ payload_lines name mixed payload =
     lines_unless (payload_fault Package payload)
     (package_lines name mixed (root_value Package payload))
 
--- these lines are by the front that was read of a package; none if there is none, or it is bad
+-- these lines explain the front of a package (its header and first block) that was read; there are none
+-- if the front is absent or bad
 abbrev pub AreLinesOfRead :
     List ℕ → MixedUp → Result (Option Front) FrontFault → List ℕ → Type 0
 AreLinesOfRead name mixed (Ok (Some front)) lines =
@@ -110,7 +112,7 @@ AreLinesOfRead name mixed (Err Memory) lines = ⊥
 abbrev pub contents_lines : List ℕ → MixedUp → Option (List ℕ) → List ℕ
 contents_lines name mixed None = []
 contents_lines name mixed (Some file) =
-    lines_unless (first_fault Package file)
+    lines_unless (container_fault_except_contents Package file)
     (package_lines name mixed (root_value Package (payload_in file)))
 
 -- ---- what is printed

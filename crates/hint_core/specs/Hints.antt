@@ -110,7 +110,7 @@ cause_place (BadText place) = Some place
 cause_place (Repeated place first second) = Some place
 cause_place cause = None
 
--- ---- what it is
+-- ---- the hint on what a refusal is about
 
 -- the word at a place, if there is one
 abbrev pub word_hint : ℕ → Option (List ℕ) → Hint
@@ -137,17 +137,18 @@ abbrev pub information_hint : ℕ → Option (List ℕ) → Hint
 information_hint place (Some word) = Hinted.Information place word
 information_hint place None = Hinted.Missing place
 
--- a repository that was found on a line
+-- the hint on a repository, if the line that names it was found; otherwise no hint
 abbrev pub repository_hint_if_found : ℕ → Option RepositoryLine → Hint
 repository_hint_if_found number (Some found) = Hinted.Repository number found.line found.path
 repository_hint_if_found number None = Hinted.Nothing
 
 -- the index of a repository, by the text that names the repositories
 abbrev pub repository_hint : ℕ → Option (List ℕ) → Hint
-repository_hint number (Some text) = repository_hint_if_found number (repository_at number 1 (lines_of text))
+repository_hint number (Some text) =
+    repository_hint_if_found number (repository_at number 1 (lines_of text))
 repository_hint number None = Hinted.Nothing
 
--- a line that was found in a file
+-- the hint on a line of a file, if the line was found; otherwise no hint
 abbrev pub line_hint_if_found : HintFile → ℕ → Option (List ℕ) → Hint
 line_hint_if_found file line (Some text) = Hinted.Line file line text
 line_hint_if_found file line None = Hinted.Nothing
@@ -201,7 +202,7 @@ table_numbered number =
     if number == 9 then Some Tables.Idb else
     if number == 10 then Some Tables.Intent else None
 
--- a field that a table has at a place
+-- the hint on a field, if the table has one at the place; otherwise no hint
 abbrev pub field_hint_if_found : ℕ → Which → Option Field → Hint
 field_hint_if_found place which (Some field) = Hinted.Field place which field.name
 field_hint_if_found place which None = Hinted.Nothing
@@ -223,7 +224,7 @@ place_hint place = field_hint place (table_numbered (place / 100))
 
 -- ---- the schema of a container
 
--- a table that has a schema, if one has it
+-- the hint on a schema, by the table that has it: *UnknownSchema* if none has
 abbrev pub schema_hint_if_found : Option Which → Hint
 schema_hint_if_found (Some which) = Hinted.Schema which
 schema_hint_if_found None = Hinted.UnknownSchema
@@ -259,7 +260,7 @@ cause_hint (IndexBad number cause) = file_cause_hint cause
 cause_hint (PackageBad name version cause) = file_cause_hint cause
 cause_hint refusal = Hinted.Nothing
 
--- ---- both
+-- ---- all hints of a refusal
 
 -- the hints of a refusal, given the words and the file that it is about
 abbrev pub hints_of : List (List ℕ) → Refusal → Option (List ℕ) → Hints

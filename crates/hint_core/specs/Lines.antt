@@ -18,13 +18,13 @@ use Rattle.hint_core.specs.Hints.{hint_file_name}
 -- ---- bytes as they are shown
 
 -- whether a byte is shown as it is: a space (32) or a visible ASCII character, but no backslash (92)
-abbrev pub is_printed : ℕ → Bool
-is_printed byte = ((byte == 32) || is_ascii_graphic byte) && not (byte == 92)
+abbrev pub is_byte_printed_as_is : ℕ → Bool
+is_byte_printed_as_is byte = ((byte == 32) || is_ascii_graphic byte) && not (byte == 92)
 
 -- a byte as it is shown: as it is, or as `\xNN`
 abbrev pub printed_byte : ℕ → List ℕ
 printed_byte byte =
-    if is_printed byte then byte ∷ [] else 92 ∷ (120 ∷ encode_lower (byte ∷ []))
+    if is_byte_printed_as_is byte then byte ∷ [] else 92 ∷ (120 ∷ encode_lower (byte ∷ []))
 
 -- bytes as they are shown
 abbrev pub printed_bytes : List ℕ → List ℕ
@@ -35,7 +35,7 @@ printed_bytes (byte ∷ bytes) = printed_byte byte ++ printed_bytes bytes
 abbrev pub dots_if_cut : List ℕ → List ℕ
 dots_if_cut bytes = if nat_lt most_shown_bytes (length bytes) then codes ".." else []
 
--- bytes as a line shows them, of which there may be many
+-- bytes as a line shows them: at most 64 of them, and two dots if there are more
 abbrev pub printed_text : List ℕ → List ℕ
 printed_text bytes = printed_bytes (take most_shown_bytes bytes) ++ dots_if_cut bytes
 
@@ -102,7 +102,7 @@ line_hint_end Files.Repositories =
     codes "; a line has the path of an index file below this folder, and no URL"
 line_hint_end Files.TextDatabase = []
 
--- the line of a line of a file
+-- the line of the hint on a line of a file
 abbrev pub line_hint_line : HintFile → ℕ → List ℕ → List ℕ
 line_hint_line file line text = texts_joined
     (codes "apk: line " ∷ (decimal line ∷ (codes " of " ∷ (hint_file_name file

@@ -7,7 +7,7 @@ use Rattle.dep_core.specs.Repositories.{Repository, repositories_of}
 use Rattle.report_core.specs.Reports.{name_dash_version}
 use Rattle.report_core.specs.declared.refusal.Refusal.{Refusal}
 use Rattle.report_core.specs.declared.refusal.Refusal.TheVariants.{PackageBad, PackageDiffers, PackageMissing}
-use Rattle.root_names.specs.PackagePath.{path_if_name, package_path}
+use Rattle.root_names.specs.PackagePath.{path_if_valid_name, package_path}
 use Rattle.root_names.specs.RootNames.{repositories_name}
 use Rattle.words_core.specs.Grammar.{command_of}
 use Rattle.words_core.specs.Usage.{texts_joined}
@@ -32,10 +32,11 @@ abbrev pub ExplainsBeside :
     List ℕ → List ℕ → Refusal → List TreeState → List ℕ → List ℕ → Type 0
 ExplainsBeside name version refusal history index lines =
     (contents : List ℕ)
-    × ExplainsMixedUp (path_if_name (package_path index name version)) (mixed_up_positions refusal) history contents
+    × ExplainsMixedUp (path_if_valid_name (package_path index name version))
+    (mixed_up_positions refusal) history contents
     × (lines ≡ package_file_line name version index ++ contents)
 
--- these lines say so beside the index of each repository, one after another
+-- these lines are those of *ExplainsBeside* for the index of each repository, one after another
 abbrev pub ExplainsEach :
     List ℕ → List ℕ → Refusal → List TreeState → List Repository → List ℕ → Type 0
 ExplainsEach name version refusal history [] lines = lines ≡ []
@@ -53,7 +54,8 @@ ExplainsRepositories name version refusal history repositories lines =
     × ExplainsEach name version refusal history repositories each
     × (lines ≡ no_index_line repositories ++ each)
 
--- the same, by the repositories that were read; there are no lines if they cannot be
+-- these lines are those of *ExplainsRepositories* for the repositories that were read; there are none if a line
+-- of their list is bad
 abbrev pub ExplainsByText :
     List ℕ → List ℕ → Refusal → Result (List Repository) ℕ → List TreeState → List ℕ → Type 0
 ExplainsByText name version refusal (Ok repositories) history lines =
@@ -70,7 +72,8 @@ ExplainsPackage name version refusal history lines =
     (found : Option (List ℕ)) × IfObservable history (λ v. found ≡ files_of v repositories_name)
     × ExplainsByText name version refusal (repositories_of (text_of_found found)) history lines
 
--- the same of a refusal, which names a package if its file is refused
+-- these lines are those of *ExplainsPackage* if a package's file is refused; there are none for another
+-- refusal
 abbrev pub ExplainsPackageRefusal : Refusal → List TreeState → List ℕ → Type 0
 ExplainsPackageRefusal (PackageMissing name version) history lines =
     ExplainsPackage name version (PackageMissing name version) history lines
@@ -80,7 +83,8 @@ ExplainsPackageRefusal (PackageDiffers name version field wanted found) history 
     ExplainsPackage name version (PackageDiffers name version field wanted found) history lines
 ExplainsPackageRefusal refusal history lines = lines ≡ []
 
--- the same of a command line whose refusals are explained
+-- these lines are those of *ExplainsPackageRefusal* if the refusals of the command line are explained;
+-- otherwise there are none
 abbrev pub ExplainsIfExplained : Bool → Refusal → List TreeState → List ℕ → Type 0
 ExplainsIfExplained true refusal history lines = ExplainsPackageRefusal refusal history lines
 ExplainsIfExplained false refusal history lines = lines ≡ []

@@ -16,16 +16,16 @@ path_alone (Err line) = Bad
 path_alone (Ok []) = Skipped
 path_alone (Ok (found ∷ more)) = Path found.path
 
--- the repository of a line, if its number is wanted; else what the lines after it name, of which a
--- lesser number is wanted
+-- the repository of a line, if `number` is 1. Otherwise the lines after it are searched: for the same
+-- number if the line is skipped, and for one less if it names a repository. None if the line is bad
 abbrev pub repository_from_line : PathAlone → ℕ → ℕ → (ℕ → Option RepositoryLine) → Option RepositoryLine
 repository_from_line Bad number line behind = None
 repository_from_line Skipped number line behind = behind number
 repository_from_line (Path path) number line behind =
     if number == 1 then Some (repository_line_from_parts line path) else behind (number - 1)
 
--- the repository with a number, counted from 1, among those that lines name, the first of which has
--- this number; None if there are fewer, or a line before it is bad
+-- the repository with a number, counted from 1, among those that lines name; `line` is the number of the
+-- first line. None if there are fewer repositories, or if its line or one before it is bad
 abbrev pub repository_at : ℕ → ℕ → List (List ℕ) → Option RepositoryLine
 repository_at number line [] = None
 repository_at number line (text ∷ rest) =

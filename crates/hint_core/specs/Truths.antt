@@ -1,4 +1,4 @@
--- When a hint is so. Serves the law `hints_are_so`; the rules are in `docs/commands.md`, "Hints".
+-- When a hint is true. Serves the law `hints_are_so`; the rules are in `docs/commands.md`, "Hints".
 use Rattle.std.specs.Prelude.{◌≡◌, ◌⊎◌, ℕ, ◌+◌, ◌-◌, ◌*◌, ◌<◌, ◌≤◌, true, List, ◌∷◌, length, Option, Some, None, is_some, Ok}
 use Rattle.std.specs.List.{slice_get}
 use Rattle.std.specs.Option.{option_map}
@@ -60,7 +60,7 @@ abbrev pub HasField : Which → ℕ → FieldName → Type 0
 HasField which number name =
     (field : Field) × (slice_get (table which) (number - 1) ≡ Some field) × (field.name ≡ name)
 
--- a hint is so, of a refusal, of the words that were refused, and of the file that was found for it
+-- a hint is true of a refusal, of the words that were refused, and of the file that was found for it
 abbrev pub IsTrueHint : List (List ℕ) → Refusal → Option (List ℕ) → Hint → Type 0
 -- the word is the one at the place that the refusal names; places count from 1
 IsTrueHint words refusal found (Hinted.Word place word) =
@@ -75,7 +75,7 @@ IsTrueHint words refusal found (Hinted.Unowned place word) =
 -- the word is the information of a package that the refusal names
 IsTrueHint words refusal found (Hinted.Information place word) =
     (subject_of refusal ≡ Information place) × (slice_get words (place - 1) ≡ Some word)
--- the refusal is about information of a package, and its place is behind the words
+-- the refusal is about information of a package, and its place is after the last word
 IsTrueHint words refusal found (Hinted.Missing place) =
     (subject_of refusal ≡ Information place) × (length words ≤ place - 1)
 -- the refusal names the repository, which has this path, and the line names it

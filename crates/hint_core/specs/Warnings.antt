@@ -30,8 +30,8 @@ folder_to_pack values =
     option_map (λ (v : OptionValue). without_dot_slash v.text) (first_value FILES values)
 
 -- the line that says that no file is below a folder
-abbrev pub folder_line : List ℕ → List ℕ
-folder_line folder = texts_joined
+abbrev pub empty_folder_line : List ℕ → List ℕ
+empty_folder_line folder = texts_joined
     (codes "apk: no file is below " ∷ (printed_text folder ∷ (codes "\n" ∷ [])))
 
 -- a file is below a folder
@@ -42,7 +42,7 @@ HasFileBelow v folder = (name : List ℕ) × IsSome (v.names name) × IsFolderOf
 abbrev pub WarnsOfFolder : List ℕ → List ℕ → TreeState → Type 0
 WarnsOfFolder folder lines v =
     ((lines ≡ []) × HasFileBelow v folder)
-    ⊎ ((lines ≡ folder_line folder) × (HasFileBelow v folder → ⊥))
+    ⊎ ((lines ≡ empty_folder_line folder) × (HasFileBelow v folder → ⊥))
 
 -- what is printed of the folder that `-F` gives, if it gives one
 abbrev pub WarnsIfGiven : Option (List ℕ) → List TreeState → List ℕ → Type 0
@@ -55,7 +55,7 @@ WarnsIfGiven (Some folder) history lines = IfObservable history (WarnsOfFolder f
 abbrev pub tag_of : List ℕ → Option (List ℕ)
 tag_of text = option_and_then (λ (d : Dependency). d.tag) (dependency_of text)
 
--- whether a tag that there may be is this one
+-- whether there is another tag, and it equals this tag
 abbrev pub is_tag_of : List ℕ → Option (List ℕ) → Bool
 is_tag_of tag None = false
 is_tag_of tag (Some other) = bytes_eq other tag
@@ -65,14 +65,15 @@ abbrev pub has_repository_with_tag : List Repository → List ℕ → Bool
 has_repository_with_tag repositories tag = list_any (λ (r : Repository). is_tag_of tag r.tag) repositories
 
 -- the line that says that no repository has a tag
-abbrev pub tag_line : List ℕ → List ℕ
-tag_line tag = texts_joined
+abbrev pub unknown_tag_line : List ℕ → List ℕ
+unknown_tag_line tag = texts_joined
     (codes "apk: no repository has the tag @" ∷ (printed_text tag ∷ (codes "\n" ∷ [])))
 
 -- what is printed of a tag, if there is one: the line if no repository has it
 abbrev pub tag_warning : List Repository → Option (List ℕ) → List ℕ
 tag_warning repositories None = []
-tag_warning repositories (Some tag) = if has_repository_with_tag repositories tag then [] else tag_line tag
+tag_warning repositories (Some tag) =
+    if has_repository_with_tag repositories tag then [] else unknown_tag_line tag
 
 -- what is printed of the tags of operands
 abbrev pub tag_warnings : List Repository → List Operand → List ℕ
@@ -80,7 +81,7 @@ tag_warnings repositories [] = []
 tag_warnings repositories (operand ∷ operands) =
     tag_warning repositories (tag_of operand.text) ++ tag_warnings repositories operands
 
--- the same, by the repositories that were read; nothing if they cannot be
+-- the lines of *tag_warnings* for the repositories that were read; nothing if a line of their list is bad
 abbrev pub tag_warnings_if_read : Result (List Repository) ℕ → List Operand → List ℕ
 tag_warnings_if_read (Ok repositories) operands = tag_warnings repositories operands
 tag_warnings_if_read (Err line) operands = []
@@ -95,15 +96,15 @@ abbrev pub WarnsOfTags : List Operand → List ℕ → TreeState → Type 0
 WarnsOfTags operands lines v =
     lines ≡ tag_warnings_if_read (repositories_of (text_of_found (files_of v repositories_name))) operands
 
--- ---- both
+-- ---- all warnings of a command line
 
--- what is printed of a command with this applet
+-- these lines are the warnings of a command with this applet
 abbrev pub WarnsForApplet : Applet → CommandLine → List TreeState → List ℕ → Type 0
 WarnsForApplet Mkpkg command history lines = WarnsIfGiven (folder_to_pack command.values) history lines
 WarnsForApplet Add command history lines = IfObservable history (WarnsOfTags command.operands lines)
 WarnsForApplet applet command history lines = lines ≡ []
 
--- what is printed of the words of a command line
+-- these lines are the warnings of a command line; there are none if its words are no command
 abbrev pub Warns : Result CommandLine ℕ → List TreeState → List ℕ → Type 0
 Warns (Ok command) history lines = WarnsForApplet command.applet command history lines
 Warns (Err place) history lines = lines ≡ []

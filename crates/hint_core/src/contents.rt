@@ -38,7 +38,7 @@ pub struct MixedUp {
 }
 
 /// Writes which files of a package the positions are that a refusal names. The front of the package
-/// is read once, and only then; nothing of the tree is changed.
+/// (its header and first block) is read once, and only then; nothing of the tree is changed.
 ///
 /// # Errors
 ///
@@ -123,7 +123,8 @@ pub(crate) fn lines_of_contents<T: Tree>(
     tree: &mut T,
 ) -> Result<Vec<u8>, TreeFault>
     ensures lines { IfOk result (λ lines.
-        ExplainsMixedUp name.now (mixed_up_positions refusal.now) (T.history tree.old) lines.items) }
+        ExplainsMixedUp name.now (mixed_up_positions refusal.now)
+        (T.history tree.old) lines.items) }
     ensures tree { OnlyReads TreeFault.Disk (T.history tree.old) (T.history tree.new)
         (T.counts tree.old) (T.counts tree.new) result }
 {
@@ -205,7 +206,8 @@ fn file_lines<T: Tree>(
     lines_of_read(alloc, name.as_bytes(), mixed, &read)
 }
 
-// The lines by the front that was read of a package; none if there is none, or it is bad.
+// The lines for the front of a package (its header and first block) that was read; none if the
+// front is absent or bad.
 fn lines_of_read(
     alloc: Global,
     name: &[u8],

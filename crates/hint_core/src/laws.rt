@@ -5,9 +5,10 @@ ghost use Rattle.dep_core.specs.Repositories.{Repository};
 ghost use Rattle.report_core.specs.declared.refusal.Refusal.{Refusal};
 ghost use Rattle.hint_core.specs.Hints.{hints_of};
 ghost use Rattle.hint_core.specs.Truths.{IsTrueHint};
-ghost use Rattle.hint_core.specs.Warnings.{tag_line, tag_warning};
+ghost use Rattle.hint_core.specs.Warnings.{unknown_tag_line, tag_warning};
 
-/// Both hints of a refusal are so, of the words, and of the file that the refusal is about.
+/// Both hints of a refusal, on its subject and on its cause, are true of the words and of the file
+/// that the refusal is about.
 pub fn hints_are_so()
     ensures subject { (words : List (List ℕ)) (refusal : Refusal) (found : Option (List ℕ))
         → IsTrueHint words refusal found (hints_of words refusal found).subject }
@@ -19,7 +20,7 @@ pub fn hints_are_so()
 pub fn tags_without_a_repository_are_warned_of()
     ensures none { (repositories : List Repository) (tag : List ℕ)
         → ((r : Repository) → Contains repositories r → r.tag ≡ Some tag → ⊥)
-        → tag_warning repositories (Some tag) ≡ tag_line tag }
+        → tag_warning repositories (Some tag) ≡ unknown_tag_line tag }
     ensures one { (repositories : List Repository) (tag : List ℕ) (r : Repository)
         → Contains repositories r → r.tag ≡ Some tag
         → tag_warning repositories (Some tag) ≡ [] }

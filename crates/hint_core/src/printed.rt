@@ -3,7 +3,7 @@
 ghost use Rattle.std.specs.Prelude.{◌≡◌, ◌++◌, ◌∷◌, [], IfOk, OnOk, map};
 ghost use Rattle.hex.specs.Hex.{encode_lower};
 ghost use Rattle.words_core.specs.Usage.{texts_joined};
-ghost use Rattle.hint_core.specs.Lines.{dots_if_cut, is_printed, printed_byte, printed_bytes, printed_text};
+ghost use Rattle.hint_core.specs.Lines.{dots_if_cut, is_byte_printed_as_is, printed_byte, printed_bytes, printed_text};
 
 use std::alloc::{AllocError, Global};
 use words_core::{LONGEST_SHOWN, shown_part};
@@ -47,7 +47,7 @@ pub fn push_printed(text: &mut Vec<u8>, bytes: &[u8]) -> Result<(), AllocError>
 fn push_byte(text: &mut Vec<u8>, byte: u8) -> Result<(), AllocError>
     ensures { OnOk result (text.new.items ≡ text.old.items ++ printed_byte byte) }
 {
-    if is_printed(byte) {
+    if is_byte_printed_as_is(byte) {
         text.push(byte)?;
         return Ok(());
     }
@@ -68,8 +68,8 @@ fn push_escaped(text: &mut Vec<u8>, byte: u8) -> Result<(), AllocError>
 }
 
 // Whether a byte is shown as it is.
-fn is_printed(byte: u8) -> bool
-    ensures { result ≡ is_printed byte }
+fn is_byte_printed_as_is(byte: u8) -> bool
+    ensures { result ≡ is_byte_printed_as_is byte }
 {
     if byte == b'\\' {
         return false;

@@ -8,7 +8,7 @@ ghost use Rattle.base_core.specs.Sink.{sink_before_and_after};
 ghost use Rattle.dep_core.specs.Repositories.{Repository, repositories_of};
 ghost use Rattle.words_core.specs.Grammar.{command_of};
 ghost use Rattle.hint_core.specs.Told.{IsNotDiskFault, Tells};
-ghost use Rattle.hint_core.specs.Warnings.{WarnsForApplet, WarnsIfGiven, WarnsOfFolder, WarnsOfTags, Warns, folder_line, is_tag_of, has_repository_with_tag, folder_to_pack, tag_line, tag_of, tag_warning, tag_warnings, text_of_found, tag_warnings_if_read};
+ghost use Rattle.hint_core.specs.Warnings.{WarnsForApplet, WarnsIfGiven, WarnsOfFolder, WarnsOfTags, Warns, empty_folder_line, is_tag_of, has_repository_with_tag, folder_to_pack, unknown_tag_line, tag_of, tag_warning, tag_warnings, text_of_found, tag_warnings_if_read};
 
 use crate::printed::{printed, push_texts};
 use crate::telling::HintFault;
@@ -52,7 +52,8 @@ pub fn warn<T: Tree, S: Sink>(
 ///
 /// `Sink`, and a prefix of the lines was written.
 pub fn write_lines<S: Sink>(lines: &[u8], sink: &mut S) -> Result<(), HintFault>
-    ensures told { Tells lines.now (sink_before_and_after S.bytes S.counts sink.old sink.new) result }
+    ensures told { Tells lines.now
+        (sink_before_and_after S.bytes S.counts sink.old sink.new) result }
     // No tree failed.
     ensures failed { IfErr result IsNotDiskFault }
 {
@@ -109,7 +110,8 @@ fn folder_warning<T: Tree>(
     tree: &mut T,
 ) -> Result<Vec<u8>, TreeFault>
     ensures lines { IfOk result (λ lines.
-        WarnsIfGiven (option_map (λ name. name.now) folder.entry) (T.history tree.old) lines.items) }
+        WarnsIfGiven (option_map (λ name. name.now) folder.entry)
+        (T.history tree.old) lines.items) }
     ensures tree { OnlyReads TreeFault.Disk (T.history tree.old) (T.history tree.new)
         (T.counts tree.old) (T.counts tree.new) result }
 {
@@ -130,13 +132,13 @@ fn warning_below<T: Tree>(alloc: Global, folder: &Name, tree: &mut T) -> Result<
     if !names.is_empty() {
         return Ok(Vec::new(alloc));
     }
-    let line = folder_line(alloc, folder.as_bytes())?;
+    let line = empty_folder_line(alloc, folder.as_bytes())?;
     Ok(line)
 }
 
 // The line that says that no file is below a folder.
-fn folder_line(alloc: Global, folder: &[u8]) -> Result<Vec<u8>, AllocError>
-    ensures { IfOk result (λ line. line.items ≡ folder_line folder.now) }
+fn empty_folder_line(alloc: Global, folder: &[u8]) -> Result<Vec<u8>, AllocError>
+    ensures { IfOk result (λ line. line.items ≡ empty_folder_line folder.now) }
 {
     let shown = printed(alloc, folder)?;
     let mut line = Vec::new(alloc);

@@ -3,7 +3,7 @@ use Rattle.std.proofs.Common.{◌≡◌, ℕ, zero, suc, ◌+◌, ◌<◌, ◌�
 use Rattle.std.specs.Prelude.{codes, slice_get}
 use Rattle.adb_view.specs.Plain.{Plain, Plains, none, more}
 use Rattle.adb_view.specs.Values.{count_of, nth}
-use Rattle.candidate_core.specs.adb_fields.Repeated.{list_of, paths_under}
+use Rattle.candidate_core.specs.adb_fields.Repeated.{list_of, paths_of_folder_files}
 use Rattle.std.specs.List.{cons_option, filter_map, flat_map}
 use Rattle.std.specs.Option.{option_map_or}
 use Rattle.std.proofs.lemmas.Grind.{flat_map-append}
@@ -77,10 +77,10 @@ nothing_left (x ∷ xs) (suc i) h = nothing_left xs i (omega arith)
 
 -- ---- the lines of what is left
 
-pub folder_left : (vs : Plains) (i : ℕ) → i < count_of vs → report_lines (flat_map paths_under (drop i (list_of vs))) ≡ report_lines (paths_under (nth vs i)) ++ report_lines (flat_map paths_under (drop (i + 1) (list_of vs)))
+pub folder_left : (vs : Plains) (i : ℕ) → i < count_of vs → report_lines (flat_map paths_of_folder_files (drop i (list_of vs))) ≡ report_lines (paths_of_folder_files (nth vs i)) ++ report_lines (flat_map paths_of_folder_files (drop (i + 1) (list_of vs)))
 folder_left vs i h =
-    ap (λ z. report_lines (flat_map paths_under z)) (next_listed vs i h)
-    ∙ flat_map-append report_line (paths_under (nth vs i)) (flat_map paths_under (drop (i + 1) (list_of vs)))
+    ap (λ z. report_lines (flat_map paths_of_folder_files z)) (next_listed vs i h)
+    ∙ flat_map-append report_line (paths_of_folder_files (nth vs i)) (flat_map paths_of_folder_files (drop (i + 1) (list_of vs)))
 
 -- the lines of the dependencies among some entries
 abbrev pub dependency_lines : List Plain → List ℕ

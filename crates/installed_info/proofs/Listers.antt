@@ -6,7 +6,7 @@ use Rattle.std.proofs.lemmas.Slice.Eq.{bytes_eq-Decides}
 use Rattle.adb_view.specs.Plain.{Plain}
 use Rattle.candidate_core.specs.adb_fields.FirstPair.{IsIn}
 use Rattle.candidate_core.specs.adb_fields.Once.{ShareNoName, AreDistinctNames, IsInOneOf}
-use Rattle.candidate_core.specs.adb_fields.Repeated.{package_name, paths_in}
+use Rattle.candidate_core.specs.adb_fields.Repeated.{package_name, paths_of_package_files}
 use Rattle.file_owners.specs.db_core.Packages.{lists_path}
 use Rattle.installed_info.specs.Packages.{package_named, path_owner}
 
@@ -44,20 +44,20 @@ found_is p pkg (x ∷ packages) e = go (p x) refl e (λ rest. found_is p pkg pac
 
 -- ---- a path
 
-in_one_of : (path : List ℕ) (pkg : Plain) (packages : List Plain) → IsIn pkg packages → IsIn path (paths_in pkg) → IsInOneOf path (map paths_in packages)
+in_one_of : (path : List ℕ) (pkg : Plain) (packages : List Plain) → IsIn pkg packages → IsIn path (paths_of_package_files pkg) → IsInOneOf path (map paths_of_package_files packages)
 in_one_of path pkg [] h listed = absurd h
-in_one_of path pkg (x ∷ packages) (inl e) listed = inl (subst (λ z. IsIn path (paths_in z)) e listed)
+in_one_of path pkg (x ∷ packages) (inl e) listed = inl (subst (λ z. IsIn path (paths_of_package_files z)) e listed)
 in_one_of path pkg (x ∷ packages) (inr h) listed = inr (in_one_of path pkg packages h listed)
 
-pub lister_owns : (path : List ℕ) (pkg : Plain) (packages : List Plain) → ShareNoName (map paths_in packages) → IsIn pkg packages → IsIn path (paths_in pkg) → path_owner packages path ≡ Some pkg
+pub lister_owns : (path : List ℕ) (pkg : Plain) (packages : List Plain) → ShareNoName (map paths_of_package_files packages) → IsIn pkg packages → IsIn path (paths_of_package_files pkg) → path_owner packages path ≡ Some pkg
 lister_owns path pkg [] apart h in_paths = absurd h
 lister_owns path pkg (x ∷ packages) apart (inl e) in_paths =
-    ap (λ t. cond t (Some x) (path_owner packages path)) (is_listed path (paths_in x) (subst (λ z. IsIn path (paths_in z)) e in_paths)) ∙ ap (λ z. Some z) (sym e)
+    ap (λ t. cond t (Some x) (path_owner packages path)) (is_listed path (paths_of_package_files x) (subst (λ z. IsIn path (paths_of_package_files z)) e in_paths)) ∙ ap (λ z. Some z) (sym e)
 lister_owns path pkg (x ∷ packages) apart (inr h) in_paths =
     go (lists_path path x) refl (lister_owns path pkg packages apart.1 h in_paths)
   where
     go : (t : Bool) → lists_path path x ≡ t → path_owner packages path ≡ Some pkg → cond t (Some x) (path_owner packages path) ≡ Some pkg
-    go true e later = absurd (apart.0 path (listed path (paths_in x) e) (in_one_of path pkg packages h in_paths))
+    go true e later = absurd (apart.0 path (listed path (paths_of_package_files x) e) (in_one_of path pkg packages h in_paths))
     go false e later = later
 
 -- ---- a name

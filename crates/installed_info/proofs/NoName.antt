@@ -6,7 +6,7 @@ use Rattle.std.proofs.lemmas.Bool.{and_parts}
 use Rattle.std.proofs.lemmas.Slice.Eq.{bytes_eq-Decides}
 use Rattle.base_core.specs.Name.{is_name}
 use Rattle.adb_view.specs.Plain.{Plain}
-use Rattle.candidate_core.specs.adb_fields.Repeated.{paths_in}
+use Rattle.candidate_core.specs.adb_fields.Repeated.{paths_of_package_files}
 use Rattle.file_owners.specs.db_core.Packages.{lists_only_valid_names}
 use Rattle.installed_info.specs.Packages.{path_owner}
 
@@ -25,5 +25,5 @@ not_among path (p ∷ paths) no_name all =
 pub no_owner : (path : List ℕ) (packages : List Plain) → is_name path ≡ false → list_all lists_only_valid_names packages ≡ true → path_owner packages path ≡ None
 no_owner path [] no_name all = refl
 no_owner path (pkg ∷ packages) no_name all =
-    ap (λ t. cond t (Some pkg) (path_owner packages path)) (not_among path (paths_in pkg) no_name (and_parts (lists_only_valid_names pkg) (list_all lists_only_valid_names packages) all).0)
+    ap (λ t. cond t (Some pkg) (path_owner packages path)) (not_among path (paths_of_package_files pkg) no_name (and_parts (lists_only_valid_names pkg) (list_all lists_only_valid_names packages) all).0)
     ∙ no_owner path packages no_name (and_parts (lists_only_valid_names pkg) (list_all lists_only_valid_names packages) all).1

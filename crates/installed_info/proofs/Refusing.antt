@@ -7,7 +7,7 @@ use Rattle.command_core.specs.declared.operands.Operand.{Operand}
 use Rattle.report_core.specs.declared.refusal.Refusal.{Refusal}
 use Rattle.report_core.specs.declared.refusal.Refusal.TheVariants.{NotInstalled}
 use Rattle.installed_info.specs.Form.{form_of}
-use Rattle.installed_info.specs.Info.{form_info, info_of, info_refusal, info_unless, operands_info}
+use Rattle.installed_info.specs.Info.{form_info, info_of, info_refusal, info_unless_refused, operands_info}
 use Rattle.installed_info.specs.Packages.{package_meant_by}
 use Rattle.installed_info.specs.Refusals.{IsRefusalOfSomeOperand}
 use Rattle.installed_info.specs.declared.telling.ReportAndRefusal.{ReportAndRefusal}
@@ -27,16 +27,16 @@ refused_is form packages (o ∷ operands) refusal e =
     go true e later = behind o operands refusal (later e)
     go false e later = let is : refusal ≡ NotInstalled o.place = cc in (o, inl refl, is)
 
-pub unless_err : (refused : Option Refusal) (report : List ℕ) (refusal : Refusal) → info_unless refused report ≡ Err refusal → refused ≡ Some refusal
+pub unless_err : (refused : Option Refusal) (report : List ℕ) (refusal : Refusal) → info_unless_refused refused report ≡ Err refusal → refused ≡ Some refusal
 unless_err None report refusal e = absurd cc
 unless_err (Some r) report refusal e = cc
 
-unless_ok : (refused : Option Refusal) (report : List ℕ) (done : ReportAndRefusal) → info_unless refused report ≡ Ok done → done.following_refusal ≡ None
+unless_ok : (refused : Option Refusal) (report : List ℕ) (done : ReportAndRefusal) → info_unless_refused refused report ≡ Ok done → done.following_refusal ≡ None
 unless_ok None report done e = cc
 unless_ok (Some r) report done e = absurd cc
 
 by_operands : (form : Form) (packages : List Plain) (operands : List Operand) (refusal : Refusal)
-    → info_unless (info_refusal form packages operands) (operands_info form packages operands) ≡ Err refusal → IsRefusalOfSomeOperand operands refusal
+    → info_unless_refused (info_refusal form packages operands) (operands_info form packages operands) ≡ Err refusal → IsRefusalOfSomeOperand operands refusal
 by_operands form packages operands refusal e =
     refused_is form packages operands refusal (unless_err (info_refusal form packages operands) (operands_info form packages operands) refusal e)
 
@@ -55,7 +55,7 @@ info_refused c packages refusal e = form_refused (form_of c.flags) packages c.op
 -- ---- behind a report
 
 never : (form : Form) (packages : List Plain) (operands : List Operand) (done : ReportAndRefusal) (refusal : Refusal)
-    → info_unless (info_refusal form packages operands) (operands_info form packages operands) ≡ Ok done → done.following_refusal ≡ Some refusal → ⊥
+    → info_unless_refused (info_refusal form packages operands) (operands_info form packages operands) ≡ Ok done → done.following_refusal ≡ Some refusal → ⊥
 never form packages operands done refusal e following_refusal =
     let gone = unless_ok (info_refusal form packages operands) (operands_info form packages operands) done e in
     (absurd cc)

@@ -3,7 +3,7 @@
 use Rattle.std.specs.Prelude.{ℕ, List, [], ◌∷◌, map, Option, Some, None, is_some, Result, Ok, Err, if◌then◌else◌}
 use Rattle.std.specs.List.{flat_map}
 use Rattle.std.specs.Option.{option_map_or}
-use Rattle.candidate_core.specs.adb_fields.Repeated.{package_name, paths_in}
+use Rattle.candidate_core.specs.adb_fields.Repeated.{package_name, paths_of_package_files}
 use Rattle.adb_view.specs.FieldIndexes.{INFO_DEPENDS, INFO_DESCRIPTION, PACKAGE_INFO}
 use Rattle.adb_view.specs.Values.{entry_in, text_in}
 use Rattle.adb_view.specs.Plain.{Plain}
@@ -11,7 +11,7 @@ use Rattle.command_core.specs.Command.{CommandLine}
 use Rattle.command_core.specs.declared.operands.Operand.{Operand}
 use Rattle.dep_core.specs.DependencyText.{dep_text}
 use Rattle.dep_core.specs.LeadingSlash.{without_slash}
-use Rattle.file_owners.specs.Replaces.{version_text}
+use Rattle.file_owners.specs.Replaces.{package_version_text}
 use Rattle.base_core.specs.ByteOrder.{bytes_cmp}
 use Rattle.base_core.specs.Sorted.{sorted_by}
 use Rattle.candidate_core.specs.Candidates.{dependencies_in}
@@ -26,25 +26,26 @@ use Rattle.installed_info.specs.declared.telling.Form.TheVariants.{Contents, Dep
 
 -- ---- of one package
 
--- the section on what a package is; an empty line if the package does not say so
+-- the section with the description of a package; its line is empty if the package has none
 abbrev pub description_section_of : Plain → List ℕ
 description_section_of pkg =
-    description_section (package_name pkg) (version_text pkg)
+    description_section (package_name pkg) (package_version_text pkg)
     (text_in (entry_in (entry_in pkg PACKAGE_INFO) INFO_DESCRIPTION))
 
 -- the section with the paths that a package lists, folder by folder
 abbrev pub contents_text : Plain → List ℕ
-contents_text pkg = contents_section (package_name pkg) (version_text pkg) (paths_in pkg)
+contents_text pkg =
+    contents_section (package_name pkg) (package_version_text pkg) (paths_of_package_files pkg)
 
 -- the section with what a package depends on
 abbrev pub depends_text : Plain → List ℕ
 depends_text pkg =
-    depends_section (package_name pkg) (version_text pkg)
+    depends_section (package_name pkg) (package_version_text pkg)
     (map dep_text (dependencies_in (entry_in (entry_in pkg PACKAGE_INFO) INFO_DEPENDS)))
 
 -- the line that says that a package owns a path
 abbrev pub owner_line : List ℕ → Plain → List ℕ
-owner_line path pkg = report_line (owner_text path (package_name pkg) (version_text pkg))
+owner_line path pkg = report_line (owner_text path (package_name pkg) (package_version_text pkg))
 
 -- the report on the package of an operand
 abbrev pub package_info : Form → List ℕ → Plain → List ℕ
@@ -89,9 +90,9 @@ report_and_refusal report following_refusal = record {
 }
 
 -- the result: the report, unless there is a refusal, which takes its place
-abbrev pub info_unless : Option Refusal → List ℕ → Result ReportAndRefusal Refusal
-info_unless None report = Ok (report_and_refusal report None)
-info_unless (Some refusal) report = Err refusal
+abbrev pub info_unless_refused : Option Refusal → List ℕ → Result ReportAndRefusal Refusal
+info_unless_refused None report = Ok (report_and_refusal report None)
+info_unless_refused (Some refusal) report = Err refusal
 
 -- the result of a form for packages and operands; `-e` reports the installed packages, followed by a
 -- refusal
@@ -101,7 +102,7 @@ form_info Installed packages operands =
     (info_refusal Installed packages operands))
 form_info Description packages [] = Ok (report_and_refusal (names_info packages) None)
 form_info form packages operands =
-    info_unless (info_refusal form packages operands) (operands_info form packages operands)
+    info_unless_refused (info_refusal form packages operands) (operands_info form packages operands)
 
 -- the result of a command for some packages, or why it is refused
 unfoldable pub info_of : CommandLine → List Plain → Result ReportAndRefusal Refusal

@@ -2,7 +2,7 @@
 //! `docs/commands.md`, "`info`".
 
 ghost use Rattle.file_owners.specs.db_core.Seen.{packages_of};
-ghost use Rattle.installed_info.specs.Info.{report_and_refusal, info_refusal, info_unless, operands_info, package_info};
+ghost use Rattle.installed_info.specs.Info.{report_and_refusal, info_refusal, info_unless_refused, operands_info, package_info};
 ghost use Rattle.installed_info.specs.Packages.{package_meant_by, package_named, path_owner};
 ghost use Rattle.report_core.specs.declared.refusal.Refusal.TheVariants.{NotInstalled};
 ghost use Rattle.std.specs.Option.{option_map_or, option_or, option_and_then};
@@ -28,7 +28,7 @@ pub(crate) fn report_operands(
     operands: &Operands,
     db: &Db<'_>,
 ) -> Result<Result<ReportAndRefusal, Refusal>, AllocError>
-    ensures { IfOk result (λ told. told ≡ info_unless
+    ensures { IfOk result (λ told. told ≡ info_unless_refused
         (info_refusal form (packages_of db.now) operands.now)
         (operands_info form (packages_of db.now) operands.now)) }
 {
@@ -48,7 +48,7 @@ pub(crate) fn report_operands(
 }
 
 /// The report of `-e` on the operands whose packages are installed, followed by the refusal of the
-/// first of the others.
+/// first operand whose package is not installed.
 pub(crate) fn report_installed(
     alloc: Global,
     form: Form,
@@ -133,7 +133,7 @@ fn place_of_name(db: &Db<'_>, name: &[u8]) -> Option<usize>
     db.find(name)
 }
 
-// The place of the package that lists a path, counted from 0. No package lists what is no name.
+// The place of the package that lists a path, counted from 0. No package lists a path that is no name.
 fn place_of_owner(alloc: Global, db: &Db<'_>, path: &[u8]) -> Result<Option<usize>, AllocError>
     ensures found { IfOk result (λ place. option_and_then (slice_get (packages_of db.now)) place
         ≡ path_owner (packages_of db.now) path.now) }

@@ -4,7 +4,7 @@
 ghost use Rattle.candidate_core.specs.adb_fields.Repeated.{package_name};
 ghost use Rattle.candidate_core.specs.adb_schema.Views.{package_value, dependency_value};
 ghost use Rattle.file_owners.specs.db_core.Seen.{packages_of};
-ghost use Rattle.file_owners.specs.Replaces.{version_text};
+ghost use Rattle.file_owners.specs.Replaces.{package_version_text};
 ghost use Rattle.installed_info.specs.Info.{contents_text, depends_text, description_section_of, owner_line, package_info};
 ghost use Rattle.report_core.specs.Reports.{name_dash_version, report_line, report_lines};
 ghost use Rattle.std.specs.Option.{option_map_or, option_map};
@@ -62,7 +62,7 @@ fn push_info(
     }
 }
 
-// Adds the section on what a package is.
+// Adds the section with the description of a package.
 fn push_description(report: &mut Vec<u8>, pkg: &PackageView<'_>) -> Result<(), AllocError>
     ensures { OnOk result (report.new.items
         ≡ report.old.items ++ description_section_of (package_value pkg.now)) }
@@ -116,7 +116,7 @@ fn push_owner(report: &mut Vec<u8>, path: &[u8], pkg: &PackageView<'_>) -> Resul
 fn push_heading(report: &mut Vec<u8>, pkg: &PackageView<'_>, rest: &[u8]) -> Result<(), AllocError>
     ensures { OnOk result (report.new.items ≡ report.old.items
         ++ report_line (name_dash_version (package_name (package_value pkg.now))
-        (version_text (package_value pkg.now)) ++ rest.now)) }
+        (package_version_text (package_value pkg.now)) ++ rest.now)) }
 {
     let info = pkg.info();
     report.extend_from_slice(info.name())?;

@@ -3,7 +3,7 @@
 //! change".
 ghost use Rattle.candidate_core.specs.adb_fields.ListValue.{list_value};
 ghost use Rattle.candidate_core.specs.adb_fields.Paths.{path_of};
-ghost use Rattle.candidate_core.specs.adb_fields.Repeated.{list_of, name_of, paths_under};
+ghost use Rattle.candidate_core.specs.adb_fields.Repeated.{list_of, name_of, paths_of_folder_files};
 ghost use Rattle.adb_view.specs.Values.{count_of, entries_in, entry_in};
 ghost use Rattle.report_core.specs.Reports.{report_line, report_lines};
 ghost use Rattle.std.specs.List.{flat_map};
@@ -19,7 +19,8 @@ pub(crate) fn push_paths<'a>(
     folders: &List<'a, DirInfo<'a>>,
 ) -> Result<(), AllocError>
     ensures { OnOk result (report.new.items ≡ report.old.items
-        ++ report_lines (flat_map paths_under (list_of (entries_in (list_value folders.now))))) }
+        ++ report_lines (flat_map paths_of_folder_files (list_of (entries_in
+        (list_value folders.now))))) }
 {
     for i in 0..folders.len() {
         push_folder(report, folders, i)?;
@@ -35,7 +36,7 @@ fn push_folder<'a>(
 ) -> Result<(), AllocError>
     requires { i < count_of (entries_in (list_value folders.now)) }
     ensures { OnOk result (report.new.items ≡ report.old.items
-        ++ report_lines (paths_under (entry_in (list_value folders.now) i))) }
+        ++ report_lines (paths_of_folder_files (entry_in (list_value folders.now) i))) }
 {
     if i >= folders.len() {
         unreachable!();

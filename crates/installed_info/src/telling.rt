@@ -7,7 +7,7 @@ ghost use Rattle.std.specs.Prelude.{◌≡◌, IfOk, ℕ, List, true, Some, Ok, 
 ghost use Rattle.installed_info.specs.Form.{form_of};
 ghost use Rattle.candidate_core.specs.adb_fields.FirstPair.{IsIn};
 ghost use Rattle.candidate_core.specs.adb_fields.Once.{HasNoRepeatedName};
-ghost use Rattle.candidate_core.specs.adb_fields.Repeated.{entries_at, package_name, paths_in};
+ghost use Rattle.candidate_core.specs.adb_fields.Repeated.{entries_at, package_name, paths_of_package_files};
 ghost use Rattle.adb_view.specs.FieldIndexes.{IDB_PACKAGES};
 ghost use Rattle.adb_view.specs.declared.tables.Which.TheVariants.{Idb};
 ghost use Rattle.adb_view.specs.Plain.{Plain};
@@ -71,7 +71,7 @@ fn report_form(
 /// The form of an `info`.
 #[derive(Clone, Copy)]
 pub(crate) enum Form {
-    /// What packages are; without operands, which ones are installed.
+    /// The descriptions of packages; without operands, the names of all installed ones.
     Description,
     /// The paths that packages list.
     Contents,
@@ -131,10 +131,10 @@ pub fn owners_are_those_that_list_a_path()
     // Of any packages.
     ensures owner { (packages : List Plain) (path : List ℕ) (pkg : Plain)
         → path_owner packages path ≡ Some pkg
-        → IsIn pkg packages × IsIn path (paths_in pkg) }
+        → IsIn pkg packages × IsIn path (paths_of_package_files pkg) }
     // Of the packages of a database.
     ensures lister { (database pkg : Plain) (path : List ℕ) → HasNoRepeatedName Idb database
-        → IsIn pkg (entries_at IDB_PACKAGES database) → IsIn path (paths_in pkg)
+        → IsIn pkg (entries_at IDB_PACKAGES database) → IsIn path (paths_of_package_files pkg)
         → path_owner (entries_at IDB_PACKAGES database) path ≡ Some pkg }
 {}
 

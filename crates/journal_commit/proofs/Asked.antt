@@ -16,7 +16,7 @@ use Rattle.journal_core.proofs.Acts.{among_index}
 use Rattle.journal_core.proofs.journal_intent.StageNames.{stage_name_staged}
 use Rattle.journal_core.specs.journal_intent.FreeNames.{AreFreeNames, HasFreeDistinctNames, IsNoneOf}
 use Rattle.journal_commit.specs.Asked.{IsAccepted, TargetsAreAccepted, HasAcceptedTargets}
-use Rattle.journal_commit.specs.StageRun.{HasFilesExceptStaged, IsStateDuringChange, IsStageRun, IsStagingRun}
+use Rattle.journal_commit.specs.StageRun.{HasFilesExceptStaged, IsStateDuringChange, IsRunOfStagedChange, IsStagingRun}
 use Rattle.journal_commit.proofs.Waits.{shown_off}
 
 true_false : true ≡ false → ⊥
@@ -87,7 +87,7 @@ module _ (accepts : Option (List ℕ) → List ℕ → Type 0) (v : TreeState) (
         by false is = changed_accepted name is (λ same.
             differs (ap (λ (files : Files). unstaged_files files name) read ∙ unstaged_at New name false is ∙ unread_recovered New name new_unread ∙ same))
 
-    pub change_promises : (old now : History) → IsStageRun New v old now → Since (HasAcceptedTargets accepts (files_of v)) old now
+    pub change_promises : (old now : History) → IsRunOfStagedChange New v old now → Since (HasAcceptedTargets accepts (files_of v)) old now
     change_promises old now run = since_weaker (IsStateDuringChange New (files_of v)) (HasAcceptedTargets accepts (files_of v)) old now in_change run.reads
 
 -- ---- runs that begin with reads

@@ -6,7 +6,7 @@ use Rattle.base_core.specs.Undone.{IsDurable}
 use Rattle.base_core.specs.Files.{Files}
 use Rattle.base_core.specs.Restart.{EachMoment, SinceGivenEarlier}
 use Rattle.base_core.specs.Tree.{TreeState, File, bytes_of_file_number, files_of}
-use Rattle.journal_core.specs.Kept.{HasOldOrNewBytes, IsRestoredByNoCrash, KeepsFilesExcept, KeepsCrashMapsExcept, KeepsOldOrNewBytes, RecoversTo, ShownNamesAreDurable}
+use Rattle.journal_core.specs.Kept.{HasOldOrNewBytes, IsRestoredByNoCrash, KeepsFilesExcept, KeepsCrashMapsExcept, KeepsOldOrNewBytes, RecoversTo, NamesOutsideJournalAreDurable}
 use Rattle.journal_core.specs.Quiet.{StateIsUnchanged}
 use Rattle.journal_core.specs.Recovery.{Intent, EachCrashLeaves, StateDependsOn, files_after_actions, intent_in_file, intent_name, stage_name}
 use Rattle.journal_core.specs.Staged.{WasCommittedFor, IsCarryingOutActions, IsEmptyStage, IsOldUntilCommit, IsStaged, CommittedBy, Staging}
@@ -16,7 +16,7 @@ use Rattle.journal_core.proofs.History.{History, now_map, now_since, observable_
 use Rattle.journal_core.proofs.Lasting.{some_none}
 use Rattle.journal_core.proofs.OnTheWay.{way_after}
 use Rattle.journal_core.specs.journal_intent.FreeNames.{HasFreeDistinctNames}
-use Rattle.journal_commit.specs.StageRun.{IsStateDuringChange, IsStageRun, IsStageRunComplete, IsStaging, NamesAreDurableWithoutIntent}
+use Rattle.journal_commit.specs.StageRun.{IsStateDuringChange, IsRunOfStagedChange, IsStagedChangeComplete, IsStaging, NamesAreDurableWithoutIntent}
 use Rattle.journal_commit.proofs.Empty.{change_empties}
 use Rattle.journal_commit.proofs.Joins.{now_of, since_and}
 use Rattle.journal_commit.proofs.Waits.{none_entering, shown_last}
@@ -75,10 +75,10 @@ module _ (stage : Staging) (contents : List (List ℕ)) (v : TreeState) (first m
         (since_and (KeepsFilesExcept (λ q. (q ≡ intent_name) ⊎ (q ≡ stage_name 0)) u) (λ w. IsSome (w.names intent_name) → RecoversTo H w) mid now keeps recovers))
 
     publish_lasts : PublishMaps → Lasts stage contents v first mid s now
-    publish_lasts maps = observable_map mid _ (λ u. W u → ShownNamesAreDurable u → Since NamesAreDurableWithoutIntent mid now) maps (λ u t waits last.
+    publish_lasts maps = observable_map mid _ (λ u. W u → NamesOutsideJournalAreDurable u → Since NamesAreDurableWithoutIntent mid now) maps (λ u t waits last.
         since_weaker (KeepsCrashMapsExcept (intent_name ∷ stage_name 0 ∷ []) u) NamesAreDurableWithoutIntent mid now (λ w keeps none. shown_last (intent_name ∷ stage_name 0 ∷ []) none_entering u w keeps last) t)
 
-    pub publish_run : IsCommittedFor → PublishReads → PublishOthers → PublishMaps → IsStageRun H v first now
+    pub publish_run : IsCommittedFor → PublishReads → PublishOthers → PublishMaps → IsRunOfStagedChange H v first now
     publish_run moments reads others maps = run_led stage contents v first mid s now (publish_way moments) (publish_reads reads others) (publish_lasts maps)
 
     -- ---- and all actions behind it
@@ -157,16 +157,16 @@ module _ (stage : Staging) (contents : List (List ℕ)) (v : TreeState) (first m
       more_lasts more = by_now now Acts (Since NamesAreDurableWithoutIntent now new) acts_now (observable_map now _ (λ x. Acts x → Since NamesAreDurableWithoutIntent now new) more (λ x k acts. k (has_intent x acts)))
 
       enact_lasts : PublishMaps → EnactLasts → Lasts stage contents v first mid s new
-      enact_lasts maps more = observable_map mid _ (λ u. W u → ShownNamesAreDurable u → Since NamesAreDurableWithoutIntent mid new) (publish_lasts maps) (λ u t waits last. since_on NamesAreDurableWithoutIntent mid now new (t waits last) (more_lasts more))
+      enact_lasts maps more = observable_map mid _ (λ u. W u → NamesOutsideJournalAreDurable u → Since NamesAreDurableWithoutIntent mid new) (publish_lasts maps) (λ u t waits last. since_on NamesAreDurableWithoutIntent mid now new (t waits last) (more_lasts more))
 
-      pub enact_run : PublishReads → PublishOthers → PublishMaps → EnactMoments → EnactReads → EnactBytes → EnactLasts → IsStageRun H v first new
+      pub enact_run : PublishReads → PublishOthers → PublishMaps → EnactMoments → EnactReads → EnactBytes → EnactLasts → IsRunOfStagedChange H v first new
       enact_run reads others maps moments more bytes lasts = run_led stage contents v first mid s new (enact_way moments) (enact_reads reads others more bytes) (enact_lasts maps lasts)
 
       -- ---- and its end
 
       -- at the end no intent is read, so the names last
-      end_lasts : EnactLasts → HoldsNow new (λ w. (files_of w ≡ H) × (w.names intent_name ≡ None)) → HoldsNow new ShownNamesAreDurable
-      end_lasts lasts reads = now_map new (λ w. NamesAreDurableWithoutIntent w × ((files_of w ≡ H) × (w.names intent_name ≡ None))) ShownNamesAreDurable
+      end_lasts : EnactLasts → HoldsNow new (λ w. (files_of w ≡ H) × (w.names intent_name ≡ None)) → HoldsNow new NamesOutsideJournalAreDurable
+      end_lasts lasts reads = now_map new (λ w. NamesAreDurableWithoutIntent w × ((files_of w ≡ H) × (w.names intent_name ≡ None))) NamesOutsideJournalAreDurable
           (now_both new NamesAreDurableWithoutIntent (λ w. (files_of w ≡ H) × (w.names intent_name ≡ None)) (by now acts_now (more_lasts lasts)) reads) (λ w q. q.0 q.1.1)
         where
           by : (h : History) → HoldsNow h Acts → Since NamesAreDurableWithoutIntent h new → HoldsNow new NamesAreDurableWithoutIntent
@@ -195,11 +195,11 @@ module _ (stage : Staging) (contents : List (List ℕ)) (v : TreeState) (first m
                 (both mid _ _ (λ u. StateIsUnchanged ignored v u × W u → HoldsNow now (IsDurable (StateDependsOn ignored))) published settled (λ u p h q.
                 durable_at ignored u q.1 (published_at ignored u q.1 (p ignored contents (files_of v) q.0.is_durable q.1)) (settled_at ignored u q.1 (h ignored contents (files_of v) q.0.is_durable q.1))))
 
-        pub enact_done : (r : Result T E) → EnactLasts → EnactFiles r → EnactSettled r → OnOk r (IfObservable new (IsRestoredByNoCrash intent_name)) → OnOk r (IsStageRunComplete H v new)
+        pub enact_done : (r : Result T E) → EnactLasts → EnactFiles r → EnactSettled r → OnOk r (IfObservable new (IsRestoredByNoCrash intent_name)) → OnOk r (IsStagedChangeComplete H v new)
         enact_done r lasts files ends gone = by r (end_files r files) (end_settled r ends) gone
           where
             by : (x : Result T E) → OnOk x (HoldsNow new (λ w. (files_of w ≡ H) × (w.names intent_name ≡ None))) → ((ignored : List ℕ → Bool) → IsDurable (StateDependsOn ignored) v → OnOk x (HoldsNow new (EachCrashLeaves ignored H)))
-                → OnOk x (IfObservable new (IsRestoredByNoCrash intent_name)) → OnOk x (IsStageRunComplete H v new)
+                → OnOk x (IfObservable new (IsRestoredByNoCrash intent_name)) → OnOk x (IsStagedChangeComplete H v new)
             by (Ok x) reads settles none = record {
               reads = reads;
               settled = settles;

@@ -5,7 +5,7 @@ use Rattle.base_core.specs.Crash.{Since}
 use Rattle.base_core.specs.Undone.{IsDurable}
 use Rattle.base_core.specs.Files.{Files}
 use Rattle.base_core.specs.Tree.{TreeState, files_of}
-use Rattle.journal_core.specs.Kept.{KeepsFilesExcept, KeepsCrashMapsExcept, ShownNamesAreDurable}
+use Rattle.journal_core.specs.Kept.{KeepsFilesExcept, KeepsCrashMapsExcept, NamesOutsideJournalAreDurable}
 use Rattle.journal_core.specs.Quiet.{StateIsUnchanged}
 use Rattle.journal_core.specs.Recovery.{StateDependsOn, intent_name, is_staged, stage_name}
 use Rattle.journal_core.specs.Staged.{IsOnlyNameOfFile, IsStaged, Staging}
@@ -30,7 +30,7 @@ module _ (stage : Staging) (contents : List (List ℕ)) (begun : Option (List �
   Reads = IfObservable mid (λ u. Waits u → Since (HasFilesExceptStaged (files_of u)) mid new)
 
   abbrev pub Lasts : Type 0
-  Lasts = IfObservable mid (λ u. ShownNamesAreDurable u → Since ShownNamesAreDurable mid new)
+  Lasts = IfObservable mid (λ u. NamesOutsideJournalAreDurable u → Since NamesOutsideJournalAreDurable mid new)
 
   pub run_more : Stills → Reads → Lasts → IsStagingRun v first new
   run_more stills reads lasts = record {
@@ -43,8 +43,8 @@ module _ (stage : Staging) (contents : List (List ℕ)) (begun : Option (List �
         (observable_map mid _ (λ u. HasFilesExceptStaged (files_of v) u → Waits u → Since (HasFilesExceptStaged (files_of v)) mid new) reads (λ u t so_far waits.
         since_weaker (HasFilesExceptStaged (files_of u)) (HasFilesExceptStaged (files_of v)) mid new (λ w more q shown. more q shown ∙ so_far q shown) (t waits)));
     last = λ last.
-        since_more ShownNamesAreDurable Waits v first mid new s.start last (s.run.last last) s.waiting
-        (observable_map mid _ (λ u. ShownNamesAreDurable u → Waits u → Since ShownNamesAreDurable mid new) lasts (λ u t lasts waits. t lasts));
+        since_more NamesOutsideJournalAreDurable Waits v first mid new s.start last (s.run.last last) s.waiting
+        (observable_map mid _ (λ u. NamesOutsideJournalAreDurable u → Waits u → Since NamesOutsideJournalAreDurable mid new) lasts (λ u t lasts waits. t lasts));
   }
 
   pub staging_more : {T E : Type 0} (r : Result T E) (next : Staging) (more : List (List ℕ)) (open_file : Option (List ℕ)) → IsStagingRun v first new
@@ -64,8 +64,8 @@ module _ (stage : Staging) (contents : List (List ℕ)) (begun : Option (List �
   Moments = IfObservable mid (λ u. (ignored : List ℕ → Bool) → IsDurable (StateDependsOn ignored) u → IsStaged stage contents begun (files_of v) u → Since (StateIsUnchanged ignored u) mid new)
 
   lasts_by : (these : List (List ℕ)) → ((q : List ℕ) → q ≢ intent_name → is_staged q ≡ false → IsNoneOf q these) → IfObservable mid (λ u. Since (KeepsCrashMapsExcept these u) mid new) → Lasts
-  lasts_by these none maps = observable_map mid _ (λ u. ShownNamesAreDurable u → Since ShownNamesAreDurable mid new) maps (λ u t last.
-      since_weaker (KeepsCrashMapsExcept these u) ShownNamesAreDurable mid new (λ w keeps. shown_last these none u w keeps last) t)
+  lasts_by these none maps = observable_map mid _ (λ u. NamesOutsideJournalAreDurable u → Since NamesOutsideJournalAreDurable mid new) maps (λ u t last.
+      since_weaker (KeepsCrashMapsExcept these u) NamesOutsideJournalAreDurable mid new (λ w keeps. shown_last these none u w keeps last) t)
 
   pub begun_run : Moments → IfObservable mid (λ u. Since (KeepsFilesExcept (λ q. q ≡ Place) u) mid new) → IfObservable mid (λ u. Since (KeepsCrashMapsExcept (Place ∷ []) u) mid new) → IsStagingRun v first new
   begun_run moments others maps = run_more moments

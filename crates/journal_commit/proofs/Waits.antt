@@ -5,7 +5,7 @@ use Rattle.std.specs.Str.{bytes_eq}
 use Rattle.base_core.specs.Tree.{TreeState, files_of}
 use Rattle.base_core.proofs.Undone.{read_may_be_left}
 use Rattle.base_core.proofs.AtName.{other_name}
-use Rattle.journal_core.specs.Kept.{KeepsFilesExcept, KeepsCrashMapsExcept, ShownNamesAreDurable}
+use Rattle.journal_core.specs.Kept.{KeepsFilesExcept, KeepsCrashMapsExcept, NamesOutsideJournalAreDurable}
 use Rattle.journal_core.specs.Recovery.{intent_name, is_staged, stage_name}
 use Rattle.journal_core.specs.journal_intent.FreeNames.{IsNoneOf}
 use Rattle.journal_commit.specs.StageRun.{HasFilesExceptStaged}
@@ -27,7 +27,7 @@ pub shown_files : (place : List ℕ) → is_staged place ≡ true → (u w : Tre
 shown_files place waits u w keeps q shown = keeps q (shown_off place q waits shown)
 
 -- where no name that is shown is among these, a crash undoes no change of a shown name
-pub shown_last : (these : List (List ℕ)) → ((q : List ℕ) → q ≢ intent_name → is_staged q ≡ false → IsNoneOf q these) → (u w : TreeState) → KeepsCrashMapsExcept these u w → ShownNamesAreDurable u → ShownNamesAreDurable w
+pub shown_last : (these : List (List ℕ)) → ((q : List ℕ) → q ≢ intent_name → is_staged q ≡ false → IsNoneOf q these) → (u w : TreeState) → KeepsCrashMapsExcept these u w → NamesOutsideJournalAreDurable u → NamesOutsideJournalAreDurable w
 shown_last these none u w keeps last map among q off shown =
     let (was, is_was, same) = keeps map among in
     let (now, is_now, same_now) = keeps w.names (read_may_be_left w) in

@@ -8,7 +8,7 @@ use Rattle.base_core.specs.Files.{Files}
 use Rattle.base_core.specs.Restart.{EachMoment, SinceGivenEarlier}
 use Rattle.base_core.specs.Tree.{TreeState, bytes_of_file_number, files_of}
 use Rattle.base_core.proofs.AtName.{name_cases, off_name}
-use Rattle.journal_core.specs.Kept.{HasOldOrNewBytes, IsJournalName, KeepsFilesExcept, RecoversTo, ShownNamesAreDurable}
+use Rattle.journal_core.specs.Kept.{HasOldOrNewBytes, IsJournalName, KeepsFilesExcept, RecoversTo, NamesOutsideJournalAreDurable}
 use Rattle.journal_core.specs.Quiet.{StateIsUnchanged}
 use Rattle.journal_core.specs.Recovery.{StateDependsOn, files_after_actions, intent_name, is_staged, recovered_files, stage_name}
 use Rattle.journal_core.specs.Staged.{IsEmptyStage, IsOldUntilCommit, IsStaged, Staging, unstaged_files, files_with_staged}
@@ -19,7 +19,7 @@ use Rattle.journal_core.proofs.Published.{since_by, still_on_the_way}
 use Rattle.journal_core.proofs.Waiting.{still_self}
 use Rattle.journal_core.proofs.Cleaned.{none_recovered}
 use Rattle.journal_core.proofs.journal_intent.StageNames.{stage_name_staged}
-use Rattle.journal_commit.specs.StageRun.{HasFilesExceptStaged, IsStateDuringChange, IsStageRun, IsStaging, IsStagingRun, NamesAreDurableWithoutIntent}
+use Rattle.journal_commit.specs.StageRun.{HasFilesExceptStaged, IsStateDuringChange, IsRunOfStagedChange, IsStaging, IsStagingRun, NamesAreDurableWithoutIntent}
 use Rattle.journal_commit.proofs.Joins.{so_far_now}
 use Rattle.journal_commit.proofs.Waits.{shown_off}
 
@@ -41,11 +41,11 @@ pub still_way : (ignored : List ℕ → Bool) (G : Files) (v : TreeState) (old n
 still_way ignored G v old new since = since_by (IsOldUntilCommit ignored G v) old new (since_weaker (StateIsUnchanged ignored v) (λ w. (earlier : History) → IsOldUntilCommit ignored G v earlier w) old new (still_on_the_way ignored G v) since)
 
 -- what only stages leads to any files
-pub staging_leads : (G : Files) (v : TreeState) (first now : History) → IsStagingRun v first now → IsStageRun G v first now
+pub staging_leads : (G : Files) (v : TreeState) (first now : History) → IsStagingRun v first now → IsRunOfStagedChange G v first now
 staging_leads G v first now run = record {
   moments = λ ignored is_durable. still_way ignored G v first now (run.moments ignored is_durable);
   reads = since_weaker (HasFilesExceptStaged (files_of v)) (IsStateDuringChange G (files_of v)) first now (λ w reads. inl reads) run.reads;
-  last = λ last. since_weaker ShownNamesAreDurable NamesAreDurableWithoutIntent first now (λ w lasts none. lasts) (run.last last);
+  last = λ last. since_weaker NamesOutsideJournalAreDurable NamesAreDurableWithoutIntent first now (λ w lasts none. lasts) (run.last last);
 }
 
 -- ---- what is read
@@ -117,12 +117,12 @@ module _ (stage : Staging) (contents : List (List ℕ)) (v : TreeState) (first m
     Reads = IfObservable mid (λ u. Waits u → Since (IsStateDuringChange G (files_of u)) mid new)
 
     abbrev pub Lasts : Type 0
-    Lasts = IfObservable mid (λ u. Waits u → ShownNamesAreDurable u → Since NamesAreDurableWithoutIntent mid new)
+    Lasts = IfObservable mid (λ u. Waits u → NamesOutsideJournalAreDurable u → Since NamesAreDurableWithoutIntent mid new)
 
     pub still_now : (ignored : List ℕ → Bool) → IsDurable (StateDependsOn ignored) v → HoldsNow mid (StateIsUnchanged ignored v)
     still_now ignored is_durable = so_far_now (StateIsUnchanged ignored v) Waits v first mid mid s.start (still_self ignored v is_durable) (s.run.moments ignored is_durable)
 
-    pub run_led : Way → Reads → Lasts → IsStageRun G v first new
+    pub run_led : Way → Reads → Lasts → IsRunOfStagedChange G v first new
     run_led way reads lasts = record {
       moments = λ ignored is_durable.
           by_now mid (λ u. StateIsUnchanged ignored v u × Waits u) (SinceGivenEarlier (IsOldUntilCommit ignored G v) first new) (now_both mid (StateIsUnchanged ignored v) Waits (still_now ignored is_durable) s.waiting)
@@ -137,8 +137,8 @@ module _ (stage : Staging) (contents : List (List ℕ)) (v : TreeState) (first m
           since_weaker (IsStateDuringChange G (files_of u)) (IsStateDuringChange G (files_of v)) mid new (λ w. read_from G (files_of v) u w q.0) (t q.1))));
       last = λ last.
           since_on NamesAreDurableWithoutIntent first mid new
-          (since_weaker ShownNamesAreDurable NamesAreDurableWithoutIntent first mid (λ w lasts none. lasts) (s.run.last last))
-          (by_now mid (λ u. ShownNamesAreDurable u × Waits u) (Since NamesAreDurableWithoutIntent mid new)
-          (now_both mid ShownNamesAreDurable Waits (so_far_now ShownNamesAreDurable Waits v first mid mid s.start last (s.run.last last)) s.waiting)
-          (observable_map mid _ (λ u. ShownNamesAreDurable u × Waits u → Since NamesAreDurableWithoutIntent mid new) lasts (λ u t q. t q.1 q.0)));
+          (since_weaker NamesOutsideJournalAreDurable NamesAreDurableWithoutIntent first mid (λ w lasts none. lasts) (s.run.last last))
+          (by_now mid (λ u. NamesOutsideJournalAreDurable u × Waits u) (Since NamesAreDurableWithoutIntent mid new)
+          (now_both mid NamesOutsideJournalAreDurable Waits (so_far_now NamesOutsideJournalAreDurable Waits v first mid mid s.start last (s.run.last last)) s.waiting)
+          (observable_map mid _ (λ u. NamesOutsideJournalAreDurable u × Waits u → Since NamesAreDurableWithoutIntent mid new) lasts (λ u t q. t q.1 q.0)));
     }

@@ -23,7 +23,8 @@ pub record ChangesOnlyStagedFiles {T E : Type 0} (stage : Staging) (old now : Li
       → IsStaging stage contents None v first old → AreJournalPathsFree (files_of v)
       → after.misuses ≡ before.misuses
 
--- the same, if a staged file is begun before it; the call needs no free path
+-- how a call changes the tree and its counts, if a staged file is begun before it; the call needs
+-- no free path
 pub record ChangesOnlyBegunFile {T E : Type 0} (stage : Staging) (old now : List TreeState)
     (before after : Counts) (result : Result T E) : Type 0 where
   -- whatever it returns, only staged files have changed at each moment
@@ -38,6 +39,7 @@ pub record ChangesOnlyBegunFile {T E : Type 0} (stage : Staging) (old now : List
 -- a call that stages one whole file with these bytes, and changes the stage to `next`
 pub record StagesFile {T E : Type 0} (stage next : Staging) (bytes : List ℕ) (old now : List TreeState)
     (before after : Counts) (result : Result T E) : Type 0 where
+  -- how the call changes the tree and its counts
   pub only : ChangesOnlyStagedFiles stage old now before after result
   -- once it has returned Ok, the bytes are staged after the files staged before
   pub staging : (contents : List (List ℕ)) (v : TreeState) (first : List TreeState)

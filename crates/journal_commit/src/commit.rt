@@ -4,7 +4,7 @@ ghost use Rattle.std.specs.Prelude.{◌≡◌, ◌≤◌, ℕ, Bool, true, false
 ghost use Rattle.base_core.specs.Calls.{HoldsNow, IfObservable};
 ghost use Rattle.base_core.specs.Crash.{Since};
 ghost use Rattle.base_core.specs.Undone.{IsDurable};
-ghost use Rattle.base_core.specs.Faults.{CountsOnlyRise, HasCause, IsNoFault};
+ghost use Rattle.base_core.specs.Faults.{CountsOnlyRise, IsFaultCountedWithCause, CountsNoNewFault};
 ghost use Rattle.base_core.specs.Files.{Files};
 ghost use Rattle.base_core.specs.Tree.{TreeState, files_of};
 ghost use Rattle.journal_core.specs.Acting.{CarriesOutActions};
@@ -12,13 +12,13 @@ ghost use Rattle.journal_core.specs.CallCounts.{IsResultExplainedByCounts};
 ghost use Rattle.journal_core.specs.Kept.{IsRestoredByNoCrash};
 ghost use Rattle.journal_core.specs.Recovery.{EachCrashLeaves, StateDependsOn, files_after_actions, intent_name};
 ghost use Rattle.journal_core.specs.Staged.{AreJournalPathsFree, IsCarryingOutActions, action_count, files_with_staged};
-ghost use Rattle.journal_commit.specs.StageRun.{IsStageRun, IsStageRunComplete, IsStaging, NamesAreDurableWithoutIntent};
+ghost use Rattle.journal_commit.specs.StageRun.{IsRunOfStagedChange, IsStagedChangeComplete, IsStaging, NamesAreDurableWithoutIntent};
 
 use base_core::{Disk, Tree};
 use journal_core::{Stage, apply_all};
 
-/// Publishes the intent of a stage all of whose files are staged, does all its actions, and
-/// finishes.
+/// Publishes (commits) the intent of a stage all of whose files are staged, does all its actions,
+/// and removes the intent.
 pub fn carry_through<T: Tree>(stage: &mut Stage, tree: &mut T) -> Result<(), Disk>
     requires closed { stage.old.is_open ≡ false }
     requires all { stage.old.staged ≡ length stage.old.intent.writes }
@@ -27,25 +27,28 @@ pub fn carry_through<T: Tree>(stage: &mut Stage, tree: &mut T) -> Result<(), Dis
     // once it has returned Ok, this change is complete.
     ensures run { (contents : List (List ℕ)) (v : TreeState) (first : List TreeState)
         → IsStaging stage.old contents None v first (T.history tree.old)
-        → IsStageRun (files_after_actions stage.old.intent (files_with_staged 1 contents (files_of v)))
+        → IsRunOfStagedChange (files_after_actions stage.old.intent (files_with_staged 1 contents
+        (files_of v)))
         v first (T.history tree.new) }
     ensures done { (contents : List (List ℕ)) (v : TreeState) (first : List TreeState)
         → IsStaging stage.old contents None v first (T.history tree.old)
-        → OnOk result (IsStageRunComplete
+        → OnOk result (IsStagedChangeComplete
         (files_after_actions stage.old.intent (files_with_staged 1 contents (files_of v)))
         v (T.history tree.new)) }
     // How the tree's counts explain the result: no count falls, and a fault is returned exactly if
     // a count of faults rose.
     ensures goes_on { CountsOnlyRise (T.counts tree.old) (T.counts tree.new) }
-    ensures cause { OnErr result (HasCause (T.counts tree.old) (T.counts tree.new)) }
-    ensures kept { OnOk result (IsNoFault (T.counts tree.old) (T.counts tree.new)) }
+    ensures cause { OnErr result (IsFaultCountedWithCause (T.counts tree.old) (T.counts tree.new)) }
+    // Ok is returned only if no fault was counted.
+    ensures kept { OnOk result (CountsNoNewFault (T.counts tree.old) (T.counts tree.new)) }
 
     // If the paths of the stage, and those beside the files that it leads to, are free, no call is
     // a misuse.
     ensures proper { (contents : List (List ℕ)) (v : TreeState) (first : List TreeState)
         → IsStaging stage.old contents None v first (T.history tree.old)
         → AreJournalPathsFree (files_of v)
-        → AreJournalPathsFree (files_after_actions stage.old.intent (files_with_staged 1 contents (files_of v)))
+        → AreJournalPathsFree (files_after_actions stage.old.intent (files_with_staged 1 contents
+        (files_of v)))
         → (T.counts tree.new).misuses ≡ (T.counts tree.old).misuses }
 {
     stage.names_are_free();
@@ -65,14 +68,17 @@ fn enact<T: Tree>(stage: &mut Stage, tree: &mut T) -> Result<(), Disk>
         → Since NamesAreDurableWithoutIntent (T.history tree.old) (T.history tree.new)) }
     // At the end each crash leaves the state of the actions done.
     ensures settled { IfObservable (T.history tree.old) (λ v. (ignored : List ℕ → Bool)
-        (files : Files) → IsDurable (StateDependsOn ignored) v → IsCarryingOutActions stage.old files v
+        (files : Files) → IsDurable (StateDependsOn ignored) v
+        → IsCarryingOutActions stage.old files v
         → OnOk result (HoldsNow (T.history tree.new) (EachCrashLeaves ignored files))) }
     // And these files are read, without an intent.
     ensures files { IfObservable (T.history tree.old) (λ v. (files : Files)
         → IsCarryingOutActions stage.old files v → OnOk result (HoldsNow (T.history tree.new)
         (λ w. (files_of w ≡ files) × (w.names intent_name ≡ None)))) }
     // No crash restores the intent.
-    ensures gone { OnOk result (IfObservable (T.history tree.new) (IsRestoredByNoCrash intent_name)) }
+    ensures gone { OnOk result (IfObservable (T.history tree.new)
+        (IsRestoredByNoCrash intent_name)) }
+    // How the tree's counts explain the result.
     ensures counts { IsResultExplainedByCounts (T.counts tree.old) (T.counts tree.new) result }
     ensures proper { IfObservable (T.history tree.old) (λ v. (files : Files)
         → IsCarryingOutActions stage.old files v → AreJournalPathsFree files

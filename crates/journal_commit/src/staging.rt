@@ -7,7 +7,7 @@ ghost use Rattle.base_core.specs.Tree.{TreeState, files_of};
 ghost use Rattle.journal_core.specs.Staged.{IsEmptyStage, new_stage, files_with_staged};
 ghost use Rattle.journal_commit.specs.Asked.{TargetsAreAccepted};
 ghost use Rattle.journal_commit.specs.StagingCalls.{ChangesOnlyBegunFile, ChangesOnlyStagedFiles, StagesFile};
-ghost use Rattle.journal_commit.specs.StageRun.{IsStaging, IsStagingRun, IsStageRun};
+ghost use Rattle.journal_commit.specs.StageRun.{IsStaging, IsStagingRun, IsRunOfStagedChange};
 ghost use Rattle.base_core.specs.Calls.{IfObservable};
 ghost use Rattle.base_core.specs.Files.{Files};
 ghost use Rattle.journal_core.specs.Recovery.{Intent, files_after_actions, intent_name};
@@ -102,8 +102,8 @@ pub fn stage_pieces<T: Tree>(
     end_file(stage, tree)
 }
 
-/// A run that has done nothing to the tree promises nothing. A run that begins with reads alone is
-/// as the run after them.
+/// The statement about accepted targets holds of a run that has added no moment. If reads come
+/// first, it holds of the run if it holds of the part after the reads.
 pub fn runs_with_accepted_targets_begin_with_reads<T: Tree>()
     ensures same { (old now : List TreeState) → now ≡ old → TargetsAreAccepted T.accepts old now }
     ensures later { (old mid now : List TreeState) → mid ≡ old
@@ -118,13 +118,14 @@ pub fn a_new_stage_is_staging()
         → IsStaging (new_stage removals writes) [] None v now now) }
 {}
 
-/// While files are only staged, this is a change, whatever files it is to lead to.
+/// A run that only stages files is a run of a staged change, whatever files this is to lead to.
 pub fn a_staging_run_is_a_stage_run()
     ensures { (files : Files) (v : TreeState) (first now : List TreeState)
-        → IsStagingRun v first now → IsStageRun files v first now }
+        → IsStagingRun v first now → IsRunOfStagedChange files v first now }
 {}
 
-/// Once all actions are done nothing is staged, if only the files of the writes were.
+/// After all actions of an intent no file is staged, if before them only the files of its writes
+/// were staged.
 pub fn a_change_leaves_nothing_staged()
     ensures { (intent : Intent) (contents : List (List ℕ)) (files : Files)
         → HasFreeDistinctNames intent → length contents ≡ length intent.writes → IsEmptyStage files

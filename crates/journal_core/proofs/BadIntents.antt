@@ -1,7 +1,7 @@
 -- A state shows a bad intent, and no other.
 use Rattle.std.proofs.Common.{◌≡◌, ℕ, Bool, true, false, List, Option, None, Some, refl, sym, ap, ◌∙◌}
 use Rattle.std.proofs.lemmas.Bool.{or_right}
-use Rattle.journal_intent.specs.adb_schema.Soundness.{first_fault, payload_in, root_value}
+use Rattle.journal_intent.specs.adb_schema.Soundness.{container_fault_except_contents, payload_in, root_value}
 use Rattle.adb_view.specs.declared.tables.Which.TheVariants.{Intent as IntentTable}
 use Rattle.base_core.specs.Files.{Files}
 use Rattle.base_core.specs.declared.cause.Cause.{Cause}
@@ -9,14 +9,14 @@ use Rattle.journal_core.specs.Recovery.{Intent, intent_in_file, intent_of_value,
 use Rattle.journal_core.specs.Staged.{IsIntentFault}
 use Rattle.journal_core.proofs.Contents.{hidden_state, shown_state}
 
-module _ (sound : (file : List ℕ) → first_fault IntentTable file ≡ None → read_intent file ≡ Some (intent_of_value (root_value IntentTable (payload_in file))))
-    (other : (file : List ℕ) (cause : Cause) → first_fault IntentTable file ≡ Some cause → read_intent file ≡ None) where
+module _ (sound : (file : List ℕ) → container_fault_except_contents IntentTable file ≡ None → read_intent file ≡ Some (intent_of_value (root_value IntentTable (payload_in file))))
+    (other : (file : List ℕ) (cause : Cause) → container_fault_except_contents IntentTable file ≡ Some cause → read_intent file ≡ None) where
   -- a file that fails a test stays where it is
-  stays : (files : Files) (file : List ℕ) (cause : Cause) → files intent_name ≡ Some file → first_fault IntentTable file ≡ Some cause → recovered_files files intent_name ≡ Some file
+  stays : (files : Files) (file : List ℕ) (cause : Cause) → files intent_name ≡ Some file → container_fault_except_contents IntentTable file ≡ Some cause → recovered_files files intent_name ≡ Some file
   stays files file cause is bad = ap (λ (o : Option Intent). files_after_intent o files intent_name) (ap intent_in_file is ∙ other file cause bad) ∙ is
 
   -- one that fails none is an intent, and goes
-  goes : (files : Files) (file : List ℕ) → files intent_name ≡ Some file → first_fault IntentTable file ≡ None → recovered_files files intent_name ≡ None
+  goes : (files : Files) (file : List ℕ) → files intent_name ≡ Some file → container_fault_except_contents IntentTable file ≡ None → recovered_files files intent_name ≡ None
   goes files file is good = ap (λ (o : Option Intent). files_after_intent o files intent_name) (ap intent_in_file is ∙ sound file good)
 
   absent : (files : Files) → files intent_name ≡ None → recovered_files files intent_name ≡ None
@@ -27,9 +27,9 @@ module _ (sound : (file : List ℕ) → first_fault IntentTable file ≡ None �
 
   none_left : (files : Files) → ((cause : Cause) → IsIntentFault files cause → ⊥) → (found : Option (List ℕ)) → files intent_name ≡ found → recovered_files files intent_name ≡ None
   none_left files none None is = absent files is
-  none_left files none (Some file) is = by (first_fault IntentTable file) refl
+  none_left files none (Some file) is = by (container_fault_except_contents IntentTable file) refl
     where
-      by : (fault : Option Cause) → first_fault IntentTable file ≡ fault → recovered_files files intent_name ≡ None
+      by : (fault : Option Cause) → container_fault_except_contents IntentTable file ≡ fault → recovered_files files intent_name ≡ None
       by None good = goes files file is good
       by (Some cause) bad = absurd (none cause (file, is, bad))
 
@@ -46,9 +46,9 @@ module _ (sound : (file : List ℕ) → first_fault IntentTable file ≡ None �
   -- what a recovery leaves under the name is a bad intent
   is_bad : (files : Files) (file : List ℕ) → recovered_files files intent_name ≡ Some file → (found : Option (List ℕ)) → files intent_name ≡ found → files intent_name ≡ Some file
   is_bad files file left None is = absurd (none_some file (recovered_files files intent_name) left (absent files is))
-  is_bad files file left (Some other_file) is = by (first_fault IntentTable other_file) refl
+  is_bad files file left (Some other_file) is = by (container_fault_except_contents IntentTable other_file) refl
     where
-      by : (fault : Option Cause) → first_fault IntentTable other_file ≡ fault → files intent_name ≡ Some file
+      by : (fault : Option Cause) → container_fault_except_contents IntentTable other_file ≡ fault → files intent_name ≡ Some file
       by None good = absurd (none_some file (recovered_files files intent_name) left (goes files other_file is good))
       by (Some cause) bad = is ∙ (sym (stays files other_file cause is bad) ∙ left)
 

@@ -5,7 +5,7 @@ use Rattle.base_core.specs.Tree.{TreeState, files_of}
 use Rattle.base_core.specs.Calls.{IfObservable, HoldsNow}
 use Rattle.base_core.specs.Crash.{Since}
 use Rattle.base_core.specs.Undone.{IsDurable}
-use Rattle.journal_core.specs.Recovering.{IsReplayed}
+use Rattle.journal_core.specs.Recovering.{IsIntentReplayed}
 use Rattle.journal_core.specs.Recovery.{EachCrashLeaves, StateDependsOn, intent_name, intent_in_file, read_intent, recovered_files}
 use Rattle.journal_core.specs.Kept.{RecoversTo}
 use Rattle.journal_core.specs.Quiet.{StateIsUnchanged}
@@ -67,9 +67,9 @@ module _ (first next : Staging) (file : List ℕ) (spells : read_intent file ≡
         (observable_map mid _ (λ u. IsDuringActions ignored (recovered_files (files_of v)) next v u → HoldsNow new (EachCrashLeaves ignored (recovered_files (files_of v)))) last (λ u t goes. t ignored (recovered_files (files_of v)) goes.is_unchanged.is_durable goes.acting)))
 
     pub end_replayed : Acting → IfObservable mid (λ u. (files : Files) → IsCarryingOutActions next files u → HoldsNow new (λ w. (files_of w ≡ files) × (w.names intent_name ≡ None)))
-        → IfObservable old (λ v. files_of v intent_name ≡ Some file → v.older ≡ [] → HoldsNow new (IsReplayed v))
+        → IfObservable old (λ v. files_of v intent_name ≡ Some file → v.older ≡ [] → HoldsNow new (IsIntentReplayed v))
     end_replayed acting last = observable_map old _ _ acting (λ v a there one.
-        now_map new (λ w. (files_of w ≡ recovered_files (files_of v)) × (w.names intent_name ≡ None)) (IsReplayed v)
+        now_map new (λ w. (files_of w ≡ recovered_files (files_of v)) × (w.names intent_name ≡ None)) (IsIntentReplayed v)
         (by_now mid (IsCarryingOutActions next (recovered_files (files_of v))) (HoldsNow new (λ w. (files_of w ≡ recovered_files (files_of v)) × (w.names intent_name ≡ None))) (a (recovered_files (files_of v)) (acting_found first file v there one spells none))
         (observable_map mid _ (λ u. IsCarryingOutActions next (recovered_files (files_of v)) u → HoldsNow new (λ w. (files_of w ≡ recovered_files (files_of v)) × (w.names intent_name ≡ None))) last (λ u t. t (recovered_files (files_of v)))))
         (λ w q. record { reads = q.0; absent = q.1 }))

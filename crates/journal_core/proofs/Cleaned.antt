@@ -14,7 +14,7 @@ use Rattle.base_core.specs.Crash.{Since}
 use Rattle.base_core.specs.Undone.{IsDurable}
 use Rattle.base_core.proofs.AtName.{is_name, other_name, same_name, name_cases, off_name}
 use Rattle.journal_core.specs.Kept.{RecoversTo}
-use Rattle.journal_core.specs.Recovering.{AreStagedNames, HasEmptiedStage, IsReplayed, HasRemovedNames, without_staged_names}
+use Rattle.journal_core.specs.Recovering.{AreStagedNames, HasEmptiedStage, IsIntentReplayed, HasRemovedNames, without_staged_names}
 use Rattle.journal_core.specs.Recovery.{Intent, EachCrashLeaves, StateDependsOn, intent_name, intent_in_file, intent_of, is_staged, recovered_files, files_after_intent, files_after_actions, stage_folder, state_of}
 use Rattle.journal_core.specs.Quiet.{StateIsUnchanged}
 use Rattle.journal_core.specs.Staged.{IsEmptyStage, unstaged_files}
@@ -107,7 +107,7 @@ read_emptied : (F G : ℕ → File) (same : F ≡ G) (b : Bool) (m n : Option �
 read_emptied F G same true m n is = ap (bytes_of_file_number F) is
 read_emptied F G same false m n is = ap (bytes_of_file_number F) is ∙ ap (λ (f : ℕ → File). bytes_of_file_number f n) same
 
-pub cleaned_of : (v u w : TreeState) → IsReplayed v u → HasEmptiedStage u w → (files_of w ≡ unstaged_files (files_of v)) × (w.names intent_name ≡ None)
+pub cleaned_of : (v u w : TreeState) → IsIntentReplayed v u → HasEmptiedStage u w → (files_of w ≡ unstaged_files (files_of v)) × (w.names intent_name ≡ None)
 cleaned_of v u w replayed emptied = (
   λ i q. (read_emptied w.files u.files emptied.files (is_staged q) (w.names q) (u.names q) (emptied.map q) ∙ ap (λ (F : Files). cond (is_staged q) None (F q)) replayed.reads) i,
   emptied.map intent_name ∙ replayed.absent,
@@ -120,29 +120,29 @@ module _ (old mid new : History) where
   abbrev Replays : Type 0
   Replays = IfObservable old (λ v. (ignored : List ℕ → Bool) → IsDurable (StateDependsOn ignored) v → Since (StateIsUnchanged ignored v) old mid)
 
-  pub all_moments : Replays → IfObservable old (λ v. HoldsNow mid (IsReplayed v)) → Empties → IfObservable old (λ v. (ignored : List ℕ → Bool) → IsDurable (StateDependsOn ignored) v → Since (StateIsUnchanged ignored v) old new)
+  pub all_moments : Replays → IfObservable old (λ v. HoldsNow mid (IsIntentReplayed v)) → Empties → IfObservable old (λ v. (ignored : List ℕ → Bool) → IsDurable (StateDependsOn ignored) v → Since (StateIsUnchanged ignored v) old new)
   all_moments replays replayed empties = on_observable old _ (λ v rest is ignored is_durable.
       let first = observable_at old v rest is (λ u. (Y : List ℕ → Bool) → IsDurable (StateDependsOn Y) u → Since (StateIsUnchanged Y u) old mid) replays ignored is_durable in
-      let here = now_both mid (StateIsUnchanged ignored v) (IsReplayed v) (now_since (StateIsUnchanged ignored v) old mid v rest is (still_self ignored v is_durable) first) (observable_at old v rest is (λ u. HoldsNow mid (IsReplayed u)) replayed) in
+      let here = now_both mid (StateIsUnchanged ignored v) (IsIntentReplayed v) (now_since (StateIsUnchanged ignored v) old mid v rest is (still_self ignored v is_durable) first) (observable_at old v rest is (λ u. HoldsNow mid (IsIntentReplayed u)) replayed) in
       since_on (StateIsUnchanged ignored v) old mid new first
-      (by_now mid (λ u. StateIsUnchanged ignored v u × IsReplayed v u) (Since (StateIsUnchanged ignored v) mid new) here
-      (observable_map mid _ (λ u. StateIsUnchanged ignored v u × IsReplayed v u → Since (StateIsUnchanged ignored v) mid new) empties (λ u t q. since_weaker (StateIsUnchanged ignored u) (StateIsUnchanged ignored v) mid new (λ w. still_on ignored v u w q.0) (t ignored q.0.is_durable q.1.absent)))))
+      (by_now mid (λ u. StateIsUnchanged ignored v u × IsIntentReplayed v u) (Since (StateIsUnchanged ignored v) mid new) here
+      (observable_map mid _ (λ u. StateIsUnchanged ignored v u × IsIntentReplayed v u → Since (StateIsUnchanged ignored v) mid new) empties (λ u t q. since_weaker (StateIsUnchanged ignored u) (StateIsUnchanged ignored v) mid new (λ w. still_on ignored v u w q.0) (t ignored q.0.is_durable q.1.absent)))))
 
-  pub all_files : IfObservable old (λ v. HoldsNow mid (IsReplayed v)) → IfObservable mid (λ u. HoldsNow new (HasEmptiedStage u)) → IfObservable old (λ v. HoldsNow new (λ w. (files_of w ≡ unstaged_files (files_of v)) × (w.names intent_name ≡ None)))
+  pub all_files : IfObservable old (λ v. HoldsNow mid (IsIntentReplayed v)) → IfObservable mid (λ u. HoldsNow new (HasEmptiedStage u)) → IfObservable old (λ v. HoldsNow new (λ w. (files_of w ≡ unstaged_files (files_of v)) × (w.names intent_name ≡ None)))
   all_files replayed emptied = observable_map old _ _ replayed (λ v here.
-      by_now mid (IsReplayed v) (HoldsNow new (λ w. (files_of w ≡ unstaged_files (files_of v)) × (w.names intent_name ≡ None))) here
-      (observable_map mid _ (λ u. IsReplayed v u → HoldsNow new (λ w. (files_of w ≡ unstaged_files (files_of v)) × (w.names intent_name ≡ None))) emptied (λ u now replay. now_map new (HasEmptiedStage u) (λ w. (files_of w ≡ unstaged_files (files_of v)) × (w.names intent_name ≡ None)) now (λ w e. cleaned_of v u w replay e))))
+      by_now mid (IsIntentReplayed v) (HoldsNow new (λ w. (files_of w ≡ unstaged_files (files_of v)) × (w.names intent_name ≡ None))) here
+      (observable_map mid _ (λ u. IsIntentReplayed v u → HoldsNow new (λ w. (files_of w ≡ unstaged_files (files_of v)) × (w.names intent_name ≡ None))) emptied (λ u now replay. now_map new (HasEmptiedStage u) (λ w. (files_of w ≡ unstaged_files (files_of v)) × (w.names intent_name ≡ None)) now (λ w e. cleaned_of v u w replay e))))
 
-  pub all_settled : Replays → IfObservable old (λ v. HoldsNow mid (IsReplayed v)) → IfObservable old (λ v. (ignored : List ℕ → Bool) → IsDurable (StateDependsOn ignored) v → IsSome (intent_of (files_of v)) → HoldsNow mid (EachCrashLeaves ignored (recovered_files (files_of v)))) → Empties
+  pub all_settled : Replays → IfObservable old (λ v. HoldsNow mid (IsIntentReplayed v)) → IfObservable old (λ v. (ignored : List ℕ → Bool) → IsDurable (StateDependsOn ignored) v → IsSome (intent_of (files_of v)) → HoldsNow mid (EachCrashLeaves ignored (recovered_files (files_of v)))) → Empties
       → IfObservable old (λ v. (ignored : List ℕ → Bool) → IsDurable (StateDependsOn ignored) v → IsSome (intent_of (files_of v)) → HoldsNow new (EachCrashLeaves ignored (files_of v)))
   all_settled replays replayed settled empties = on_observable old _ (λ v rest is ignored is_durable some.
       let first = observable_at old v rest is (λ u. (Y : List ℕ → Bool) → IsDurable (StateDependsOn Y) u → Since (StateIsUnchanged Y u) old mid) replays ignored is_durable in
-      let is_unchanged = now_both mid (StateIsUnchanged ignored v) (IsReplayed v) (now_since (StateIsUnchanged ignored v) old mid v rest is (still_self ignored v is_durable) first) (observable_at old v rest is (λ u. HoldsNow mid (IsReplayed u)) replayed) in
-      let here = now_both mid (EachCrashLeaves ignored (recovered_files (files_of v))) (λ u. StateIsUnchanged ignored v u × IsReplayed v u) (observable_at old v rest is (λ u. (Y : List ℕ → Bool) → IsDurable (StateDependsOn Y) u → IsSome (intent_of (files_of u)) → HoldsNow mid (EachCrashLeaves Y (recovered_files (files_of u)))) settled ignored is_durable some) is_unchanged in
+      let is_unchanged = now_both mid (StateIsUnchanged ignored v) (IsIntentReplayed v) (now_since (StateIsUnchanged ignored v) old mid v rest is (still_self ignored v is_durable) first) (observable_at old v rest is (λ u. HoldsNow mid (IsIntentReplayed u)) replayed) in
+      let here = now_both mid (EachCrashLeaves ignored (recovered_files (files_of v))) (λ u. StateIsUnchanged ignored v u × IsIntentReplayed v u) (observable_at old v rest is (λ u. (Y : List ℕ → Bool) → IsDurable (StateDependsOn Y) u → IsSome (intent_of (files_of u)) → HoldsNow mid (EachCrashLeaves Y (recovered_files (files_of u)))) settled ignored is_durable some) is_unchanged in
       settled_at mid refl ignored v empties here)
     where
       settled_at : (m : History) → m ≡ mid → (ignored : List ℕ → Bool) (v : TreeState) → IfObservable m (λ u. (Y : List ℕ → Bool) → IsDurable (StateDependsOn Y) u → u.names intent_name ≡ None → Since (StateIsUnchanged Y u) mid new)
-          → HoldsNow m (λ u. EachCrashLeaves ignored (recovered_files (files_of v)) u × (StateIsUnchanged ignored v u × IsReplayed v u)) → HoldsNow new (EachCrashLeaves ignored (files_of v))
+          → HoldsNow m (λ u. EachCrashLeaves ignored (recovered_files (files_of v)) u × (StateIsUnchanged ignored v u × IsIntentReplayed v u)) → HoldsNow new (EachCrashLeaves ignored (files_of v))
       settled_at [] is ignored v told here = absurd here
       settled_at (u ∷ m) is ignored v told here =
           let since = told ignored here.1.0.is_durable here.1.1.absent in
@@ -154,9 +154,9 @@ module _ (old mid new : History) where
       let same = observable_at old v rest is (λ u. u.names intent_name ≡ None → mid ≡ old) first none in
       observable_at mid v rest (same ∙ is) (λ u. IsEmptyStage u.names → new ≡ mid) then empty ∙ same)
 
-  pub all_proper : (a b c : ℕ) (P : TreeState → Type 0) → IfObservable old (λ v. P v → b ≡ a) → IfObservable old (λ v. HoldsNow mid (IsReplayed v)) → IfObservable mid (λ u. c ≡ b) → IfObservable old (λ v. P v → c ≡ a)
+  pub all_proper : (a b c : ℕ) (P : TreeState → Type 0) → IfObservable old (λ v. P v → b ≡ a) → IfObservable old (λ v. HoldsNow mid (IsIntentReplayed v)) → IfObservable mid (λ u. c ≡ b) → IfObservable old (λ v. P v → c ≡ a)
   all_proper a b c P first replayed then = on_observable old _ (λ v rest is room.
-      by_now mid (IsReplayed v) (c ≡ b) (observable_at old v rest is (λ u. HoldsNow mid (IsReplayed u)) replayed) (observable_map mid _ (λ u. IsReplayed v u → c ≡ b) then (λ u t q. t))
+      by_now mid (IsIntentReplayed v) (c ≡ b) (observable_at old v rest is (λ u. HoldsNow mid (IsIntentReplayed u)) replayed) (observable_map mid _ (λ u. IsIntentReplayed v u → c ≡ b) then (λ u t q. t))
       ∙ observable_at old v rest is (λ u. P u → b ≡ a) first room)
 
 pub empty_shown_none : (old new : History) → new ≡ old → IfObservable old (λ v. Since (KeepsShown v) old new)
@@ -190,11 +190,11 @@ module _ (old mid new : History) where
   pub replay_reads : IfObservable old (λ v. Since (RecoversTo (recovered_files (files_of v))) old mid) → IfObservable old (λ v. Since (Unstaged v) old mid)
   replay_reads told = observable_map old _ _ told (λ v t. since_weaker (RecoversTo (recovered_files (files_of v))) (Unstaged v) old mid (λ w. same_unstaged (files_of w) (files_of v)) t)
 
-  pub all_reads : IfObservable old (λ v. Since (RecoversTo (recovered_files (files_of v))) old mid) → IfObservable old (λ v. HoldsNow mid (IsReplayed v)) → IfObservable mid (λ u. Since (KeepsShown u) mid new) → IfObservable old (λ v. Since (Unstaged v) old new)
+  pub all_reads : IfObservable old (λ v. Since (RecoversTo (recovered_files (files_of v))) old mid) → IfObservable old (λ v. HoldsNow mid (IsIntentReplayed v)) → IfObservable mid (λ u. Since (KeepsShown u) mid new) → IfObservable old (λ v. Since (Unstaged v) old new)
   all_reads told replayed empties = on_observable old _ (λ v rest is.
       since_on (Unstaged v) old mid new (observable_at old v rest is (λ u. Since (Unstaged u) old mid) (replay_reads told))
-      (by_now mid (IsReplayed v) (Since (Unstaged v) mid new) (observable_at old v rest is (λ u. HoldsNow mid (IsReplayed u)) replayed)
-      (observable_map mid _ (λ u. IsReplayed v u → Since (Unstaged v) mid new) empties (λ u t r. since_weaker (KeepsShown u) (Unstaged v) mid new
+      (by_now mid (IsIntentReplayed v) (Since (Unstaged v) mid new) (observable_at old v rest is (λ u. HoldsNow mid (IsIntentReplayed u)) replayed)
+      (observable_map mid _ (λ u. IsIntentReplayed v u → Since (Unstaged v) mid new) empties (λ u t r. since_weaker (KeepsShown u) (Unstaged v) mid new
       (λ w k. shown_unstaged u w r.absent k ∙ same_unstaged (files_of u) (files_of v) (none_recovered u r.absent ∙ r.reads)) t))))
 
 pub empty_none : (old new : History) → new ≡ old → IfObservable old (λ v. (ignored : List ℕ → Bool) → IsDurable (StateDependsOn ignored) v → v.names intent_name ≡ None → Since (StateIsUnchanged ignored v) old new)

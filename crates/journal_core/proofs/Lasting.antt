@@ -7,7 +7,7 @@ use Rattle.base_core.specs.Crash.{Since}
 use Rattle.base_core.specs.Files.{NameMap, drop_name, move_name}
 use Rattle.base_core.specs.Tree.{TreeState, File, bytes_of_file_number, after_append, after_create, after_failed_append, after_remove, after_rename, after_sync, after_sync_names, with_file_changed, files_of, with_file_moved, with_name_removed, unchanged_after_failed_call, IsAlwaysAllowed, CanCreate, CanRename, HasName}
 use Rattle.journal_core.specs.Kept.{IsRestoredByNoCrash, NamesAreDurableExcept}
-use Rattle.journal_core.specs.Recovering.{IsReplayed}
+use Rattle.journal_core.specs.Recovering.{IsIntentReplayed}
 use Rattle.journal_core.specs.Recovery.{intent_name, stage_name}
 use Rattle.base_core.proofs.Undone.{left_only}
 use Rattle.base_core.proofs.Booleans.{neither_first, neither_second}
@@ -247,10 +247,10 @@ unread_name files (Some n) is = absurd (cc)
 pub none_gone : (old new : History) (name : List ℕ) → name ≡ intent_name → IfObservable old (λ v. None ≡ files_of v name) → IfObservable old (λ v. IsSome (v.names intent_name) → IfObservable new (IsRestoredByNoCrash intent_name))
 none_gone old new name name_is found = observable_map old _ _ found (λ v is some. absurd (some_none (v.names intent_name) (unread_name v.files (v.names intent_name) (is ∙ ap (files_of v) name_is)) some))
 
-pub all_gone : (old mid new : History) → IfObservable old (λ v. HoldsNow mid (IsReplayed v)) → IfObservable old (λ v. IsSome (v.names intent_name) → IfObservable mid (IsRestoredByNoCrash intent_name)) → Stays mid new
+pub all_gone : (old mid new : History) → IfObservable old (λ v. HoldsNow mid (IsIntentReplayed v)) → IfObservable old (λ v. IsSome (v.names intent_name) → IfObservable mid (IsRestoredByNoCrash intent_name)) → Stays mid new
     → IfObservable old (λ v. IsSome (v.names intent_name) → HoldsNow new (IsRestoredByNoCrash intent_name))
 all_gone old mid new replayed gone stays = on_observable old _ (λ v rest is some.
-    both (IsReplayed v) mid (observable_at old v rest is (λ u. HoldsNow mid (IsReplayed u)) replayed) (observable_at old v rest is (λ u. IsSome (u.names intent_name) → IfObservable mid (IsRestoredByNoCrash intent_name)) gone some) stays)
+    both (IsIntentReplayed v) mid (observable_at old v rest is (λ u. HoldsNow mid (IsIntentReplayed u)) replayed) (observable_at old v rest is (λ u. IsSome (u.names intent_name) → IfObservable mid (IsRestoredByNoCrash intent_name)) gone some) stays)
   where
     both : (R : TreeState → Type 0) (h : History) → HoldsNow h R → IfObservable h (IsRestoredByNoCrash intent_name) → IfObservable h (λ u. IsRestoredByNoCrash intent_name u → HoldsNow new (IsRestoredByNoCrash intent_name)) → HoldsNow new (IsRestoredByNoCrash intent_name)
     both R [] now away s = absurd now

@@ -9,8 +9,8 @@ use Rattle.base_core.specs.Listed.{AreNamesBelow}
 use Rattle.base_core.specs.Tree.{TreeState, after_remove, after_rename, after_sync_names, bytes_of_file_number, files_of, with_file_moved, with_name_removed, unchanged_after_failed_call, IsAlwaysAllowed}
 use Rattle.base_core.proofs.AtName.{other_name, name_cases, off_name}
 use Rattle.journal_core.specs.Acting.{MovesIfPresent}
-use Rattle.journal_core.specs.Kept.{JournalOnlyShrinks, IsJournalName, KeepsIntent, NamesAreDurableExcept, ShownNamesAreDurable}
-use Rattle.journal_core.specs.Recovering.{AreStagedNames, IsReplayed}
+use Rattle.journal_core.specs.Kept.{JournalOnlyShrinks, IsJournalName, KeepsIntent, NamesAreDurableExcept, NamesOutsideJournalAreDurable}
+use Rattle.journal_core.specs.Recovering.{AreStagedNames, IsIntentReplayed}
 use Rattle.journal_core.specs.Recovery.{Intent, intent_name, is_staged, stage_folder, stage_name}
 use Rattle.journal_core.proofs.Acts.{free_at}
 use Rattle.journal_core.proofs.Changes.{left_here}
@@ -153,7 +153,7 @@ waiting_none old new same = on_observable old _ (λ v rest is. no_more (JournalO
 -- ---- the names last
 
 abbrev pub NamesAreDurableWithoutIntent : TreeState → Type 0
-NamesAreDurableWithoutIntent w = w.names intent_name ≡ None → ShownNamesAreDurable w
+NamesAreDurableWithoutIntent w = w.names intent_name ≡ None → NamesOutsideJournalAreDurable w
 
 abbrev pub Lasts : History → History → Type 0
 Lasts old new = IfObservable old (λ v. IsSome (v.names intent_name) → Since NamesAreDurableWithoutIntent old new)
@@ -182,52 +182,52 @@ pub lasts_none : (old new : History) → new ≡ old → Lasts old new
 lasts_none old new same = on_observable old _ (λ v rest is some. no_more NamesAreDurableWithoutIntent old old new (none_since NamesAreDurableWithoutIntent old) same)
 
 -- what waits is taken away behind it
-shown_removed_at : (name : List ℕ) → is_staged name ≡ true → (v : TreeState) (o : Option ℕ) → ShownNamesAreDurable v → ShownNamesAreDurable (with_name_removed name v o)
+shown_removed_at : (name : List ℕ) → is_staged name ≡ true → (v : TreeState) (o : Option ℕ) → NamesOutsideJournalAreDurable v → NamesOutsideJournalAreDurable (with_name_removed name v o)
 shown_removed_at name waits v None last map among q off unstaged = last map among q off unstaged
 shown_removed_at name waits v (Some n) last map (inl (kept, left, is)) q off unstaged = left_here v.names (drop_name v.names name) kept map is q (last kept left q off unstaged)
 shown_removed_at name waits v (Some n) last map (inr among) q off unstaged =
     last map among q off unstaged ∙ sym (drop_name-off v.names name q (λ e. true_false (sym waits ∙ sym (ap is_staged e) ∙ unstaged)))
 
 abbrev pub Lasting : List (List ℕ) → History → History → Type 0
-Lasting all old h = IfObservable old (λ v. AreStagedNames all → ShownNamesAreDurable v → Runs ShownNamesAreDurable ShownNamesAreDurable old h)
+Lasting all old h = IfObservable old (λ v. AreStagedNames all → NamesOutsideJournalAreDurable v → Runs NamesOutsideJournalAreDurable NamesOutsideJournalAreDurable old h)
 
 pub lasting_start : (all : List (List ℕ)) (old : History) → Lasting all old old
-lasting_start all old = on_observable old _ (λ v rest is staged last. run_begun ShownNamesAreDurable ShownNamesAreDurable old v rest is last)
+lasting_start all old = on_observable old _ (λ v rest is staged last. run_begun NamesOutsideJournalAreDurable NamesOutsideJournalAreDurable old v rest is last)
 
 module _ (all : List (List ℕ)) (old h new : History) (i : ℕ) (name : List ℕ) (at : slice_get all i ≡ Some name) where
-  lasting_step : AreStagedNames all → (v : TreeState) → ShownNamesAreDurable v → ShownNamesAreDurable (after_remove name v)
+  lasting_step : AreStagedNames all → (v : TreeState) → NamesOutsideJournalAreDurable v → NamesOutsideJournalAreDurable (after_remove name v)
   lasting_step staged v last = shown_removed_at name (staged_at all i name staged at) v (v.names name) last
 
-  pub lasting_failed : {T E : Type 0} (e : E) → Lasting all old h → ChangesHistory {T = T} IsAlwaysAllowed (after_remove name) (after_remove name) h new (Err e) → IfObservable old (λ v. AreStagedNames all → ShownNamesAreDurable v → Since ShownNamesAreDurable old new)
-  lasting_failed e lasting moves = observable_map old _ _ lasting (λ v runs staged last. run_failed ShownNamesAreDurable ShownNamesAreDurable old h new e (runs staged last) moves (λ w may k. lasting_step staged w k))
+  pub lasting_failed : {T E : Type 0} (e : E) → Lasting all old h → ChangesHistory {T = T} IsAlwaysAllowed (after_remove name) (after_remove name) h new (Err e) → IfObservable old (λ v. AreStagedNames all → NamesOutsideJournalAreDurable v → Since NamesOutsideJournalAreDurable old new)
+  lasting_failed e lasting moves = observable_map old _ _ lasting (λ v runs staged last. run_failed NamesOutsideJournalAreDurable NamesOutsideJournalAreDurable old h new e (runs staged last) moves (λ w may k. lasting_step staged w k))
 
   pub lasting_done : {T E : Type 0} (x : T) → Lasting all old h → ChangesHistory {E = E} IsAlwaysAllowed (after_remove name) (after_remove name) h new (Ok x) → Lasting all old new
-  lasting_done x lasting moves = observable_map old _ _ lasting (λ v runs staged last. run_done ShownNamesAreDurable ShownNamesAreDurable ShownNamesAreDurable old h new x (runs staged last) moves (λ w k. k) (lasting_step staged))
+  lasting_done x lasting moves = observable_map old _ _ lasting (λ v runs staged last. run_done NamesOutsideJournalAreDurable NamesOutsideJournalAreDurable NamesOutsideJournalAreDurable old h new x (runs staged last) moves (λ w k. k) (lasting_step staged))
 
-pub lasting_ends : (all : List (List ℕ)) (old h : History) → Lasting all old h → IfObservable old (λ v. AreStagedNames all → ShownNamesAreDurable v → Since ShownNamesAreDurable old h)
+pub lasting_ends : (all : List (List ℕ)) (old h : History) → Lasting all old h → IfObservable old (λ v. AreStagedNames all → NamesOutsideJournalAreDurable v → Since NamesOutsideJournalAreDurable old h)
 lasting_ends all old h lasting = observable_map old _ _ lasting (λ v runs staged last. (runs staged last).since)
 
 abbrev pub EmptyLasts : History → History → Type 0
-EmptyLasts old new = IfObservable old (λ v. ShownNamesAreDurable v → Since ShownNamesAreDurable old new)
+EmptyLasts old new = IfObservable old (λ v. NamesOutsideJournalAreDurable v → Since NamesOutsideJournalAreDurable old new)
 
-pub empty_lasts : (names : List (List ℕ)) (folder : List ℕ) → folder ≡ stage_folder → (old mid new : History) → mid ≡ old → AreNamesBelow folder names → IfObservable mid (λ v. AreStagedNames names → ShownNamesAreDurable v → Since ShownNamesAreDurable mid new) → EmptyLasts old new
+pub empty_lasts : (names : List (List ℕ)) (folder : List ℕ) → folder ≡ stage_folder → (old mid new : History) → mid ≡ old → AreNamesBelow folder names → IfObservable mid (λ v. AreStagedNames names → NamesOutsideJournalAreDurable v → Since NamesOutsideJournalAreDurable mid new) → EmptyLasts old new
 empty_lasts names folder folder_is old mid new same below told =
-    subst (λ (l : History). EmptyLasts l new) same (observable_map mid _ (λ v. ShownNamesAreDurable v → Since ShownNamesAreDurable mid new) told (λ v t. t (all_staged folder names folder_is below)))
+    subst (λ (l : History). EmptyLasts l new) same (observable_map mid _ (λ v. NamesOutsideJournalAreDurable v → Since NamesOutsideJournalAreDurable mid new) told (λ v t. t (all_staged folder names folder_is below)))
 
 pub empty_lasts_none : (old new : History) → new ≡ old → EmptyLasts old new
-empty_lasts_none old new same = on_observable old _ (λ v rest is last. no_more ShownNamesAreDurable old old new (none_since ShownNamesAreDurable old) same)
+empty_lasts_none old new same = on_observable old _ (λ v rest is last. no_more NamesOutsideJournalAreDurable old old new (none_since NamesOutsideJournalAreDurable old) same)
 
 -- both
-pub all_lasts : (old mid new : History) → Lasts old mid → IfObservable old (λ v. HoldsNow mid (IsReplayed v)) → EmptyLasts mid new → Lasts old new
+pub all_lasts : (old mid new : History) → Lasts old mid → IfObservable old (λ v. HoldsNow mid (IsIntentReplayed v)) → EmptyLasts mid new → Lasts old new
 all_lasts old mid new lasts replayed empties = on_observable old _ (λ v rest is some.
     let since = observable_at old v rest is (λ u. IsSome (u.names intent_name) → Since NamesAreDurableWithoutIntent old mid) lasts some in
     let here = now_since NamesAreDurableWithoutIntent old mid v rest is (λ none. absurd (some_none (v.names intent_name) none some)) since in
     since_on NamesAreDurableWithoutIntent old mid new since
-    (by_now mid (IsReplayed v) (Since NamesAreDurableWithoutIntent mid new) (observable_at old v rest is (λ u. HoldsNow mid (IsReplayed u)) replayed)
+    (by_now mid (IsIntentReplayed v) (Since NamesAreDurableWithoutIntent mid new) (observable_at old v rest is (λ u. HoldsNow mid (IsIntentReplayed u)) replayed)
     (then v mid refl here)))
   where
-    then : (v : TreeState) (m : History) → m ≡ mid → HoldsNow m NamesAreDurableWithoutIntent → IfObservable m (λ u. IsReplayed v u → Since NamesAreDurableWithoutIntent mid new)
+    then : (v : TreeState) (m : History) → m ≡ mid → HoldsNow m NamesAreDurableWithoutIntent → IfObservable m (λ u. IsIntentReplayed v u → Since NamesAreDurableWithoutIntent mid new)
     then v [] is here = absurd here
     then v (u ∷ m) is here = λ replay.
-        since_weaker ShownNamesAreDurable NamesAreDurableWithoutIntent mid new (λ w k none. k)
-        (observable_at mid u m (sym is) (λ w. ShownNamesAreDurable w → Since ShownNamesAreDurable mid new) empties (here replay.absent))
+        since_weaker NamesOutsideJournalAreDurable NamesAreDurableWithoutIntent mid new (λ w k none. k)
+        (observable_at mid u m (sym is) (λ w. NamesOutsideJournalAreDurable w → Since NamesOutsideJournalAreDurable mid new) empties (here replay.absent))

@@ -4,9 +4,9 @@ use Rattle.base_core.specs.Calls.{IfObservable, HoldsNow, ChangesHistory}
 use Rattle.base_core.specs.Crash.{Since}
 use Rattle.base_core.specs.Files.{drop_name, move_name, put_name}
 use Rattle.base_core.specs.Tree.{TreeState, File, after_append, after_create, after_failed_append, after_remove, after_rename, after_sync, after_sync_names, with_file_changed, with_file_moved, with_name_removed, unchanged_after_failed_call, IsAlwaysAllowed, CanCreate, CanRename, HasName}
-use Rattle.journal_core.specs.Filling.{IsDurablyMoved}
+use Rattle.journal_core.specs.Filling.{IsNewFileDurablyMoved}
 use Rattle.journal_core.specs.Kept.{IsSyncedAt, KeepsCrashMapsExcept}
-use Rattle.journal_core.specs.Replacing.{scratch_of}
+use Rattle.journal_core.specs.Replacing.{scratch_name_of}
 use Rattle.journal_core.proofs.History.{History, no_more, none_since, now_map, observable_map, on_observable, since_weaker}
 use Rattle.journal_core.proofs.Changes.{left_off, synced_left}
 use Rattle.journal_core.proofs.Lasting.{off_first, off_rest}
@@ -93,8 +93,8 @@ module _ {T E : Type 0} (old new : History) (r : Result T E) where
 
 -- ---- a replacement
 
-pub scratch_maps : (scratch name : List ℕ) (old new : History) → scratch ≡ scratch_of name → Keeps (name ∷ scratch ∷ []) old new → Keeps (name ∷ scratch_of name ∷ []) old new
+pub scratch_maps : (scratch name : List ℕ) (old new : History) → scratch ≡ scratch_name_of name → Keeps (name ∷ scratch ∷ []) old new → Keeps (name ∷ scratch_name_of name ∷ []) old new
 scratch_maps scratch name old new is told = subst (λ (s : List ℕ). Keeps (name ∷ s ∷ []) old new) is told
 
-pub lasting_synced : (scratch name bytes : List ℕ) (old new : History) → IfObservable old (λ v. HoldsNow new (IsDurablyMoved scratch name bytes v)) → IfObservable old (λ v. HoldsNow new (IsSyncedAt name))
-lasting_synced scratch name bytes old new lasts = observable_map old _ _ lasts (λ v now. now_map new (IsDurablyMoved scratch name bytes v) (IsSyncedAt name) now (λ w l. l.synced))
+pub lasting_synced : (scratch name bytes : List ℕ) (old new : History) → IfObservable old (λ v. HoldsNow new (IsNewFileDurablyMoved scratch name bytes v)) → IfObservable old (λ v. HoldsNow new (IsSyncedAt name))
+lasting_synced scratch name bytes old new lasts = observable_map old _ _ lasts (λ v now. now_map new (IsNewFileDurablyMoved scratch name bytes v) (IsSyncedAt name) now (λ w l. l.synced))

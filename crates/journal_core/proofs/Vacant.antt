@@ -5,7 +5,7 @@ use Rattle.base_core.specs.Files.{Files, IsFolderOf, no_names, put_name}
 use Rattle.base_core.specs.Tree.{TreeState, files_of}
 use Rattle.base_core.proofs.AtName.{name_cases, off_name}
 use Rattle.journal_core.specs.Recovery.{intent_name, state_of}
-use Rattle.journal_core.specs.Replacing.{CanAddOutputNames, scratch_of}
+use Rattle.journal_core.specs.Replacing.{CanAddOutputNames, scratch_name_of}
 use Rattle.journal_core.specs.Staged.{WasCommittedFor, AreStagingPathsFree, IsPresentOrOfJournal}
 use Rattle.journal_intent.proofs.AtName.{put_name-off}
 use Rattle.journal_intent.specs.FreeNames.{IsUsedByJournal}
@@ -52,9 +52,9 @@ one_of_both scratch name q some = ⊎_elim
     (name_cases q scratch))
     (name_cases q name)
 
-apart_by : (name p q : List ℕ) → (p ≡ name) ⊎ (p ≡ scratch_of name) → (q ≡ name) ⊎ (q ≡ scratch_of name) → IsFolderOf p q → ⊥
+apart_by : (name p q : List ℕ) → (p ≡ name) ⊎ (p ≡ scratch_name_of name) → (q ≡ name) ⊎ (q ≡ scratch_name_of name) → IsFolderOf p q → ⊥
 apart_by name p q (inl p_is) (inl q_is) (rest, is) = not_below name rest (sym q_is ∙ is ∙ ap (λ (x : List ℕ). x ++ 47 ∷ rest) p_is)
-apart_by name p q (inr p_is) (inr q_is) (rest, is) = not_below (scratch_of name) rest (sym q_is ∙ is ∙ ap (λ (x : List ℕ). x ++ 47 ∷ rest) p_is)
+apart_by name p q (inr p_is) (inr q_is) (rest, is) = not_below (scratch_name_of name) rest (sym q_is ∙ is ∙ ap (λ (x : List ℕ). x ++ 47 ∷ rest) p_is)
 apart_by name p q (inr p_is) (inl q_is) (rest, is) = no_longer name rest (codes ".apk-tmp") (sym q_is ∙ is ∙ ap (λ (x : List ℕ). x ++ 47 ∷ rest) p_is)
 apart_by name p q (inl p_is) (inr q_is) (rest, is) =
     let same : codes ".apk-tmp" ≡ 47 ∷ rest = after_same name (codes ".apk-tmp") (47 ∷ rest) (sym q_is ∙ is ∙ ap (λ (x : List ℕ). x ++ 47 ∷ rest) p_is) in
@@ -63,5 +63,5 @@ apart_by name p q (inl p_is) (inr q_is) (rest, is) =
 
 pub room_for_file : (name : List ℕ) → CanAddOutputNames name no_names
 room_for_file name = record {
-  folders = λ p q folder has_p has_q. apart_by name p q (one_of_both (scratch_of name) name p has_p) (one_of_both (scratch_of name) name q has_q) folder;
+  folders = λ p q folder has_p has_q. apart_by name p q (one_of_both (scratch_name_of name) name p has_p) (one_of_both (scratch_name_of name) name q has_q) folder;
 }

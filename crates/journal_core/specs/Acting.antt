@@ -12,7 +12,7 @@ use Rattle.journal_core.specs.Quiet.{StateIsUnchanged}
 use Rattle.journal_core.specs.Recovery.{Intent, StateDependsOn, stage_name}
 use Rattle.journal_core.specs.Staged.{Staging, IsCarryingOutActions}
 
--- a stage with this intent, this many of whose actions are done
+-- a stage with this intent, which is committed, and of whose actions this many are done
 abbrev pub stage_with_actions_done : Intent → ℕ → Staging
 stage_with_actions_done intent acted = record {
   intent = intent;
@@ -32,12 +32,14 @@ fully_staged_stage intent = record {
   acted = 0;
 }
 
--- how the move of a file that may be staged at a place changes the tree: a file that is there is moved
--- to its name, and nothing happens if none is there; after a fault the file was moved or not
+-- how a call that moves the staged file under the name `place` to `name` changes the tree: nothing
+-- changes if no file is there; after an error the file was moved or not
 pub record MovesIfPresent {T E : Type 0} (place name : List ℕ) (old new : List TreeState)
     (result : Result T E) : Type 0 where
+  -- on Ok nothing changed because no file was there, or the file was moved
   pub ok : OnOk result (IfObservable old (λ v.
       ((v.names place ≡ None) × (new ≡ old)) ⊎ (new ≡ after_rename place name v ∷ old)))
+  -- on an error nothing changed, or the file was moved
   pub err : OnErr result (IfObservable old (λ v.
       (new ≡ old) ⊎ (new ≡ after_rename place name v ∷ old)))
 
@@ -53,8 +55,8 @@ pub record IsDuringActions (ignored : List ℕ → Bool) (files : Files) (stage 
   pub is_unchanged : StateIsUnchanged ignored start v
   pub acting : IsCarryingOutActions stage files v
 
--- what a call that does actions of a stage keeps, if the stage's count of actions done is true of the tree
--- at the start
+-- what a call that does actions of a stage preserves, if the actions that the stage counts as done
+-- are done in the tree at the start
 pub record CarriesOutActions (stage : Staging) (old now : List TreeState) : Type 0 where
   -- from a durable tree on, each moment is durable, and the state is unchanged
   pub moments : IfObservable old (λ v. (ignored : List ℕ → Bool) (files : Files)

@@ -15,15 +15,22 @@ use Rattle.journal_intent.specs.FreeNames.{HasFreeDistinctNames}
 use Rattle.journal_core.specs.Quiet.{EachCrashLeavesOld}
 use Rattle.journal_core.specs.Staged.{Staging, CommittedBy, IsCommittedFor, IsOldUntilCommit, IsStaged}
 
--- a moment at which a new file is under a name that was absent at the start, and nothing else has
--- changed
+-- the tree `v` differs from `start` only by a file under a name that was absent: the file was made
+-- since
 pub record HasOnlyAddedFile (place : List ℕ) (file : File) (start v : TreeState) : Type 0 where
+  -- the name was absent
   pub absent : start.names place ≡ None
+  -- the number of the new file
   pub number : ℕ
+  -- the file was made since
   pub later : start.made ≤ number
+  -- the name leads to this file
   pub there : v.names place ≡ Some number
+  -- the file has these bytes, and is synced or not as `file` says
   pub holds : v.files number ≡ file
+  -- every other name leads where it led
   pub names : (q : List ℕ) → q ≢ place → v.names q ≡ start.names q
+  -- the file of every other name is unchanged
   pub kept : (q : List ℕ) (n : ℕ) → q ≢ place → v.names q ≡ Some n → v.files n ≡ start.files n
 
 -- a moment before the publishing at which all files are staged: the intent under the name with number
@@ -52,16 +59,22 @@ pub record IsReadyToPublish (intent : Intent) (base : Files) (made : ℕ) (v : T
   pub few : length intent.writes < 2 ^ 63
   pub free : HasFreeDistinctNames intent
 
--- a moment of the publishing, at which the intent may be moved to its name: a crash leaves a state from
--- before, or that of these files if an intent made since is read
+-- a moment of the commit, at which the intent may have been moved to its name: a crash leaves a
+-- state from before, or that of these files. It leaves a state from before unless an intent made
+-- since is under its name
 pub record IsCommitting (ignored : List ℕ → Bool) (files : Files) (number : ℕ)
     (start v : TreeState) : Type 0 where
+  -- the tree is durable
   pub is_durable : IsDurable (StateDependsOn ignored) v
+  -- each crash leaves a state that a crash at the start might have left, or that of `files`
   pub old_or_new : EachCrashLeavesOldOrNew ignored start files v
+  -- as long as no intent made since leads to these files, each crash leaves a state from before
   pub unpublished : (IsCommittedFor ignored files number v → ⊥) → EachCrashLeavesOld ignored start v
+  -- files may have been made since the start
   pub made : start.made ≤ v.made
 
--- a moment after the publishing: the intent is read, and no crash undoes this
+-- a moment after the commit: each crash leaves the state of these files, and the intent is under
+-- its name
 pub record HasCommittedIntent (ignored : List ℕ → Bool) (files : Files) (made : ℕ)
     (v : TreeState) : Type 0 where
   pub settled : EachCrashLeaves ignored files v
@@ -71,7 +84,8 @@ pub record HasCommittedIntent (ignored : List ℕ → Bool) (files : Files) (mad
 pub record ChangesOnlyIntentNames (old now : List TreeState) : Type 0 where
   -- as soon as the intent is read, every other change of names is durable
   pub last : IfObservable old (λ v. v.names intent_name ≡ None
-      → Since (λ w. IsSome (w.names intent_name) → NamesAreDurableExcept (intent_name ∷ stage_name 0 ∷ []) w)
+      → Since (λ w. IsSome (w.names intent_name)
+      → NamesAreDurableExcept (intent_name ∷ stage_name 0 ∷ []) w)
       old now)
   -- at each moment the files as read are unchanged under every other name
   pub others : IfObservable old (λ v.

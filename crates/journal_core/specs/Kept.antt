@@ -15,15 +15,15 @@ use Rattle.journal_intent.specs.FreeNames.{IsNoneOf}
 abbrev pub KeepsFilesExcept : (List ℕ → Type 0) → TreeState → TreeState → Type 0
 KeepsFilesExcept these start v = (q : List ℕ) → (these q → ⊥) → files_of v q ≡ files_of start q
 
--- the names of the next action, if this many are done: the name that is removed, or the name that is
--- written and that of its staged file
+-- the names that the next action of an intent changes, if this many of its actions are done: the
+-- name that it removes, or the name that it writes and that of the staged file
 abbrev pub IsNameOfNextAction : Intent → ℕ → List ℕ → Type 0
 IsNameOfNextAction intent acted q =
     (slice_get intent.removals acted ≡ Some q)
     ⊎ ((i : ℕ) × (acted ≡ length intent.removals + i)
     × ((slice_get intent.writes i ≡ Some q) ⊎ (q ≡ stage_name (i + 1))))
 
--- the files as read are these files, once the intent that is read is done and removed
+-- recovery of the files as read yields these files
 abbrev pub RecoversTo : Files → TreeState → Type 0
 RecoversTo files v = recovered_files (files_of v) ≡ files
 
@@ -36,13 +36,13 @@ abbrev pub JournalOnlyShrinks : TreeState → TreeState → Type 0
 JournalOnlyShrinks start v = (q : List ℕ) → IsJournalName q
     → (files_of v q ≡ None) ⊎ (files_of v q ≡ files_of start q)
 
--- each name outside the staging area has the bytes of the old files or those of the new ones
+-- each name that is no name of the journal has the bytes of the old files or those of the new ones
 abbrev pub HasOldOrNewBytes : Files → Files → TreeState → Type 0
 HasOldOrNewBytes old new v =
     (q : List ℕ) → (IsJournalName q → ⊥) → (files_of v q ≡ old q) ⊎ (files_of v q ≡ new q)
 
--- each name outside the staging area has old bytes or new ones at each moment since, for any old files
--- for which this held at the start
+-- at each added moment each name that is no name of the journal has the bytes of `base` or those of
+-- `files`. `base` is any files for which this held at the start
 abbrev pub KeepsOldOrNewBytes : Files → TreeState → List TreeState → List TreeState → Type 0
 KeepsOldOrNewBytes files v old new =
     (base : Files) → HasOldOrNewBytes base files v → Since (HasOldOrNewBytes base files) old new
@@ -62,22 +62,23 @@ NamesAreDurableExcept these v =
 
 -- each name except the intent's and those in the staging area leads in every map to the same file as in
 -- the newest, so no crash undoes its change
-abbrev pub ShownNamesAreDurable : TreeState → Type 0
-ShownNamesAreDurable v = (map : NameMap) → IsCrashMap v map → (q : List ℕ) → q ≢ intent_name
+abbrev pub NamesOutsideJournalAreDurable : TreeState → Type 0
+NamesOutsideJournalAreDurable v = (map : NameMap) → IsCrashMap v map → (q : List ℕ) → q ≢ intent_name
     → is_staged q ≡ false → map q ≡ v.names q
 
--- the same of each name except the intent's, those in the staging area and these
-abbrev pub ShownNamesAreDurableExcept : List (List ℕ) → TreeState → Type 0
-ShownNamesAreDurableExcept these v = (map : NameMap) → IsCrashMap v map → (q : List ℕ)
+-- the names `these`, the intent's and those in the staging area are excepted. Each other name leads
+-- in every map to the same file as in the newest, so no crash undoes its change
+abbrev pub NamesOutsideJournalAreDurableExcept : List (List ℕ) → TreeState → Type 0
+NamesOutsideJournalAreDurableExcept these v = (map : NameMap) → IsCrashMap v map → (q : List ℕ)
     → IsNoneOf q these
     → q ≢ intent_name → is_staged q ≡ false → map q ≡ v.names q
 
--- no crash restores the name
+-- no map of names that a crash may leave has the name
 abbrev pub IsRestoredByNoCrash : List ℕ → TreeState → Type 0
 IsRestoredByNoCrash name v = (map : NameMap) → IsCrashMap v map → map name ≡ None
 
--- each map is one from before, except for these names: so a crash leaves each other name as it might
--- have left it before
+-- each map that a crash may leave agrees with one that a crash might have left at the start, except
+-- for these names
 abbrev pub KeepsCrashMapsExcept : List (List ℕ) → TreeState → TreeState → Type 0
 KeepsCrashMapsExcept these start v = (map : NameMap) → IsCrashMap v map
     → (was : NameMap) × IsCrashMap start was × ((q : List ℕ) → IsNoneOf q these → map q ≡ was q)

@@ -1,21 +1,25 @@
--- A moment at which the state has not changed.
--- The rules are in `docs/crash-safety.md`, "What files stand for", the table, *quiet* and *still*.
+-- Trees in which the state has not changed since a start. The rules are in `docs/crash-safety.md`,
+-- "What files stand for", the table, *quiet* and *still*.
 use Rattle.std.specs.Prelude.{◌≡◌, ◌≤◌, ℕ, Bool, List}
 use Rattle.base_core.specs.Undone.{IsDurable, IsCrashImage}
 use Rattle.base_core.specs.Files.{Files}
 use Rattle.base_core.specs.Tree.{TreeState, files_of}
 use Rattle.journal_core.specs.Recovery.{StateDependsOn, state_of}
 
--- each crash leaves a state that one at the start might have left, apart from the ignored names
+-- each crash leaves a state that a crash at the start might have left; ignored names do not count
 abbrev pub EachCrashLeavesOld : (List ℕ → Bool) → TreeState → TreeState → Type 0
 EachCrashLeavesOld ignored start v =
     (image : Files) → IsCrashImage v image → (was : Files) × IsCrashImage start was
     × (state_of ignored image ≡ state_of ignored was)
 
--- a durable moment at which neither the state nor the state as read has changed; files may have been
--- made
+-- the tree `v` is durable, and its state is that of the tree `start`: after each crash, and as
+-- read. Ignored names do not count, and new files may have been made
 pub record StateIsUnchanged (ignored : List ℕ → Bool) (start v : TreeState) : Type 0 where
+  -- the tree is durable
   pub is_durable : IsDurable (StateDependsOn ignored) v
+  -- each crash leaves a state that a crash at the start might have left
   pub quiet : EachCrashLeavesOld ignored start v
+  -- the state of the files as read is that at the start
   pub reads : state_of ignored (files_of v) ≡ state_of ignored (files_of start)
+  -- files may have been made since the start
   pub made : start.made ≤ v.made

@@ -22,13 +22,15 @@ abbrev pub recover_fault_of_tree : TreeFault → RecoverFault
 recover_fault_of_tree TreeFailed = Disk
 recover_fault_of_tree NoMemory = Memory
 
--- a moment after the actions of an intent: the files as read are those of the start with the intent
--- done, and no intent is read
-pub record IsReplayed (start v : TreeState) : Type 0 where
+-- a moment after all actions of an intent: the files as read are those that recovery of the files
+-- at the start yields, and no intent is read
+pub record IsIntentReplayed (start v : TreeState) : Type 0 where
+  -- the files as read are those that recovery yields
   pub reads : files_of v ≡ recovered_files (files_of start)
+  -- no intent is read
   pub absent : v.names intent_name ≡ None
 
--- a map or files without the staged files: their names lead nowhere
+-- a map, or files, without the staged files: no name in the staging area has an entry
 abbrev pub without_staged_names : {X : Type 0} → (List ℕ → Option X) → List ℕ → Option X
 without_staged_names map q = if is_staged q then None else map q
 
@@ -36,15 +38,15 @@ without_staged_names map q = if is_staged q then None else map q
 abbrev pub AreStagedNames : List (List ℕ) → Type 0
 AreStagedNames names = All (λ name. is_staged name ≡ true) names
 
--- a moment without some names of the start: these lead nowhere, and the others to the same files; no
--- file has changed
+-- the tree `v` is the tree `start` without these names: they lead nowhere, and all others to the
+-- same files. No file has changed
 pub record HasRemovedNames (names : List (List ℕ)) (start v : TreeState) : Type 0 where
   pub map : (q : List ℕ) → v.names q
       ≡ (if list_any (bytes_eq q) names then None else start.names q)
   pub files : v.files ≡ start.files
 
--- a moment without the staged files of the start: no name in the staging area leads anywhere, and no
--- file has changed
+-- the tree `v` is the tree `start` without staged files: no name in the staging area leads
+-- anywhere. No file has changed
 pub record HasEmptiedStage (start v : TreeState) : Type 0 where
   pub map : (q : List ℕ) → v.names q ≡ without_staged_names start.names q
   pub files : v.files ≡ start.files

@@ -12,7 +12,8 @@ unfoldable pub use Rattle.journal_intent.specs.Intent.{read_intent}
 
 -- ---- the intent
 
--- the intent that a file under the intent's name encodes, if the file is there and encodes one
+-- the intent that the file under the intent's name encodes; None if there is no file, or if it is
+-- no intent container
 abbrev pub intent_in_file : Option (List ℕ) → Option Intent
 intent_in_file None = None
 intent_in_file (Some file) = read_intent file
@@ -27,35 +28,38 @@ intent_of files = intent_in_file (files intent_name)
 abbrev pub without_names : List (List ℕ) → Files → Files
 without_names names files q = if list_any (bytes_eq q) names then None else files q
 
--- the file at a name, if there is one, is moved to another name
+-- the files after the file at `from` is moved to `to`, given its bytes; unchanged if there is no
+-- file at `from`
 abbrev pub move_if_present : Files → List ℕ → List ℕ → Option (List ℕ) → Files
 move_if_present files from to None = files
 move_if_present files from to (Some bytes) = move_name files from to bytes
 
--- the staged files from number k on are moved to their names; one that is absent was moved before
+-- the files after the staged files from the number k on are moved to the names of a list, one by
+-- one; a staged file that is absent was moved before
 abbrev pub files_after_moves : ℕ → List (List ℕ) → Files → Files
 files_after_moves k [] files = files
 files_after_moves k (name ∷ names) files =
     files_after_moves (k + 1) names (move_if_present files (stage_name k) name (files (stage_name k)))
 
--- the files once all actions of an intent are done: first the removals, then the moves, from the staged
--- file 1 on
+-- the files after all actions of an intent: first the removals, then the moves, of which the first
+-- moves the staged file with the number 1
 abbrev pub files_after_actions : Intent → Files → Files
 files_after_actions intent files = files_after_moves 1 intent.writes (without_names intent.removals files)
 
 -- ---- what recovery yields
 
--- the files once this intent is done and removed; unchanged without an intent
+-- the files after all actions of this intent and the removal of the intent; unchanged without an
+-- intent
 abbrev pub files_after_intent : Option Intent → Files → Files
 files_after_intent None files = files
 files_after_intent (Some intent) files = drop_name (files_after_actions intent files) intent_name
 
--- the files that recovery yields: their intent is done and removed; unchanged if there is none or it is
--- no intent container
+-- the files that recovery yields: those after all actions of their intent and its removal. They are
+-- unchanged if there is no intent, or if its file is no intent container
 abbrev pub recovered_files : Files → Files
 recovered_files files = files_after_intent (intent_of files) files
 
--- the names that are no part of a state: those of the staged files, and further names ignored
+-- whether a name is no part of a state: it is that of a staged file, or is ignored
 abbrev pub is_hidden : (List ℕ → Bool) → List ℕ → Bool
 is_hidden ignored name = is_staged name || ignored name
 
@@ -71,8 +75,8 @@ abbrev pub IsStagedNameOf : Option Intent → List ℕ → Type 0
 IsStagedNameOf None q = ⊥
 IsStagedNameOf (Some intent) q = (k : ℕ) × (1 ≤ k) × (k < 1 + length intent.writes) × (q ≡ stage_name k)
 
--- the state of files depends on their intent, on each file that is not hidden, and on those that are
--- staged for the intent's actions
+-- the state of the files depends on the file under this name: it is the intent's, or not hidden, or
+-- that of a file staged for an action of the intent
 abbrev pub StateDependsOn : (List ℕ → Bool) → Files → List ℕ → Type 0
 StateDependsOn ignored files q =
     (q ≡ intent_name) ⊎ ((is_hidden ignored q ≡ false) ⊎ IsStagedNameOf (intent_of files) q)
@@ -84,7 +88,7 @@ abbrev pub EachCrashLeaves : (List ℕ → Bool) → Files → TreeState → Typ
 EachCrashLeaves ignored files v =
     (image : Files) → IsCrashImage v image → state_of ignored image ≡ state_of ignored files
 
--- each crash leaves a state that one at the start might have left, or that of these files
+-- each crash leaves a state that a crash at the start might have left, or the state of these files
 abbrev pub EachCrashLeavesOldOrNew : (List ℕ → Bool) → TreeState → Files → TreeState → Type 0
 EachCrashLeavesOldOrNew ignored start files v = (image : Files) → IsCrashImage v image
     → ((was : Files) × IsCrashImage start was × (state_of ignored image ≡ state_of ignored was))

@@ -8,7 +8,7 @@ use Rattle.base_core.specs.Tree.{TreeState, files_under_map, files_of}
 use Rattle.base_core.specs.Undone.{IsDurable, IsCrashMap}
 use Rattle.base_core.specs.Restart.{EachMoment}
 use Rattle.base_core.specs.declared.cause.Cause.{Cause}
-use Rattle.journal_intent.specs.adb_schema.Soundness.{first_fault}
+use Rattle.journal_intent.specs.adb_schema.Soundness.{container_fault_except_contents}
 use Rattle.adb_view.specs.declared.tables.Which.TheVariants.{Intent as IntentTable}
 use Rattle.journal_core.specs.Recovery.{Intent, EachCrashLeavesOldOrNew, IsStagedNameOf, StateDependsOn, intent_name, intent_of, is_staged, recovered_files, stage_name, state_of}
 use Rattle.journal_core.specs.Kept.{IsRestoredByNoCrash}
@@ -40,17 +40,19 @@ new_stage removals writes = record {
 -- the file under the intent's name is no intent container, for this cause
 abbrev pub IsIntentFault : Files → Cause → Type 0
 IsIntentFault files cause = (file : List ℕ) × (files intent_name ≡ Some file)
-    × (first_fault IntentTable file ≡ Some cause)
+    × (container_fault_except_contents IntentTable file ≡ Some cause)
 
 -- ---- staging
 
--- the files with more staged files, which have these bytes, the first of them as number k
+-- the files with one more staged file for each element of `contents`, which is its bytes; the first
+-- of them has the number k
 abbrev pub files_with_staged : ℕ → List (List ℕ) → Files → Files
 files_with_staged k [] files = files
 files_with_staged k (bytes ∷ contents) files =
     files_with_staged (k + 1) contents (put_name files (stage_name k) bytes)
 
--- the files with one more staged file, number k, if there are bytes for it: the file that is begun
+-- the files with the staged file number k that is begun, if there are bytes for it; unchanged
+-- otherwise
 abbrev pub files_with_begun_file : ℕ → Option (List ℕ) → Files → Files
 files_with_begun_file k None files = files
 files_with_begun_file k (Some bytes) files = put_name files (stage_name k) bytes
@@ -59,8 +61,11 @@ files_with_begun_file k (Some bytes) files = put_name files (stage_name k) bytes
 -- the intent uses it
 pub record IsOnlyNameOfFile (name : List ℕ) (v : TreeState) : Type 0 where
   pub number : ℕ
+  -- the name leads to the file with this number
   pub there : v.names name ≡ Some number
+  -- in each map that a crash may leave, no other name leads to this file
   pub alone : (map : NameMap) → IsCrashMap v map → (q : List ℕ) → map q ≡ Some number → q ≡ name
+  -- where a map leads from the name to this file, the intent of that map does not use it
   pub no_place : (map : NameMap) → IsCrashMap v map → map name ≡ Some number
       → IsStagedNameOf (intent_of (files_under_map v map)) name → ⊥
 
@@ -81,18 +86,25 @@ HasNoOtherIntent [] None v = Unit {0}
 -- staged.
 pub record IsStaged (stage : Staging) (contents : List (List ℕ)) (begun : Option (List ℕ))
     (base : Files) (v : TreeState) : Type 0 where
+  -- as many files are staged and ended as the stage counts
   pub count : length contents ≡ stage.staged
+  -- there was no intent at the start
   pub absent : base intent_name ≡ None
-  pub reads : files_of v ≡ files_with_begun_file (1 + length contents) begun (files_with_staged 1 contents base)
+  -- the files as read are those of the start with the staged files
+  pub reads : files_of v ≡ files_with_begun_file (1 + length contents) begun
+      (files_with_staged 1 contents base)
+  -- each staged file that was ended is synced
   pub synced : (k n : ℕ) → 1 ≤ k → k < 1 + length contents → v.names (stage_name k) ≡ Some n
       → (v.files n).synced ≡ true
+  -- the file that is begun is under its staged name alone
   pub alone : IsStagedFileBegun (1 + length contents) begun v
+  -- once a file is begun, no crash restores an older intent
   pub gone : HasNoOtherIntent contents begun v
 
 -- ---- the actions
 
--- a name that is still needed when so many actions are done: the intent's, and those of each move that
--- is left
+-- a name that recovery still needs after this many actions of the intent: the intent's, and the two
+-- names of each move that is not done
 abbrev pub IsStillNeeded : Intent → ℕ → List ℕ → Type 0
 IsStillNeeded intent acted q =
     (q ≡ intent_name)
@@ -104,23 +116,31 @@ abbrev pub NeededNamesAreDurable : Intent → ℕ → TreeState → Type 0
 NeededNamesAreDurable intent acted v =
     (map : NameMap) → IsCrashMap v map → (q : List ℕ) → IsStillNeeded intent acted q → map q ≡ v.names q
 
--- the first so many actions are done in these files
+-- in these files the first `acted` actions of the intent are done: the removed names and the moved
+-- staged files are absent
 pub record AreActionsDone (intent : Intent) (acted : ℕ) (files : Files) : Type 0 where
+  -- each name removed by one of these actions is absent
   pub removed : (i : ℕ) (name : List ℕ) → i < acted → slice_get intent.removals i ≡ Some name
       → files name ≡ None
+  -- each staged file moved by one of these actions is absent
   pub moved : (k : ℕ) → 1 ≤ k → length intent.removals + k ≤ acted → files (stage_name k) ≡ None
 
--- from the publishing on: the intent is read, recovery of the files as read yields these files, and the
--- stage's actions so far are done; a crash undoes the publishing no more
+-- the intent is committed: it is read, recovery of the files as read yields `files`, and the
+-- actions that the stage counts as done are done. No crash undoes a change of a name that is still
+-- needed
 pub record IsCarryingOutActions (stage : Staging) (files : Files) (v : TreeState) : Type 0 where
+  -- the intent that is read is that of the stage
   pub located : intent_of (files_of v) ≡ Some stage.intent
+  -- recovery of the files as read yields `files`
   pub reads : recovered_files (files_of v) ≡ files
+  -- the actions that the stage counts as done are done
   pub done : AreActionsDone stage.intent stage.acted (files_of v)
+  -- no crash undoes a change of a name that is still needed
   pub last : NeededNamesAreDurable stage.intent stage.acted v
 
 -- ---- recovery
 
--- the files as a recovery leaves them: the intent is done, and nothing is staged
+-- the files after a recovery: the intent is done and removed, and no file is staged
 abbrev pub unstaged_files : Files → Files
 unstaged_files files q = if is_staged q then None else recovered_files files q
 
@@ -130,8 +150,8 @@ IsEmptyStage files = (q : List ℕ) → is_staged q ≡ true → files q ≡ Non
 
 -- ---- moments
 
--- an intent is under its name, its file was made since (its number is `made` or larger), and recovery
--- of the files as read yields the state of these files
+-- the intent's name has a file whose number is `made` or larger, so it was made since then; and
+-- recovery of the files as read yields the state of these files
 abbrev pub IsCommittedFor : (List ℕ → Bool) → Files → ℕ → TreeState → Type 0
 IsCommittedFor ignored files made v =
     (n : ℕ)
@@ -139,30 +159,39 @@ IsCommittedFor ignored files made v =
     × (made ≤ n)
     × (state_of ignored (files_of v) ≡ state_of ignored files)
 
--- at one of these moments an intent was under its name, its file was made since (its number is `made` or
--- larger), and recovery of the files as read would have yielded the state of these files
+-- at one of these moments the intent's name had a file whose number is `made` or larger; and
+-- recovery of the files as read would have yielded the state of these files
 abbrev pub WasCommittedFor : (List ℕ → Bool) → Files → ℕ → List TreeState → Type 0
 WasCommittedFor ignored files made [] = ⊥
 WasCommittedFor ignored files made (v ∷ earlier) =
     IsCommittedFor ignored files made v ⊎ WasCommittedFor ignored files made earlier
 
--- A moment of a run that leads to these files. A crash leaves an old state or theirs. Before an intent
--- that was made since, and yields their state, is under its name, it leaves an old one.
+-- A moment of a run that leads to these files. A crash leaves a state that a crash at the start
+-- might have left, or the state of these files. Until an intent of this run has been under its
+-- name, it leaves one of the former.
 pub record IsOldUntilCommit (ignored : List ℕ → Bool) (files : Files) (start : TreeState)
     (earlier : List TreeState) (v : TreeState) : Type 0 where
+  -- the tree is durable
   pub is_durable : IsDurable (StateDependsOn ignored) v
+  -- each crash leaves a state that a crash at the start might have left, or that of `files`
   pub old_or_new : EachCrashLeavesOldOrNew ignored start files v
+  -- before the commit each crash leaves a state from before
   pub unpublished : (WasCommittedFor ignored files start.made (v ∷ earlier) → ⊥)
       → EachCrashLeavesOld ignored start v
+  -- files may have been made since the start
   pub made : start.made ≤ v.made
 
--- a run so far that leads to these files: each of its moments is on the way to them, and at one of them
--- an intent of the run that yields their state was under its name
+-- the moments of a run that leads to these files; at one of them an intent of this run, for which
+-- recovery yields their state, was under its name
 pub record CommittedBy (ignored : List ℕ → Bool) (files : Files) (start : TreeState)
     (old new : List TreeState) : Type 0 where
+  -- the states that were added, the newest first
   pub added : List TreeState
+  -- the new history is these states before the old history
   pub is : new ≡ added ++ old
+  -- each of them is on the way to `files`
   pub each : EachMoment (IsOldUntilCommit ignored files start) added
+  -- at one of them an intent made since the start led to `files`
   pub published : WasCommittedFor ignored files start.made added
 
 -- ---- free paths
@@ -174,11 +203,14 @@ IsPresentOrOfJournal files q =
 
 -- no name becomes a folder of another if the intent and all staged files are added
 pub record AreJournalPathsFree (files : Files) : Type 0 where
-  pub folders : (p q : List ℕ) → IsFolderOf p q → IsPresentOrOfJournal files p → IsPresentOrOfJournal files q → ⊥
+  -- of two names that are present or belong to the journal, none is a folder of the other
+  pub folders : (p q : List ℕ) → IsFolderOf p q → IsPresentOrOfJournal files p
+      → IsPresentOrOfJournal files q → ⊥
 
 -- nothing is staged yet, and no name becomes a folder of another if the intent and all staged files are
 -- added
 pub record AreStagingPathsFree (files : Files) : Type 0 where
+  -- nothing is staged yet
   pub empty : IsEmptyStage files
   pub beside : AreJournalPathsFree files
 

@@ -4,13 +4,13 @@ use Rattle.std.specs.Prelude.{◌≡◌, ℕ, ◌+◌, List, Option, Some, None,
 use Rattle.journal_intent.specs.Intent.{Intent, stage_name}
 
 -- the tree accepts that each of these names is removed
-abbrev pub AreRemovable : (Option (List ℕ) → List ℕ → Type 0) → List (List ℕ) → Type 0
-AreRemovable accepts names = (i : ℕ) (name : List ℕ) → slice_get names i ≡ Some name
+abbrev pub AreRemovalsAccepted : (Option (List ℕ) → List ℕ → Type 0) → List (List ℕ) → Type 0
+AreRemovalsAccepted accepts names = (i : ℕ) (name : List ℕ) → slice_get names i ≡ Some name
     → accepts None name
 
 -- the tree accepts that each of these names is written, from the file that is staged for it
-abbrev pub AreWritable : (Option (List ℕ) → List ℕ → Type 0) → List (List ℕ) → Type 0
-AreWritable accepts names = (i : ℕ) (name : List ℕ) → slice_get names i ≡ Some name
+abbrev pub AreWritesAccepted : (Option (List ℕ) → List ℕ → Type 0) → List (List ℕ) → Type 0
+AreWritesAccepted accepts names = (i : ℕ) (name : List ℕ) → slice_get names i ≡ Some name
     → accepts (Some (stage_name (i + 1))) name
 
 -- The tree accepts each target of a change. `accepts (Some staged) name` says that the tree accepts
@@ -18,5 +18,5 @@ AreWritable accepts names = (i : ℕ) (name : List ℕ) → slice_get names i �
 -- of `name`.
 pub record AreAccepted (accepts : Option (List ℕ) → List ℕ → Type 0) (intent : Intent) :
     Type 0 where
-  pub removals : AreRemovable accepts intent.removals
-  pub writes : AreWritable accepts intent.writes
+  pub removals : AreRemovalsAccepted accepts intent.removals
+  pub writes : AreWritesAccepted accepts intent.writes

@@ -22,25 +22,33 @@ pub(crate) fn act<T: Tree>(
     acted: usize,
     tree: &mut T,
 ) -> Result<usize, Disk>
+    // If the actions that are counted are done at the start, the state is unchanged at each moment.
     ensures actions { CarriesOutActions (stage_with_actions_done intent.now acted)
         (T.history tree.old) (T.history tree.new) }
+    // Once it has returned Ok, the count of actions done is true of the tree again.
     ensures acting { IfObservable (T.history tree.old) (λ v. (files : Files)
         → IsCarryingOutActions (stage_with_actions_done intent.now acted) files v
         → IfOk result (λ next. HoldsNow (T.history tree.new)
         (IsCarryingOutActions (stage_with_actions_done intent.now next) files))) }
+    // At each moment the intent is unchanged, and each staged file is unchanged or gone.
     ensures waiting { IfObservable (T.history tree.old) (λ v.
         Since (KeepsIntent v) (T.history tree.old) (T.history tree.new)) }
+    // Whatever it returns, only the names of this action have changed.
     ensures others { IfObservable (T.history tree.old) (λ v.
         HoldsNow (T.history tree.new) (KeepsFilesExcept (IsNameOfNextAction intent.now acted) v)) }
+    // If an action was left, it counts as done.
     ensures more { acted < action_count intent.now → IfOk result (λ next. next ≡ acted + 1) }
+    // If no action was left, no call is made.
     ensures none_left { action_count intent.now ≤ acted
         → IfOk result (λ next. next ≡ acted) × (tree.new ≡ tree.old) }
+    // How the tree's counts explain the result.
     ensures counts { IsResultExplainedByCounts (T.counts tree.old) (T.counts tree.new) result }
 
     // If the intent and the staged files have free paths beside the files of the actions done, no
     // call is a misuse.
     ensures proper { IfObservable (T.history tree.old) (λ v. (files : Files)
-        → IsCarryingOutActions (stage_with_actions_done intent.now acted) files v → AreJournalPathsFree files
+        → IsCarryingOutActions (stage_with_actions_done intent.now acted) files v
+        → AreJournalPathsFree files
         → (T.counts tree.new).misuses ≡ (T.counts tree.old).misuses) }
 {
     // A law that the proof needs; it computes nothing.
@@ -61,16 +69,21 @@ pub(crate) fn act<T: Tree>(
 /// `act`, for a removal.
 fn remove_one<T: Tree>(intent: &PreparedIntent, i: usize, tree: &mut T) -> Result<(), Disk>
     requires { i < length intent.now.removals }
+    // If the actions that are counted are done at the start, the state is unchanged at each moment.
     ensures actions { CarriesOutActions (stage_with_actions_done intent.now i)
         (T.history tree.old) (T.history tree.new) }
+    // Once it has returned Ok, the count of actions done is true of the tree again.
     ensures acting { IfObservable (T.history tree.old) (λ v. (files : Files)
         → IsCarryingOutActions (stage_with_actions_done intent.now i) files v
         → OnOk result (HoldsNow (T.history tree.new)
         (IsCarryingOutActions (stage_with_actions_done intent.now (i + 1)) files))) }
+    // At each moment the intent is unchanged, and each staged file is unchanged or gone.
     ensures waiting { IfObservable (T.history tree.old) (λ v.
         Since (KeepsIntent v) (T.history tree.old) (T.history tree.new)) }
+    // Whatever it returns, only the names of this action have changed.
     ensures others { IfObservable (T.history tree.old) (λ v.
         HoldsNow (T.history tree.new) (KeepsFilesExcept (IsNameOfNextAction intent.now i) v)) }
+    // How the tree's counts explain the result.
     ensures counts { IsResultExplainedByCounts (T.counts tree.old) (T.counts tree.new) result }
 
     // No call is a misuse.
@@ -91,22 +104,28 @@ fn move_one<T: Tree>(
 ) -> Result<(), Disk>
     requires within { j < length intent.now.writes }
     requires behind { acted ≡ length intent.now.removals + j }
+    // If the actions that are counted are done at the start, the state is unchanged at each moment.
     ensures actions { CarriesOutActions (stage_with_actions_done intent.now acted)
         (T.history tree.old) (T.history tree.new) }
+    // Once it has returned Ok, the count of actions done is true of the tree again.
     ensures acting { IfObservable (T.history tree.old) (λ v. (files : Files)
         → IsCarryingOutActions (stage_with_actions_done intent.now acted) files v
         → OnOk result (HoldsNow (T.history tree.new)
         (IsCarryingOutActions (stage_with_actions_done intent.now (acted + 1)) files))) }
+    // At each moment the intent is unchanged, and each staged file is unchanged or gone.
     ensures waiting { IfObservable (T.history tree.old) (λ v.
         Since (KeepsIntent v) (T.history tree.old) (T.history tree.new)) }
+    // Whatever it returns, only the names of this action have changed.
     ensures others { IfObservable (T.history tree.old) (λ v.
         HoldsNow (T.history tree.new) (KeepsFilesExcept (IsNameOfNextAction intent.now acted) v)) }
+    // How the tree's counts explain the result.
     ensures counts { IsResultExplainedByCounts (T.counts tree.old) (T.counts tree.new) result }
 
     // If the intent and the staged files have free paths beside the files of the actions done, no
     // call is a misuse.
     ensures proper { IfObservable (T.history tree.old) (λ v. (files : Files)
-        → IsCarryingOutActions (stage_with_actions_done intent.now acted) files v → AreJournalPathsFree files
+        → IsCarryingOutActions (stage_with_actions_done intent.now acted) files v
+        → AreJournalPathsFree files
         → (T.counts tree.new).misuses ≡ (T.counts tree.old).misuses) }
 {
     intent.names_are_free();
@@ -115,8 +134,10 @@ fn move_one<T: Tree>(
 
 /// Moves the staged file at a place to its name; if it is absent, it was moved before.
 fn move_waiting<T: Tree>(tree: &mut T, place: &Name, name: &Name) -> Result<(), Disk>
+    // How the tree changes: the file is moved, or nothing happens.
     ensures moves { MovesIfPresent place.now name.now (T.history tree.old) (T.history tree.new)
         result }
+    // How the tree's counts explain the result.
     ensures counts { IsResultExplainedByCounts (T.counts tree.old) (T.counts tree.new) result }
 
     // If the file may be moved, no call is a misuse.

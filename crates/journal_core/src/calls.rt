@@ -9,8 +9,10 @@ use base_core::{Disk, Name, Tree};
 
 /// Removes the name; an absent one is no fault.
 pub fn remove<T: Tree>(tree: &mut T, name: &Name) -> Result<(), Disk>
+    // Which state is added to the history: on success, and on an error.
     ensures moves { ChangesHistory IsAlwaysAllowed (after_remove name.now) (after_remove name.now)
         (T.history tree.old) (T.history tree.new) result }
+    // How the counts change, and which states allow the call.
     ensures counts { IsCounted IsAlwaysAllowed (T.history tree.old) (T.counts tree.old)
         (T.counts tree.new) result }
 {
@@ -19,9 +21,11 @@ pub fn remove<T: Tree>(tree: &mut T, name: &Name) -> Result<(), Disk>
 
 /// Makes an empty file under a name that is absent.
 pub fn create<T: Tree>(tree: &mut T, name: &Name) -> Result<(), Disk>
+    // Which state is added to the history: on success, and on an error.
     ensures moves { ChangesHistory (CanCreate name.now) (after_create name.now) (after_create
         name.now)
         (T.history tree.old) (T.history tree.new) result }
+    // How the counts change, and which states allow the call.
     ensures counts { IsCounted (CanCreate name.now) (T.history tree.old) (T.counts tree.old)
         (T.counts tree.new) result }
 {
@@ -30,9 +34,11 @@ pub fn create<T: Tree>(tree: &mut T, name: &Name) -> Result<(), Disk>
 
 /// Adds the bytes at the end of the file of the name.
 pub fn append<T: Tree>(tree: &mut T, name: &Name, bytes: &[u8]) -> Result<(), Disk>
+    // Which state is added to the history: on success, and on an error.
     ensures moves { ChangesHistory (HasName name.now) (after_append name.now bytes.now)
         (after_failed_append name.now)
         (T.history tree.old) (T.history tree.new) result }
+    // How the counts change, and which states allow the call.
     ensures counts { IsCounted (HasName name.now) (T.history tree.old)
         (T.counts tree.old) (T.counts tree.new) result }
 {
@@ -41,8 +47,11 @@ pub fn append<T: Tree>(tree: &mut T, name: &Name, bytes: &[u8]) -> Result<(), Di
 
 /// Makes the bytes of the file durable: a crash keeps them.
 pub fn sync_file<T: Tree>(tree: &mut T, name: &Name) -> Result<(), Disk>
-    ensures moves { ChangesHistory (HasName name.now) (after_sync name.now) unchanged_after_failed_call
+    // Which state is added to the history: on success, and on an error.
+    ensures moves { ChangesHistory (HasName name.now)
+        (after_sync name.now) unchanged_after_failed_call
         (T.history tree.old) (T.history tree.new) result }
+    // How the counts change, and which states allow the call.
     ensures counts { IsCounted (HasName name.now) (T.history tree.old)
         (T.counts tree.old) (T.counts tree.new) result }
 {
@@ -51,8 +60,10 @@ pub fn sync_file<T: Tree>(tree: &mut T, name: &Name) -> Result<(), Disk>
 
 /// Moves the file of `from` to `to`.
 pub fn rename<T: Tree>(tree: &mut T, from: &Name, to: &Name) -> Result<(), Disk>
+    // Which state is added to the history: on success, and on an error.
     ensures moves { ChangesHistory (CanRename from.now to.now) (after_rename from.now to.now)
         (after_rename from.now to.now) (T.history tree.old) (T.history tree.new) result }
+    // How the counts change, and which states allow the call.
     ensures counts { IsCounted (CanRename from.now to.now) (T.history tree.old)
         (T.counts tree.old) (T.counts tree.new) result }
 {
@@ -61,8 +72,10 @@ pub fn rename<T: Tree>(tree: &mut T, from: &Name, to: &Name) -> Result<(), Disk>
 
 /// Makes all names durable: no crash undoes a change of them.
 pub fn sync_all_names<T: Tree>(tree: &mut T) -> Result<(), Disk>
+    // Which state is added to the history: on success, and on an error.
     ensures moves { ChangesHistory IsAlwaysAllowed after_sync_names unchanged_after_failed_call
         (T.history tree.old) (T.history tree.new) result }
+    // How the counts change, and which states allow the call.
     ensures counts { IsCounted IsAlwaysAllowed (T.history tree.old) (T.counts tree.old)
         (T.counts tree.new) result }
 {

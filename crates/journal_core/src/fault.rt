@@ -22,7 +22,7 @@ pub enum RecoverFault {
 impl From<Disk> for RecoverFault {
     ghost from_gives = { λ _ fault. fault ≡ DiskFault };
 
-    /// A failed call of the tree as such a fault.
+    /// A failed call of the tree as the reason why a root is not recovered.
     fn from(_: Disk) -> RecoverFault {
         RecoverFault::Disk
     }
@@ -31,7 +31,7 @@ impl From<Disk> for RecoverFault {
 impl From<AllocError> for RecoverFault {
     ghost from_gives = { λ _ fault. fault ≡ MemoryFault };
 
-    /// Out of memory as such a fault.
+    /// Out of memory as the reason why a root is not recovered.
     fn from(_: AllocError) -> RecoverFault {
         RecoverFault::Memory
     }
@@ -42,7 +42,8 @@ impl From<ReadFault> for RecoverFault {
 
     ghost from_gives = { λ given fault. fault ≡ recover_fault_of given };
 
-    /// A failed read of the intent as such a fault: it is corrupt, or out of memory.
+    /// A failed read of the intent as the reason why a root is not recovered: the intent is
+    /// corrupt, or the program is out of memory.
     fn from(fault: ReadFault) -> RecoverFault {
         match fault {
             ReadFault::Bad(cause) => RecoverFault::IntentBad(cause),
@@ -56,7 +57,7 @@ impl From<TreeFault> for RecoverFault {
 
     ghost from_gives = { λ given fault. fault ≡ recover_fault_of_tree given };
 
-    /// A failed listing as such a fault: an I/O error, or out of memory.
+    /// A failed listing as the reason why a root is not recovered: an I/O error, or out of memory.
     fn from(fault: TreeFault) -> RecoverFault {
         match fault {
             TreeFault::Disk => RecoverFault::Disk,

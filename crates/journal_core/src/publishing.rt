@@ -24,12 +24,16 @@ use journal_intent::PreparedIntent;
 /// change: from the moment at which the intent is read, a recovery does its actions. The clauses
 /// are those of `Stage::publish`, for a stage all of whose files are staged.
 pub(crate) fn publish_intent<T: Tree>(tree: &mut T, intent: &PreparedIntent) -> Result<(), Disk>
+    // What holds at each moment of the commit, and after it.
     ensures publishing { PublishesIntent (fully_staged_stage intent.now)
         (T.history tree.old) (T.history tree.new) result }
+    // Once it has returned Ok, the intent is committed, and none of its actions is done.
     ensures acting { IfObservable (T.history tree.old) (λ v. (contents : List (List ℕ))
         (base : Files) → IsStaged (fully_staged_stage intent.now) contents None base v
         → OnOk result (HoldsNow (T.history tree.new)
-        (IsCarryingOutActions (stage_with_actions_done intent.now 0) (files_after_actions intent.now (files_of v))))) }
+        (IsCarryingOutActions (stage_with_actions_done intent.now 0)
+        (files_after_actions intent.now (files_of v))))) }
+    // How the tree's counts explain the result.
     ensures counts { IsResultExplainedByCounts (T.counts tree.old) (T.counts tree.new) result }
 
     // If the paths of the stage are free, no call is a misuse.
@@ -50,17 +54,25 @@ fn write_waiting<T: Tree>(tree: &mut T, place: &Name, bytes: &[u8]) -> Result<()
     ensures moments { IfObservable (T.history tree.old) (λ v. (ignored : List ℕ → Bool)
         → IsDurable (StateDependsOn ignored) v → files_of v intent_name ≡ None
         → Since (StateIsUnchanged ignored v) (T.history tree.old) (T.history tree.new)) }
+    // If no intent was read: once it has returned Ok, only the synced file with these bytes is
+    // added.
     ensures written { IfObservable (T.history tree.old) (λ v. files_of v intent_name ≡ None
         → OnOk result (HoldsNow (T.history tree.new)
         (HasOnlyAddedFile place.now (synced_file bytes.now) v))) }
+    // If no intent was read at the start, none is read at any moment.
     ensures unread { IfObservable (T.history tree.old) (λ v. v.names intent_name ≡ None
         → Since (λ w. w.names intent_name ≡ None) (T.history tree.old) (T.history tree.new)) }
+    // At each moment every other name has the same bytes as read.
     ensures others { IfObservable (T.history tree.old) (λ v.
         Since (KeepsFilesExcept (λ q. q ≡ place.now) v) (T.history tree.old) (T.history tree.new)) }
+    // At each moment a crash leaves every other name as it might have left it before.
     ensures maps { IfObservable (T.history tree.old) (λ v.
-        Since (KeepsCrashMapsExcept (stage_name 0 ∷ []) v) (T.history tree.old) (T.history tree.new)) }
+        Since (KeepsCrashMapsExcept (stage_name 0 ∷ []) v) (T.history tree.old)
+        (T.history tree.new)) }
+    // Ok is returned only if no file was there.
     ensures absent { OnOk result
         (IfObservable (T.history tree.old) (λ v. v.names place.now ≡ None)) }
+    // How the tree's counts explain the result.
     ensures counts { IsResultExplainedByCounts (T.counts tree.old) (T.counts tree.new) result }
 
     // If the file may be made, no call is a misuse.
@@ -83,19 +95,28 @@ fn enter<T: Tree>(tree: &mut T, place: &Name, name: &Name) -> Result<(), Disk>
         → IsReadyToPublish intent base made v
         → Since (IsCommitting ignored (files_after_actions intent base) made v) (T.history tree.old)
         (T.history tree.new)) }
+    // From a durable tree: once it has returned Ok, no crash undoes the commit.
     ensures entered { IfObservable (T.history tree.old) (λ v. (ignored : List ℕ → Bool)
         (intent : Intent) (base : Files) (made : ℕ) → IsDurable (StateDependsOn ignored) v
         → IsReadyToPublish intent base made v → OnOk result (HoldsNow (T.history tree.new)
         (HasCommittedIntent ignored (files_after_actions intent base) made))) }
+    // Once it has returned Ok, the intent is committed, and none of its actions is done.
     ensures acting { IfObservable (T.history tree.old) (λ v. (intent : Intent) (base : Files)
-        (made : ℕ) → IsReadyToPublish intent base made v → OnOk result (HoldsNow (T.history tree.new)
-        (IsCarryingOutActions (stage_with_actions_done intent 0) (files_after_actions intent base)))) }
+        (made : ℕ) → IsReadyToPublish intent base made v
+        → OnOk result (HoldsNow (T.history tree.new)
+        (IsCarryingOutActions (stage_with_actions_done intent 0)
+        (files_after_actions intent base)))) }
+    // Only the intent's name and that of the staged file 0 have changed.
     ensures names { ChangesOnlyIntentNames (T.history tree.old) (T.history tree.new) }
+    // As soon as the intent is read, recovery yields the files of the actions done.
     ensures reads { IfObservable (T.history tree.old) (λ v. (intent : Intent) (base : Files)
         (made : ℕ) → IsReadyToPublish intent base made v → Since (λ w. IsSome (w.names intent_name)
-        → RecoversTo (files_after_actions intent base) w) (T.history tree.old) (T.history tree.new)) }
+        → RecoversTo (files_after_actions intent base) w) (T.history tree.old)
+        (T.history tree.new)) }
+    // Once it has returned Ok, the staged file 0 is gone.
     ensures moved { OnOk result
         (IfObservable (T.history tree.new) (λ w. w.names (stage_name 0) ≡ None)) }
+    // How the tree's counts explain the result.
     ensures counts { IsResultExplainedByCounts (T.counts tree.old) (T.counts tree.new) result }
 
     // If the file may be moved, no call is a misuse.

@@ -1,7 +1,7 @@
 //! A stage: new files wait in the staging area until one step commits all of them.
 //! The rules are in `docs/crash-safety.md`, "A change of several files".
 ghost use Rattle.std.specs.Prelude.{◌≡◌, ◌≤◌, ◌<◌, ◌+◌, ◌++◌, ◌∷◌, [], ◌^◌, ℕ, Bool, true, false, List, Some, None, length, IfOk, OnOk, OnErr, IsErrOf, IsSome, nat_lt};
-ghost use Rattle.journal_intent.specs.adb_schema.Soundness.{first_fault};
+ghost use Rattle.journal_intent.specs.adb_schema.Soundness.{container_fault_except_contents};
 ghost use Rattle.adb_view.specs.declared.tables.Which.TheVariants.{Intent as IntentTable};
 ghost use Rattle.journal_intent.specs.adb_write.Canonical.{overflow_of};
 ghost use Rattle.base_core.specs.Calls.{HoldsNow, IfObservable};
@@ -77,9 +77,11 @@ impl Stage {
     pub fn begin(alloc: Global, removals: &Names, writes: &Names) -> Result<Stage, WriteFault>
         requires { AreChangeNames (removals.now ++ writes.now) }
         ensures view { IfOk result (λ stage. stage ≡ new_stage removals.now writes.now) }
+        // The error for a payload that is too large has the counts at which a limit is exceeded.
         ensures large { (bytes values : ℕ) → IsErrOf result (WriteFault.TooLarge bytes values)
             → overflow_of (value_of_intent (intent_of_lists removals.now writes.now))
             ≡ Some (bytes, values) }
+        // Ok is returned only if the payload exceeds no limit.
         ensures fits { OnOk result
             (overflow_of (value_of_intent (intent_of_lists removals.now writes.now)) ≡ None) }
     {
@@ -98,9 +100,11 @@ impl Stage {
     pub fn of_names(alloc: Global, removals: Names, writes: Names) -> Result<Stage, WriteFault>
         requires { AreChangeNames (removals ++ writes) }
         ensures view { IfOk result (λ stage. stage ≡ new_stage removals writes) }
+        // The error for a payload that is too large has the counts at which a limit is exceeded.
         ensures large { (bytes values : ℕ) → IsErrOf result (WriteFault.TooLarge bytes values)
             → overflow_of (value_of_intent (intent_of_lists removals writes))
             ≡ Some (bytes, values) }
+        // Ok is returned only if the payload exceeds no limit.
         ensures fits { OnOk result
             (overflow_of (value_of_intent (intent_of_lists removals writes)) ≡ None) }
     {
@@ -121,8 +125,8 @@ impl Stage {
         ensures published { IfOk result (λ stage. stage.published ≡ true) }
         ensures none { IfOk result (λ stage. stage.acted ≡ 0) }
         ensures bad { (cause : Cause) → IsErrOf result (RecoverFault.IntentBad cause)
-            → first_fault IntentTable file.items ≡ Some cause }
-        ensures good { OnOk result (first_fault IntentTable file.items ≡ None) }
+            → container_fault_except_contents IntentTable file.items ≡ Some cause }
+        ensures good { OnOk result (container_fault_except_contents IntentTable file.items ≡ None) }
         ensures only { IsErrOf result RecoverFault.Disk → ⊥ }
     {
         let intent = PreparedIntent::of_file(alloc, file)?;
@@ -136,7 +140,7 @@ impl Stage {
         })
     }
 
-    /// Whether an action is left.
+    /// Whether an action is not done yet.
     pub(crate) fn has_more(&self) -> bool
         ensures { result ≡ nat_lt self.now.acted (action_count self.now.intent) }
     {
@@ -185,10 +189,13 @@ impl Stage {
             (base : Files) → IsStaged self.now contents None base v
             → OnOk result (HoldsNow (T.history tree.new)
             (λ w. IsStaged self.now contents None base w × IsRestoredByNoCrash intent_name w))) }
+        // At each moment the files as read are unchanged.
         ensures reads { IfObservable (T.history tree.old) (λ v.
             Since (λ w. files_of w ≡ files_of v) (T.history tree.old) (T.history tree.new)) }
+        // A crash leaves each name that is not listed here as it might have left it before.
         ensures maps { IfObservable (T.history tree.old) (λ v.
             Since (KeepsCrashMapsExcept [] v) (T.history tree.old) (T.history tree.new)) }
+        // How the tree's counts explain the result.
         ensures counts { IsResultExplainedByCounts (T.counts tree.old) (T.counts tree.new) result }
 
         // No call is a misuse.
@@ -222,11 +229,15 @@ impl Stage {
         ensures others { IfObservable (T.history tree.old) (λ v.
             Since (KeepsFilesExcept (λ q. q ≡ stage_name (self.old.staged + 1)) v)
             (T.history tree.old) (T.history tree.new)) }
+        // A crash leaves each name that is not listed here as it might have left it before.
         ensures maps { IfObservable (T.history tree.old) (λ v.
             Since (KeepsCrashMapsExcept (stage_name (self.old.staged + 1) ∷ []) v)
             (T.history tree.old) (T.history tree.new)) }
+        // How the stage changes on Ok.
         ensures view { OnOk result (self.new ≡ record self.old { is_open = true }) }
+        // An error leaves the stage as it was.
         ensures err { OnErr result (self.new ≡ self.old) }
+        // How the tree's counts explain the result.
         ensures counts { IsResultExplainedByCounts (T.counts tree.old) (T.counts tree.new) result }
 
         // If the paths of the stage are free, no call is a misuse.
@@ -261,10 +272,14 @@ impl Stage {
             IsOnlyNameOfFile (stage_name (self.old.staged + 1)) v
             → Since (KeepsFilesExcept (λ q. q ≡ stage_name (self.old.staged + 1)) v)
             (T.history tree.old) (T.history tree.new)) }
+        // A crash leaves each name that is not listed here as it might have left it before.
         ensures maps { IfObservable (T.history tree.old) (λ v.
             Since (KeepsCrashMapsExcept [] v) (T.history tree.old) (T.history tree.new)) }
+        // How the stage changes on Ok.
         ensures view { OnOk result (self.new ≡ self.old) }
+        // An error leaves the stage as it was.
         ensures err { OnErr result (self.new ≡ self.old) }
+        // How the tree's counts explain the result.
         ensures counts { IsResultExplainedByCounts (T.counts tree.old) (T.counts tree.new) result }
 
         // No call is a misuse.
@@ -294,11 +309,15 @@ impl Stage {
         // changes.
         ensures others { IfObservable (T.history tree.old) (λ v.
             Since (λ w. files_of w ≡ files_of v) (T.history tree.old) (T.history tree.new)) }
+        // A crash leaves each name that is not listed here as it might have left it before.
         ensures maps { IfObservable (T.history tree.old) (λ v.
             Since (KeepsCrashMapsExcept [] v) (T.history tree.old) (T.history tree.new)) }
+        // How the stage changes on Ok.
         ensures view { OnOk result
             (self.new ≡ record self.old { staged = self.old.staged + 1; is_open = false }) }
+        // An error leaves the stage as it was.
         ensures err { OnErr result (self.new ≡ self.old) }
+        // How the tree's counts explain the result.
         ensures counts { IsResultExplainedByCounts (T.counts tree.old) (T.counts tree.new) result }
 
         // No call is a misuse.
@@ -320,13 +339,17 @@ impl Stage {
 
         // At each moment a crash leaves an old state or the one with all actions done; once it has
         // returned Ok, it leaves the latter.
-        ensures publishing { PublishesIntent self.old (T.history tree.old) (T.history tree.new) result }
+        ensures publishing { PublishesIntent self.old (T.history tree.old)
+            (T.history tree.new) result }
         ensures acting { IfObservable (T.history tree.old) (λ v. (contents : List (List ℕ))
             (base : Files) → IsStaged self.old contents None base v
             → OnOk result (HoldsNow (T.history tree.new)
             (IsCarryingOutActions self.new (files_after_actions self.old.intent (files_of v))))) }
+        // How the stage changes on Ok.
         ensures view { OnOk result (self.new ≡ record self.old { published = true; acted = 0 }) }
+        // An error leaves the stage as it was.
         ensures err { OnErr result (self.new ≡ self.old) }
+        // How the tree's counts explain the result.
         ensures counts { IsResultExplainedByCounts (T.counts tree.old) (T.counts tree.new) result }
 
         // If the paths of the stage are free, no call is a misuse.
@@ -367,7 +390,9 @@ impl Stage {
             → OnOk result (self.new ≡ record self.old { acted = self.old.acted + 1 }) }
         ensures none_left { action_count self.old.intent ≤ self.old.acted
             → OnOk result (self.new ≡ self.old) × (tree.new ≡ tree.old) }
+        // An error leaves the stage as it was.
         ensures err { OnErr result (self.new ≡ self.old) }
+        // How the tree's counts explain the result.
         ensures counts { IsResultExplainedByCounts (T.counts tree.old) (T.counts tree.new) result }
 
         // If the intent and the staged files have free paths beside the files of the actions done,
@@ -391,11 +416,15 @@ impl Stage {
         // returned Ok, each crash leaves the state of the actions done, the files as read are
         // these, and no intent is read.
         ensures moments { IfObservable (T.history tree.old) (λ v. (ignored : List ℕ → Bool)
-            (files : Files) → IsDurable (StateDependsOn ignored) v → IsCarryingOutActions self.old files v
+            (files : Files) → IsDurable (StateDependsOn ignored) v
+            → IsCarryingOutActions self.old files v
             → Since (StateIsUnchanged ignored v) (T.history tree.old) (T.history tree.new)) }
+        // Once it has returned Ok, each crash leaves the state of the actions done.
         ensures settled { IfObservable (T.history tree.old) (λ v. (ignored : List ℕ → Bool)
-            (files : Files) → IsDurable (StateDependsOn ignored) v → IsCarryingOutActions self.old files v
+            (files : Files) → IsDurable (StateDependsOn ignored) v
+            → IsCarryingOutActions self.old files v
             → OnOk result (HoldsNow (T.history tree.new) (EachCrashLeaves ignored files))) }
+        // Once it has returned Ok, the files as read have all actions done, and no intent is read.
         ensures files { IfObservable (T.history tree.old) (λ v. (files : Files)
             → IsCarryingOutActions self.old files v → OnOk result (HoldsNow (T.history tree.new)
             (λ w. (files_of w ≡ files) × (w.names intent_name ≡ None)))) }
@@ -411,7 +440,9 @@ impl Stage {
         ensures last { IfObservable (T.history tree.old) (λ v. IsSome (v.names intent_name)
             → Since (λ w. w.names intent_name ≡ None → NamesAreDurableExcept (intent_name ∷ []) w)
             (T.history tree.old) (T.history tree.new)) }
-        ensures gone { OnOk result (IfObservable (T.history tree.new) (IsRestoredByNoCrash intent_name)) }
+        // Once it has returned Ok, no crash restores the intent.
+        ensures gone { OnOk result (IfObservable (T.history tree.new)
+            (IsRestoredByNoCrash intent_name)) }
 
         // At each moment the intent and the staged files are unchanged or gone, and no other name
         // has changed; the stage is unchanged, whatever it returns.
@@ -423,6 +454,7 @@ impl Stage {
             Since (KeepsFilesExcept (λ q. q ≡ intent_name) v)
             (T.history tree.old) (T.history tree.new)) }
         ensures view { self.new ≡ self.old }
+        // How the tree's counts explain the result.
         ensures counts { IsResultExplainedByCounts (T.counts tree.old) (T.counts tree.new) result }
 
         // No call is a misuse.
@@ -440,14 +472,18 @@ impl Stage {
 pub fn apply_all<T: Tree>(stage: &mut Stage, tree: &mut T) -> Result<(), Disk>
     requires published { stage.old.published ≡ true }
     requires within { stage.old.acted ≤ action_count stage.old.intent }
+    // If the actions that are counted are done at the start, the state is unchanged at each moment.
     ensures actions { CarriesOutActions stage.old (T.history tree.old) (T.history tree.new) }
     ensures acting { IfObservable (T.history tree.old) (λ v. (files : Files)
         → IsCarryingOutActions stage.old files v
         → OnOk result (HoldsNow (T.history tree.new) (IsCarryingOutActions stage.new files))) }
+    // At each moment the intent is unchanged, and each staged file is unchanged or gone.
     ensures waiting { IfObservable (T.history tree.old) (λ v.
         Since (KeepsIntent v) (T.history tree.old) (T.history tree.new)) }
+    // Once it has returned Ok, all actions are done.
     ensures all { OnOk result (stage.new.acted ≡ action_count stage.new.intent) }
     ensures published { OnOk result (stage.new.published ≡ true) }
+    // How the tree's counts explain the result.
     ensures counts { IsResultExplainedByCounts (T.counts tree.old) (T.counts tree.new) result }
 
     // If the intent and the staged files have free paths beside the files of the actions done, no

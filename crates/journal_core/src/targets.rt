@@ -4,7 +4,7 @@
 ghost use Rattle.std.specs.Option.{option_copied};
 ghost use Rattle.std.specs.Prelude.{OnOk};
 ghost use Rattle.base_core.specs.Read.{OnlyReads};
-ghost use Rattle.journal_core.specs.Targets.{AreAccepted, AreRemovable, AreWritable};
+ghost use Rattle.journal_core.specs.Targets.{AreAccepted, AreRemovalsAccepted, AreWritesAccepted};
 
 use crate::stage::Stage;
 use base_core::{Disk, Name, Tree, consecutive_reads_compose};
@@ -28,7 +28,7 @@ pub fn check_target<T: Tree>(tree: &mut T, name: &Name, source: Option<&Name>) -
 fn check_removals<T: Tree>(stage: &Stage, tree: &mut T) -> Result<(), Disk>
     ensures tree { OnlyReads (record {}) (T.history tree.old) (T.history tree.new)
         (T.counts tree.old) (T.counts tree.new) result }
-    ensures accepted { OnOk result (AreRemovable T.accepts stage.now.intent.removals) }
+    ensures accepted { OnOk result (AreRemovalsAccepted T.accepts stage.now.intent.removals) }
 {
     // A law that the proof needs; it computes nothing.
     consecutive_reads_compose::<u8, (), Disk>();
@@ -42,7 +42,7 @@ fn check_removals<T: Tree>(stage: &Stage, tree: &mut T) -> Result<(), Disk>
 fn check_writes<T: Tree>(stage: &Stage, tree: &mut T) -> Result<(), Disk>
     ensures tree { OnlyReads (record {}) (T.history tree.old) (T.history tree.new)
         (T.counts tree.old) (T.counts tree.new) result }
-    ensures accepted { OnOk result (AreWritable T.accepts stage.now.intent.writes) }
+    ensures accepted { OnOk result (AreWritesAccepted T.accepts stage.now.intent.writes) }
 {
     // Laws that the proof needs; they compute nothing.
     consecutive_reads_compose::<u8, (), Disk>();

@@ -5,7 +5,7 @@ use Rattle.std.specs.Str.{bytes_eq, is_utf8}
 use Rattle.std.specs.List.{slice_split, list_all, list_any, onto_first}
 use Rattle.std.proofs.lemmas.Bool.{lt-ltb, le-leb, ne_eqb, and_from}
 use Rattle.std.proofs.lemmas.Str.{IsUtf8-from_ascii, is_utf8-from_IsUtf8}
-use Rattle.base_core.specs.Name.{is_name, is_part, parts_of}
+use Rattle.base_core.specs.Name.{is_name, is_path_part, path_parts_of}
 use Rattle.base_core.proofs.AtName.{other_name}
 use Rattle.base_core.proofs.NameParts.{all_off, ascii_by}
 use Rattle.journal_intent.specs.Intent.{stage_name}
@@ -89,14 +89,14 @@ off_dot : (ds rest : List ℕ) → AreDigits ds → ds ≢ 46 ∷ rest
 off_dot [] rest are e = cc
 off_dot (d ∷ ds) rest are e = let same : d ≡ 46 = cc in let low = are.0.0 in absurd (omega (arith, low, same))
 
-digits_part : (ds : List ℕ) → AreDigits ds → 1 ≤ length ds → is_part ds ≡ true
+digits_part : (ds : List ℕ) → AreDigits ds → 1 ≤ length ds → is_path_part ds ≡ true
 digits_part ds are some = all_off (eqb (length ds) 0) (bytes_eq ds (codes ".")) (bytes_eq ds (codes ".."))
     (ne_eqb (length ds) 0 (λ e. omega (arith, some, e)))
     (other_name ds (codes ".") (off_dot ds [] are))
     (other_name ds (codes "..") (off_dot ds (46 ∷ []) are))
 
-parts_good : (ds : List ℕ) → AreDigits ds → 1 ≤ length ds → list_all is_part (slice_split (λ b. eqb b 47) ds) ≡ true
-parts_good ds are some = ap (list_all is_part) (one_part ds are) ∙ ap (λ b. b && true) (digits_part ds are some)
+parts_good : (ds : List ℕ) → AreDigits ds → 1 ≤ length ds → list_all is_path_part (slice_split (λ b. eqb b 47) ds) ≡ true
+parts_good ds are some = ap (list_all is_path_part) (one_part ds are) ∙ ap (λ b. b && true) (digits_part ds are some)
 
 pub stage_is_name : (k : ℕ) → is_name (stage_name k) ≡ true
 unfolding is_name
@@ -104,7 +104,7 @@ stage_is_name k =
     let are = decimal-digits k in
     let some = decimal-some k in
     let few = decimal-few k in
-    and_from _ (list_all is_part (parts_of (stage_name k)))
+    and_from _ (list_all is_path_part (path_parts_of (stage_name k)))
     (and_from _ (is_utf8 (stage_name k))
     (and_from _ (not (list_any (λ b. eqb b 0) (stage_name k)))
     (and_from (nat_lt 0 (length (stage_name k))) (nat_le (length (stage_name k)) 1024) (lt-ltb _ _ (omega (arith))) (le-leb _ _ (omega (arith, few))))

@@ -10,11 +10,11 @@ use Rattle.base_core.proofs.AtName.{other_name, name_cases}
 use Rattle.adb_sound.specs.adb_fields.FirstPair.{IsIn}
 use Rattle.adb_sound.specs.adb_fields.Once.{AreDistinctNames}
 use Rattle.adb_sound.specs.adb_fields.Repeated.{entries_at, list_of}
-use Rattle.adb_sound.specs.adb_schema.Rules.{is_changeable_name}
+use Rattle.adb_sound.specs.adb_schema.Rules.{is_name_allowed_in_intent}
 use Rattle.adb_sound.specs.adb_schema.Reserved.{is_at_or_below, is_intent_or_stage_name}
-use Rattle.adb_sound.specs.adb_schema.SoundValues.{IsChangeableName}
+use Rattle.adb_sound.specs.adb_schema.SoundValues.{IsNameAllowedInIntent}
 use Rattle.adb_sound.specs.adb_schema.SoundContainers.{IsSoundContainer, IsSoundValue}
-use Rattle.adb_sound.specs.adb_schema.Soundness.{first_fault, payload_in, root_value}
+use Rattle.adb_sound.specs.adb_schema.Soundness.{container_fault_except_contents, payload_in, root_value}
 use Rattle.adb_view.specs.Values.{entries_in, entry_in, text_in}
 use Rattle.adb_view.specs.declared.tables.Which.{Which}
 use Rattle.adb_view.specs.declared.tables.Which.TheVariants as Tables
@@ -43,7 +43,7 @@ not_staged name h = or_false (is_at_or_below intent_name name) (bytes_eq name st
 
 -- ---- a name that a change may have is free
 
-free_of : (name : List ℕ) → is_changeable_name name ≡ true → IsFreeName name
+free_of : (name : List ℕ) → is_name_allowed_in_intent name ≡ true → IsFreeName name
 free_of name change =
     let parts = and_parts (is_name name) (not (is_intent_or_stage_name name)) change in
     let open_name = not-true (is_intent_or_stage_name name) parts.1 in
@@ -53,7 +53,7 @@ free_of name change =
       no_place = λ k is. true_false (sym (place_is_stage k) ∙ sym (ap is_intent_or_stage_name is) ∙ open_name);
     }
 
-frees : (vs : Plains) → Each IsChangeableName vs → AreFreeNames (map text_in (list_of vs))
+frees : (vs : Plains) → Each IsNameAllowedInIntent vs → AreFreeNames (map text_in (list_of vs))
 frees none all = tt
 frees (more v vs) all = (free_of (text_in v) all.0, frees vs all.1)
 
@@ -86,9 +86,9 @@ apart_left (r ∷ rs) ws name once at =
 
 -- ---- those of a change that is to be made
 
-frees_all : (names : List (List ℕ)) → All (λ name. is_changeable_name name ≡ true) names → AreFreeNames names
+frees_all : (names : List (List ℕ)) → All (λ name. is_name_allowed_in_intent name ≡ true) names → AreFreeNames names
 frees_all [] all = tt
-frees_all (n ∷ ns) all = (free_of n (All-head (λ name. is_changeable_name name ≡ true) n ns all), frees_all ns (All-tail (λ name. is_changeable_name name ≡ true) n ns all))
+frees_all (n ∷ ns) all = (free_of n (All-head (λ name. is_name_allowed_in_intent name ≡ true) n ns all), frees_all ns (All-tail (λ name. is_name_allowed_in_intent name ≡ true) n ns all))
 
 frees_left : (xs ys : List (List ℕ)) → AreFreeNames (xs ++ ys) → AreFreeNames xs
 frees_left [] ys free = tt
@@ -131,15 +131,15 @@ free_by (Some c) v intent sound is = absurd (cc)
 
 pub free_intent : SoundValues → (file : List ℕ) (intent : Intent) → read_intent file ≡ Some intent → HasFreeDistinctNames intent
 unfolding read_intent
-free_intent values file intent is = free_by (first_fault Tables.Intent file) (root_value Tables.Intent (payload_in file)) intent (values Tables.Intent file) is
+free_intent values file intent is = free_by (container_fault_except_contents Tables.Intent file) (root_value Tables.Intent (payload_in file)) intent (values Tables.Intent file) is
 
 -- ---- as it is read
 
-all_named : (vs : Plains) → Each IsChangeableName vs → AllAreNames vs
+all_named : (vs : Plains) → Each IsNameAllowedInIntent vs → AllAreNames vs
 all_named none all = tt
 all_named (more v vs) all = ((and_parts (is_name (text_in v)) (not (is_intent_or_stage_name (text_in v))) all.0).0, all_named vs all.1)
 
-module _ (values : SoundValues) (file : List ℕ) (sound : first_fault Tables.Intent file ≡ None) where
+module _ (values : SoundValues) (file : List ℕ) (sound : container_fault_except_contents Tables.Intent file ≡ None) where
   abbrev held : Plain
   held = root_value Tables.Intent (payload_in file)
 
@@ -149,7 +149,7 @@ module _ (values : SoundValues) (file : List ℕ) (sound : first_fault Tables.In
   pub writes_named : (list v : Plain) → list ≡ entry_in v 1 → v ≡ held → AllAreNames (entries_in list)
   writes_named list v is same = subst (λ (u : Plain). AllAreNames (entries_in u)) (sym (is ∙ ap (λ u. entry_in u 1) same)) (all_named (entries_in (entry_in held 1)) (values Tables.Intent file sound).rules.writes)
 
-module _ (file : List ℕ) (sound : first_fault Tables.Intent file ≡ None) where
+module _ (file : List ℕ) (sound : container_fault_except_contents Tables.Intent file ≡ None) where
   pub lists_spelled : (removals writes : List (List ℕ)) (a b v : Plain) → removals ≡ map text_in (list_of (entries_in a)) → writes ≡ map text_in (list_of (entries_in b)) → a ≡ entry_in v 0 → b ≡ entry_in v 1 → v ≡ root_value Tables.Intent (payload_in file)
       → read_intent file ≡ Some (record { removals = removals; writes = writes })
   lists_spelled removals writes a b v r w ra wb same =

@@ -1,6 +1,6 @@
 -- The payload of an intent is the canonical one, or it overflows.
 use Rattle.std.proofs.Common.{◌≡◌, ℕ, List, Option, Some, None, Result, Ok, Err, refl, sym, ap, subst, ◌∙◌}
-use Rattle.adb_view.specs.Plain.{Plain, none, more, arr_value, obj_value, text_plains}
+use Rattle.adb_view.specs.Plain.{Plain, none, more, array_or_null, trimmed_object_or_null, plains_of_texts}
 use Rattle.adb_values.specs.Drafts.{DraftState, empty_draft, draft_with_open_list, draft_with}
 use Rattle.adb_values.specs.Written.{IsWrittenAs}
 use Rattle.adb_values.proofs.Lists.{Closes}
@@ -11,11 +11,11 @@ use Rattle.journal_intent.specs.Intent.{Intent}
 use Rattle.journal_intent.specs.IntentValue.{value_of_intent}
 
 -- two arrays in an object are the intent's value
-pub intent_given : (intent : Intent) (a b c d e : DraftState) → a ≡ empty_draft → b ≡ draft_with_open_list a → c ≡ draft_with (arr_value (text_plains intent.removals)) b → d ≡ draft_with (arr_value (text_plains intent.writes)) c → Closes obj_value d e
+pub intent_given : (intent : Intent) (a b c d e : DraftState) → a ≡ empty_draft → b ≡ draft_with_open_list a → c ≡ draft_with (array_or_null (plains_of_texts intent.removals)) b → d ≡ draft_with (array_or_null (plains_of_texts intent.writes)) c → Closes trimmed_object_or_null d e
     → e ≡ draft_with (value_of_intent intent) empty_draft
 intent_given intent a b c d e start opened first second last =
-    let chain : d ≡ draft_with (arr_value (text_plains intent.writes)) (draft_with (arr_value (text_plains intent.removals)) (draft_with_open_list a)) = cc in
-    last (more (arr_value (text_plains intent.removals)) (more (arr_value (text_plains intent.writes)) none)) a chain ∙ ap (λ (x : DraftState). draft_with (value_of_intent intent) x) start
+    let chain : d ≡ draft_with (array_or_null (plains_of_texts intent.writes)) (draft_with (array_or_null (plains_of_texts intent.removals)) (draft_with_open_list a)) = cc in
+    last (more (array_or_null (plains_of_texts intent.removals)) (more (array_or_null (plains_of_texts intent.writes)) none)) a chain ∙ ap (λ (x : DraftState). draft_with (value_of_intent intent) x) start
 
 pub payload_fits : (v : Plain) (payload : List ℕ) → payload_or_overflow v ≡ Ok payload → (overflow_of v ≡ None) × (payload ≡ canonical v)
 unfolding payload_or_overflow

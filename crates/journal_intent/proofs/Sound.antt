@@ -6,7 +6,7 @@ use Rattle.adb_block.specs.Container.{Spells}
 use Rattle.adb_block.specs.Header.{header_of}
 use Rattle.adb_block.specs.Piece.{Piece}
 use Rattle.adb_view.specs.Plain.{Plain}
-use Rattle.adb_sound.specs.adb_schema.Soundness.{first_fault, payload_in, root_value}
+use Rattle.adb_sound.specs.adb_schema.Soundness.{container_fault_except_contents, payload_in, root_value}
 use Rattle.adb_sound.specs.adb_schema.declared.read.TheConstants.{INTENT_WORD}
 use Rattle.adb_view.specs.declared.tables.Which.TheVariants.{Intent as Table, Package}
 use Rattle.adb_sound.specs.adb_write.Canonical.{canonical, empty_layout, write, MOST_BYTES}
@@ -19,8 +19,8 @@ pub not_package : Table ≢ Package
 not_package e = cc
 
 -- with the schema of an intent all tests of a container are those of one
-whole_is_first : (file : List ℕ) → header_of file ≡ Ok INTENT_WORD → container_fault file ≡ None → first_fault Table file ≡ None
-unfolding container_fault container_fault_of_table first_fault
+whole_is_first : (file : List ℕ) → header_of file ≡ Ok INTENT_WORD → container_fault file ≡ None → container_fault_except_contents Table file ≡ None
+unfolding container_fault container_fault_of_table container_fault_except_contents
 whole_is_first file header sound = sym (ap (container_fault_after_header file) header) ∙ sound
 
 pub header_is : ((schema : ℕ) (payload : List ℕ) → schema < 2 ^ 32 → 8 ≤ length payload → length payload ≤ MOST_BYTES → Spells (file_of schema payload) schema (adb_piece payload ∷ []))

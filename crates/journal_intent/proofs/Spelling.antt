@@ -5,13 +5,13 @@ use Rattle.std.specs.List.{All}
 use Rattle.std.specs.Str.{bytes_eq}
 use Rattle.std.proofs.lemmas.List.Elements.{All-head, All-tail}
 use Rattle.base_core.proofs.AtName.{same_name}
-use Rattle.adb_view.specs.Plain.{Plain, Plains, none, more, text, blob_or_null, IsNormal, AreNormal, count_of, text_plains}
+use Rattle.adb_view.specs.Plain.{Plain, Plains, none, more, text, blob_or_null, IsNormal, AreNormal, count_of, plains_of_texts}
 use Rattle.adb_view.specs.Shaped.{Each, IsBlobOrNull, HasShape}
 use Rattle.adb_sound.specs.adb_fields.FirstPair.{IsIn}
 use Rattle.adb_sound.specs.adb_fields.Once.{AreDistinctNames, HasNoRepeatedName}
 use Rattle.adb_sound.specs.adb_fields.Repeated.{list_of}
-use Rattle.adb_sound.specs.adb_schema.Rules.{is_changeable_name}
-use Rattle.adb_sound.specs.adb_schema.SoundValues.{IsChangeableName, KeepsRules}
+use Rattle.adb_sound.specs.adb_schema.Rules.{is_name_allowed_in_intent}
+use Rattle.adb_sound.specs.adb_schema.SoundValues.{IsNameAllowedInIntent, KeepsRules}
 use Rattle.adb_view.specs.Schema.{shape_of}
 use Rattle.adb_view.specs.Values.{text_in}
 use Rattle.adb_view.specs.declared.tables.Which.TheVariants as Tables
@@ -24,9 +24,9 @@ use Rattle.journal_intent.specs.IntentValue.{intent_of_lists, value_of_intent}
 
 -- ---- it is read back
 
-texts_back : (names : List (List ℕ)) → map text_in (list_of (text_plains names)) ≡ names
+texts_back : (names : List (List ℕ)) → map text_in (list_of (plains_of_texts names)) ≡ names
 texts_back [] = refl
-texts_back (n ∷ ns) = (λ i. text_blob n i ∷ map text_in (list_of (text_plains ns))) ∙ ap (λ (l : List (List ℕ)). n ∷ l) (texts_back ns)
+texts_back (n ∷ ns) = (λ i. text_blob n i ∷ map text_in (list_of (plains_of_texts ns))) ∙ ap (λ (l : List (List ℕ)). n ∷ l) (texts_back ns)
 
 pub value_back : (removals writes : List (List ℕ)) → intent_of_value (value_of_intent (intent_of_lists removals writes)) ≡ intent_of_lists removals writes
 value_back [] [] = refl
@@ -36,7 +36,7 @@ value_back (r ∷ rs) (w ∷ ws) = λ i. record { removals = texts_back (r ∷ r
 
 -- ---- it is normal
 
-normal_texts : (names : List (List ℕ)) → AreNormal (text_plains names)
+normal_texts : (names : List (List ℕ)) → AreNormal (plains_of_texts names)
 unfolding IsNormal
 normal_texts [] = tt
 normal_texts (n ∷ ns) = (blob_value_normal n, normal_texts ns)
@@ -61,7 +61,7 @@ blob_shape : (bytes : List ℕ) → IsBlobOrNull (blob_or_null bytes)
 blob_shape [] = tt
 blob_shape (b ∷ bytes) = tt
 
-texts_shape : (names : List (List ℕ)) → Each (HasShape text) (text_plains names)
+texts_shape : (names : List (List ℕ)) → Each (HasShape text) (plains_of_texts names)
 unfolding HasShape
 texts_shape [] = tt
 texts_shape (n ∷ ns) = (blob_shape n, texts_shape ns)
@@ -75,17 +75,17 @@ value_shape (r ∷ rs) (w ∷ ws) = (texts_shape (r ∷ rs), (texts_shape (w ∷
 
 -- ---- its texts keep their rules
 
-each_change : (names : List (List ℕ)) → All (λ name. is_changeable_name name ≡ true) names → Each IsChangeableName (text_plains names)
+each_change : (names : List (List ℕ)) → All (λ name. is_name_allowed_in_intent name ≡ true) names → Each IsNameAllowedInIntent (plains_of_texts names)
 each_change [] all = tt
-each_change (n ∷ ns) all = (ap is_changeable_name (text_blob n) ∙ All-head (λ name. is_changeable_name name ≡ true) n ns all, each_change ns (All-tail (λ name. is_changeable_name name ≡ true) n ns all))
+each_change (n ∷ ns) all = (ap is_name_allowed_in_intent (text_blob n) ∙ All-head (λ name. is_name_allowed_in_intent name ≡ true) n ns all, each_change ns (All-tail (λ name. is_name_allowed_in_intent name ≡ true) n ns all))
 
-each_left : (xs ys : List (List ℕ)) → All (λ name. is_changeable_name name ≡ true) (xs ++ ys) → Each IsChangeableName (text_plains xs)
+each_left : (xs ys : List (List ℕ)) → All (λ name. is_name_allowed_in_intent name ≡ true) (xs ++ ys) → Each IsNameAllowedInIntent (plains_of_texts xs)
 each_left [] ys all = tt
-each_left (x ∷ xs) ys all = (ap is_changeable_name (text_blob x) ∙ All-head (λ name. is_changeable_name name ≡ true) x (xs ++ ys) all, each_left xs ys (All-tail (λ name. is_changeable_name name ≡ true) x (xs ++ ys) all))
+each_left (x ∷ xs) ys all = (ap is_name_allowed_in_intent (text_blob x) ∙ All-head (λ name. is_name_allowed_in_intent name ≡ true) x (xs ++ ys) all, each_left xs ys (All-tail (λ name. is_name_allowed_in_intent name ≡ true) x (xs ++ ys) all))
 
-each_right : (xs ys : List (List ℕ)) → All (λ name. is_changeable_name name ≡ true) (xs ++ ys) → Each IsChangeableName (text_plains ys)
+each_right : (xs ys : List (List ℕ)) → All (λ name. is_name_allowed_in_intent name ≡ true) (xs ++ ys) → Each IsNameAllowedInIntent (plains_of_texts ys)
 each_right [] ys all = each_change ys all
-each_right (x ∷ xs) ys all = each_right xs ys (All-tail (λ name. is_changeable_name name ≡ true) x (xs ++ ys) all)
+each_right (x ∷ xs) ys all = each_right xs ys (All-tail (λ name. is_name_allowed_in_intent name ≡ true) x (xs ++ ys) all)
 
 pub value_rules : (removals writes : List (List ℕ)) → AreChangeNames (removals ++ writes) → KeepsRules Tables.Intent (value_of_intent (intent_of_lists removals writes))
 value_rules [] [] names = record { removals = tt; writes = tt }
@@ -113,7 +113,7 @@ value_once removals writes once =
 
 -- ---- how many names it has at most
 
-count_names : (names : List (List ℕ)) → count_of (text_plains names) ≡ length names
+count_names : (names : List (List ℕ)) → count_of (plains_of_texts names) ≡ length names
 count_names [] = refl
 count_names (n ∷ ns) = ap suc (count_names ns)
 

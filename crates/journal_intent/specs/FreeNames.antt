@@ -17,14 +17,14 @@ IsOneOf name names = list_any (bytes_eq name) names ≡ true
 abbrev pub IsNoneOf : List ℕ → List (List ℕ) → Type 0
 IsNoneOf name names = list_any (bytes_eq name) names ≡ false
 
--- a free name: neither the intent's own nor one in the staging area, so not that of a staged file
--- either
+-- a free name: it is neither the intent's own nor in the staging area. So it is no name of a staged
+-- file either
 pub record IsFreeName (name : List ℕ) : Type 0 where
   pub no_intent : name ≢ intent_name
   pub unstaged : is_staged name ≡ false
   pub no_place : (k : ℕ) → name ≢ stage_name k
 
--- a taken name: the intent's own, or that of a staged file
+-- a name that the journal uses: the intent's own, or that of a staged file
 abbrev pub IsUsedByJournal : List ℕ → Type 0
 IsUsedByJournal name = (name ≡ intent_name) ⊎ ((k : ℕ) × (name ≡ stage_name k))
 
@@ -42,7 +42,9 @@ HaveNoRepeats (name ∷ names) = IsNoneOf name names × HaveNoRepeats names
 pub record HasFreeDistinctNames (intent : Intent) : Type 0 where
   pub removals : AreFreeNames intent.removals
   pub writes : AreFreeNames intent.writes
+  -- no name is written twice
   pub once : HaveNoRepeats intent.writes
+  -- no name is both written and removed
   pub apart : (name : List ℕ) → IsOneOf name intent.writes → IsNoneOf name intent.removals
 
 -- the names of this many staged files, from number k on

@@ -8,8 +8,8 @@ use Rattle.std.specs.List.{starts_with, All}
 use Rattle.base_core.specs.declared.cause.Cause.{Cause}
 use Rattle.adb_view.specs.Plain.{Plain}
 use Rattle.adb_sound.specs.adb_fields.Repeated.{entries_at}
-use Rattle.adb_sound.specs.adb_schema.Rules.{is_changeable_name}
-use Rattle.adb_sound.specs.adb_schema.Soundness.{first_fault, payload_in, root_value}
+use Rattle.adb_sound.specs.adb_schema.Rules.{is_name_allowed_in_intent}
+use Rattle.adb_sound.specs.adb_schema.Soundness.{container_fault_except_contents, payload_in, root_value}
 use Rattle.adb_view.specs.FieldIndexes.{INTENT_REMOVALS, INTENT_WRITES}
 use Rattle.adb_view.specs.Values.{text_in}
 use Rattle.adb_view.specs.declared.tables.Which.TheVariants.{Intent as IntentTable}
@@ -47,18 +47,18 @@ intent_of_value v = record {
   writes = map text_in (entries_at INTENT_WRITES v);
 }
 
--- the intent of a value, unless a test failed
+-- the intent of a plain value; None if a test of its container failed, for this cause
 abbrev pub intent_unless_fault : Option Cause → Plain → Option Intent
 intent_unless_fault None v = Some (intent_of_value v)
 intent_unless_fault (Some cause) v = None
 
 -- the intent that a file's bytes encode, or none if they are no intent container
 unfoldable pub read_intent : List ℕ → Option Intent
-read_intent file = intent_unless_fault (first_fault IntentTable file)
+read_intent file = intent_unless_fault (container_fault_except_contents IntentTable file)
     (root_value IntentTable (payload_in file))
 
 -- the names of a change: each is one that a change may have, which excludes the intent's and those in
 -- the staging area, and none is repeated
 pub record AreChangeNames (names : List (List ℕ)) : Type 0 where
-  pub each : All (λ name. is_changeable_name name ≡ true) names
+  pub each : All (λ name. is_name_allowed_in_intent name ≡ true) names
   pub once : AllPairs (λ a b. bytes_eq a b ≡ false) names

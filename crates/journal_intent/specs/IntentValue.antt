@@ -1,14 +1,14 @@
 -- The plain value of an intent, as in its container.
 -- The rule is in `docs/formats.md`, "Schemas", table 10.
 use Rattle.std.specs.Prelude.{ℕ, List}
-use Rattle.adb_view.specs.Plain.{Plain, Plains, none, more, arr_value, obj_value, text_plains}
+use Rattle.adb_view.specs.Plain.{Plain, Plains, none, more, array_or_null, trimmed_object_or_null, plains_of_texts}
 use Rattle.journal_intent.specs.Intent.{Intent}
 
 -- the plain value of an intent: an object of two arrays, its removals and its writes
 abbrev pub value_of_intent : Intent → Plain
 value_of_intent intent =
-    obj_value (more (arr_value (text_plains intent.removals))
-    (more (arr_value (text_plains intent.writes)) none))
+    trimmed_object_or_null (more (array_or_null (plains_of_texts intent.removals))
+    (more (array_or_null (plains_of_texts intent.writes)) none))
 
 -- the intent of these two lists
 abbrev pub intent_of_lists : List (List ℕ) → List (List ℕ) → Intent

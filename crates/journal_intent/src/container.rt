@@ -3,7 +3,7 @@
 ghost use Rattle.std.specs.Prelude.{◌≡◌, ◌++◌, ◌<◌, ◌+◌, ◌^◌, ℕ, List, Some, None, length, IfOk, OnOk, IsErrOf};
 ghost use Rattle.adb_sound.specs.adb_schema.declared.read.TheConstants.{INTENT_WORD};
 ghost use Rattle.adb_values.specs.Drafts.{draft_with};
-ghost use Rattle.adb_view.specs.Plain.{arr_value, text_plains};
+ghost use Rattle.adb_view.specs.Plain.{array_or_null, plains_of_texts};
 ghost use Rattle.adb_sound.specs.adb_write.Canonical.{canonical, overflow_of};
 ghost use Rattle.adb_sound.specs.adb_write.File.{file_of};
 ghost use Rattle.journal_intent.specs.Intent.{AreChangeNames, read_intent};
@@ -79,7 +79,7 @@ fn an_intent_is_read_back()
 /// Writes names into a draft, as an array of texts.
 fn write_names(draft: &mut Draft, names: &Names) -> Result<(), AllocError>
     ensures { OnOk result
-        (draft.new ≡ draft_with (arr_value (text_plains names.now)) draft.old) }
+        (draft.new ≡ draft_with (array_or_null (plains_of_texts names.now)) draft.old) }
 {
     draft.open_list()?;
     for i in 0..names.len() {

@@ -4,7 +4,7 @@ ghost use Rattle.std.specs.Prelude.{◌≡◌, ◌<◌, ◌+◌, ◌^◌, Some, 
 ghost use Rattle.adb_sound.specs.adb_fields.ListValue.{list_value};
 ghost use Rattle.adb_sound.specs.adb_fields.Repeated.{list_of};
 ghost use Rattle.adb_sound.specs.adb_schema.ReadFaults.{IsReadFault};
-ghost use Rattle.adb_sound.specs.adb_schema.Soundness.{first_fault};
+ghost use Rattle.adb_sound.specs.adb_schema.Soundness.{container_fault_except_contents};
 ghost use Rattle.adb_view.specs.Values.{entries_in, text_in};
 ghost use Rattle.adb_view.specs.declared.tables.Which.TheVariants.{Intent as IntentTable};
 ghost use Rattle.journal_intent.specs.FreeNames.{AllAreNames};
@@ -34,8 +34,9 @@ pub(crate) fn read_lists(alloc: Global, file: &[u8]) -> Result<IntentLists, Read
         (λ lists. read_intent file.now ≡ Some (intent_of_lists lists.removals lists.writes)) }
     // The number of names, and the next number, have 64 bits.
     ensures few { IfOk result (λ lists. length lists.removals + length lists.writes < 2 ^ 63) }
-    ensures bad { IfErr result (λ fault. IsReadFault fault (first_fault IntentTable file.now)) }
-    ensures good { OnOk result (first_fault IntentTable file.now ≡ None) }
+    ensures bad { IfErr result (λ fault. IsReadFault fault
+        (container_fault_except_contents IntentTable file.now)) }
+    ensures good { OnOk result (container_fault_except_contents IntentTable file.now ≡ None) }
 {
     // A law that the proof needs; it computes nothing.
     sound_containers_hold_sound_values();

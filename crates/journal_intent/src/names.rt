@@ -6,7 +6,7 @@
 ghost use Rattle.std.specs.Prelude.{◌≡◌, IfOk, ◌≢◌, ◌<◌, ◌^◌, ◌++◌, ℕ, true, List, Some, None};
 ghost use Rattle.journal_intent.specs.FreeNames.{stage_names_from, HasFreeDistinctNames, IsUsedByJournal};
 ghost use Rattle.journal_intent.specs.Intent.{intent_name, stage_folder, stage_name, AreChangeNames, Intent, intent_of_value, is_staged, read_intent};
-ghost use Rattle.adb_sound.specs.adb_schema.Soundness.{first_fault, payload_in, root_value};
+ghost use Rattle.adb_sound.specs.adb_schema.Soundness.{container_fault_except_contents, payload_in, root_value};
 ghost use Rattle.adb_view.specs.declared.tables.Which.TheVariants.{Intent as IntentTable};
 ghost use Rattle.base_core.specs.Files.{IsFolderOf};
 ghost use Rattle.base_core.specs.Name.{is_name};
@@ -52,9 +52,10 @@ fn stage_name(alloc: Global, k: usize) -> Result<Name, AllocError>
 
 /// An intent is read from a container that passes all tests, and from no other bytes.
 pub fn an_intent_is_read_from_a_sound_container()
-    ensures sound { (file : List ℕ) → first_fault IntentTable file ≡ None
+    ensures sound { (file : List ℕ) → container_fault_except_contents IntentTable file ≡ None
         → read_intent file ≡ Some (intent_of_value (root_value IntentTable (payload_in file))) }
-    ensures other { (file : List ℕ) (cause : Cause) → first_fault IntentTable file ≡ Some cause
+    ensures other { (file : List ℕ) (cause : Cause)
+        → container_fault_except_contents IntentTable file ≡ Some cause
         → read_intent file ≡ None }
 {}
 

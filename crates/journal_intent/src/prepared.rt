@@ -2,7 +2,7 @@
 //! change of several files": memory is allocated when a stage begins, and never later.
 ghost use Rattle.std.specs.Prelude.{◌≡◌, ◌++◌, ◌≤◌, ◌<◌, ◌+◌, ◌^◌, ℕ, List, Some, None, length, slice_get, IfOk, IfErr, OnOk, IsErrOf};
 ghost use Rattle.adb_sound.specs.adb_schema.ReadFaults.{IsReadFault};
-ghost use Rattle.adb_sound.specs.adb_schema.Soundness.{first_fault};
+ghost use Rattle.adb_sound.specs.adb_schema.Soundness.{container_fault_except_contents};
 ghost use Rattle.adb_view.specs.declared.tables.Which.TheVariants.{Intent as IntentTable};
 ghost use Rattle.adb_sound.specs.adb_write.Canonical.{overflow_of};
 ghost use Rattle.journal_intent.specs.FreeNames.{HasFreeDistinctNames, stage_names_from};
@@ -82,8 +82,8 @@ impl PreparedIntent {
     pub fn of_file(alloc: Global, file: Vec<u8>) -> Result<PreparedIntent, ReadFault>
         ensures intent { IfOk result (λ intent. read_intent file.items ≡ Some intent) }
         ensures bad { IfErr result
-            (λ fault. IsReadFault fault (first_fault IntentTable file.items)) }
-        ensures good { OnOk result (first_fault IntentTable file.items ≡ None) }
+            (λ fault. IsReadFault fault (container_fault_except_contents IntentTable file.items)) }
+        ensures good { OnOk result (container_fault_except_contents IntentTable file.items ≡ None) }
     {
         let lists = read_lists(alloc, &file)?;
         let intent = PreparedIntent::of_lists(alloc, lists, file)?;

@@ -8,10 +8,10 @@ use Rattle.base_core.specs.Read.{bytes_in}
 use Rattle.base_core.specs.Calls.{IfObservable, HoldsNow}
 use Rattle.base_core.specs.Crash.{Since}
 use Rattle.base_core.specs.Undone.{IsDurable}
-use Rattle.journal_core.specs.adb_schema.Soundness.{first_fault}
+use Rattle.journal_core.specs.adb_schema.Soundness.{container_fault_except_contents}
 use Rattle.adb_view.specs.declared.tables.Which.TheVariants.{Intent as IntentTable}
 use Rattle.journal_core.specs.Kept.{HasOldOrNewBytes, RecoversTo}
-use Rattle.journal_core.specs.Recovering.{IsReplayed}
+use Rattle.journal_core.specs.Recovering.{IsIntentReplayed}
 use Rattle.journal_core.specs.Recovery.{EachCrashLeaves, StateDependsOn, intent_name, intent_in_file, intent_of, recovered_files, files_after_intent}
 use Rattle.journal_core.specs.Quiet.{StateIsUnchanged}
 use Rattle.journal_core.specs.Staged.{AreReplayPathsFree, IsIntentFault}
@@ -23,7 +23,7 @@ pub still_none : (old new : History) → new ≡ old → IfObservable old (λ v.
 still_none old new same = on_observable old _ (λ v rest is ignored is_durable. no_more (StateIsUnchanged ignored v) old old new (none_since (StateIsUnchanged ignored v) old) same)
 
 -- nor where the intent is bad
-pub no_fault : (file : List ℕ) (cause : Cause) → first_fault IntentTable file ≡ None → first_fault IntentTable file ≡ Some cause → ⊥
+pub no_fault : (file : List ℕ) (cause : Cause) → container_fault_except_contents IntentTable file ≡ None → container_fault_except_contents IntentTable file ≡ Some cause → ⊥
 no_fault file cause good bad = cc (good, bad)
 
 pub idle_none : (old new : History) → new ≡ old → IfObservable old (λ v. (cause : Cause) → IsIntentFault (files_of v) cause → new ≡ old)
@@ -59,8 +59,8 @@ module _ (old mid new : History) (same : mid ≡ old) (name file : List ℕ) (na
   found_bytes told =
       both_told old (λ v. There v → Since (HasOldOrNewBytes (files_of v) (recovered_files (files_of v))) mid new) There _ (λ v t at. subst (λ (l : History). Since (HasOldOrNewBytes (files_of v) (recovered_files (files_of v))) l new) same (t at)) (back _ told) there
 
-  pub found_replayed : {T E : Type 0} (r : Result T E) → IfObservable mid (λ v. There v → OnOk r (HoldsNow new (IsReplayed v))) → IfObservable old (λ v. OnOk r (HoldsNow new (IsReplayed v)))
-  found_replayed r told = both_told old (λ v. There v → OnOk r (HoldsNow new (IsReplayed v))) There _ (λ v t at. t at) (back _ told) there
+  pub found_replayed : {T E : Type 0} (r : Result T E) → IfObservable mid (λ v. There v → OnOk r (HoldsNow new (IsIntentReplayed v))) → IfObservable old (λ v. OnOk r (HoldsNow new (IsIntentReplayed v)))
+  found_replayed r told = both_told old (λ v. There v → OnOk r (HoldsNow new (IsIntentReplayed v))) There _ (λ v t at. t at) (back _ told) there
 
   pub found_settled : {T E : Type 0} (r : Result T E) → IfObservable mid (λ v. (ignored : List ℕ → Bool) → IsDurable (StateDependsOn ignored) v → There v → OnOk r (HoldsNow new (EachCrashLeaves ignored (recovered_files (files_of v)))))
       → IfObservable old (λ v. (ignored : List ℕ → Bool) → IsDurable (StateDependsOn ignored) v → IsSome (intent_of (files_of v)) → OnOk r (HoldsNow new (EachCrashLeaves ignored (recovered_files (files_of v)))))
@@ -73,21 +73,21 @@ module _ (old mid new : History) (same : mid ≡ old) (name file : List ℕ) (na
   pub found_idle : (B : Type 0) → IfObservable old (λ v. v.names intent_name ≡ None → B)
   found_idle B = observable_map old There _ there (λ v at none. absurd (let here : files_of v intent_name ≡ None = ap (bytes_of_file_number v.files) none in cc (here, at)))
 
-  pub found_bad : (cause : Cause) → (new ≡ mid) × (first_fault IntentTable file ≡ Some cause) → (new ≡ old) × IfObservable old (λ v. IsIntentFault (files_of v) cause)
+  pub found_bad : (cause : Cause) → (new ≡ mid) × (container_fault_except_contents IntentTable file ≡ Some cause) → (new ≡ old) × IfObservable old (λ v. IsIntentFault (files_of v) cause)
   found_bad cause bad = (bad.0 ∙ same, observable_map old There _ there (λ v at. (file, at, bad.1)))
 
-  pub found_bad_idle : ((cause : Cause) → first_fault IntentTable file ≡ Some cause → new ≡ mid) → IfObservable old (λ v. (cause : Cause) → IsIntentFault (files_of v) cause → new ≡ old)
+  pub found_bad_idle : ((cause : Cause) → container_fault_except_contents IntentTable file ≡ Some cause → new ≡ mid) → IfObservable old (λ v. (cause : Cause) → IsIntentFault (files_of v) cause → new ≡ old)
   found_bad_idle idle = observable_map old There _ there (λ v at cause fault.
       let equal : fault.0 ≡ file = cc (at, fault.1) in
-      idle cause (sym (ap (first_fault IntentTable) equal) ∙ fault.2) ∙ same)
+      idle cause (sym (ap (container_fault_except_contents IntentTable) equal) ∙ fault.2) ∙ same)
 
-  pub found_good : first_fault IntentTable file ≡ None → IfObservable old (λ v. (cause : Cause) → IsIntentFault (files_of v) cause → ⊥)
+  pub found_good : container_fault_except_contents IntentTable file ≡ None → IfObservable old (λ v. (cause : Cause) → IsIntentFault (files_of v) cause → ⊥)
   found_good good = observable_map old There _ there (λ v at cause fault.
       let equal : fault.0 ≡ file = cc (at, fault.1) in
-      absurd (let again : first_fault IntentTable file ≡ Some cause = sym (ap (first_fault IntentTable) equal) ∙ fault.2 in cc (again, good)))
+      absurd (let again : container_fault_except_contents IntentTable file ≡ Some cause = sym (ap (container_fault_except_contents IntentTable) equal) ∙ fault.2 in cc (again, good)))
 
 module _ (old mid new : History) (same : mid ≡ old) (name file : List ℕ) (name_is : name ≡ intent_name) (found : IfObservable old (λ v. Some file ≡ files_of v name)) where
-  pub found_good_called : {T E : Type 0} (r : Result T E) → OnOk r (first_fault IntentTable file ≡ None) → IfObservable old (λ v. OnOk r ((cause : Cause) → IsIntentFault (files_of v) cause → ⊥))
+  pub found_good_called : {T E : Type 0} (r : Result T E) → OnOk r (container_fault_except_contents IntentTable file ≡ None) → IfObservable old (λ v. OnOk r ((cause : Cause) → IsIntentFault (files_of v) cause → ⊥))
   found_good_called (Ok x) good = found_good old mid new same name file name_is found good
   found_good_called (Err e) good = observable_map old (λ v. Some file ≡ files_of v name) _ found (λ v at. tt)
 
@@ -103,10 +103,10 @@ module _ (old new : History) (same : new ≡ old) (name : List ℕ) (name_is : n
   names_none files None e = refl
   names_none files (Some n) e = absurd (cc)
 
-  pub absent_replayed : IfObservable old (λ v. HoldsNow new (IsReplayed v))
+  pub absent_replayed : IfObservable old (λ v. HoldsNow new (IsIntentReplayed v))
   absent_replayed = on_observable old _ (λ v rest is.
       let none = subst (λ (l : History). IfObservable l Absent) is absent in
-      now_is new v rest (IsReplayed v) (same ∙ is) (record { reads = sym (ap (λ o. files_after_intent o (files_of v)) (ap intent_in_file none)); absent = names_none v.files (v.names intent_name) none }))
+      now_is new v rest (IsIntentReplayed v) (same ∙ is) (record { reads = sym (ap (λ o. files_after_intent o (files_of v)) (ap intent_in_file none)); absent = names_none v.files (v.names intent_name) none }))
 
   pub absent_settled : IfObservable old (λ v. (ignored : List ℕ → Bool) → IsDurable (StateDependsOn ignored) v → IsSome (intent_of (files_of v)) → HoldsNow new (EachCrashLeaves ignored (recovered_files (files_of v))))
   absent_settled = observable_map old Absent _ absent (λ v none ignored is_durable some. absurd (let gone : intent_of (files_of v) ≡ None = ap intent_in_file none in cc (gone, some)))

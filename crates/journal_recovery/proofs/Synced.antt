@@ -7,9 +7,9 @@ use Rattle.base_core.specs.Files.{NameMap}
 use Rattle.base_core.proofs.Undone.{read_may_be_left}
 use Rattle.base_core.specs.Tree.{TreeState, IsAlwaysAllowed, after_sync_names, files_of, unchanged_after_failed_call}
 use Rattle.base_core.specs.Undone.{IsDurable}
-use Rattle.journal_core.specs.Kept.{HasOldOrNewBytes, IsRestoredByNoCrash, KeepsFilesExcept, RecoversTo, ShownNamesAreDurable}
+use Rattle.journal_core.specs.Kept.{HasOldOrNewBytes, IsRestoredByNoCrash, KeepsFilesExcept, RecoversTo, NamesOutsideJournalAreDurable}
 use Rattle.journal_core.specs.Quiet.{StateIsUnchanged}
-use Rattle.journal_core.specs.Recovering.{AreStagedNames, IsReplayed, HasRemovedNames}
+use Rattle.journal_core.specs.Recovering.{AreStagedNames, IsIntentReplayed, HasRemovedNames}
 use Rattle.journal_core.specs.Recovery.{EachCrashLeaves, StateDependsOn, intent_name, is_staged, recovered_files}
 use Rattle.journal_core.specs.Staged.{AreReplayPathsFree}
 use Rattle.journal_core.proofs.Acts.{still_on, sync_still}
@@ -30,8 +30,8 @@ module _ {T E : Type 0} (old new : History) (r : Result T E) (moves : ChangesHis
   pub sync_shown : IfObservable old (λ v. Since (KeepsFilesExcept (λ q. is_staged q ≡ true) v) old new)
   sync_shown = sync_keeps (KeepsFilesExcept (λ q. is_staged q ≡ true)) (λ v q off. refl) (λ v q off. refl)
 
-  pub sync_last : IfObservable old (λ v. ShownNamesAreDurable v → Since ShownNamesAreDurable old new)
-  sync_last = on_observable old _ (λ v rest is last. one_called old new v rest is ShownNamesAreDurable r moves (λ map left q off shown. ap (λ (m : NameMap). m q) left) (λ may. last))
+  pub sync_last : IfObservable old (λ v. NamesOutsideJournalAreDurable v → Since NamesOutsideJournalAreDurable old new)
+  sync_last = on_observable old _ (λ v rest is last. one_called old new v rest is NamesOutsideJournalAreDurable r moves (λ map left q off shown. ap (λ (m : NameMap). m q) left) (λ may. last))
 
   pub sync_reads : IfObservable old (λ v. Since (RecoversTo (recovered_files (files_of v))) old new)
   sync_reads = on_observable old _ (λ v rest is. one_called old new v rest is (RecoversTo (recovered_files (files_of v))) r moves refl (λ may. refl))
@@ -39,10 +39,10 @@ module _ {T E : Type 0} (old new : History) (r : Result T E) (moves : ChangesHis
   pub sync_bytes : IfObservable old (λ v. Since (HasOldOrNewBytes (files_of v) (recovered_files (files_of v))) old new)
   sync_bytes = on_observable old _ (λ v rest is. one_called old new v rest is (HasOldOrNewBytes (files_of v) (recovered_files (files_of v))) r moves (λ q shown. inl refl) (λ may q shown. inl refl))
 
-  pub sync_lasts : IfObservable old (λ v. IsSome (v.names intent_name) → Since (λ w. w.names intent_name ≡ None → ShownNamesAreDurable w) old new)
+  pub sync_lasts : IfObservable old (λ v. IsSome (v.names intent_name) → Since (λ w. w.names intent_name ≡ None → NamesOutsideJournalAreDurable w) old new)
   sync_lasts = on_observable old _ (λ v rest is some.
-      let read : (none : v.names intent_name ≡ None) → ShownNamesAreDurable v = λ none. absurd (some_none (v.names intent_name) none some) in
-      one_called old new v rest is (λ w. w.names intent_name ≡ None → ShownNamesAreDurable w) r moves (λ none map left q off shown. ap (λ (m : NameMap). m q) left) (λ may. read))
+      let read : (none : v.names intent_name ≡ None) → NamesOutsideJournalAreDurable v = λ none. absurd (some_none (v.names intent_name) none some) in
+      one_called old new v rest is (λ w. w.names intent_name ≡ None → NamesOutsideJournalAreDurable w) r moves (λ none map left q off shown. ap (λ (m : NameMap). m q) left) (λ may. read))
 
 pub sync_proper : {T E : Type 0} (old : History) (before now : Counts) (r : Result T E) → IsCounted IsAlwaysAllowed old before now r → IfObservable old (λ v. now.misuses ≡ before.misuses)
 sync_proper old before now r counted = on_observable old _ (λ v rest is. one_proper old v rest is before now r counted tt)
@@ -58,10 +58,10 @@ module _ {T E : Type 0} (old mid new : History) (x : T) (moves : ChangesHistory 
   after : (P : TreeState → Type 0) (v : TreeState) (rest : History) → old ≡ v ∷ rest → P (after_sync_names v) → Since P mid new → Since P old new
   after P v rest is here since = since_on P old mid new (one_more P old old mid (after_sync_names v) (none_since P old) (mid_is v rest is) here) since
 
-  pub then_lasts : IfObservable mid (λ u. IsSome (u.names intent_name) → Since (λ w. w.names intent_name ≡ None → ShownNamesAreDurable w) mid new) → IfObservable old (λ v. IsSome (v.names intent_name) → Since (λ w. w.names intent_name ≡ None → ShownNamesAreDurable w) old new)
+  pub then_lasts : IfObservable mid (λ u. IsSome (u.names intent_name) → Since (λ w. w.names intent_name ≡ None → NamesOutsideJournalAreDurable w) mid new) → IfObservable old (λ v. IsSome (v.names intent_name) → Since (λ w. w.names intent_name ≡ None → NamesOutsideJournalAreDurable w) old new)
   then_lasts told = on_observable old _ (λ v rest is some.
-      after (λ w. w.names intent_name ≡ None → ShownNamesAreDurable w) v rest is (λ none. absurd (some_none (v.names intent_name) none some))
-      (at_mid v rest is (λ u. IsSome (u.names intent_name) → Since (λ w. w.names intent_name ≡ None → ShownNamesAreDurable w) mid new) told some))
+      after (λ w. w.names intent_name ≡ None → NamesOutsideJournalAreDurable w) v rest is (λ none. absurd (some_none (v.names intent_name) none some))
+      (at_mid v rest is (λ u. IsSome (u.names intent_name) → Since (λ w. w.names intent_name ≡ None → NamesOutsideJournalAreDurable w) mid new) told some))
 
 -- ---- a file under the intent's name, read where no crash undoes a change of names
 
@@ -83,9 +83,9 @@ module _ (file : List ℕ) where
         after old mid new x moves (S v) v rest is (here v)
         (since_weaker (S (after_sync_names v)) (S v) mid new (same v) (at_mid old mid new x moves v rest is (λ u. IsFound u → u.older ≡ [] → Since (S u) mid new) told there refl)))
 
-    pub found_replayed : IfObservable mid (λ u. IsFound u → u.older ≡ [] → HoldsNow new (IsReplayed u)) → IfObservable old (λ v. IsFound v → HoldsNow new (IsReplayed v))
+    pub found_replayed : IfObservable mid (λ u. IsFound u → u.older ≡ [] → HoldsNow new (IsIntentReplayed u)) → IfObservable old (λ v. IsFound v → HoldsNow new (IsIntentReplayed v))
     found_replayed told = on_observable old _ (λ v rest is there.
-        now_map new (IsReplayed (after_sync_names v)) (IsReplayed v) (at_mid old mid new x moves v rest is (λ u. IsFound u → u.older ≡ [] → HoldsNow new (IsReplayed u)) told there refl) (λ w r. record { reads = r.reads; absent = r.absent }))
+        now_map new (IsIntentReplayed (after_sync_names v)) (IsIntentReplayed v) (at_mid old mid new x moves v rest is (λ u. IsFound u → u.older ≡ [] → HoldsNow new (IsIntentReplayed u)) told there refl) (λ w r. record { reads = r.reads; absent = r.absent }))
 
     pub found_settled : IfObservable mid (λ u. (ignored : List ℕ → Bool) → IsDurable (StateDependsOn ignored) u → IsFound u → u.older ≡ [] → HoldsNow new (EachCrashLeaves ignored (recovered_files (files_of u))))
         → IfObservable old (λ v. (ignored : List ℕ → Bool) → IsDurable (StateDependsOn ignored) v → IsFound v → HoldsNow new (EachCrashLeaves ignored (recovered_files (files_of v))))
@@ -125,13 +125,13 @@ module _ {T E : Type 0} (names : List (List ℕ)) (old mid new : History) (x : T
       after old mid new x moves (KeepsFilesExcept (λ q. is_staged q ≡ true) v) v rest is (λ q off. refl)
       (at_mid old mid new x moves v rest is (λ u. AreStagedNames names → Since (KeepsFilesExcept (λ q. is_staged q ≡ true) u) mid new) told staged))
 
-  synced_last : (v : TreeState) → ShownNamesAreDurable (after_sync_names v)
+  synced_last : (v : TreeState) → NamesOutsideJournalAreDurable (after_sync_names v)
   synced_last v map left q off shown = ap (λ (m : NameMap). m q) left
 
-  pub clear_last : IfObservable mid (λ u. AreStagedNames names → ShownNamesAreDurable u → Since ShownNamesAreDurable mid new) → IfObservable old (λ v. AreStagedNames names → ShownNamesAreDurable v → Since ShownNamesAreDurable old new)
+  pub clear_last : IfObservable mid (λ u. AreStagedNames names → NamesOutsideJournalAreDurable u → Since NamesOutsideJournalAreDurable mid new) → IfObservable old (λ v. AreStagedNames names → NamesOutsideJournalAreDurable v → Since NamesOutsideJournalAreDurable old new)
   clear_last told = on_observable old _ (λ v rest is staged last.
-      after old mid new x moves ShownNamesAreDurable v rest is (synced_last v)
-      (at_mid old mid new x moves v rest is (λ u. AreStagedNames names → ShownNamesAreDurable u → Since ShownNamesAreDurable mid new) told staged (synced_last v)))
+      after old mid new x moves NamesOutsideJournalAreDurable v rest is (synced_last v)
+      (at_mid old mid new x moves v rest is (λ u. AreStagedNames names → NamesOutsideJournalAreDurable u → Since NamesOutsideJournalAreDurable mid new) told staged (synced_last v)))
 
   pub clear_cleared : {A B : Type 0} (r : Result A B) → IfObservable mid (λ u. OnOk r (HoldsNow new (HasRemovedNames names u))) → IfObservable old (λ v. OnOk r (HoldsNow new (HasRemovedNames names v)))
   clear_cleared (Err e) told = on_observable old _ (λ v rest is. tt)
@@ -154,8 +154,8 @@ module _ (names : List (List ℕ)) (old : History) where
   pub none_shown : IfObservable old (λ v. AreStagedNames names → Since (KeepsFilesExcept (λ q. is_staged q ≡ true) v) old old)
   none_shown = on_observable old _ (λ v rest is staged. none_since (KeepsFilesExcept (λ q. is_staged q ≡ true) v) old)
 
-  pub none_last : IfObservable old (λ v. AreStagedNames names → ShownNamesAreDurable v → Since ShownNamesAreDurable old old)
-  none_last = on_observable old _ (λ v rest is staged last. none_since ShownNamesAreDurable old)
+  pub none_last : IfObservable old (λ v. AreStagedNames names → NamesOutsideJournalAreDurable v → Since NamesOutsideJournalAreDurable old old)
+  none_last = on_observable old _ (λ v rest is staged last. none_since NamesOutsideJournalAreDurable old)
 
 -- some were to be removed
 module _ (names : List (List ℕ)) (old mid : History) where
@@ -166,7 +166,7 @@ module _ (names : List (List ℕ)) (old mid : History) where
   pub begun_shown : IfObservable old (λ v. Since (KeepsFilesExcept (λ q. is_staged q ≡ true) v) old mid) → IfObservable old (λ v. AreStagedNames names → Since (KeepsFilesExcept (λ q. is_staged q ≡ true) v) old mid)
   begun_shown told = observable_map old _ _ told (λ v t staged. t)
 
-  pub begun_last : IfObservable old (λ v. ShownNamesAreDurable v → Since ShownNamesAreDurable old mid) → IfObservable old (λ v. AreStagedNames names → ShownNamesAreDurable v → Since ShownNamesAreDurable old mid)
+  pub begun_last : IfObservable old (λ v. NamesOutsideJournalAreDurable v → Since NamesOutsideJournalAreDurable old mid) → IfObservable old (λ v. AreStagedNames names → NamesOutsideJournalAreDurable v → Since NamesOutsideJournalAreDurable old mid)
   begun_last told = observable_map old _ _ told (λ v t staged. t)
 
 pub names_none : (names : List (List ℕ)) → length names ≡ 0 → names ≡ []

@@ -5,11 +5,11 @@ use Rattle.std.specs.Prelude.{◌≡◌, ℕ, true, List, [], Some, None, IsSome
 use Rattle.adb_view.specs.declared.tables.Which.TheVariants.{Intent as IntentTable}
 use Rattle.base_core.specs.Calls.{HoldsNow, IfObservable}
 use Rattle.base_core.specs.Crash.{Since}
-use Rattle.base_core.specs.Faults.{Counts, CountsOnlyRise, HasCause, IsNoFault}
+use Rattle.base_core.specs.Faults.{Counts, CountsOnlyRise, IsFaultCountedWithCause, CountsNoNewFault}
 use Rattle.base_core.specs.Tree.{TreeState, files_of}
 use Rattle.base_core.specs.declared.cause.Cause.{Cause}
-use Rattle.journal_core.specs.adb_schema.Soundness.{first_fault}
-use Rattle.journal_core.specs.Kept.{IsRestoredByNoCrash, JournalOnlyShrinks, KeepsFilesExcept, ShownNamesAreDurable}
+use Rattle.journal_core.specs.adb_schema.Soundness.{container_fault_except_contents}
+use Rattle.journal_core.specs.Kept.{IsRestoredByNoCrash, JournalOnlyShrinks, KeepsFilesExcept, NamesOutsideJournalAreDurable}
 use Rattle.journal_core.specs.Recovering.{AreStagedNames, HasRemovedNames}
 use Rattle.journal_core.specs.Recovery.{intent_name, is_staged}
 use Rattle.journal_core.specs.Staged.{IsIntentFault}
@@ -23,7 +23,7 @@ pub record RemovesIntentLast (old now : List TreeState) : Type 0 where
   -- if an intent is found: as soon as none is read, a crash undoes no change of a name outside the
   -- staging area
   pub last : IfObservable old (λ v. IsSome (v.names intent_name)
-      → Since (λ w. w.names intent_name ≡ None → ShownNamesAreDurable w) old now)
+      → Since (λ w. w.names intent_name ≡ None → NamesOutsideJournalAreDurable w) old now)
 
 -- The intent is refused exactly if it is no intent container. Then nothing changes, whatever is returned.
 pub record RefusesOnlyBadIntent {T : Type 0} (old now : List TreeState)
@@ -33,7 +33,7 @@ pub record RefusesOnlyBadIntent {T : Type 0} (old now : List TreeState)
   pub good : IfObservable old (λ v. OnOk result ((cause : Cause) → IsIntentFault (files_of v) cause → ⊥))
   pub bad_idle : IfObservable old (λ v. (cause : Cause) → IsIntentFault (files_of v) cause → now ≡ old)
   pub found : (cause : Cause) → IsErrOf result (IntentBad cause)
-      → (file : List ℕ) × (first_fault IntentTable file ≡ Some cause)
+      → (file : List ℕ) × (container_fault_except_contents IntentTable file ≡ Some cause)
 
 -- how the tree's counts explain the result of a recovery
 pub record IsRecoveryExplainedByCounts {T : Type 0} (before now : Counts)
@@ -41,11 +41,11 @@ pub record IsRecoveryExplainedByCounts {T : Type 0} (before now : Counts)
   -- no count of faults falls
   pub goes_on : CountsOnlyRise before now
   -- a fault of the tree is returned only if that count rose
-  pub disk : IsErrOf result Disk → HasCause before now
+  pub disk : IsErrOf result Disk → IsFaultCountedWithCause before now
   -- every other result, only if it did not
-  pub kept : OnOk result (IsNoFault before now)
-  pub memory : IsErrOf result Memory → IsNoFault before now
-  pub refused : (cause : Cause) → IsErrOf result (IntentBad cause) → IsNoFault before now
+  pub kept : OnOk result (CountsNoNewFault before now)
+  pub memory : IsErrOf result Memory → CountsNoNewFault before now
+  pub refused : (cause : Cause) → IsErrOf result (IntentBad cause) → CountsNoNewFault before now
 
 -- these names, if they are all in the staging area, are removed, and nothing else changes
 pub record RemovesStagedNames {T E : Type 0} (names : List (List ℕ)) (old now : List TreeState)
@@ -56,8 +56,8 @@ pub record RemovesStagedNames {T E : Type 0} (names : List (List ℕ)) (old now 
   -- staged files are only removed
   pub waiting : IfObservable old (λ v. Since (JournalOnlyShrinks v) old now)
   -- no crash undoes a change of a name outside the staging area, if none did at the start
-  pub last : IfObservable old (λ v. AreStagedNames names → ShownNamesAreDurable v
-      → Since ShownNamesAreDurable old now)
+  pub last : IfObservable old (λ v. AreStagedNames names → NamesOutsideJournalAreDurable v
+      → Since NamesOutsideJournalAreDurable old now)
   -- once it has returned Ok, the names are removed, and no crash restores an intent
   pub cleared : IfObservable old (λ v. OnOk result (HoldsNow now (HasRemovedNames names v)))
   pub gone : IfObservable old (λ v. OnOk result (IsRestoredByNoCrash intent_name v

@@ -2,18 +2,18 @@
 //! The rules are in `docs/crash-safety.md`, "Recovery"; which actions an intent has, in "A change
 //! of several files".
 ghost use Rattle.std.specs.Prelude.{◌≡◌, ℕ, Bool, true, List, Some, None, IsSome, OnOk, IsErrOf};
-ghost use Rattle.journal_core.specs.adb_schema.Soundness.{first_fault};
+ghost use Rattle.journal_core.specs.adb_schema.Soundness.{container_fault_except_contents};
 ghost use Rattle.adb_view.specs.declared.tables.Which.TheVariants.{Intent as IntentTable};
 ghost use Rattle.base_core.specs.Calls.{HoldsNow, IfObservable};
 ghost use Rattle.base_core.specs.Crash.{Since};
 ghost use Rattle.base_core.specs.Undone.{IsDurable};
-ghost use Rattle.base_core.specs.Faults.{CountsOnlyRise, HasCause, IsNoFault};
+ghost use Rattle.base_core.specs.Faults.{CountsOnlyRise, IsFaultCountedWithCause, CountsNoNewFault};
 ghost use Rattle.base_core.specs.Tree.{files_of};
 ghost use Rattle.base_core.specs.declared.cause.Cause.{Cause};
 ghost use Rattle.journal_core.specs.CallCounts.{IsResultExplainedByCounts};
-ghost use Rattle.journal_core.specs.Kept.{HasOldOrNewBytes, IsRestoredByNoCrash, JournalOnlyShrinks, KeepsFilesExcept, RecoversTo, ShownNamesAreDurable};
+ghost use Rattle.journal_core.specs.Kept.{HasOldOrNewBytes, IsRestoredByNoCrash, JournalOnlyShrinks, KeepsFilesExcept, RecoversTo, NamesOutsideJournalAreDurable};
 ghost use Rattle.journal_core.specs.Quiet.{StateIsUnchanged};
-ghost use Rattle.journal_core.specs.Recovering.{AreStagedNames, HasEmptiedStage, IsReplayed};
+ghost use Rattle.journal_core.specs.Recovering.{AreStagedNames, HasEmptiedStage, IsIntentReplayed};
 ghost use Rattle.journal_core.specs.Recovery.{EachCrashLeaves, StateDependsOn, intent_name, intent_of, is_staged, recovered_files};
 ghost use Rattle.journal_core.specs.Staged.{AreReplayPathsFree, IsEmptyStage, unstaged_files};
 ghost use Rattle.journal_recovery.specs.RecoveryContracts.{IsRecoveryExplainedByCounts, RefusesOnlyBadIntent, RemovesIntentLast, RemovesStagedNames};
@@ -89,27 +89,38 @@ pub fn recover<T: Tree>(alloc: Global, tree: &mut T) -> Result<(), RecoverFault>
 /// Does the actions of the intent and removes it, if there is one. The clauses are those of
 /// `recover`, but without an intent the staged files are kept.
 fn replay<T: Tree>(alloc: Global, tree: &mut T) -> Result<(), RecoverFault>
+    // From a durable tree on, each moment is durable, and the state is unchanged.
     ensures moments { IfObservable (T.history tree.old) (λ v. (ignored : List ℕ → Bool)
         → IsDurable (StateDependsOn ignored) v
         → Since (StateIsUnchanged ignored v) (T.history tree.old) (T.history tree.new)) }
+    // At each moment recovery of the files as read yields the same.
     ensures reads { IfObservable (T.history tree.old) (λ v.
         Since (RecoversTo (recovered_files (files_of v)))
         (T.history tree.old) (T.history tree.new)) }
+    // At each moment a name outside the journal has its old bytes, or those that recovery yields.
     ensures bytes { IfObservable (T.history tree.old) (λ v.
         Since (HasOldOrNewBytes (files_of v) (recovered_files (files_of v)))
         (T.history tree.old) (T.history tree.new)) }
+    // Once it has returned Ok, all actions are done, and no intent is read.
     ensures replayed { IfObservable (T.history tree.old) (λ v.
-        OnOk result (HoldsNow (T.history tree.new) (IsReplayed v))) }
+        OnOk result (HoldsNow (T.history tree.new) (IsIntentReplayed v))) }
+    // From a durable tree with an intent: once it has returned Ok, each crash leaves the state that
+    // recovery yields.
     ensures settled { IfObservable (T.history tree.old) (λ v. (ignored : List ℕ → Bool)
         → IsDurable (StateDependsOn ignored) v → IsSome (intent_of (files_of v))
         → OnOk result (HoldsNow (T.history tree.new)
         (EachCrashLeaves ignored (recovered_files (files_of v))))) }
+    // Staged files are only removed, and the intent is removed last.
     ensures journal { RemovesIntentLast (T.history tree.old) (T.history tree.new) }
+    // If an intent was found: once it has returned Ok, no crash restores it.
     ensures gone { IfObservable (T.history tree.old) (λ v. IsSome (v.names intent_name)
         → OnOk result (IfObservable (T.history tree.new) (IsRestoredByNoCrash intent_name))) }
+    // Without an intent nothing changes.
     ensures idle { IfObservable (T.history tree.old) (λ v. v.names intent_name ≡ None
         → T.history tree.new ≡ T.history tree.old) }
+    // The intent is refused exactly if it is no intent container.
     ensures refusal { RefusesOnlyBadIntent (T.history tree.old) (T.history tree.new) result }
+    // How the tree's counts explain the result.
     ensures counts { IsRecoveryExplainedByCounts (T.counts tree.old) (T.counts tree.new) result }
 
     // If an intent that is found has free paths for its actions, no call is a misuse.
@@ -128,30 +139,44 @@ fn replay<T: Tree>(alloc: Global, tree: &mut T) -> Result<(), RecoverFault>
 /// publishing of the intent and keep one of the actions. The clauses are those of `replay`, for the
 /// file under the intent's name.
 fn replay_file<T: Tree>(alloc: Global, tree: &mut T, file: Vec<u8>) -> Result<(), RecoverFault>
+    // From a durable tree on, each moment is durable, and the state is unchanged.
     ensures moments { IfObservable (T.history tree.old) (λ v. (ignored : List ℕ → Bool)
         → IsDurable (StateDependsOn ignored) v → files_of v intent_name ≡ Some file.items
         → Since (StateIsUnchanged ignored v) (T.history tree.old) (T.history tree.new)) }
+    // At each moment recovery of the files as read yields the same.
     ensures reads { IfObservable (T.history tree.old) (λ v. files_of v intent_name
         ≡ Some file.items → Since (RecoversTo (recovered_files (files_of v)))
         (T.history tree.old) (T.history tree.new)) }
+    // At each moment a name outside the journal has its old bytes, or those that recovery yields.
     ensures bytes { IfObservable (T.history tree.old) (λ v. files_of v intent_name
         ≡ Some file.items
         → Since (HasOldOrNewBytes (files_of v) (recovered_files (files_of v)))
         (T.history tree.old) (T.history tree.new)) }
+    // Once it has returned Ok, all actions are done, and no intent is read.
     ensures replayed { IfObservable (T.history tree.old) (λ v. files_of v intent_name
-        ≡ Some file.items → OnOk result (HoldsNow (T.history tree.new) (IsReplayed v))) }
+        ≡ Some file.items → OnOk result (HoldsNow (T.history tree.new) (IsIntentReplayed v))) }
+    // From a durable tree with an intent: once it has returned Ok, each crash leaves the state that
+    // recovery yields.
     ensures settled { IfObservable (T.history tree.old) (λ v. (ignored : List ℕ → Bool)
         → IsDurable (StateDependsOn ignored) v → files_of v intent_name ≡ Some file.items
         → OnOk result (HoldsNow (T.history tree.new)
         (EachCrashLeaves ignored (recovered_files (files_of v))))) }
+    // Staged files are only removed, and the intent is removed last.
     ensures journal { RemovesIntentLast (T.history tree.old) (T.history tree.new) }
-    ensures gone { OnOk result (IfObservable (T.history tree.new) (IsRestoredByNoCrash intent_name)) }
+    // Once it has returned Ok, no crash restores the intent.
+    ensures gone { OnOk result (IfObservable (T.history tree.new)
+        (IsRestoredByNoCrash intent_name)) }
+    // A refused file is no intent container, and nothing has changed.
     ensures bad { (cause : Cause) → IsErrOf result (RecoverFault.IntentBad cause)
         → (T.history tree.new ≡ T.history tree.old)
-        × (first_fault IntentTable file.items ≡ Some cause) }
-    ensures good { OnOk result (first_fault IntentTable file.items ≡ None) }
-    ensures bad_idle { (cause : Cause) → first_fault IntentTable file.items ≡ Some cause
+        × (container_fault_except_contents IntentTable file.items ≡ Some cause) }
+    // Ok is returned only if the file is an intent container.
+    ensures good { OnOk result (container_fault_except_contents IntentTable file.items ≡ None) }
+    // If the file is no intent container, nothing changes.
+    ensures bad_idle { (cause : Cause) → container_fault_except_contents IntentTable file.items
+        ≡ Some cause
         → T.history tree.new ≡ T.history tree.old }
+    // How the tree's counts explain the result.
     ensures counts { IsRecoveryExplainedByCounts (T.counts tree.old) (T.counts tree.new) result }
 
     // If an intent that is found has free paths for its actions, no call is a misuse.
@@ -169,32 +194,43 @@ fn replay_file<T: Tree>(alloc: Global, tree: &mut T, file: Vec<u8>) -> Result<()
 /// Removes every staged file, once no intent is read: so the state is unchanged, and no other name
 /// changes.
 fn empty_stage<T: Tree>(alloc: Global, tree: &mut T) -> Result<(), TreeFault>
+    // From a durable tree on, each moment is durable, and the state is unchanged.
     ensures moments { IfObservable (T.history tree.old) (λ v. (ignored : List ℕ → Bool)
         → IsDurable (StateDependsOn ignored) v → v.names intent_name ≡ None
         → Since (StateIsUnchanged ignored v) (T.history tree.old) (T.history tree.new)) }
+    // At each moment only staged files have changed.
     ensures shown { IfObservable (T.history tree.old) (λ v.
         Since (KeepsFilesExcept (λ q. is_staged q ≡ true) v)
         (T.history tree.old) (T.history tree.new)) }
+    // Staged files are only removed.
     ensures waiting { IfObservable (T.history tree.old) (λ v.
         Since (JournalOnlyShrinks v) (T.history tree.old) (T.history tree.new)) }
-    ensures last { IfObservable (T.history tree.old) (λ v. ShownNamesAreDurable v
-        → Since ShownNamesAreDurable (T.history tree.old) (T.history tree.new)) }
+    // No crash undoes a change of a name outside the journal, if none could at the start.
+    ensures last { IfObservable (T.history tree.old) (λ v. NamesOutsideJournalAreDurable v
+        → Since NamesOutsideJournalAreDurable (T.history tree.old) (T.history tree.new)) }
+    // Once it has returned Ok, no file is staged, and no other name has changed.
     ensures emptied { IfObservable (T.history tree.old) (λ v.
         OnOk result (HoldsNow (T.history tree.new) (HasEmptiedStage v))) }
-    ensures gone { IfObservable (T.history tree.old) (λ v. OnOk result (IsRestoredByNoCrash intent_name v
+    // Once it has returned Ok, no crash restores an intent, if none could at the start.
+    ensures gone { IfObservable (T.history tree.old) (λ v. OnOk result
+        (IsRestoredByNoCrash intent_name v
         → HoldsNow (T.history tree.new) (IsRestoredByNoCrash intent_name))) }
+    // Without staged files nothing changes.
     ensures idle { IfObservable (T.history tree.old) (λ v. IsEmptyStage v.names
         → T.history tree.new ≡ T.history tree.old) }
 
     // No count of faults falls; a fault of the tree is returned only if that count rose, and Ok
     // only if it did not.
     ensures goes_on { CountsOnlyRise (T.counts tree.old) (T.counts tree.new) }
+    // An I/O error is returned only if a fault was counted.
     ensures disk { IsErrOf result TreeFault.Disk
-        → HasCause (T.counts tree.old) (T.counts tree.new) }
-    ensures kept { OnOk result (IsNoFault (T.counts tree.old) (T.counts tree.new)) }
+        → IsFaultCountedWithCause (T.counts tree.old) (T.counts tree.new) }
+    // Ok is returned only if no fault was counted.
+    ensures kept { OnOk result (CountsNoNewFault (T.counts tree.old) (T.counts tree.new)) }
+    // If there is no memory, nothing has changed, and no fault was counted.
     ensures memory { IsErrOf result TreeFault.Memory
         → (T.history tree.new ≡ T.history tree.old)
-        × IsNoFault (T.counts tree.old) (T.counts tree.new) }
+        × CountsNoNewFault (T.counts tree.old) (T.counts tree.new) }
 
     // No call is a misuse.
     ensures proper { IfObservable (T.history tree.old) (λ v. (T.counts tree.new).misuses
@@ -210,11 +246,15 @@ fn empty_stage<T: Tree>(alloc: Global, tree: &mut T) -> Result<(), TreeFault>
 /// first, so that no crash restores an intent for which one of these files is staged. The clauses
 /// are those of `empty_stage`.
 fn clear_all<T: Tree>(tree: &mut T, names: &Names) -> Result<(), Disk>
+    // From a durable tree on, each moment is durable, and the state is unchanged.
     ensures moments { IfObservable (T.history tree.old) (λ v. (ignored : List ℕ → Bool)
-        → IsDurable (StateDependsOn ignored) v → v.names intent_name ≡ None → AreStagedNames names.now
+        → IsDurable (StateDependsOn ignored) v → v.names intent_name ≡ None
+        → AreStagedNames names.now
         → Since (StateIsUnchanged ignored v) (T.history tree.old) (T.history tree.new)) }
+    // The names are removed, if all are in the staging area, and nothing else changes.
     ensures removal { RemovesStagedNames names.now
         (T.history tree.old) (T.history tree.new) result }
+    // How the tree's counts explain the result.
     ensures counts { IsResultExplainedByCounts (T.counts tree.old) (T.counts tree.new) result }
 
     // No call is a misuse.
@@ -231,11 +271,15 @@ fn clear_all<T: Tree>(tree: &mut T, names: &Names) -> Result<(), Disk>
 /// Removes these names, which are all in the staging area, once no crash restores an intent. The
 /// clauses are those of `clear_all`.
 fn remove_all<T: Tree>(tree: &mut T, names: &Names) -> Result<(), Disk>
+    // From a durable tree on, each moment is durable, and the state is unchanged.
     ensures moments { IfObservable (T.history tree.old) (λ v. (ignored : List ℕ → Bool)
-        → IsDurable (StateDependsOn ignored) v → IsRestoredByNoCrash intent_name v → AreStagedNames names.now
+        → IsDurable (StateDependsOn ignored) v → IsRestoredByNoCrash intent_name v
+        → AreStagedNames names.now
         → Since (StateIsUnchanged ignored v) (T.history tree.old) (T.history tree.new)) }
+    // The names are removed, if all are in the staging area, and nothing else changes.
     ensures removal { RemovesStagedNames names.now
         (T.history tree.old) (T.history tree.new) result }
+    // How the tree's counts explain the result.
     ensures counts { IsResultExplainedByCounts (T.counts tree.old) (T.counts tree.new) result }
 
     // No call is a misuse.

@@ -9,9 +9,9 @@ use Rattle.base_core.specs.declared.cause.Cause.{Cause}
 use Rattle.package_verifier.specs.Tested.{IsTestedOf, tested_len, tested_name, tested_value}
 use Rattle.package_verifier.specs.package_reader.FileReading.{HasUnreadBytes, HaveOtherDigest, expected_file_of, remembered_fault, package_len_of_file, package_name_of_file}
 use Rattle.package_verifier.specs.package_reader.declared.one_file.FilePieces.{FilePieces}
-use Rattle.file_guard.specs.pkg_core.Contents.{Expected, bytes_of_file, contents_in, expected_contents}
+use Rattle.file_guard.specs.pkg_core.Contents.{ExpectedFile, bytes_of_file, contents_in, expected_files_of_package}
 use Rattle.file_guard.specs.pkg_core.Opened.{expected_file_at}
-use Rattle.file_guard.specs.pkg_core.Whole.{files_in_file, package_fault}
+use Rattle.file_guard.specs.pkg_core.Whole.{files_read_from_package, package_fault}
 use Rattle.journal_staging.specs.Reading.{IsReadingIn}
 use Rattle.journal_staging.specs.Sources.{AreListedContentsOf, IsFileSource, MayDenote, DenotesBytes}
 use Rattle.journal_staging.specs.Spoiled.{IsSpoiledFile, IsSpoiledForEachTested}
@@ -23,7 +23,7 @@ use Rattle.journal_staging.proofs.OtherContents.{spoiled}
 
 pub source_reading : (files : Files) (f : PackagedFile) (bytes : List ℕ) (file : FilePieces)
     → package_name_of_file file ≡ tested_name f.package.now → package_len_of_file file ≡ tested_len f.package.now
-    → ((name pkg : List ℕ) → IsTestedOf name pkg f.package.now → HasUnreadBytes file pkg (bytes_of_file f.folder f.file (contents_in (files_in_file pkg))))
+    → ((name pkg : List ℕ) → IsTestedOf name pkg f.package.now → HasUnreadBytes file pkg (bytes_of_file f.folder f.file (contents_in (files_read_from_package pkg))))
     → IsFileSource files f bytes → IsReadingIn files file bytes
 source_reading files f bytes file name len reading s = record {
   pkg = s.pkg;
@@ -61,15 +61,15 @@ file_listed (Err e) source f Waits is found = tt
 
 -- ---- a package that was changed since
 
-spoiled_by_due : (tested : List ℕ) (f : PackagedFile) (cause : Cause) (bytes : List ℕ) (due : Option Expected) → package_fault tested ≡ None → expected_file_at f.folder f.file (expected_contents (root_value Package (payload_in tested))) ≡ due → HaveOtherDigest due bytes cause
+spoiled_by_due : (tested : List ℕ) (f : PackagedFile) (cause : Cause) (bytes : List ℕ) (due : Option ExpectedFile) → package_fault tested ≡ None → expected_file_at f.folder f.file (expected_files_of_package (root_value Package (payload_in tested))) ≡ due → HaveOtherDigest due bytes cause
     → (file : List ℕ) × IsSpoiledFile tested file cause
 spoiled_by_due tested f cause bytes None sound due other = absurd other
 spoiled_by_due tested f cause bytes (Some e) sound due other = spoiled tested f.folder f.file e bytes cause sound due other.0 other.1
 
-pub spoiled_since : (f : PackagedFile) (file : FilePieces) (cause : Cause) → expected_file_of file ≡ expected_file_at f.folder f.file (expected_contents (tested_value f.package.now))
-    → ((name pkg : List ℕ) → IsTestedOf name pkg f.package.now → HasUnreadBytes file pkg (bytes_of_file f.folder f.file (contents_in (files_in_file pkg))))
+pub spoiled_since : (f : PackagedFile) (file : FilePieces) (cause : Cause) → expected_file_of file ≡ expected_file_at f.folder f.file (expected_files_of_package (tested_value f.package.now))
+    → ((name pkg : List ℕ) → IsTestedOf name pkg f.package.now → HasUnreadBytes file pkg (bytes_of_file f.folder f.file (contents_in (files_read_from_package pkg))))
     → (remembered_fault file ≡ None → (bytes : List ℕ) × HaveOtherDigest (expected_file_of file) bytes cause) → IsSpoiledForEachTested f cause
 spoiled_since f file cause due reading bad name tested is =
     let (bytes, other) = bad (reading name tested is).0 in
     spoiled_by_due tested f cause bytes (expected_file_of file) is.sound
-    (sym (due ∙ ap (λ (v : Plain). expected_file_at f.folder f.file (expected_contents v)) is.value)) other
+    (sym (due ∙ ap (λ (v : Plain). expected_file_at f.folder f.file (expected_files_of_package v)) is.value)) other

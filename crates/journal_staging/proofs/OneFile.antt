@@ -15,7 +15,7 @@ use Rattle.package_verifier.specs.package_reader.FileReading.{AreAsExpected, IsT
 use Rattle.package_verifier.specs.package_reader.declared.piece.PieceFault.{PieceFault}
 use Rattle.package_verifier.specs.package_reader.declared.piece.PieceFault.TheVariants.{Bad, Disk}
 use Rattle.package_verifier.specs.package_reader.declared.one_file.FilePieces.{FilePieces}
-use Rattle.file_guard.specs.pkg_core.Contents.{Expected}
+use Rattle.file_guard.specs.pkg_core.Contents.{ExpectedFile}
 use Rattle.file_guard.specs.pkg_core.Seen.{IsFileOfLength}
 use Rattle.journal_commit.specs.StageRun.{HasFilesExceptStaged, IsStaging, IsStagingRun}
 use Rattle.journal_commit.proofs.Joins.{start_is}
@@ -181,7 +181,7 @@ module _ (start stage : Staging) (whole file next : FilePieces) (piece : List �
   listed_whole due is come contents v first staging =
       let (so_far, came, half) = listed come contents v first staging in
       let behind = subst (λ (r : Result Bool PieceFault). IsTestedReturn file so_far piece r next) is (tested so_far came) in
-      (so_far, subst (λ (d : Option Expected). AreAsExpected d so_far) due behind.1, half)
+      (so_far, subst (λ (d : Option ExpectedFile). AreAsExpected d so_far) due behind.1, half)
 
 -- ---- a test that fails
 
@@ -206,7 +206,7 @@ module _ (whole file next : FilePieces) (piece : List ℕ) (result : Result Bool
     where
       by : (so_far : List ℕ) → remembered_fault file ≡ None → (remembered_fault file ≡ Some cause) ⊎ HaveOtherDigest (expected_file_of file) (so_far ++ piece) cause → (bytes : List ℕ) × HaveOtherDigest (expected_file_of whole) bytes cause
       by so_far kept (inl before) = absurd (let e : None ≡ Some cause = sym kept ∙ before in cc (e))
-      by so_far kept (inr other) = (so_far ++ piece, subst (λ (d : Option Expected). HaveOtherDigest d (so_far ++ piece) cause) due other)
+      by so_far kept (inr other) = (so_far ++ piece, subst (λ (d : Option ExpectedFile). HaveOtherDigest d (so_far ++ piece) cause) due other)
 
 -- ---- the first and the last call
 

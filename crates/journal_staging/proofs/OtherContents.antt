@@ -11,7 +11,7 @@ use Rattle.sha2.specs.Sha512.{sha512}
 use Rattle.adb_block.specs.AllBlocks.{blocks_of, blocks_of_stream, blocks_from_position, with_block}
 use Rattle.adb_block.specs.Container.{IsHead, IsPadding, Spells, SpellsBlocks}
 use Rattle.adb_block.specs.Header.{header_of}
-use Rattle.adb_block.specs.Piece.{Piece, least_payload}
+use Rattle.adb_block.specs.Piece.{Piece, least_payload_len}
 use Rattle.adb_block.specs.Reading.{Reading, done, fault, more, block_stream_from}
 use Rattle.adb_block.specs.ReaderPosition.{first_block_position}
 use Rattle.adb_block.specs.declared.block.BlockKind.{BlockKind}
@@ -26,7 +26,7 @@ use Rattle.base_core.specs.declared.cause.Digest.{Digest}
 use Rattle.base_core.specs.declared.cause.Digest.TheVariants.{Sha1, Sha256, Sha512}
 use Rattle.base_core.proofs.Causes.{both_none}
 use Rattle.file_guard.proofs.pkg_core.Opened.{pair_alike}
-use Rattle.file_guard.specs.pkg_core.Contents.{Expected, FilesRead, contents_block_fault, contents_bytes, contents_of_expected, contents_fault, digest_fault, expected_contents, fault_of_files_read, files_at_block, files_read_from_blocks, given, has_positions_of, hash_fault, next_contents_fault, no_more, unless_fault}
+use Rattle.file_guard.specs.pkg_core.Contents.{ExpectedFile, FilesRead, contents_block_fault, contents_bytes, contents_of_expected, contents_fault, digest_fault, expected_files_of_package, fault_of_files_read, files_at_block, files_read_from_blocks, given, has_positions_of, hash_fault, next_contents_fault, no_more, files_unless_fault}
 use Rattle.file_guard.specs.pkg_core.Opened.{expected_file_at, is_expected_at}
 use Rattle.file_guard.specs.pkg_core.Whole.{fault_of_further_blocks, package_fault, container_fault_of_table}
 use Rattle.file_guard.proofs.pkg_core.Given.{nothing_expected, size_right}
@@ -63,7 +63,7 @@ replaced [] behind b payload same last bytes (rest, may, is, further) =
       long = omega (arith, old, new, same);
       spells = (
         rest,
-        record { order = may.order; long = subst (λ (n : ℕ). least_payload b.kind ≤ n) (sym same) may.long },
+        record { order = may.order; long = subst (λ (n : ℕ). least_payload_len b.kind ≤ n) (sym same) may.long },
         record {
           head = is.head;
           pad = is.pad;
@@ -144,7 +144,7 @@ begins_with b bs (more a at r) e = by (blocks_of_stream r) refl e
 
 -- ---- tests that pass
 
-second_passes : (o : Option Cause) (files : FilesRead) → fault_of_files_read (unless_fault o files) ≡ None → (o ≡ None) × (fault_of_files_read files ≡ None)
+second_passes : (o : Option Cause) (files : FilesRead) → fault_of_files_read (files_unless_fault o files) ≡ None → (o ≡ None) × (fault_of_files_read files ≡ None)
 second_passes None files h = (refl, h)
 second_passes (Some c) files h = absurd (cc (h))
 
@@ -153,13 +153,13 @@ is_enough true c o h = absurd (cc (h))
 is_enough false c o h = (refl, h)
 
 -- the first block of contents that is due
-record PassesBlock (payload : List ℕ) (e : Expected) : Type 0 where
+record PassesBlock (payload : List ℕ) (e : ExpectedFile) : Type 0 where
   enough : nat_lt (length payload) 8 ≡ false
   positions : has_positions_of payload e ≡ true
   size : length (contents_bytes payload) ≡ e.size
   digest : hash_fault e.hash (contents_bytes payload) ≡ None
 
-passes_block : (payload : List ℕ) (at : ℕ) (e : Expected) (es : List Expected) → contents_block_fault payload at (e ∷ es) ≡ None → PassesBlock payload e
+passes_block : (payload : List ℕ) (at : ℕ) (e : ExpectedFile) (es : List ExpectedFile) → contents_block_fault payload at (e ∷ es) ≡ None → PassesBlock payload e
 passes_block payload at e es h =
     let (enough, first) = is_enough (nat_lt (length payload) 8) (Truncated at) _ h in
     let (positions, second) = size_right (has_positions_of payload e) (DataOrder (e.folder, e.file) (contents_positions payload)) _ first in
@@ -167,7 +167,7 @@ passes_block payload at e es h =
     record { enough = enough; positions = positions; size = eqb-true (length (contents_bytes payload)) e.size size; digest = digest }
 
 -- and what such a block comes to, wherever it stands
-block_comes_to : (payload : List ℕ) (at : ℕ) (e : Expected) (es : List Expected) → nat_lt (length payload) 8 ≡ false → has_positions_of payload e ≡ true → length (contents_bytes payload) ≡ e.size → contents_block_fault payload at (e ∷ es) ≡ hash_fault e.hash (contents_bytes payload)
+block_comes_to : (payload : List ℕ) (at : ℕ) (e : ExpectedFile) (es : List ExpectedFile) → nat_lt (length payload) 8 ≡ false → has_positions_of payload e ≡ true → length (contents_bytes payload) ≡ e.size → contents_block_fault payload at (e ∷ es) ≡ hash_fault e.hash (contents_bytes payload)
 block_comes_to payload at e es enough positions size =
     ap (λ (few : Bool). if few then Some (Truncated at) else next_contents_fault payload (e ∷ es)) enough
     ∙ (ap (λ (b : Bool). if not b then Some (DataOrder (e.folder, e.file) (contents_positions payload)) else if not (length (contents_bytes payload) == e.size) then Some (DataSize e.size (length (contents_bytes payload))) else hash_fault e.hash (contents_bytes payload)) positions
@@ -176,7 +176,7 @@ block_comes_to payload at e es enough positions size =
 -- ---- the block with the contents of a file
 
 -- other contents for it are refused for their digest, whatever stands behind
-record HasContents (e : Expected) (es : List Expected) (r : Reading) : Type 0 where
+record HasContents (e : ExpectedFile) (es : List ExpectedFile) (r : Reading) : Type 0 where
   before : List Piece
   block : Piece
   behind : List Piece
@@ -185,7 +185,7 @@ record HasContents (e : Expected) (es : List Expected) (r : Reading) : Type 0 wh
   fails : (bytes : List ℕ) (c : Cause) → length bytes ≡ e.size → hash_fault e.hash bytes ≡ Some c
       → (other : Reading) → blocks_of_stream other ≡ Ok (before ++ with_payload block (take 8 block.payload ++ bytes) ∷ behind) → contents_fault es other ≡ Some c
 
-one_before : (e : Expected) (es left : List Expected) (b : Piece) (at : ℕ) (r : Reading) → ((at : ℕ) (r : Reading) → contents_fault es (more b at r) ≡ contents_fault left r) → HasContents e left r → HasContents e es (more b at r)
+one_before : (e : ExpectedFile) (es left : List ExpectedFile) (b : Piece) (at : ℕ) (r : Reading) → ((at : ℕ) (r : Reading) → contents_fault es (more b at r) ≡ contents_fault left r) → HasContents e left r → HasContents e es (more b at r)
 one_before e es left b at r same h = record {
   before = b ∷ h.before;
   block = h.block;
@@ -204,21 +204,21 @@ HasPieces r = (bs : List Piece) × (blocks_of_stream r ≡ Ok bs)
 pieces_after : (b : Piece) (at : ℕ) (r : Reading) → HasPieces r → HasPieces (more b at r)
 pieces_after b at r (bs, is) = (b ∷ bs, ap (with_block b) is)
 
-pieces_at_kind : (kind : BlockKind) (payload : List ℕ) (at : ℕ) (r : Reading) → ((left : List Expected) → contents_fault left r ≡ None → HasPieces r) → (es : List Expected) → fault_of_files_read (files_at_block kind payload at (λ left. files_read_from_blocks left r) es) ≡ None → HasPieces r
+pieces_at_kind : (kind : BlockKind) (payload : List ℕ) (at : ℕ) (r : Reading) → ((left : List ExpectedFile) → contents_fault left r ≡ None → HasPieces r) → (es : List ExpectedFile) → fault_of_files_read (files_at_block kind payload at (λ left. files_read_from_blocks left r) es) ≡ None → HasPieces r
 pieces_at_kind Kinds.Adb payload at r ih es h = ih es h
 pieces_at_kind Kinds.Signature payload at r ih es h = ih es h
 pieces_at_kind Kinds.Contents payload at r ih [] h =
     absurd (let first = (is_enough (nat_lt (length payload) 8) (Truncated at) _ (second_passes (contents_block_fault payload at []) no_more h).0).1 in cc (first))
 pieces_at_kind Kinds.Contents payload at r ih (e ∷ es) h = ih es (second_passes (contents_block_fault payload at (e ∷ es)) (given (contents_of_expected payload e) (files_read_from_blocks es r)) h).1
 
-has_pieces : (es : List Expected) (r : Reading) → contents_fault es r ≡ None → HasPieces r
+has_pieces : (es : List ExpectedFile) (r : Reading) → contents_fault es r ≡ None → HasPieces r
 unfolding files_read_from_blocks
 has_pieces es done h = ([], refl)
 has_pieces es (fault c) h = absurd (cc (h))
 has_pieces es (more b at r) h = pieces_after b at r (pieces_at_kind b.kind b.payload at r (λ left. has_pieces left r) es h)
 
 -- the block at hand is the one
-this_block : (e : Expected) (es : List Expected) (payload : List ℕ) (at : ℕ) (r : Reading) → PassesBlock payload e → HasPieces r → HasContents e (e ∷ es) (more (record { kind = Kinds.Contents; payload = payload }) at r)
+this_block : (e : ExpectedFile) (es : List ExpectedFile) (payload : List ℕ) (at : ℕ) (r : Reading) → PassesBlock payload e → HasPieces r → HasContents e (e ∷ es) (more (record { kind = Kinds.Contents; payload = payload }) at r)
 unfolding files_read_from_blocks
 this_block e es payload at r passes (behind, are) =
     let b : Piece = record { kind = Kinds.Contents; payload = payload } in
@@ -243,27 +243,27 @@ this_block e es payload at r passes (behind, are) =
           let told : contents_block_fault own begins.at (e ∷ es) ≡ Some c =
           block_comes_to own begins.at e es (le-ltb _ _ (omega (arith, all, eight))) positions (ap length bytes_are ∙ same) ∙ (ap (hash_fault e.hash) bytes_are ∙ bad) in
           ap (contents_fault (e ∷ es)) begins.is
-          ∙ ap (λ (o : Option Cause). fault_of_files_read (unless_fault o (given (contents_of_expected own e) (files_read_from_blocks es begins.further)))) told;
+          ∙ ap (λ (o : Option Cause). fault_of_files_read (files_unless_fault o (given (contents_of_expected own e) (files_read_from_blocks es begins.further)))) told;
     }
 
 -- a block of contents of another file
-passed_block : (x : Expected) (xs : List Expected) (payload : List ℕ) → PassesBlock payload x → (at : ℕ) (r : Reading) → contents_fault (x ∷ xs) (more (record { kind = Kinds.Contents; payload = payload }) at r) ≡ contents_fault xs r
+passed_block : (x : ExpectedFile) (xs : List ExpectedFile) (payload : List ℕ) → PassesBlock payload x → (at : ℕ) (r : Reading) → contents_fault (x ∷ xs) (more (record { kind = Kinds.Contents; payload = payload }) at r) ≡ contents_fault xs r
 unfolding files_read_from_blocks
 passed_block x xs payload passes at r =
-    ap (λ (o : Option Cause). fault_of_files_read (unless_fault o (given (contents_of_expected payload x) (files_read_from_blocks xs r)))) (block_comes_to payload at x xs passes.enough passes.positions passes.size ∙ passes.digest)
+    ap (λ (o : Option Cause). fault_of_files_read (files_unless_fault o (given (contents_of_expected payload x) (files_read_from_blocks xs r)))) (block_comes_to payload at x xs passes.enough passes.positions passes.size ∙ passes.digest)
 
-abbrev Finds : ℕ → ℕ → Expected → Reading → Type 0
-Finds folder file e r = (left : List Expected) → contents_fault left r ≡ None → expected_file_at folder file left ≡ Some e → HasContents e left r
+abbrev Finds : ℕ → ℕ → ExpectedFile → Reading → Type 0
+Finds folder file e r = (left : List ExpectedFile) → contents_fault left r ≡ None → expected_file_at folder file left ≡ Some e → HasContents e left r
 
-at_adb : (folder file : ℕ) (e : Expected) (payload : List ℕ) (at : ℕ) (r : Reading) → Finds folder file e r → Finds folder file e (more (record { kind = Kinds.Adb; payload = payload }) at r)
+at_adb : (folder file : ℕ) (e : ExpectedFile) (payload : List ℕ) (at : ℕ) (r : Reading) → Finds folder file e r → Finds folder file e (more (record { kind = Kinds.Adb; payload = payload }) at r)
 unfolding files_read_from_blocks
 at_adb folder file e payload at r ih es h found = one_before e es es (record { kind = Kinds.Adb; payload = payload }) at r (λ at r. refl) (ih es h found)
 
-at_signature : (folder file : ℕ) (e : Expected) (payload : List ℕ) (at : ℕ) (r : Reading) → Finds folder file e r → Finds folder file e (more (record { kind = Kinds.Signature; payload = payload }) at r)
+at_signature : (folder file : ℕ) (e : ExpectedFile) (payload : List ℕ) (at : ℕ) (r : Reading) → Finds folder file e r → Finds folder file e (more (record { kind = Kinds.Signature; payload = payload }) at r)
 unfolding files_read_from_blocks
 at_signature folder file e payload at r ih es h found = one_before e es es (record { kind = Kinds.Signature; payload = payload }) at r (λ at r. refl) (ih es h found)
 
-at_contents : (folder file : ℕ) (e : Expected) (payload : List ℕ) (at : ℕ) (r : Reading) → Finds folder file e r → Finds folder file e (more (record { kind = Kinds.Contents; payload = payload }) at r)
+at_contents : (folder file : ℕ) (e : ExpectedFile) (payload : List ℕ) (at : ℕ) (r : Reading) → Finds folder file e r → Finds folder file e (more (record { kind = Kinds.Contents; payload = payload }) at r)
 unfolding files_read_from_blocks
 at_contents folder file e payload at r ih [] h found = absurd (cc (found))
 at_contents folder file e payload at r ih (x ∷ xs) h found =
@@ -272,25 +272,25 @@ at_contents folder file e payload at r ih (x ∷ xs) h found =
   where
     by_test : (b : Bool) → PassesBlock payload x → contents_fault xs r ≡ None → cond b (Some x) (find (is_expected_at folder file) xs) ≡ Some e → HasContents e (x ∷ xs) (more (record { kind = Kinds.Contents; payload = payload }) at r)
     by_test true passes further is =
-        subst (λ (y : Expected). HasContents y (x ∷ xs) (more (record { kind = Kinds.Contents; payload = payload }) at r)) (same_Some x e is)
+        subst (λ (y : ExpectedFile). HasContents y (x ∷ xs) (more (record { kind = Kinds.Contents; payload = payload }) at r)) (same_Some x e is)
         (this_block x xs payload at r passes (has_pieces xs r further))
     by_test false passes further is = one_before e (x ∷ xs) xs (record { kind = Kinds.Contents; payload = payload }) at r (passed_block x xs payload passes) (ih xs further is)
 
-at_kind : (folder file : ℕ) (e : Expected) (kind : BlockKind) (payload : List ℕ) (at : ℕ) (r : Reading) → Finds folder file e r → Finds folder file e (more (record { kind = kind; payload = payload }) at r)
+at_kind : (folder file : ℕ) (e : ExpectedFile) (kind : BlockKind) (payload : List ℕ) (at : ℕ) (r : Reading) → Finds folder file e r → Finds folder file e (more (record { kind = kind; payload = payload }) at r)
 at_kind folder file e Kinds.Adb payload at r ih = at_adb folder file e payload at r ih
 at_kind folder file e Kinds.Signature payload at r ih = at_signature folder file e payload at r ih
 at_kind folder file e Kinds.Contents payload at r ih = at_contents folder file e payload at r ih
 
-at_end : (folder file : ℕ) (e : Expected) → Finds folder file e done
+at_end : (folder file : ℕ) (e : ExpectedFile) → Finds folder file e done
 unfolding files_read_from_blocks
 at_end folder file e [] h found = absurd (cc (found))
 at_end folder file e (x ∷ xs) h found = absurd (cc (h))
 
-at_fault : (folder file : ℕ) (e : Expected) (c : Cause) → Finds folder file e (fault c)
+at_fault : (folder file : ℕ) (e : ExpectedFile) (c : Cause) → Finds folder file e (fault c)
 unfolding files_read_from_blocks
 at_fault folder file e c es h found = absurd (cc (h))
 
-finds : (folder file : ℕ) (e : Expected) (r : Reading) → Finds folder file e r
+finds : (folder file : ℕ) (e : ExpectedFile) (r : Reading) → Finds folder file e r
 finds folder file e done = at_end folder file e
 finds folder file e (fault c) = at_fault folder file e c
 finds folder file e (more b at r) = at_kind folder file e b.kind b.payload at r (finds folder file e r)
@@ -326,11 +326,11 @@ record IsGoodPackage (file : List ℕ) : Type 0 where
   further : Reading
   reading : block_stream_from (first_block_position schema file) ≡ more block at further
   values : payload_fault Package block.payload ≡ None
-  contents : contents_fault (expected_contents (root_value Package block.payload)) further ≡ None
+  contents : contents_fault (expected_files_of_package (root_value Package block.payload)) further ≡ None
 
 -- or no block, and then nothing is expected
 abbrev IsGood : List ℕ → Type 0
-IsGood file = IsGoodPackage file ⊎ (expected_contents (root_value Package (payload_in file)) ≡ [])
+IsGood file = IsGoodPackage file ⊎ (expected_files_of_package (root_value Package (payload_in file)) ≡ [])
 
 payload_by : (file : List ℕ) (schema : ℕ) (r : Reading) → header_of file ≡ Ok schema → block_stream_from (first_block_position schema file) ≡ r → payload_in file ≡ first_block_payload r
 unfolding payload_in
@@ -338,7 +338,7 @@ payload_by file schema r header reading = ap (payload_after_header file) header 
 
 good_by_reading : (file : List ℕ) (schema : ℕ) (r : Reading) → header_of file ≡ Ok schema → schema_fault Package schema ≡ None → block_stream_from (first_block_position schema file) ≡ r → blocks_fault (fault_of_further_blocks Package) Package r ≡ None → IsGood file
 good_by_reading file schema done header wanted reading h =
-    inr (ap (λ (p : List ℕ). expected_contents (root_value Package p)) (payload_by file schema done header reading) ∙ nothing_expected)
+    inr (ap (λ (p : List ℕ). expected_files_of_package (root_value Package p)) (payload_by file schema done header reading) ∙ nothing_expected)
 good_by_reading file schema (fault c) header wanted reading h = absurd (cc (h))
 good_by_reading file schema (more b at r) header wanted reading h =
     let (values, contents) = both_none (payload_fault Package b.payload) _ h in
@@ -356,7 +356,7 @@ good file h = good_by_header file (header_of file) refl h
 
 -- a package is refused for its contents where its header and its first block are good
 refused_for : (file : List ℕ) (schema : ℕ) (b : Piece) (at : ℕ) (r : Reading) (c : Cause) → header_of file ≡ Ok schema → schema_fault Package schema ≡ None → block_stream_from (first_block_position schema file) ≡ more b at r → payload_fault Package b.payload ≡ None
-    → contents_fault (expected_contents (root_value Package b.payload)) r ≡ Some c → package_fault file ≡ Some c
+    → contents_fault (expected_files_of_package (root_value Package b.payload)) r ≡ Some c → package_fault file ≡ Some c
 unfolding container_fault_of_table
 refused_for file schema b at r c header wanted reading values bad =
     ap (file_fault_after_header (fault_of_further_blocks Package) Package file) header
@@ -371,12 +371,12 @@ blocks_from_start : (file : List ℕ) (schema : ℕ) (bs : List Piece) → heade
 unfolding blocks_from_position
 blocks_from_start file schema bs header are = whole_from file schema header ∙ are
 
-spoiled_by : (tested : List ℕ) (folder file : ℕ) (e : Expected) (bytes : List ℕ) (c : Cause) → IsGoodPackage tested → expected_file_at folder file (expected_contents (root_value Package (payload_in tested))) ≡ Some e → length bytes ≡ e.size → hash_fault e.hash bytes ≡ Some c
+spoiled_by : (tested : List ℕ) (folder file : ℕ) (e : ExpectedFile) (bytes : List ℕ) (c : Cause) → IsGoodPackage tested → expected_file_at folder file (expected_files_of_package (root_value Package (payload_in tested))) ≡ Some e → length bytes ≡ e.size → hash_fault e.hash bytes ≡ Some c
     → (other : List ℕ) × IsSpoiledFile tested other c
 spoiled_by tested folder file e bytes c g found size bad =
-    let es : List Expected = expected_contents (root_value Package g.block.payload) in
+    let es : List ExpectedFile = expected_files_of_package (root_value Package g.block.payload) in
     let payload = payload_by tested g.schema (more g.block g.at g.further) g.header g.reading in
-    let h = finds folder file e g.further es g.contents (subst (λ (p : List ℕ). expected_file_at folder file (expected_contents (root_value Package p)) ≡ Some e) payload found) in
+    let h = finds folder file e g.further es g.contents (subst (λ (p : List ℕ). expected_file_at folder file (expected_files_of_package (root_value Package p)) ≡ Some e) payload found) in
     let own : List ℕ = take 8 h.block.payload ++ bytes in
     let all = length-append (take 8 h.block.payload) bytes in
     let long = h.long in
@@ -399,10 +399,10 @@ spoiled_by tested folder file e bytes c g found size bad =
     )
 
 -- a package that was tested is spoiled where bytes of one of its files have another digest
-pub spoiled : (tested : List ℕ) (folder file : ℕ) (e : Expected) (bytes : List ℕ) (c : Cause) → package_fault tested ≡ None → expected_file_at folder file (expected_contents (root_value Package (payload_in tested))) ≡ Some e → length bytes ≡ e.size → hash_fault e.hash bytes ≡ Some c
+pub spoiled : (tested : List ℕ) (folder file : ℕ) (e : ExpectedFile) (bytes : List ℕ) (c : Cause) → package_fault tested ≡ None → expected_file_at folder file (expected_files_of_package (root_value Package (payload_in tested))) ≡ Some e → length bytes ≡ e.size → hash_fault e.hash bytes ≡ Some c
     → (other : List ℕ) × IsSpoiledFile tested other c
 spoiled tested folder file e bytes c sound found size bad = by (good tested sound)
   where
     by : IsGood tested → (other : List ℕ) × IsSpoiledFile tested other c
     by (inl g) = spoiled_by tested folder file e bytes c g found size bad
-    by (inr none) = absurd (let found_none : expected_file_at folder file [] ≡ Some e = subst (λ (es : List Expected). expected_file_at folder file es ≡ Some e) none found in cc (found_none))
+    by (inr none) = absurd (let found_none : expected_file_at folder file [] ≡ Some e = subst (λ (es : List ExpectedFile). expected_file_at folder file es ≡ Some e) none found in cc (found_none))

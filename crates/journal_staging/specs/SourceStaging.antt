@@ -3,7 +3,7 @@
 -- contracts of these calls. The rules are in `docs/crash-safety.md`, "A change of several files" and
 -- "Misuses, faults and counts".
 use Rattle.std.specs.Prelude.{◌≡◌, ◌+◌, ◌++◌, ◌∷◌, [], ℕ, List, None, Result, IfErr, IsErrOf, OnOk}
-use Rattle.base_core.specs.Faults.{Counts, CountsOnlyRise, HasCause, IsNoFault}
+use Rattle.base_core.specs.Faults.{Counts, CountsOnlyRise, IsFaultCountedWithCause, CountsNoNewFault}
 use Rattle.base_core.specs.Files.{Files}
 use Rattle.base_core.specs.Tree.{TreeState, files_of}
 use Rattle.journal_commit.specs.StageRun.{IsStaging, IsStagingRun}
@@ -15,10 +15,10 @@ pub record IsFaultExplainedByCounts {T F : Type 0} (failed : F) (before now : Co
   -- no count falls
   pub goes_on : CountsOnlyRise before now
   -- a fault of the tree has its cause
-  pub disk : IsErrOf result failed → HasCause before now
-  -- any other result hides none
-  pub kept : OnOk result (IsNoFault before now)
-  pub others : IfErr result (λ fault. (fault ≡ failed → ⊥) → IsNoFault before now)
+  pub disk : IsErrOf result failed → IsFaultCountedWithCause before now
+  -- with any other result no fault was counted
+  pub kept : OnOk result (CountsNoNewFault before now)
+  pub others : IfErr result (λ fault. (fault ≡ failed → ⊥) → CountsNoNewFault before now)
 
 -- A call that stages the file of one write, and changes the stage to `next`. `Denotes` says which bytes
 -- its source denotes over some files. `first` is the tree's history when the staging began, `v` its newest
@@ -33,7 +33,7 @@ pub record StagesSource {T F : Type 0} (stage next : Staging) (Denotes : Files �
   pub staging : (contents : List (List ℕ)) (v : TreeState) (first : List TreeState) (bytes : List ℕ)
       → IsStaging stage contents None v first old → Denotes (files_of v) bytes
       → OnOk result (IsStaging next (contents ++ bytes ∷ []) None v first now)
-  -- and only the tree may fail
+  -- if the source denotes bytes, the only possible error is that of the tree
   pub good : (contents : List (List ℕ)) (v : TreeState) (first : List TreeState) (bytes : List ℕ)
       → IsStaging stage contents None v first old → Denotes (files_of v) bytes
       → IfErr result (λ fault. fault ≡ failed)

@@ -5,9 +5,9 @@ use Rattle.base_core.specs.Files.{Files}
 use Rattle.file_guard.specs.AsListed.{link_bytes_to}
 use Rattle.package_verifier.specs.Tested.{IsTestedOf, tested_value}
 use Rattle.package_verifier.specs.package_reader.FileReading.{AreAsExpected}
-use Rattle.file_guard.specs.pkg_core.Contents.{bytes_of_file, contents_in, expected_contents}
+use Rattle.file_guard.specs.pkg_core.Contents.{bytes_of_file, contents_in, expected_files_of_package}
 use Rattle.file_guard.specs.pkg_core.Opened.{expected_file_at}
-use Rattle.file_guard.specs.pkg_core.Whole.{files_in_file}
+use Rattle.file_guard.specs.pkg_core.Whole.{files_read_from_package}
 use Rattle.journal_staging.specs.declared.writes.PackagedFile.{PackagedFile}
 use Rattle.journal_staging.specs.declared.writes.Source.{Source}
 use Rattle.journal_staging.specs.declared.writes.Source.TheVariants.{Bytes, File, Link}
@@ -21,7 +21,7 @@ pub record IsFileSource (files : Files) (f : PackagedFile) (bytes : List ℕ) : 
   pub pkg : List ℕ
   pub there : files name ≡ Some pkg
   pub tested : IsTestedOf name pkg f.package.now
-  pub is : bytes ≡ bytes_of_file f.folder f.file (contents_in (files_in_file pkg))
+  pub is : bytes ≡ bytes_of_file f.folder f.file (contents_in (files_read_from_package pkg))
 
 -- over these files a source denotes these bytes
 abbrev pub DenotesBytes : Files → Source → List ℕ → Type 0
@@ -33,11 +33,11 @@ DenotesBytes files (File f) bytes = IsFileSource files f bytes
 -- no contents
 abbrev pub AreListedContentsOf : PackagedFile → List ℕ → Type 0
 AreListedContentsOf f bytes =
-    AreAsExpected (expected_file_at f.folder f.file (expected_contents (tested_value
+    AreAsExpected (expected_file_at f.folder f.file (expected_files_of_package (tested_value
     f.package.now)))
     bytes
 
--- over some files, a source may denote these bytes
+-- there may be files over which the source denotes these bytes
 abbrev pub MayDenote : Source → List ℕ → Type 0
 MayDenote (Bytes own) bytes = bytes ≡ own.now
 MayDenote (Link target) bytes = bytes ≡ link_bytes_to target.now

@@ -16,14 +16,20 @@ use Rattle.journal_staging.specs.declared.writes.StagedWrite.{StagedWrite}
 -- The file of a package is spoiled: it has the length and the values of the tested one; but as a
 -- package it is refused with this cause: a digest of contents differs.
 pub record IsSpoiledFile (tested file : List ℕ) (cause : Cause) : Type 0 where
+  -- the file has the length of the tested one
   pub long : length file ≡ length tested
+  -- the file has the values of the tested one
   pub values : payload_in file ≡ payload_in tested
+  -- the digest that the values list
   pub wanted : Digest
+  -- the digest that contents in the file have
   pub found : Digest
+  -- the cause is that these digests differ
   pub digest : cause ≡ HashDiffers wanted found
+  -- the file is refused with this cause
   pub fault : package_fault file ≡ Some cause
 
--- whatever a file's package was when it was tested, there is a spoiled file for it with this cause
+-- each file that may have been tested as the package of `f` has a spoiled file with this cause
 abbrev pub IsSpoiledForEachTested : PackagedFile → Cause → Type 0
 IsSpoiledForEachTested f cause = (name tested : List ℕ) → IsTestedOf name tested f.package.now
     → (file : List ℕ) × IsSpoiledFile tested file cause

@@ -2,7 +2,7 @@
 //! are in `docs/crash-safety.md`, "A change of several files".
 ghost use Rattle.std.specs.Prelude.{◌≡◌, ◌<◌, ◌⊎◌, [], ℕ, false, List, None, length, IfErr, IsErrOf, OnErr, OnOk};
 ghost use Rattle.base_core.specs.Calls.{IfObservable};
-ghost use Rattle.base_core.specs.Faults.{CountsOnlyRise, HasCause, IsNoFault};
+ghost use Rattle.base_core.specs.Faults.{CountsOnlyRise, IsFaultCountedWithCause, CountsNoNewFault};
 ghost use Rattle.base_core.specs.Tree.{TreeState, files_of};
 ghost use Rattle.base_core.specs.declared.cause.Cause.{Cause};
 ghost use Rattle.journal_commit.specs.journal_core.Recovery.{files_after_actions, intent_name};
@@ -14,7 +14,7 @@ ghost use Rattle.journal_staging.specs.Sources.{EachMayDenote, EachDenotes};
 ghost use Rattle.journal_staging.specs.Spoiled.{HasSpoiledFile};
 ghost use Rattle.journal_staging.specs.declared.writes.StageFault.TheVariants.{Bad, Disk as DiskFault};
 ghost use Rattle.journal_commit.specs.Asked.{TargetsAreAccepted};
-ghost use Rattle.journal_commit.specs.StageRun.{IsStageRun, IsStageRunComplete, IsStaging, IsStagingRun};
+ghost use Rattle.journal_commit.specs.StageRun.{IsRunOfStagedChange, IsStagedChangeComplete, IsStaging, IsStagingRun};
 
 use crate::writes::{StageFault, StagedWrite, stage_write};
 use base_core::Tree;
@@ -52,6 +52,7 @@ fn stage_each<T: Tree>(
     ensures bad { (member : ℕ) (cause : Cause) → IsErrOf result (Bad member cause)
         → HasSpoiledFile member cause writes.now }
     ensures view { OnOk result (stage.new ≡ record stage.old { staged = length writes.now }) }
+    // How the tree's counts explain the result.
     ensures counts { IsFaultExplainedByCounts DiskFault
         (T.counts tree.old) (T.counts tree.new) result }
     ensures proper { (contents : List (List ℕ)) (v : TreeState) (first : List TreeState)
@@ -87,16 +88,19 @@ pub fn carry_out<T: Tree>(
     ensures run { IfObservable (T.history tree.old) (λ v. (contents : List (List ℕ))
         → v.names intent_name ≡ None → IsEmptyStage (files_of v)
         → EachDenotes (files_of v) writes.now contents
-        → IsCarriedTo (files_after_actions stage.old.intent (files_with_staged 1 contents (files_of v)))
+        → IsCarriedTo (files_after_actions stage.old.intent (files_with_staged 1 contents
+        (files_of v)))
         v (T.history tree.old) (T.history tree.new) result) }
-    // Whatever else the tree returns: the result are files with bytes that the sources may denote,
-    // so those of a package have the size and the digest that its value lists.
+    // Whatever the tree returns: once it has returned Ok, the change is complete, with bytes that
+    // the sources may denote. So the files of a package have the size and the digest that its value
+    // lists.
     ensures listed { IfObservable (T.history tree.old) (λ v.
         v.names intent_name ≡ None → IsEmptyStage (files_of v)
         → OnOk result ((contents : List (List ℕ)) × EachMayDenote writes.now contents
-        × IsStageRunComplete (files_after_actions stage.old.intent (files_with_staged 1 contents (files_of v)))
+        × IsStagedChangeComplete (files_after_actions stage.old.intent
+        (files_with_staged 1 contents (files_of v)))
         v (T.history tree.new))) }
-    // Nor is it half done after an error: if a package is bad, only staged files have changed.
+    // If a package is bad, the change is not begun: only staged files have changed.
     ensures unpublished { IfObservable (T.history tree.old) (λ v.
         v.names intent_name ≡ None → IsEmptyStage (files_of v)
         → (member : ℕ) (cause : Cause) → IsErrOf result (Bad member cause)
@@ -107,7 +111,8 @@ pub fn carry_out<T: Tree>(
         v.names intent_name ≡ None → IsEmptyStage (files_of v)
         → OnErr result (IsStagingRun v (T.history tree.old) (T.history tree.new)
         ⊎ ((contents : List (List ℕ)) × EachMayDenote writes.now contents
-        × IsStageRun (files_after_actions stage.old.intent (files_with_staged 1 contents (files_of v)))
+        × IsRunOfStagedChange (files_after_actions stage.old.intent (files_with_staged 1 contents
+        (files_of v)))
         v (T.history tree.old) (T.history tree.new)))) }
     // All targets are asked for first: either nothing has happened, or the tree accepts each. Ok is
     // returned only if it accepts them.
@@ -123,15 +128,19 @@ pub fn carry_out<T: Tree>(
     // How the tree's counts explain the result: no count falls, a fault has its cause, and any
     // other result hides none.
     ensures goes_on { CountsOnlyRise (T.counts tree.old) (T.counts tree.new) }
-    ensures disk { IsErrOf result DiskFault → HasCause (T.counts tree.old) (T.counts tree.new) }
-    ensures kept { OnOk result (IsNoFault (T.counts tree.old) (T.counts tree.new)) }
+    // An I/O error is returned only if a fault was counted.
+    ensures disk { IsErrOf result DiskFault
+        → IsFaultCountedWithCause (T.counts tree.old) (T.counts tree.new) }
+    // Ok is returned only if no fault was counted.
+    ensures kept { OnOk result (CountsNoNewFault (T.counts tree.old) (T.counts tree.new)) }
     ensures others { IfErr result (λ fault. (fault ≡ DiskFault → ⊥)
-        → IsNoFault (T.counts tree.old) (T.counts tree.new)) }
+        → CountsNoNewFault (T.counts tree.old) (T.counts tree.new)) }
     // No call is a misuse if the paths of the stage are free, before and after the change.
     ensures proper { IfObservable (T.history tree.old) (λ v. (contents : List (List ℕ))
         → v.names intent_name ≡ None → IsEmptyStage (files_of v)
         → EachDenotes (files_of v) writes.now contents → AreJournalPathsFree (files_of v)
-        → AreJournalPathsFree (files_after_actions stage.old.intent (files_with_staged 1 contents (files_of v)))
+        → AreJournalPathsFree (files_after_actions stage.old.intent (files_with_staged 1 contents
+        (files_of v)))
         → (T.counts tree.new).misuses ≡ (T.counts tree.old).misuses) }
 {
     // Laws that the proof needs; they compute nothing.

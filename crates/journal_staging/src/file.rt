@@ -41,7 +41,8 @@ pub(crate) fn stage_file<T: Tree>(
         × IsStaging stage.new (contents ++ bytes ∷ []) None v first (T.history tree.new)) }
     // If it was not refused from the start: a test fails only for bytes that have the expected
     // size, and another digest.
-    ensures bad { HaveBeenReturned file.entry [] → remembered_fault file.entry ≡ None → (cause : Cause)
+    ensures bad { HaveBeenReturned file.entry [] → remembered_fault file.entry ≡ None
+        → (cause : Cause)
         → IsErrOf result (Bad cause)
         → (bytes : List ℕ) × HaveOtherDigest (expected_file_of file.entry) bytes cause }
 {

@@ -18,7 +18,7 @@ use Rattle.make_index.specs.adb_fields.FirstPair.{IsIn}
 use Rattle.make_index.specs.adb_fields.Repeated.{file_twice, files_in, folder_twice, folders_in, name_of, numbered_from, repeated_fault, repeated_pair_in_one_list}
 use Rattle.make_index.specs.adb_fields.FirstPair.{IsPairInOne}
 use Rattle.adb_view.specs.declared.tables.Which.TheVariants.{Package}
-use Rattle.make_package.specs.package_files.Folders.{with_folders_inserted, sorted_names, with_folder_inserted, with_folder_by}
+use Rattle.make_package.specs.package_files.Folders.{with_folders_inserted, sorted_names_without_repeats, with_folder_inserted, with_folder_inserted_by_order}
 use Rattle.make_package.specs.package_files.Package.{Script, Source, SourceFolder, value_of_file, value_of_folder, value_of_package, kind_of_file}
 use Rattle.make_core.proofs.PackageFiles.{files_stand, folder_name_stands, folders_stand, name_stands}
 
@@ -55,7 +55,7 @@ placed_in : (q name : List ℕ) (xs : List (List ℕ)) → IsIn q (with_folder_i
 placed_in q name [] h = h
 placed_in q name (x ∷ xs) h = by_order (cmp name x) (placed_in q name xs) h
   where
-    by_order : (o : Ordering) → (IsIn q (with_folder_inserted name xs) → (q ≡ name) ⊎ IsIn q xs) → IsIn q (with_folder_by o name x xs (with_folder_inserted name xs)) → (q ≡ name) ⊎ IsIn q (x ∷ xs)
+    by_order : (o : Ordering) → (IsIn q (with_folder_inserted name xs) → (q ≡ name) ⊎ IsIn q xs) → IsIn q (with_folder_inserted_by_order o name x xs (with_folder_inserted name xs)) → (q ≡ name) ⊎ IsIn q (x ∷ xs)
     by_order Less further h = h
     by_order Equal further h = inr h
     by_order Greater further (inl is) = inr (inl is)
@@ -77,7 +77,7 @@ placed_rises : (name : List ℕ) (xs : List (List ℕ)) → Rises xs → Rises (
 placed_rises name [] r = (λ q h. absurd h, tt)
 placed_rises name (x ∷ xs) r = by_order (cmp name x) refl (placed_rises name xs r.1)
   where
-    by_order : (o : Ordering) → cmp name x ≡ o → Rises (with_folder_inserted name xs) → Rises (with_folder_by o name x xs (with_folder_inserted name xs))
+    by_order : (o : Ordering) → cmp name x ≡ o → Rises (with_folder_inserted name xs) → Rises (with_folder_inserted_by_order o name x xs (with_folder_inserted name xs))
     by_order Less e further = (all_behind name x xs e r.0, r)
     by_order Equal e further = r
     by_order Greater e further = (λ q here. below_placed x name xs (nat_list_cmp_total.antisymm x name ∙ ap ordering_reverse e) r.0 q (placed_in q name xs here), further)
@@ -86,7 +86,7 @@ all_placed_rises : (so_far names : List (List ℕ)) → Rises so_far → Rises (
 all_placed_rises so_far [] r = r
 all_placed_rises so_far (name ∷ names) r = all_placed_rises (with_folder_inserted name so_far) names (placed_rises name so_far r)
 
-pub in_order_rises : (names : List (List ℕ)) → Rises (sorted_names names)
+pub in_order_rises : (names : List (List ℕ)) → Rises (sorted_names_without_repeats names)
 in_order_rises names = all_placed_rises [] names tt
 
 either_in : (q name : List ℕ) (so_far names : List (List ℕ)) → IsIn q (with_folder_inserted name so_far) ⊎ IsIn q names → IsIn q so_far ⊎ IsIn q (name ∷ names)
@@ -105,7 +105,7 @@ right_in : (q : List ℕ) (names : List (List ℕ)) → IsIn q [] ⊎ IsIn q nam
 right_in q names (inl h) = absurd h
 right_in q names (inr h) = h
 
-pub in_order_in : (q : List ℕ) (names : List (List ℕ)) → IsIn q (sorted_names names) → IsIn q names
+pub in_order_in : (q : List ℕ) (names : List (List ℕ)) → IsIn q (sorted_names_without_repeats names) → IsIn q names
 in_order_in q names h = right_in q names (all_placed_in q [] names h)
 
 -- ---- nothing stands twice

@@ -1,7 +1,7 @@
 -- Rules that do not look at what stands around a value.
 use Rattle.std.proofs.Common.{◌≡◌, ℕ, zero, suc, ◌+◌, ◌*◌, List, [], ◌∷◌, Some, None, refl, ap, sym, subst, ◌∙◌, arith, add-zero}
 use Rattle.adb_view.specs.Plain.{Plain, null, Plains, none, more, Shape, number, text, hash, array, object, Fields, no_fields, field}
-use Rattle.make_index.specs.adb_schema.Texts.{Surroundings, Leaf, text_leaf, leaves, field_leaves, each_leaf, surroundings_of_fields, first_bad_leaf, text_rule}
+use Rattle.make_index.specs.adb_schema.Texts.{Surroundings, Leaf, text_leaf, leaves, field_leaves, leaves_of_all_values, surroundings_of_fields, first_bad_leaf, is_allowed_text_of_field}
 use Rattle.adb_view.specs.Values.{nth, entries_in, text_in}
 use Rattle.base_core.specs.declared.cause.Cause.TheVariants.{BadText}
 use Rattle.std.specs.Prelude.{Bool, if◌then◌else◌}
@@ -11,8 +11,8 @@ use Rattle.make_core.proofs.GoodValues.{good_append, good_back, good_front}
 unfoldable mutual
   pub IsBlind : Shape → ℕ → Type 0
   IsBlind number place = Unit {0}
-  IsBlind text place = (a b : Surroundings) (x : List ℕ) → text_rule place a x ≡ text_rule place b x
-  IsBlind hash place = (a b : Surroundings) (x : List ℕ) → text_rule place a x ≡ text_rule place b x
+  IsBlind text place = (a b : Surroundings) (x : List ℕ) → is_allowed_text_of_field place a x ≡ is_allowed_text_of_field place b x
+  IsBlind hash place = (a b : Surroundings) (x : List ℕ) → is_allowed_text_of_field place a x ≡ is_allowed_text_of_field place b x
   IsBlind (array s) place = IsBlind s place
   IsBlind (object schema fs) place = AreBlind fs (100 * schema + 1)
 
@@ -26,12 +26,12 @@ AreBlindBut i no_fields place = Unit {0}
 AreBlindBut zero (field name s fs) place = AreBlind fs (place + 1)
 AreBlindBut (suc i) (field name s fs) place = IsBlind s place × AreBlindBut i fs (place + 1)
 
-one_turned : (place : ℕ) (a b : Surroundings) (x : List ℕ) → text_rule place a x ≡ text_rule place b x → first_bad_leaf (text_leaf place a x ∷ []) ≡ None → first_bad_leaf (text_leaf place b x ∷ []) ≡ None
+one_turned : (place : ℕ) (a b : Surroundings) (x : List ℕ) → is_allowed_text_of_field place a x ≡ is_allowed_text_of_field place b x → first_bad_leaf (text_leaf place a x ∷ []) ≡ None → first_bad_leaf (text_leaf place b x ∷ []) ≡ None
 one_turned place a b x e h = ap (λ (t : Bool). if t then None else Some (BadText place)) (sym e) ∙ h
 
-each_turned : (f g : Plain → List Leaf) → ((v : Plain) → first_bad_leaf (f v) ≡ None → first_bad_leaf (g v) ≡ None) → (vs : Plains) → first_bad_leaf (each_leaf f vs) ≡ None → first_bad_leaf (each_leaf g vs) ≡ None
+each_turned : (f g : Plain → List Leaf) → ((v : Plain) → first_bad_leaf (f v) ≡ None → first_bad_leaf (g v) ≡ None) → (vs : Plains) → first_bad_leaf (leaves_of_all_values f vs) ≡ None → first_bad_leaf (leaves_of_all_values g vs) ≡ None
 each_turned f g t none h = refl
-each_turned f g t (more v vs) h = good_append (g v) (each_leaf g vs) (t v (good_front (f v) (each_leaf f vs) h)) (each_turned f g t vs (good_back (f v) (each_leaf f vs) h))
+each_turned f g t (more v vs) h = good_append (g v) (leaves_of_all_values g vs) (t v (good_front (f v) (leaves_of_all_values f vs) h)) (each_turned f g t vs (good_back (f v) (leaves_of_all_values f vs) h))
 
 mutual
   unfolding leaves field_leaves IsBlind AreBlind

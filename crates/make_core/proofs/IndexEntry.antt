@@ -5,7 +5,7 @@ use Rattle.sha2.proofs.Facts256.{length-sha256}
 use Rattle.adb_view.specs.Plain.{Plain, int, blob, obj, Plains, Shape, number, hash, object, Fields}
 use Rattle.adb_view.specs.Shaped.{HasShape, HaveShapes}
 use Rattle.adb_view.specs.Schema.{shape_of, shapes_of, table}
-use Rattle.make_index.specs.adb_schema.Texts.{Surroundings, number_leaf, text_leaf, surroundings_of_root, surroundings_of_fields, leaves, field_leaves, first_bad_leaf, is_package_hash, text_rule}
+use Rattle.make_index.specs.adb_schema.Texts.{Surroundings, number_leaf, text_leaf, surroundings_of_root, surroundings_of_fields, leaves, field_leaves, first_bad_leaf, is_package_hash_length, is_allowed_text_of_field}
 use Rattle.adb_view.specs.Values.{nth, entries_in, entry_in}
 use Rattle.make_index.specs.adb_schema.Soundness.{payload_in}
 use Rattle.adb_view.specs.declared.tables.Which.{Which}
@@ -30,12 +30,12 @@ abbrev dep_shape : Shape
 dep_shape = shape_of (Obj Dep)
 
 blind_dep : (place : ℕ) → IsBlind dep_shape place
-unfolding shape_of IsBlind AreBlind text_rule
+unfolding shape_of IsBlind AreBlind is_allowed_text_of_field
 blind_dep place = (λ a b x. refl, (λ a b x. refl, (tt, tt)))
 
 -- of all places of an info, only the one of its hash looks around
 blind_info : AreBlindBut 2 infos 301
-unfolding shape_of IsBlind AreBlind text_rule
+unfolding shape_of IsBlind AreBlind is_allowed_text_of_field
 blind_info =
     (λ a b x. refl, (λ a b x. refl, (λ a b x. refl, (λ a b x. refl, (λ a b x. refl, (λ a b x. refl, (λ a b x. refl, (λ a b x. refl, (λ a b x. refl, (tt, (tt, (tt, (tt, (blind_dep 315, (blind_dep 316, (blind_dep 317, (blind_dep 318, (blind_dep 319, (tt, (λ a b x. refl, (tt, tt)))))))))))))))))))))
 
@@ -57,12 +57,12 @@ info_kept v o = part_kept (shapes_of (table Package)) 0 (shape_of (Obj PkgInfo))
 -- ---- its hash and its length
 
 id_here : (a : Surroundings) (id : List ℕ) → length id ≡ 32 → a.root ≡ Package → first_bad_leaf (leaves hash 303 a (blob id)) ≡ None
-unfolding leaves text_rule
-id_here a id len root = good_leaf (text_leaf 303 a id) (ap (λ (w : Which). is_package_hash w (length id)) root ∙ ap (is_package_hash Package) len)
+unfolding leaves is_allowed_text_of_field
+id_here a id len root = good_leaf (text_leaf 303 a id) (ap (λ (w : Which). is_package_hash_length w (length id)) root ∙ ap (is_package_hash_length Package) len)
 
 id_there : (a : Surroundings) (id : List ℕ) → length id ≡ 32 → a.root ≡ Index → first_bad_leaf (leaves hash 303 a (blob id)) ≡ None
-unfolding leaves text_rule
-id_there a id len root = good_leaf (text_leaf 303 a id) (ap (λ (w : Which). is_package_hash w (length id)) root ∙ ap (is_package_hash Index) len)
+unfolding leaves is_allowed_text_of_field
+id_there a id len root = good_leaf (text_leaf 303 a id) (ap (λ (w : Which). is_package_hash_length w (length id)) root ∙ ap (is_package_hash_length Index) len)
 
 len_here : (a : Surroundings) (n : ℕ) → first_bad_leaf (leaves number 313 a (int n)) ≡ None
 unfolding leaves

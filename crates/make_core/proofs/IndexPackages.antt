@@ -7,7 +7,7 @@ use Rattle.make_index.specs.adb_schema.Soundness.{payload_in, root_value}
 use Rattle.adb_view.specs.Values.{entries_in}
 use Rattle.adb_view.specs.declared.tables.Which.TheVariants.{Index}
 use Rattle.adb_view.proofs.ValueEntries.{entries_arr, nth_obj}
-use Rattle.adb_view.specs.Plain.{Plain, none, more, arr_value, blob_or_null}
+use Rattle.adb_view.specs.Plain.{Plain, none, more, array_or_null, blob_or_null}
 use Rattle.command_core.specs.Command.{CommandLine}
 use Rattle.command_core.specs.Files.{without_dot_slash}
 use Rattle.command_core.specs.declared.operands.Operand.{Operand}
@@ -77,7 +77,7 @@ entries_sound read n (o ∷ operands) entries e =
 packages_stand : (description : List ℕ) (entries : List Plain) → packages_in (value_of_index description entries) ≡ entries
 unfolding value_of_index
 packages_stand description entries =
-    ap (λ (v : Plain). list_of (entries_in v)) (nth_obj (more (blob_or_null description) (more (arr_value (plains_of_list entries)) none)) 1)
+    ap (λ (v : Plain). list_of (entries_in v)) (nth_obj (more (blob_or_null description) (more (array_or_null (plains_of_list entries)) none)) 1)
     ∙ (ap list_of (entries_arr (plains_of_list entries)) ∙ list-plains entries)
 
 -- entries that are put in order

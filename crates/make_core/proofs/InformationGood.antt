@@ -13,10 +13,10 @@ use Rattle.dep_core.specs.Spelling.{SpellsDependency}
 use Rattle.dep_core.specs.Value.{DepValue, dep_value, is_match_number, is_version_or_empty}
 use Rattle.dep_core.specs.ValueReading.{dependency_of_value}
 use Rattle.command_core.specs.declared.values.OptionValue.{OptionValue}
-use Rattle.adb_view.specs.Plain.{Plain, null, Plains, none, more, text as text_shape, hash, number as number_shape, array, blob_or_null, obj_value}
+use Rattle.adb_view.specs.Plain.{Plain, null, Plains, none, more, text as text_shape, hash, number as number_shape, array, blob_or_null, trimmed_object_or_null}
 use Rattle.adb_view.specs.Shaped.{Each}
 use Rattle.adb_view.specs.Schema.{shape_of, shapes_of, table}
-use Rattle.make_index.specs.adb_schema.Texts.{Surroundings, number_rule, surroundings_of_fields, text_rule}
+use Rattle.make_index.specs.adb_schema.Texts.{Surroundings, is_allowed_number_of_field, surroundings_of_fields, is_allowed_text_of_field}
 use Rattle.adb_view.specs.declared.tables.Which.TheVariants.{Dep, PkgInfo}
 use Rattle.adb_view.specs.declared.tables.Kind.TheVariants.{Obj}
 use Rattle.make_index.specs.make_info.declared.field.Field.{Field}
@@ -25,7 +25,7 @@ use Rattle.make_index.specs.make_info.declared.field.Kind.{Kind}
 use Rattle.make_index.specs.make_info.declared.field.Kind.TheVariants as Kinds
 use Rattle.make_index.specs.make_info.Fields.{FieldValue, text, number, need, kind_of_field, values_by_kind, text_value_if, if_untagged}
 use Rattle.make_index.specs.make_info.FieldTexts.{FieldText, field_text_in, values_of_info, is_option_for_field, is_text_for_field, is_same_field, is_default_output_too_long}
-use Rattle.make_index.specs.make_info.Information.{FieldWithValue, items_of_valid_options, first_offence, information_fields, information_value, information_of, is_item_for, field_with_value, item_value, items_of_text, items_of_option, lacks_name_or_version, value_of_list, dependency_object, number_in, offends, replaces_priority, plain_value, value_of_single, unless_offence, plain_values_of_field, with_values}
+use Rattle.make_index.specs.make_info.Information.{FieldWithValue, items_of_valid_options, first_offence, information_fields, information_value, information_of, is_item_for, field_with_value, item_value, items_of_text, items_of_option, lacks_name_or_version, value_of_list_field, dependency_object, number_in, offends, replaces_priority, plain_value, value_of_single_field, unless_offence, plain_values_of_field, items_with_values_of_field}
 use Rattle.make_index.specs.make_info.Values.{number_value}
 use Rattle.make_index.proofs.make_info.OutputFacts.{no_offence}
 use Rattle.make_core.proofs.GoodValues.{IsGood, arr_good, hash_good, null_number, number_good, obj_good, text_good}
@@ -51,7 +51,7 @@ items_said : (f : Field) (ss : List FieldValue) → AreSaidAs (kind_of_field f) 
 items_said f [] h = tt
 items_said f (s ∷ ss) h = (h.0, items_said f ss h.1)
 
-with_good : (f : Field) (o : Option (List FieldValue)) (items : List FieldWithValue) → ((ss : List FieldValue) → o ≡ Some ss → AreSaidAs (kind_of_field f) ss) → with_values [] f o ≡ Some items → AreItems items
+with_good : (f : Field) (o : Option (List FieldValue)) (items : List FieldWithValue) → ((ss : List FieldValue) → o ≡ Some ss → AreSaidAs (kind_of_field f) ss) → items_with_values_of_field [] f o ≡ Some items → AreItems items
 with_good f None items h e = absurd (cc (e))
 with_good f (Some ss) items h e = let same : map (field_with_value f) ss ≡ items = cc (e) in subst AreItems same (items_said f ss (h ss refl))
 
@@ -104,7 +104,7 @@ among_first : (f : Field) (g : FieldText) (ss : List FieldValue) → is_same_fie
 among_first f g ss is (s, ts, e) = ap (λ (xs : List FieldValue). list_any (is_item_for f) (map (field_with_value g.field) xs)) e ∙ ap (λ b. b || list_any (is_item_for f) (map (field_with_value g.field) ts)) is
 
 among_given : (f : Field) (g : FieldText) (o : Option (List FieldValue)) → is_same_field g.field f ≡ true → ((ss : List FieldValue) → o ≡ Some ss → (s : FieldValue) × (ts : List FieldValue) × (ss ≡ s ∷ ts))
-    → is_some (with_values [] g.field o) ≡ true → list_any (is_item_for f) (unwrap_or (with_values [] g.field o) []) ≡ true
+    → is_some (items_with_values_of_field [] g.field o) ≡ true → list_any (is_item_for f) (unwrap_or (items_with_values_of_field [] g.field o) []) ≡ true
 among_given f g None is says some = absurd (cc (some))
 among_given f g (Some ss) is says some = among_first f g ss is (says ss refl)
 
@@ -178,14 +178,14 @@ single_by : (P : Plain → Type 0) (f : Field) (o : Option FieldWithValue) → I
 single_by P f None h lacking good = lacking
 single_by P f (Some item) h lacking good = good item.value h
 
-single_good : (P : Plain → Type 0) (f : Field) (items : List FieldWithValue) → AreItems items → P null → ((s : FieldValue) → IsSaidAs (kind_of_field f) s → P (plain_value s)) → P (value_of_single f items)
+single_good : (P : Plain → Type 0) (f : Field) (items : List FieldWithValue) → AreItems items → P null → ((s : FieldValue) → IsSaidAs (kind_of_field f) s → P (plain_value s)) → P (value_of_single_field f items)
 single_good P f items h lacking good = single_by P f (find (is_item_for f) items) (found f items h) lacking good
 
 given_by_some : (P : Plain → Type 0) (f : Field) (o : Option FieldWithValue) → IsFound f o → is_some o ≡ true → ((s : FieldValue) → IsSaidAs (kind_of_field f) s → P (plain_value s)) → P (item_value o)
 given_by_some P f None h some good = absurd (cc (some))
 given_by_some P f (Some item) h some good = good item.value h
 
-given_single : (P : Plain → Type 0) (f : Field) (items : List FieldWithValue) → AreItems items → list_any (is_item_for f) items ≡ true → ((s : FieldValue) → IsSaidAs (kind_of_field f) s → P (plain_value s)) → P (value_of_single f items)
+given_single : (P : Plain → Type 0) (f : Field) (items : List FieldWithValue) → AreItems items → list_any (is_item_for f) items ≡ true → ((s : FieldValue) → IsSaidAs (kind_of_field f) s → P (plain_value s)) → P (value_of_single_field f items)
 given_single P f items h any good = given_by_some P f (find (is_item_for f) items) (found f items h) (there f items any) good
 
 values_good : (P : Plain → Type 0) (f : Field) (items : List FieldWithValue) → AreItems items → ((s : FieldValue) → IsSaidAs (kind_of_field f) s → P (plain_value s)) → Each P (plain_values_of_field f items)
@@ -199,19 +199,19 @@ values_good P f (item ∷ items) h good = by_field (is_item_for f item) refl (va
 -- ---- the values of what is said
 
 name_good : (a : Surroundings) (s : FieldValue) → IsSaidAs Kinds.PackageName s → IsGood text_shape 301 a (plain_value s)
-unfolding text_rule
+unfolding is_allowed_text_of_field
 name_good a (text b) h = text_good 301 a b h
 name_good a (number n) h = absurd h
 name_good a (need d) h = absurd h
 
 version_good : (a : Surroundings) (s : FieldValue) → IsSaidAs Kinds.PackageVersion s → IsGood text_shape 302 a (plain_value s)
-unfolding text_rule
+unfolding is_allowed_text_of_field
 version_good a (text b) h = text_good 302 a b h
 version_good a (number n) h = absurd h
 version_good a (need d) h = absurd h
 
 abbrev IsFree : ℕ → Type 0
-IsFree place = (a : Surroundings) (b : List ℕ) → text_rule place a b ≡ true
+IsFree place = (a : Surroundings) (b : List ℕ) → is_allowed_text_of_field place a b ≡ true
 
 any_text : (place : ℕ) (a : Surroundings) → IsFree place → (s : FieldValue) → IsSaidAs Kinds.AnyText s → IsGood text_shape place a (plain_value s)
 any_text place a free (text b) h = text_good place a b (free a b)
@@ -228,7 +228,7 @@ hex_bytes place a free (text b) h = hash_good place a b (free a b)
 hex_bytes place a free (number n) h = absurd h
 hex_bytes place a free (need d) h = absurd h
 
-any_number : (place : ℕ) (a : Surroundings) → ((n : ℕ) → number_rule place n ≡ true) → (s : FieldValue) → IsSaidAs Kinds.Number s → IsGood number_shape place a (plain_value s)
+any_number : (place : ℕ) (a : Surroundings) → ((n : ℕ) → is_allowed_number_of_field place n ≡ true) → (s : FieldValue) → IsSaidAs Kinds.Number s → IsGood number_shape place a (plain_value s)
 any_number place a free (text b) h = absurd h
 any_number place a free (number n) h = number_good place a n h (free n)
 any_number place a free (need d) h = absurd h
@@ -249,13 +249,13 @@ unfolding dependency_of_value
 need_parts name version m d e = if_some _ _ d e
 
 need_good : Needs → (place : ℕ) (a : Surroundings) (d : Dependency) → IsNeed d → IsGood (shape_of (Obj Dep)) place a (dependency_object (dep_value d))
-unfolding shape_of text_rule
+unfolding shape_of is_allowed_text_of_field
 need_good needs place a d (part, is, if_untagged) =
     let v : DepValue = dep_value d in
     let all = and_parts (is_dep_name v.name) (is_version_or_empty v.version && is_match_number (unwrap_or v.matching 0)) (need_parts v.name v.version (unwrap_or v.matching 0) d (needs.back d (needs.spelled part d is).0 if_untagged)) in
     let both = and_parts (is_version_or_empty v.version) (is_match_number (unwrap_or v.matching 0)) all.1 in
     let vs : Plains = more (blob_or_null v.name) (more (blob_or_null v.version) (more (number_value v.matching) none)) in
-    let inside : Surroundings = surroundings_of_fields 1 a (obj_value vs) in
+    let inside : Surroundings = surroundings_of_fields 1 a (trimmed_object_or_null vs) in
     obj_good 1 (shapes_of (table Dep)) place a inside vs refl (text_good 101 inside v.name all.0, (text_good 102 inside v.version both.0, (matching_good inside v.matching both.1, tt)))
 
 a_need : Needs → (place : ℕ) (a : Surroundings) (s : FieldValue) → IsSaidAs Kinds.Dependencies s → IsGood (shape_of (Obj Dep)) place a (plain_value s)
@@ -266,23 +266,23 @@ a_need needs place a (need d) h = need_good needs place a d h
 -- ---- all of them
 
 module _ (needs : Needs) (items : List FieldWithValue) (is : IsInformation items) where
-  text_at : (place : ℕ) (a : Surroundings) (f : Field) → kind_of_field f ≡ Kinds.AnyText → IsFree place → IsGood text_shape place a (value_of_single f items)
+  text_at : (place : ℕ) (a : Surroundings) (f : Field) → kind_of_field f ≡ Kinds.AnyText → IsFree place → IsGood text_shape place a (value_of_single_field f items)
   text_at place a f k free =
       single_good (IsGood text_shape place a) f items is.good (text_good place a [] (free a [])) (λ s h. any_text place a free s (subst (λ (kind : Kind). IsSaidAs kind s) k h))
 
-  number_at : (place : ℕ) (a : Surroundings) (f : Field) → kind_of_field f ≡ Kinds.Number → ((n : ℕ) → number_rule place n ≡ true) → IsGood number_shape place a (value_of_single f items)
+  number_at : (place : ℕ) (a : Surroundings) (f : Field) → kind_of_field f ≡ Kinds.Number → ((n : ℕ) → is_allowed_number_of_field place n ≡ true) → IsGood number_shape place a (value_of_single_field f items)
   number_at place a f k free =
       single_good (IsGood number_shape place a) f items is.good (null_number place a (free 0)) (λ s h. any_number place a free s (subst (λ (kind : Kind). IsSaidAs kind s) k h))
 
-  needs_at : (place : ℕ) (a : Surroundings) (f : Field) → kind_of_field f ≡ Kinds.Dependencies → IsGood (array (shape_of (Obj Dep))) place a (value_of_list f items)
+  needs_at : (place : ℕ) (a : Surroundings) (f : Field) → kind_of_field f ≡ Kinds.Dependencies → IsGood (array (shape_of (Obj Dep))) place a (value_of_list_field f items)
   needs_at place a f k =
       arr_good (shape_of (Obj Dep)) place a (plain_values_of_field f items)
       (values_good (IsGood (shape_of (Obj Dep)) place a) f items is.good (λ s h. a_need needs place a s (subst (λ (kind : Kind). IsSaidAs kind s) k h)))
 
   pub info_good : (size : ℕ) → size < 2 ^ 64 → IsGood (shape_of (Obj PkgInfo)) 701 around_folder (information_value items size)
-  unfolding shape_of text_rule information_value
+  unfolding shape_of is_allowed_text_of_field information_value
   info_good size small =
-      let a : Surroundings = surroundings_of_fields 3 around_folder (obj_value (information_fields items size)) in
+      let a : Surroundings = surroundings_of_fields 3 around_folder (trimmed_object_or_null (information_fields items size)) in
       obj_good 3 (shapes_of (table PkgInfo)) 701 around_folder a (information_fields items size) refl (
         given_single (IsGood text_shape 301 a) Fields.Name items is.good is.name (name_good a),
         (

@@ -10,10 +10,10 @@ use Rattle.base_core.specs.Name.{is_name}
 use Rattle.make_index.specs.adb_fields.FirstPair.{IsIn}
 use Rattle.make_index.proofs.adb_fields.Members.{from-flat_map, from-map}
 use Rattle.make_index.specs.adb_fields.Paths.{path_of}
-use Rattle.make_index.specs.adb_schema.Rules.{is_file_name, is_folder_name}
-use Rattle.make_package.specs.package_files.Folders.{FolderListing, prefixes_before_slashes, path_below, names_in_folder, all_folders_above, folder_of, folder_listings_of, folders_above, is_slash, folder_listing_of, last_part_of}
+use Rattle.make_index.specs.adb_schema.Rules.{is_file_name_in_folder, is_folder_name}
+use Rattle.make_package.specs.package_files.Folders.{FolderListing, prefixes_before_slashes, path_relative_to, names_in_folder, all_folders_above, folder_of, folder_listings_of, folders_above, is_slash, folder_listing_of, last_part_of}
 use Rattle.make_package.specs.package_files.Package.{Source, SourceFolder, kind_of_file, installed_size, size_of_folder, size_of_kind}
-use Rattle.make_package.specs.package_files.Sources.{and_then, each_from, source_file_read_at, sources_from, source_folder_read_at, source_folders_from, found_bytes_or_missing}
+use Rattle.make_package.specs.package_files.Sources.{and_then, results_from_read, source_file_read_at, sources_from, source_folder_read_at, source_folders_from, found_bytes_or_missing}
 use Rattle.make_index.specs.make_info.Reads.{Reads}
 use Rattle.make_index.specs.make_info.declared.fault.MakeFault.{MakeFault}
 use Rattle.make_core.proofs.Apart.{AreApartFiles, IsApart, Rises, folder_names_of, in_order_in, in_order_rises, rises_apart, source_names}
@@ -27,17 +27,17 @@ AreListed dir (name ∷ names) = ((path : List ℕ) × (name ≡ dir ++ 47 ∷ p
 
 -- ---- a name and its path
 
-pub below_is : (dir path : List ℕ) → path_below dir (dir ++ 47 ∷ path) ≡ path
+pub below_is : (dir path : List ℕ) → path_relative_to dir (dir ++ 47 ∷ path) ≡ path
 below_is dir path =
     ap (drop (length dir + 1)) (sym (append_assoc dir (47 ∷ []) path)) ∙ drop_at (dir ++ 47 ∷ []) path (length dir + 1) (omega (arith, length-append dir (47 ∷ [])))
 
 pub record IsListed (dir name : List ℕ) : Type 0 where
-  pub is : name ≡ dir ++ 47 ∷ path_below dir name
-  pub named : is_name (path_below dir name) ≡ true
+  pub is : name ≡ dir ++ 47 ∷ path_relative_to dir name
+  pub named : is_name (path_relative_to dir name) ≡ true
 
 listed_name : (dir name path : List ℕ) → name ≡ dir ++ 47 ∷ path → is_name name ≡ true → IsListed dir name
 listed_name dir name path is named =
-    let same : path_below dir name ≡ path = ap (path_below dir) is ∙ below_is dir path in
+    let same : path_relative_to dir name ≡ path = ap (path_relative_to dir) is ∙ below_is dir path in
     record {
       is = is ∙ ap (λ (p : List ℕ). dir ++ 47 ∷ p) (sym same);
       named = ap is_name same ∙ (sides dir path (ap is_name (sym is) ∙ named)).1;
@@ -73,10 +73,10 @@ over_good : (path f : List ℕ) → is_name path ≡ true → IsIn f (folders_ab
 over_good path f name (inl is) = ap is_folder_name is
 over_good path f name (inr h) = let (rest, e) = before_slash path f h in folder_good f rest (ap is_name (sym e) ∙ name)
 
-pub folder_named : (dir : List ℕ) (names : List (List ℕ)) (f : List ℕ) → AreListed dir names → IsIn f (all_folders_above (map (path_below dir) names)) → is_folder_name f ≡ true
+pub folder_named : (dir : List ℕ) (names : List (List ℕ)) (f : List ℕ) → AreListed dir names → IsIn f (all_folders_above (map (path_relative_to dir) names)) → is_folder_name f ≡ true
 folder_named dir names f all h =
-    let (path, at, over) = from-flat_map folders_above f (map (path_below dir) names) (in_order_in f (flat_map folders_above (map (path_below dir) names)) h) in
-    let (name, here, is) = from-map (path_below dir) path names at in
+    let (path, at, over) = from-flat_map folders_above f (map (path_relative_to dir) names) (in_order_in f (flat_map folders_above (map (path_relative_to dir) names)) h) in
+    let (name, here, is) = from-map (path_relative_to dir) path names at in
     over_good path f (ap is_name is ∙ (listed_in dir names name all here).named) over
 
 -- ---- files
@@ -84,24 +84,24 @@ folder_named dir names f all h =
 -- the names of a folder's files
 abbrev pub AreFileNames : List ℕ → List (List ℕ) → Type 0
 AreFileNames f [] = Unit {0}
-AreFileNames f (part ∷ parts) = (is_file_name f part ≡ true) × AreFileNames f parts
+AreFileNames f (part ∷ parts) = (is_file_name_in_folder f part ≡ true) × AreFileNames f parts
 
 abbrev pub stands_in : List ℕ → List ℕ → List ℕ → Bool
-stands_in dir f name = bytes_eq (folder_of (path_below dir name)) f
+stands_in dir f name = bytes_eq (folder_of (path_relative_to dir name)) f
 
-part_is : (dir name : List ℕ) → IsListed dir name → last_part_of name ≡ last_part_of (path_below dir name)
-part_is dir name l = ap last_part_of l.is ∙ same_part dir (path_below dir name)
+part_is : (dir name : List ℕ) → IsListed dir name → last_part_of name ≡ last_part_of (path_relative_to dir name)
+part_is dir name l = ap last_part_of l.is ∙ same_part dir (path_relative_to dir name)
 
-file_named : (dir f name : List ℕ) → IsListed dir name → stands_in dir f name ≡ true → is_file_name f (last_part_of name) ≡ true
+file_named : (dir f name : List ℕ) → IsListed dir name → stands_in dir f name ≡ true → is_file_name_in_folder f (last_part_of name) ≡ true
 file_named dir f name l here =
-    let path : List ℕ = path_below dir name in
+    let path : List ℕ = path_relative_to dir name in
     let folder : folder_of path ≡ f = (bytes_eq-Decides (folder_of path) f).0 here in
     let part = part_is dir name l in
-    (λ k. is_file_name (sym folder k) (part k)) ∙ (path_good path l.named).good
+    (λ k. is_file_name_in_folder (sym folder k) (part k)) ∙ (path_good path l.named).good
 
 pub recovered : (dir f name : List ℕ) → IsListed dir name → stands_in dir f name ≡ true → name ≡ dir ++ 47 ∷ path_of f (last_part_of name)
 recovered dir f name l here =
-    let path : List ℕ = path_below dir name in
+    let path : List ℕ = path_relative_to dir name in
     let folder : folder_of path ≡ f = (bytes_eq-Decides (folder_of path) f).0 here in
     let part = part_is dir name l in
     let whole : path_of f (last_part_of name) ≡ path = (λ k. path_of (sym folder k) (part k)) ∙ (path_good path l.named).is in
@@ -160,11 +160,11 @@ AllOf R (x ∷ xs) [] = ⊥
 AllOf R (x ∷ xs) (y ∷ ys) = R x y × AllOf R xs ys
 
 pub each_read : {X Y : Type 0} (R : X → Y → Type 0) (count : X → ℕ) (of : ℕ → X → Result Y MakeFault) → ((n : ℕ) (x : X) (y : Y) → of n x ≡ Ok y → R x y)
-    → (n : ℕ) (xs : List X) (ys : List Y) → each_from count of n xs ≡ Ok ys → AllOf R xs ys
+    → (n : ℕ) (xs : List X) (ys : List Y) → results_from_read count of n xs ≡ Ok ys → AllOf R xs ys
 each_read R count of h n [] ys e = let same : [] ≡ ys = cc (e) in subst (AllOf R []) same tt
 each_read R count of h n (x ∷ xs) ys e =
-    let one = after_ok (of n x) (λ y. and_then (each_from count of (n + count x) xs) (λ zs. Ok (y ∷ zs))) ys e in
-    let two = after_ok (each_from count of (n + count x) xs) (λ zs. Ok (one.x ∷ zs)) ys one.gives in
+    let one = after_ok (of n x) (λ y. and_then (results_from_read count of (n + count x) xs) (λ zs. Ok (y ∷ zs))) ys e in
+    let two = after_ok (results_from_read count of (n + count x) xs) (λ zs. Ok (one.x ∷ zs)) ys one.gives in
     let gives = two.gives in
     let same : one.x ∷ two.x ≡ ys = cc (gives) in
     subst (AllOf R (x ∷ xs)) same (h n x one.x one.is, each_read R count of h (n + count x) xs two.x two.is)
@@ -241,11 +241,11 @@ module _ (dir : List ℕ) (names : List (List ℕ)) where
   pub sources_good : (place : ℕ) (read : Reads) (n : ℕ) (sources : List SourceFolder) → AreListed dir names → Rises names → source_folders_from place read n (folder_listings_of dir names) ≡ Ok sources → AreSources sources
   unfolding folder_listings_of
   sources_good place read n sources all rises e =
-      let fs : List (List ℕ) = all_folders_above (map (path_below dir) names) in
+      let fs : List (List ℕ) = all_folders_above (map (path_relative_to dir) names) in
       let are = folders_read place read n (map (folder_listing_of dir names) fs) sources e in
       record {
         named = all_named fs sources all (λ f here. folder_named dir names f all here) are;
-        apart = subst IsApart (sym (names_are fs sources are)) (rises_apart fs (in_order_rises (flat_map folders_above (map (path_below dir) names))));
+        apart = subst IsApart (sym (names_are fs sources are)) (rises_apart fs (in_order_rises (flat_map folders_above (map (path_relative_to dir) names))));
         files_apart = all_apart fs sources all (rises_apart names rises) are;
       }
 

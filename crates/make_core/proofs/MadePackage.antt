@@ -9,9 +9,9 @@ use Rattle.command_core.specs.Command.{CommandLine}
 use Rattle.make_index.specs.make_info.Reads.{Reads}
 use Rattle.make_index.specs.make_info.declared.fault.MakeFault.{MakeFault}
 use Rattle.make_index.specs.make_info.declared.fault.MakeFault.TheVariants.{FileMissing, FileBad, InfoBad, TooLarge, Disk, Memory}
-use Rattle.make_package.specs.Answers.{IsMadeBySome, IsMadeFromTree, IsMadeOf, IsMakeResult, UnlessDiskOrMemory}
+use Rattle.make_package.specs.Answers.{IsMadeBySomeReads, IsMadeFromTree, IsMadeOf, IsMakeResult, UnlessDiskOrMemory}
 use Rattle.make_package.specs.Making.{made_package}
-use Rattle.make_package.specs.package_files.Sources.{AreNamesBelowFirst, values_of_letter}
+use Rattle.make_package.specs.package_files.Sources.{AreNamesBelowFirstFolder, values_of_letter}
 
 made_in : (told : List TreeState) (command : CommandLine) (made : Result (List ℕ) MakeFault) → IsMadeOf told command made → IfObservable told (λ v. IsMadeFromTree command v made)
 made_in [] command made m = tt
@@ -21,7 +21,7 @@ made_in (v ∷ vs) command made m = record {
   is = ap (λ (read : Reads). made_package command m.names read) (λ j n name. sym (m.reads.observed n name) j) ∙ m.reads.is;
 }
 
-made_by_some : (told : List TreeState) (command : CommandLine) (made : Result (List ℕ) MakeFault) → IsMadeOf told command made → IsMadeBySome command made
+made_by_some : (told : List TreeState) (command : CommandLine) (made : Result (List ℕ) MakeFault) → IsMadeOf told command made → IsMadeBySomeReads command made
 made_by_some told command made m = record { names = m.names; named = m.named; read = m.reads.read; is = m.reads.is }
 
 refused_as : (fault : MakeFault) (P Q : Result (List ℕ) MakeFault → Type 0) → ((made : Result (List ℕ) MakeFault) → P made → Q made) → UnlessDiskOrMemory fault P → UnlessDiskOrMemory fault Q
@@ -41,18 +41,18 @@ module _ (told : List TreeState) (command : CommandLine) where
   run_err (Ok file) h = tt
   run_err (Err fault) h = refused_as fault (IsMadeOf told command) (λ made. IfObservable told (λ v. IsMadeFromTree command v made)) (made_in told command) h
 
-  pub run_found : (r : Result (Vec ℕ Global) MakeFault) → IsMakeResult told command r → IfOk r (λ file. IsMadeBySome command (Ok file.items))
+  pub run_found : (r : Result (Vec ℕ Global) MakeFault) → IsMakeResult told command r → IfOk r (λ file. IsMadeBySomeReads command (Ok file.items))
   run_found (Ok file) h = made_by_some told command (Ok file.items) h
   run_found (Err fault) h = tt
 
-  pub run_found_err : (r : Result (Vec ℕ Global) MakeFault) → IsMakeResult told command r → IfErr r (λ fault. UnlessDiskOrMemory fault (IsMadeBySome command))
+  pub run_found_err : (r : Result (Vec ℕ Global) MakeFault) → IsMakeResult told command r → IfErr r (λ fault. UnlessDiskOrMemory fault (IsMadeBySomeReads command))
   run_found_err (Ok file) h = tt
-  run_found_err (Err fault) h = refused_as fault (IsMadeOf told command) (IsMadeBySome command) (made_by_some told command) h
+  run_found_err (Err fault) h = refused_as fault (IsMadeOf told command) (IsMadeBySomeReads command) (made_by_some told command) h
 
 -- ---- what is made is sound
 
 abbrev pub SoundPackage : Type 0
-SoundPackage = (command : CommandLine) (names : List (List ℕ)) (read : Reads) (bytes : List ℕ) → AreNamesBelowFirst (values_of_letter FILES command.values) names
+SoundPackage = (command : CommandLine) (names : List (List ℕ)) (read : Reads) (bytes : List ℕ) → AreNamesBelowFirstFolder (values_of_letter FILES command.values) names
     → made_package command names read ≡ Ok bytes → length bytes < 2 ^ 64 → container_fault bytes ≡ None
 
 pub run_sound : SoundPackage → (told : List TreeState) (command : CommandLine) (r : Result (Vec ℕ Global) MakeFault) → IsMakeResult told command r → IfOk r (λ file. container_fault file.items ≡ None)

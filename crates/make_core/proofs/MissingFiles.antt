@@ -13,10 +13,10 @@ use Rattle.make_index.specs.make_info.Information.{FieldWithValue, information}
 use Rattle.make_index.specs.make_info.Reads.{Reads}
 use Rattle.make_index.specs.make_info.declared.fault.MakeFault.{MakeFault}
 use Rattle.make_index.specs.make_info.declared.fault.MakeFault.TheVariants.{FileMissing}
-use Rattle.make_package.specs.package_files.Folders.{FolderListing, all_folders_above, folder_listings_of, last_part_of, folder_listing_of, names_in_folder, path_below}
+use Rattle.make_package.specs.package_files.Folders.{FolderListing, all_folders_above, folder_listings_of, last_part_of, folder_listing_of, names_in_folder, path_relative_to}
 use Rattle.make_package.specs.Making.{container_unless, made_package, or_info_bad, package_container, package_of_parts}
 use Rattle.make_package.specs.package_files.Package.{Script, Source, SourceFolder}
-use Rattle.make_package.specs.package_files.Sources.{each_from, source_file_read_at, source_folder_read_at, folders_below, found_bytes_or_missing, and_then, script_at, scripts_from, source_folders_from, sources_from, values_of_letter}
+use Rattle.make_package.specs.package_files.Sources.{results_from_read, source_file_read_at, source_folder_read_at, folders_below, found_bytes_or_missing, and_then, script_at, scripts_from, source_folders_from, sources_from, values_of_letter}
 use Rattle.make_index.specs.pkg_core.Contents.{Contents}
 use Rattle.make_core.specs.Missing.{IsAbsent, IsMissingFile, IsMissingScript}
 use Rattle.make_core.proofs.ListedNames.{filter_in, stands_in}
@@ -42,21 +42,21 @@ one_of_more : {X : Type 0} (R : X → MakeFault → Type 0) (x : X) (xs : List X
 one_of_more R x xs fault one = record { x = one.x; is_in = inr one.is_in; is = one.is }
 
 module _ {X Y : Type 0} (R : X → MakeFault → Type 0) (count : X → ℕ) (of : ℕ → X → Result Y MakeFault) (each : (n : ℕ) (x : X) (fault : MakeFault) → of n x ≡ Err fault → R x fault) where
-  rest_fails : (n : ℕ) (x : X) (xs : List X) (y : Y) (fault : MakeFault) → ((f : MakeFault) → each_from count of (n + count x) xs ≡ Err f → IsFaultOfOne R xs f)
-      → Fails (each_from count of (n + count x) xs) (λ ys. Ok (y ∷ ys)) fault → IsFaultOfOne R (x ∷ xs) fault
+  rest_fails : (n : ℕ) (x : X) (xs : List X) (y : Y) (fault : MakeFault) → ((f : MakeFault) → results_from_read count of (n + count x) xs ≡ Err f → IsFaultOfOne R xs f)
+      → Fails (results_from_read count of (n + count x) xs) (λ ys. Ok (y ∷ ys)) fault → IsFaultOfOne R (x ∷ xs) fault
   rest_fails n x xs y fault further (at_first e) = one_of_more R x xs fault (further fault e)
   rest_fails n x xs y fault further (behind ys e f) = absurd (cc (f))
 
-  first_fails : (n : ℕ) (x : X) (xs : List X) (fault : MakeFault) → ((f : MakeFault) → each_from count of (n + count x) xs ≡ Err f → IsFaultOfOne R xs f)
-      → Fails (of n x) (λ y. and_then (each_from count of (n + count x) xs) (λ ys. Ok (y ∷ ys))) fault → IsFaultOfOne R (x ∷ xs) fault
+  first_fails : (n : ℕ) (x : X) (xs : List X) (fault : MakeFault) → ((f : MakeFault) → results_from_read count of (n + count x) xs ≡ Err f → IsFaultOfOne R xs f)
+      → Fails (of n x) (λ y. and_then (results_from_read count of (n + count x) xs) (λ ys. Ok (y ∷ ys))) fault → IsFaultOfOne R (x ∷ xs) fault
   first_fails n x xs fault further (at_first e) = record { x = x; is_in = inl refl; is = each n x fault e }
   first_fails n x xs fault further (behind y e f) =
-      rest_fails n x xs y fault further (fails_by (each_from count of (n + count x) xs) (λ ys. Ok (y ∷ ys)) fault f)
+      rest_fails n x xs y fault further (fails_by (results_from_read count of (n + count x) xs) (λ ys. Ok (y ∷ ys)) fault f)
 
-  each_fails : (n : ℕ) (xs : List X) (fault : MakeFault) → each_from count of n xs ≡ Err fault → IsFaultOfOne R xs fault
+  each_fails : (n : ℕ) (xs : List X) (fault : MakeFault) → results_from_read count of n xs ≡ Err fault → IsFaultOfOne R xs fault
   each_fails n [] fault e = absurd (cc (e))
   each_fails n (x ∷ xs) fault e =
-      first_fails n x xs fault (λ f g. each_fails (n + count x) xs f g) (fails_by (of n x) (λ y. and_then (each_from count of (n + count x) xs) (λ ys. Ok (y ∷ ys))) fault e)
+      first_fails n x xs fault (λ f g. each_fails (n + count x) xs f g) (fails_by (of n x) (λ y. and_then (results_from_read count of (n + count x) xs) (λ ys. Ok (y ∷ ys))) fault e)
 
 -- ---- one file
 
@@ -103,8 +103,8 @@ record IsMissingBelow (read : Reads) (place : ℕ) (names : List (List ℕ)) (fa
 below_fails : (read : Reads) (place n : ℕ) (dir : List ℕ) (names : List (List ℕ)) (fault : MakeFault) → source_folders_from place read n (folder_listings_of dir names) ≡ Err fault → IsMissingBelow read place names fault
 unfolding folder_listings_of
 below_fails read place n dir names fault e =
-    let one = each_fails (IsMissingIn read place) (λ (folder : FolderListing). length folder.files) (source_folder_read_at place read) (folder_fails place read) n (map (folder_listing_of dir names) (all_folders_above (map (path_below dir) names))) fault e in
-    let listing = from-map (folder_listing_of dir names) one.x (all_folders_above (map (path_below dir) names)) one.is_in in
+    let one = each_fails (IsMissingIn read place) (λ (folder : FolderListing). length folder.files) (source_folder_read_at place read) (folder_fails place read) n (map (folder_listing_of dir names) (all_folders_above (map (path_relative_to dir) names))) fault e in
+    let listing = from-map (folder_listing_of dir names) one.x (all_folders_above (map (path_relative_to dir) names)) one.is_in in
     let file = one.is in
     let here : IsIn file.x (names_in_folder dir names listing.0) = subst (λ (l : FolderListing). IsIn file.x l.files) listing.2 file.is_in in
     record { name = file.x; listed = (filter_in (stands_in dir listing.0) file.x names here).0; is = file.is }

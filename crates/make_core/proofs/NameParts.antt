@@ -7,10 +7,10 @@ use Rattle.std.proofs.lemmas.List.{drop_at, get_or-append-add, length-append, ta
 use Rattle.std.proofs.lemmas.List.Folds.{list_all-append, list_any-append}
 use Rattle.std.proofs.lemmas.List.Sums.{suffix_len_is}
 use Rattle.std.proofs.lemmas.Str.{IsCharBoundary-after_ascii, IsCharBoundary-before_ascii, IsUtf8-drop, IsUtf8-from_is_utf8, IsUtf8-take, is_utf8-from_IsUtf8}
-use Rattle.base_core.specs.Name.{is_name, is_part, parts_of}
+use Rattle.base_core.specs.Name.{is_name, is_path_part, path_parts_of}
 use Rattle.base_core.proofs.NameParts.{split_slash}
 use Rattle.make_index.specs.adb_fields.Paths.{path_of}
-use Rattle.make_index.specs.adb_schema.Rules.{is_file_name, is_folder_name, is_one_part}
+use Rattle.make_index.specs.adb_schema.Rules.{is_file_name_in_folder, is_folder_name, is_one_part}
 use Rattle.make_package.specs.package_files.Folders.{folder_of, is_slash, last_part_of}
 
 -- ---- what a name is, test by test
@@ -20,12 +20,12 @@ pub record IsNamed (bytes : List ℕ) : Type 0 where
   pub short : length bytes ≤ 1024
   pub no_zero : list_any (λ b. b == 0) bytes ≡ false
   pub utf8 : is_utf8 bytes ≡ true
-  pub parts : list_all is_part (parts_of bytes) ≡ true
+  pub parts : list_all is_path_part (path_parts_of bytes) ≡ true
 
 pub named : (bytes : List ℕ) → is_name bytes ≡ true → IsNamed bytes
 unfolding is_name
 named bytes is =
-    let a = and_parts _ (list_all is_part (parts_of bytes)) is in
+    let a = and_parts _ (list_all is_path_part (path_parts_of bytes)) is in
     let b = and_parts _ (is_utf8 bytes) a.0 in
     let c = and_parts _ (not (list_any (λ b. b == 0) bytes)) b.0 in
     let d = and_parts (nat_lt 0 (length bytes)) (nat_le (length bytes) 1024) c.0 in
@@ -34,7 +34,7 @@ named bytes is =
 name_of : (bytes : List ℕ) → IsNamed bytes → is_name bytes ≡ true
 unfolding is_name
 name_of bytes n =
-    and_from _ (list_all is_part (parts_of bytes))
+    and_from _ (list_all is_path_part (path_parts_of bytes))
     (and_from _ (is_utf8 bytes)
     (and_from _ (not (list_any (λ b. b == 0) bytes))
     (and_from (nat_lt 0 (length bytes)) (nat_le (length bytes) 1024) (lt-ltb 0 (length bytes) n.some) (le-leb (length bytes) 1024 n.short))
@@ -45,7 +45,7 @@ name_of bytes n =
 -- ---- both sides are names
 
 -- no part is empty
-pub some_bytes : (bytes : List ℕ) → list_all is_part (parts_of bytes) ≡ true → 0 < length bytes
+pub some_bytes : (bytes : List ℕ) → list_all is_path_part (path_parts_of bytes) ≡ true → 0 < length bytes
 some_bytes [] e = absurd (cc (e))
 some_bytes (b ∷ bs) e = omega arith
 
@@ -71,7 +71,7 @@ sides a b is =
     let short = n.short in
     let zero_free = or_parts (list_any (λ b. b == 0) a) (list_any (λ b. b == 0) b) (sym (list_any-append (λ b. b == 0) a (47 ∷ b)) ∙ n.no_zero) in
     let utf8 = utf8_sides a b n.utf8 in
-    let parts = and_parts (list_all is_part (parts_of a)) (list_all is_part (parts_of b)) (sym (list_all-append is_part (parts_of a) (parts_of b)) ∙ (ap (list_all is_part) (sym (split_slash a b)) ∙ n.parts)) in (
+    let parts = and_parts (list_all is_path_part (path_parts_of a)) (list_all is_path_part (path_parts_of b)) (sym (list_all-append is_path_part (path_parts_of a) (path_parts_of b)) ∙ (ap (list_all is_path_part) (sym (split_slash a b)) ∙ n.parts)) in (
       name_of a (record { some = some_bytes a parts.0; short = omega arith; no_zero = zero_free.0; utf8 = utf8.0; parts = parts.0 }),
       name_of b (record { some = some_bytes b parts.1; short = omega arith; no_zero = zero_free.1; utf8 = utf8.1; parts = parts.1 }),
     )
@@ -148,7 +148,7 @@ path_behind (b ∷ bs) part some = refl
 
 pub record IsPath (path : List ℕ) : Type 0 where
   pub is : path_of (folder_of path) (last_part_of path) ≡ path
-  pub good : is_file_name (folder_of path) (last_part_of path) ≡ true
+  pub good : is_file_name_in_folder (folder_of path) (last_part_of path) ≡ true
 
 file_by : (path folder part : List ℕ) → folder_of path ≡ folder → last_part_of path ≡ part → path_of folder part ≡ path → is_name part ≡ true → list_any is_slash part ≡ false → length path ≤ 1024 → IsPath path
 file_by path folder part f p is name free short =

@@ -6,11 +6,11 @@ use Rattle.base_core.specs.declared.cause.Cause.{Cause}
 use Rattle.base_core.specs.declared.cause.Cause.TheVariants.{BlockOrder, Truncated}
 use Rattle.base_core.proofs.Causes.{first_none, second_none}
 use Rattle.adb_block.specs.Piece.{Piece, may_be_next_kind}
-use Rattle.adb_block.specs.Framing.{HeadFields, Step, ended, failed, block, head_of, step_by_head, kind_of_number, step_by_order, step_by_size, next_step}
+use Rattle.adb_block.specs.Framing.{HeadFields, Step, ended, failed, block, block_head_fields, step_by_head, kind_of_number, step_by_order, step_by_size, next_step}
 use Rattle.adb_block.specs.Header.{header_of}
 use Rattle.adb_block.specs.Reading.{Reading, block_stream_from_offset, block_stream_from, block_stream_after_step}
 use Rattle.adb_block.specs.declared.block.BlockKind.{BlockKind}
-use Rattle.adb_view.specs.Head.{head_fault, root_of}
+use Rattle.adb_view.specs.Head.{payload_head_fault, root_word_of_payload}
 use Rattle.adb_view.specs.Plain.{Plain, null, IsNormal, Shape, plain_of}
 use Rattle.adb_view.specs.Visits.{visits, MOST_VALUES}
 use Rattle.adb_view.specs.Shaped.{HasShape}
@@ -66,7 +66,7 @@ headed_first at bytes (Some head) h = ordered_first at bytes head (kind_of_numbe
 
 step_first : (at : ℕ) (bytes : List ℕ) → AreBytes bytes → IsFirst (next_step None at bytes)
 unfolding next_step
-step_first at bytes h = either _ _ _ (failed_first (Truncated at)) (headed_first at bytes (head_of bytes) h)
+step_first at bytes h = either _ _ _ (failed_first (Truncated at)) (headed_first at bytes (block_head_fields bytes) h)
 
 -- ---- so its payload is good
 
@@ -103,13 +103,13 @@ some_is None e = absurd cc
 value_opened : Values → (payload : List ℕ) → IsPayload payload → IsOpened (root_value Package payload)
 unfolding value_at
 value_opened laws payload p =
-    let shape = second_none (head_fault payload) _ p.1 in
-    let texts = second_none (shape_fault payload (shape_of (Obj Package)) (root_of payload)) _ shape in
-    let found = (laws.faultless payload (shape_of (Obj Package)) (root_of payload)).0 (first_none _ _ shape) in
-    let is = some_is (plain_of payload (shape_of (Obj Package)) (root_of payload)) found.0 in
+    let shape = second_none (payload_head_fault payload) _ p.1 in
+    let texts = second_none (shape_fault payload (shape_of (Obj Package)) (root_word_of_payload payload)) _ shape in
+    let found = (laws.faultless payload (shape_of (Obj Package)) (root_word_of_payload payload)).0 (first_none _ _ shape) in
+    let is = some_is (plain_of payload (shape_of (Obj Package)) (root_word_of_payload payload)) found.0 in
     record {
-      normal = subst (λ (o : Option Plain). IfSome o IsNormal) is (laws.normal payload p.0 (shape_of (Obj Package)) (root_of payload));
-      shaped = subst (λ (o : Option Plain). IfSome o (HasShape (shape_of (Obj Package)))) is (laws.shapes payload (shape_of (Obj Package)) (root_of payload));
+      normal = subst (λ (o : Option Plain). IfSome o IsNormal) is (laws.normal payload p.0 (shape_of (Obj Package)) (root_word_of_payload payload));
+      shaped = subst (λ (o : Option Plain). IfSome o (HasShape (shape_of (Obj Package)))) is (laws.shapes payload (shape_of (Obj Package)) (root_word_of_payload payload));
       kept = first_none _ _ texts;
     }
 

@@ -6,17 +6,17 @@ use Rattle.std.proofs.lemmas.List.{length-drop, take_all}
 use Rattle.std.proofs.lemmas.Slice.Eq.{bytes_eq-Decides}
 use Rattle.sha2.specs.Sha256.{sha256}
 use Rattle.sha2.proofs.Facts256.{length-sha256}
-use Rattle.adb_view.specs.Plain.{Plain, null, int, Plains, none, more, number, text, blob_or_null, arr_value, obj_value}
+use Rattle.adb_view.specs.Plain.{Plain, null, int, Plains, none, more, number, text, blob_or_null, array_or_null, trimmed_object_or_null}
 use Rattle.adb_view.specs.Shaped.{Each}
 use Rattle.make_index.specs.adb_fields.Repeated.{files_in, folders_in, list_of}
-use Rattle.make_index.specs.adb_schema.Rules.{is_digest_length, is_digest_length_or_none, is_file_name, is_folder_name, is_link_target_or_none}
+use Rattle.make_index.specs.adb_schema.Rules.{is_digest_length, is_digest_length_or_none, is_file_name_in_folder, is_folder_name, is_link_target_or_none}
 use Rattle.adb_view.specs.Schema.{shape_of, shapes_of, table}
-use Rattle.make_index.specs.adb_schema.Texts.{Surroundings, is_file_hash, number_rule, surroundings_of_fields, surroundings_of_root, text_rule}
+use Rattle.make_index.specs.adb_schema.Texts.{Surroundings, is_file_hash_length, is_allowed_number_of_field, surroundings_of_fields, surroundings_of_root, is_allowed_text_of_field}
 use Rattle.adb_view.specs.Values.{entries_in, entry_in, int_in, text_in}
 use Rattle.adb_view.specs.declared.tables.Which.TheVariants.{Acl, File, Dir, Scripts, PkgInfo, Package}
 use Rattle.adb_view.specs.declared.tables.Kind.TheVariants.{Obj}
 use Rattle.command_core.specs.Values.{script_types}
-use Rattle.make_package.specs.package_files.Package.{Source, SourceFolder, Script, access_value, kind_of_file, value_of_kind, value_of_file, value_of_folder, hash_of_kind, is_link_file, link_text, value_of_package, script_in, value_of_scripts, size_of_kind, target_of_kind}
+use Rattle.make_package.specs.package_files.Package.{Source, SourceFolder, Script, access_value, kind_of_file, value_of_kind, value_of_file, value_of_folder, hash_of_kind, is_link_file, link_text, value_of_package, script_bytes_of_field, value_of_scripts, size_of_kind, target_of_kind}
 use Rattle.make_index.specs.make_info.Values.{number_value, plains_of_list, size_value}
 use Rattle.make_package.specs.package_files.declared.file.FileKind.{FileKind}
 use Rattle.make_package.specs.package_files.declared.file.FileKind.TheVariants.{Link, Regular}
@@ -74,16 +74,16 @@ pub int-size_value : (n : ℕ) → int_in (size_value n) ≡ n
 int-size_value zero = refl
 int-size_value (suc n) = ap int_in (size-suc n)
 
-pub size_good : (place : ℕ) (around : Surroundings) (n : ℕ) → n < 2 ^ 64 → ((k : ℕ) → number_rule place k ≡ true) → IsGood number place around (size_value n)
+pub size_good : (place : ℕ) (around : Surroundings) (n : ℕ) → n < 2 ^ 64 → ((k : ℕ) → is_allowed_number_of_field place k ≡ true) → IsGood number place around (size_value n)
 size_good place around zero small free = null_number place around (free 0)
 size_good place around (suc n) small free = subst (IsGood number place around) (sym (size-suc n)) (number_good place around (suc n) small (free (suc n)))
 
 acl_good : (mode place : ℕ) (around : Surroundings) → mode < 2 ^ 64 → IsGood (shape_of (Obj Acl)) place around (access_value mode)
-unfolding shape_of text_rule
+unfolding shape_of is_allowed_text_of_field
 acl_good mode place around small =
     let root : List ℕ = codes "root" in
     let vs : Plains = more (int mode) (more (blob_or_null root) (more (blob_or_null root) none)) in
-    let inside : Surroundings = surroundings_of_fields 2 around (obj_value vs) in
+    let inside : Surroundings = surroundings_of_fields 2 around (trimmed_object_or_null vs) in
     obj_good 2 (shapes_of (table Acl)) place around inside vs refl
     (number_good 201 inside mode small refl, (text_good 202 inside root refl, (text_good 203 inside root refl, (null_array text 204 inside, tt))))
 
@@ -128,7 +128,7 @@ no_digest : (b : Bool) → (if b && nat_lt 0 0 then is_digest_length 0 else is_d
 no_digest true = refl
 no_digest false = refl
 
-hash_kept : (folder : List ℕ) (kind : FileKind) → IsGoodKind kind → is_file_hash (around_file folder kind) (length (hash_of_kind kind)) ≡ true
+hash_kept : (folder : List ℕ) (kind : FileKind) → IsGoodKind kind → is_file_hash_length (around_file folder kind) (length (hash_of_kind kind)) ≡ true
 hash_kept folder (Link target) good =
     no_digest (length target == 0)
 hash_kept folder (Regular size digest) good =
@@ -142,12 +142,12 @@ size_small : (kind : FileKind) → IsGoodKind kind → size_of_kind kind < 2 ^ 6
 size_small (Link target) good = lit< tt
 size_small (Regular size digest) good = good.0
 
-pub file_good : (folder name : List ℕ) (kind : FileKind) → is_file_name folder name ≡ true → IsGoodKind kind → IsGood (shape_of (Obj File)) 503 (in_folder folder) (value_of_kind name kind)
-unfolding shape_of text_rule
+pub file_good : (folder name : List ℕ) (kind : FileKind) → is_file_name_in_folder folder name ≡ true → IsGoodKind kind → IsGood (shape_of (Obj File)) 503 (in_folder folder) (value_of_kind name kind)
+unfolding shape_of is_allowed_text_of_field
 file_good folder name kind named good =
     let inside : Surroundings = around_file folder kind in
     obj_good 4 (shapes_of (table File)) 503 (in_folder folder) inside (file_fields name kind) (file_inside folder name kind) (
-      text_good 401 inside name (and_from (is_file_name folder name) true named refl),
+      text_good 401 inside name (and_from (is_file_name_in_folder folder name) true named refl),
       (
         acl_good 420 402 inside (lit< tt),
         (
@@ -171,7 +171,7 @@ file_good folder name kind named good =
 -- each file has a name that it may have there, and a size below 2 ^ 64
 abbrev pub AreGoodFiles : List ℕ → List Source → Type 0
 AreGoodFiles folder [] = Unit {0}
-AreGoodFiles folder (file ∷ files) = (is_file_name folder file.name ≡ true) × (size_of_kind (kind_of_file file.bytes) < 2 ^ 64) × AreGoodFiles folder files
+AreGoodFiles folder (file ∷ files) = (is_file_name_in_folder folder file.name ≡ true) × (size_of_kind (kind_of_file file.bytes) < 2 ^ 64) × AreGoodFiles folder files
 
 files_good : (folder : List ℕ) (files : List Source) → AreGoodFiles folder files → Each (IsGood (shape_of (Obj File)) 503 (in_folder folder)) (plains_of_list (map value_of_file files))
 files_good folder [] good = tt
@@ -181,7 +181,7 @@ abbrev pub around_folder : Surroundings
 around_folder = record { root = Package; folder = []; has_contents = false }
 
 abbrev folder_fields : SourceFolder → Plains
-folder_fields folder = more (blob_or_null folder.name) (more (access_value 493) (more (arr_value (plains_of_list (map value_of_file folder.files))) none))
+folder_fields folder = more (blob_or_null folder.name) (more (access_value 493) (more (array_or_null (plains_of_list (map value_of_file folder.files))) none))
 
 pub folder_name_stands : (folder : SourceFolder) → text_in (entry_in (value_of_folder folder) 0) ≡ folder.name
 folder_name_stands folder = ap text_in (nth_obj (folder_fields folder) 0) ∙ text_blob folder.name
@@ -191,7 +191,7 @@ folder_inside folder =
     inside_same 5 around_folder (value_of_folder folder) folder.name (text_in (entry_in (value_of_folder folder) 5)) (int_in (entry_in (value_of_folder folder) 2)) (folder_name_stands folder) refl refl
 
 pub folder_good : (folder : SourceFolder) → is_folder_name folder.name ≡ true → AreGoodFiles folder.name folder.files → IsGood (shape_of (Obj Dir)) 702 around_folder (value_of_folder folder)
-unfolding shape_of text_rule
+unfolding shape_of is_allowed_text_of_field
 folder_good folder named files =
     let inside : Surroundings = in_folder folder.name in
     obj_good 5 (shapes_of (table Dir)) 702 around_folder inside (folder_fields folder) (folder_inside folder) (
@@ -213,11 +213,11 @@ folders_good (folder ∷ folders) good = (folder_good folder good.0 good.1, fold
 -- ---- a package
 
 scripts_good : (scripts : List Script) → IsGood (shape_of (Obj Scripts)) 703 around_folder (value_of_scripts scripts)
-unfolding shape_of text_rule
+unfolding shape_of is_allowed_text_of_field
 scripts_good scripts =
-    let vs : Plains = plains_of_list (map (λ field. blob_or_null (script_in scripts field)) script_types) in
-    let inside : Surroundings = surroundings_of_fields 6 around_folder (obj_value vs) in
-    let of : List ℕ → List ℕ = script_in scripts in
+    let vs : Plains = plains_of_list (map (λ field. blob_or_null (script_bytes_of_field scripts field)) script_types) in
+    let inside : Surroundings = surroundings_of_fields 6 around_folder (trimmed_object_or_null vs) in
+    let of : List ℕ → List ℕ = script_bytes_of_field scripts in
     obj_good 6 (shapes_of (table Scripts)) 703 around_folder inside vs refl (
       text_good 601 inside (of (codes "trigger")) refl,
       (
@@ -239,14 +239,14 @@ scripts_good scripts =
     )
 
 triggers_good : (triggers : List (List ℕ)) → Each (IsGood text 704 around_folder) (plains_of_list (map blob_or_null triggers))
-unfolding text_rule
+unfolding is_allowed_text_of_field
 triggers_good [] = tt
 triggers_good (t ∷ ts) = (text_good 704 around_folder t refl, triggers_good ts)
 
 abbrev package_fields : Plain → List SourceFolder → List Script → List (List ℕ) → Option ℕ → Plains
 package_fields info folders scripts triggers priority =
-    more info (more (arr_value (plains_of_list (map value_of_folder folders))) (more (value_of_scripts scripts)
-    (more (arr_value (plains_of_list (map blob_or_null triggers))) (more (number_value priority) none))))
+    more info (more (array_or_null (plains_of_list (map value_of_folder folders))) (more (value_of_scripts scripts)
+    (more (array_or_null (plains_of_list (map blob_or_null triggers))) (more (number_value priority) none))))
 
 pub package_value_good : (info : Plain) (folders : List SourceFolder) (scripts : List Script) (triggers : List (List ℕ)) (priority : Option ℕ)
     → IsGood (shape_of (Obj PkgInfo)) 701 around_folder info → AreGoodFolders folders → IsGood number 705 around_folder (number_value priority)

@@ -12,7 +12,7 @@ use Rattle.base_core.specs.Files.{Files}
 use Rattle.base_core.specs.Listed.{AreNamesBelow}
 use Rattle.make_index.specs.adb_fields.FirstPair.{IsIn}
 use Rattle.make_index.specs.adb_fields.Paths.{path_of}
-use Rattle.make_index.specs.adb_fields.Repeated.{files_in, folders_in, name_of, paths_under}
+use Rattle.make_index.specs.adb_fields.Repeated.{files_in, folders_in, name_of, paths_of_folder_files}
 use Rattle.make_index.specs.adb_schema.Soundness.{payload_in, root_value}
 use Rattle.adb_view.specs.declared.tables.Which.TheVariants.{Package}
 use Rattle.adb_view.specs.Plain.{Plain}
@@ -20,12 +20,12 @@ use Rattle.command_core.specs.Command.{CommandLine}
 use Rattle.command_core.specs.Files.{without_dot_slash}
 use Rattle.command_core.specs.declared.values.OptionValue.{OptionValue}
 use Rattle.make_index.specs.make_info.Information.{replaces_priority}
-use Rattle.make_package.specs.package_files.Folders.{FolderListing, all_folders_above, folder_listings_of, last_part_of, folder_listing_of, names_in_folder, path_below}
+use Rattle.make_package.specs.package_files.Folders.{FolderListing, all_folders_above, folder_listings_of, last_part_of, folder_listing_of, names_in_folder, path_relative_to}
 use Rattle.make_package.specs.Making.{made_package}
 use Rattle.make_package.specs.package_files.Package.{Source, SourceFolder, value_of_file, value_of_folder, kind_of_file}
-use Rattle.make_package.specs.package_files.Sources.{AreNamesBelowFirst, source_file_read_at, source_folder_read_at, folders_below, found_bytes_or_missing, source_folders_from, sources_from, texts_of, values_of_letter}
+use Rattle.make_package.specs.package_files.Sources.{AreNamesBelowFirstFolder, source_file_read_at, source_folder_read_at, folders_below, found_bytes_or_missing, source_folders_from, sources_from, texts_of, values_of_letter}
 use Rattle.make_index.specs.pkg_core.Whole.{PackageWithContents}
-use Rattle.make_core.specs.FilesBelow.{HasFilesBelow, IsFileBelow, name_below}
+use Rattle.make_core.specs.FilesBelow.{HasFilesBelow, IsFileBelow, path_joined_to_folder}
 use Rattle.make_core.proofs.Apart.{Tells}
 use Rattle.make_core.proofs.InformationGood.{Needs}
 use Rattle.make_core.proofs.ListedNames.{AllOf, AreListed, after_ok, below_is, each_read, filter_in, listed_in, recovered, stands_in}
@@ -65,24 +65,24 @@ module _ (files : Files) where
 
   abbrev AreFilesAt : List ℕ → List ℕ → List Source → Type 0
   AreFilesAt dir folder [] = Unit {0}
-  AreFilesAt dir folder (s ∷ ss) = (files (name_below dir (path_of folder s.name)) ≡ Some s.bytes) × AreFilesAt dir folder ss
+  AreFilesAt dir folder (s ∷ ss) = (files (path_joined_to_folder dir (path_of folder s.name)) ≡ Some s.bytes) × AreFilesAt dir folder ss
 
   abbrev paths_of : SourceFolder → List (List ℕ)
   paths_of s = map (λ (file : Source). path_of s.name file.name) s.files
 
   abbrev AreAt : List ℕ → List ℕ → List (List ℕ) → List Source → Type 0
   AreAt dir folder names sources =
-      (map (λ (file : Source). path_of folder file.name) sources ≡ map (path_below dir) names) × AreFilesAt dir folder sources
+      (map (λ (file : Source). path_of folder file.name) sources ≡ map (path_relative_to dir) names) × AreFilesAt dir folder sources
 
-  files_at : (dir folder : List ℕ) (names : List (List ℕ)) (sources : List Source) → ((name : List ℕ) → IsIn name names → name ≡ name_below dir (path_of folder (last_part_of name)))
+  files_at : (dir folder : List ℕ) (names : List (List ℕ)) (sources : List Source) → ((name : List ℕ) → IsIn name names → name ≡ path_joined_to_folder dir (path_of folder (last_part_of name)))
       → AllOf IsRead names sources → AreAt dir folder names sources
   files_at dir folder [] [] all h = (refl, tt)
   files_at dir folder [] (s ∷ ss) all h = absurd h
   files_at dir folder (n ∷ ns) [] all h = absurd h
   files_at dir folder (n ∷ ns) (s ∷ ss) all h =
-      let is : n ≡ name_below dir (path_of folder (last_part_of n)) = all n (inl refl) in
-      let whole : name_below dir (path_of folder s.name) ≡ n = ap (λ (part : List ℕ). name_below dir (path_of folder part)) h.0.0 ∙ sym is in
-      let path : path_of folder s.name ≡ path_below dir n = sym (below_is dir (path_of folder s.name)) ∙ ap (path_below dir) whole in
+      let is : n ≡ path_joined_to_folder dir (path_of folder (last_part_of n)) = all n (inl refl) in
+      let whole : path_joined_to_folder dir (path_of folder s.name) ≡ n = ap (λ (part : List ℕ). path_joined_to_folder dir (path_of folder part)) h.0.0 ∙ sym is in
+      let path : path_of folder s.name ≡ path_relative_to dir n = sym (below_is dir (path_of folder s.name)) ∙ ap (path_relative_to dir) whole in
       let further = files_at dir folder ns ss (λ m here. all m (inr here)) h.1 in
       ((λ k. path k ∷ further.0 k), (ap files whole ∙ h.0.1, further.1))
 
@@ -91,7 +91,7 @@ module _ (files : Files) where
   AreFoldersAt dir (s ∷ ss) = AreFilesAt dir s.name s.files × AreFoldersAt dir ss
 
   folders_at : (dir : List ℕ) (names fs : List (List ℕ)) (sources : List SourceFolder) → AreListed dir names → AllOf IsFolderRead (map (folder_listing_of dir names) fs) sources
-      → (flat_map paths_of sources ≡ map (path_below dir) (flat_map (λ (l : FolderListing). l.files) (map (folder_listing_of dir names) fs))) × AreFoldersAt dir sources
+      → (flat_map paths_of sources ≡ map (path_relative_to dir) (flat_map (λ (l : FolderListing). l.files) (map (folder_listing_of dir names) fs))) × AreFoldersAt dir sources
   folders_at dir names [] [] all h = (refl, tt)
   folders_at dir names [] (s ∷ ss) all h = absurd h
   folders_at dir names (f ∷ fs) [] all h = absurd h
@@ -103,8 +103,8 @@ module _ (files : Files) where
       let listings : List FolderListing = map (folder_listing_of dir names) fs in
       let l : FolderListing = folder_listing_of dir names f in (
         flat_map-cons paths_of s ss ∙ (λ k. one.0 k ++ further.0 k)
-            ∙ sym (map-append (path_below dir) here (flat_map (λ (m : FolderListing). m.files) listings))
-            ∙ ap (map (path_below dir)) (sym (flat_map-cons (λ (m : FolderListing). m.files) l listings)),
+            ∙ sym (map-append (path_relative_to dir) here (flat_map (λ (m : FolderListing). m.files) listings))
+            ∙ ap (map (path_relative_to dir)) (sym (flat_map-cons (λ (m : FolderListing). m.files) l listings)),
         (one.1, further.1),
       )
 
@@ -114,21 +114,21 @@ module _ (files : Files) where
   file_paths_stand folder [] = refl
   file_paths_stand folder (s ∷ ss) = λ k. path_of folder (name_stands s.name (kind_of_file s.bytes) k) ∷ file_paths_stand folder ss k
 
-  paths_stand_under : (s : SourceFolder) → paths_under (value_of_folder s) ≡ paths_of s
+  paths_stand_under : (s : SourceFolder) → paths_of_folder_files (value_of_folder s) ≡ paths_of s
   paths_stand_under s =
       (λ k. map (λ (file : Plain). path_of (folder_name_stands s k) (name_of file)) (files_stand s k)) ∙ file_paths_stand s.name s.files
 
-  paths_stand : (sources : List SourceFolder) → flat_map paths_under (map value_of_folder sources) ≡ flat_map paths_of sources
+  paths_stand : (sources : List SourceFolder) → flat_map paths_of_folder_files (map value_of_folder sources) ≡ flat_map paths_of sources
   paths_stand [] = refl
   paths_stand (s ∷ ss) =
-      flat_map-cons paths_under (value_of_folder s) (map value_of_folder ss) ∙ (λ k. paths_stand_under s k ++ paths_stand ss k) ∙ sym (flat_map-cons paths_of s ss)
+      flat_map-cons paths_of_folder_files (value_of_folder s) (map value_of_folder ss) ∙ (λ k. paths_stand_under s k ++ paths_stand ss k) ∙ sym (flat_map-cons paths_of s ss)
 
-  file_stands : (dir folder : List ℕ) (s : Source) → files (name_below dir (path_of folder s.name)) ≡ Some s.bytes → IsFileBelow files dir folder (value_of_file s)
+  file_stands : (dir folder : List ℕ) (s : Source) → files (path_joined_to_folder dir (path_of folder s.name)) ≡ Some s.bytes → IsFileBelow files dir folder (value_of_file s)
   file_stands dir folder s e =
       let name = name_stands s.name (kind_of_file s.bytes) in
       record {
         bytes = s.bytes;
-        located = ap (λ (part : List ℕ). files (name_below dir (path_of folder part))) name ∙ e;
+        located = ap (λ (part : List ℕ). files (path_joined_to_folder dir (path_of folder part))) name ∙ e;
         is = ap (λ (part : List ℕ). value_of_file (record { name = part; bytes = s.bytes })) (sym name);
       }
 
@@ -159,12 +159,12 @@ read_below : OneFolder → (files : Files) (place n : ℕ) (dir : List ℕ) (nam
     → source_folders_from place (λ n name. files name) n (folder_listings_of dir names) ≡ Ok sources → folders_in pkg ≡ map value_of_folder sources → HasFilesBelow files dir names pkg
 unfolding folder_listings_of
 read_below law files place n dir names sources pkg all e is =
-    let fs : List (List ℕ) = all_folders_above (map (path_below dir) names) in
+    let fs : List (List ℕ) = all_folders_above (map (path_relative_to dir) names) in
     let listings : List FolderListing = map (folder_listing_of dir names) fs in
     let are = each_read (IsFolderRead files) (λ (folder : FolderListing). length folder.files) (source_folder_read_at place (λ n name. files name)) (folder_is_read files place) n listings sources e in
     let at = folders_at files dir names fs sources all are in
     record {
-      paths = subst (IsPermutation (map (path_below dir) names)) (sym (ap (flat_map paths_under) is ∙ paths_stand files sources ∙ at.0)) (IsPermutation-map (path_below dir) names (flat_map (λ (folder : FolderListing). folder.files) listings) (law dir names));
+      paths = subst (IsPermutation (map (path_relative_to dir) names)) (sym (ap (flat_map paths_of_folder_files) is ∙ paths_stand files sources ∙ at.0)) (IsPermutation-map (path_relative_to dir) names (flat_map (λ (folder : FolderListing). folder.files) listings) (law dir names));
       each = subst (All (AreFilesIn files dir)) (sym is) (folders_stand_at files dir sources at.1);
     }
 
@@ -172,7 +172,7 @@ pub made_below : OneFolder → Holds IsReadBack → Sizes → Exact → Needs �
     → values_of_letter FILES command.values ≡ folder ∷ others → AreNamesBelow (without_dot_slash folder.text) names → made_package command names (λ n name. files name) ≡ Ok bytes → length bytes < 2 ^ 64
     → HasFilesBelow files (without_dot_slash folder.text) names (root_value Package (payload_in bytes))
 made_below law holds sizes exact needs tells command names files bytes folder others given below e short =
-    let named : AreNamesBelowFirst (values_of_letter FILES command.values) names = subst (λ (l : List OptionValue). AreNamesBelowFirst l names) (sym given) below in
+    let named : AreNamesBelowFirstFolder (values_of_letter FILES command.values) names = subst (λ (l : List OptionValue). AreNamesBelowFirstFolder l names) (sym given) below in
     let made = made_of IsReadBack holds sizes exact needs tells command names (λ n name. files name) bytes named e short in
     let read : folders_below (λ n name. files name) (length made.scripts) (folder ∷ others) names ≡ Ok made.sources =
     ap (λ (l : List OptionValue). folders_below (λ n name. files name) (length made.scripts) l names) (sym given) ∙ made.sources_read in

@@ -13,7 +13,7 @@ use Rattle.make_index.specs.make_info.declared.field.Field.{Field}
 use Rattle.make_index.specs.make_info.declared.field.Field.TheVariants as Fields
 use Rattle.make_index.specs.make_info.declared.field.Kind.{Kind}
 use Rattle.make_index.specs.make_info.declared.field.Kind.TheVariants as Kinds
-use Rattle.make_index.specs.make_info.Fields.{FieldValue, text, number, need, value_of_digits, field_word, fields, kind_of_field, field_among, untagged_dependency_in, dependency_values_in, decimal_number, nonempty_parts, values_by_kind, text_value_if, text_values, dependency_value_and_others, if_untagged}
+use Rattle.make_index.specs.make_info.Fields.{FieldValue, text, number, need, values_of_hex_digits, field_word, fields, kind_of_field, field_among, untagged_dependency_in, dependency_values_in, decimal_number, nonempty_parts, values_by_kind, text_value_if, text_values, dependency_value_and_others, if_untagged}
 use Rattle.command_core.specs.Operands.{is_decimal}
 use Rattle.make_index.specs.make_info.FieldTexts.{is_same_field}
 
@@ -86,7 +86,7 @@ text_said : (k : Kind) (b : Bool) (value : List ℕ) (ss : List FieldValue) → 
 text_said k true value ss h e = let same : text value ∷ [] ≡ ss = cc (e) in subst (AreSaidAs k) same (h refl, tt)
 text_said k false value ss h e = absurd (cc (e))
 
-bytes_are_said : (r : Result (List ℕ) FromHexError) (ss : List FieldValue) → value_of_digits r ≡ Some ss → AreSaidAs Kinds.HexDigits ss
+bytes_are_said : (r : Result (List ℕ) FromHexError) (ss : List FieldValue) → values_of_hex_digits r ≡ Some ss → AreSaidAs Kinds.HexDigits ss
 bytes_are_said (Ok bytes) ss e = let same : text bytes ∷ [] ≡ ss = cc (e) in subst (AreSaidAs Kinds.HexDigits) same (tt, tt)
 bytes_are_said (Err f) ss e = absurd (cc (e))
 

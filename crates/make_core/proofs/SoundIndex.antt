@@ -5,10 +5,10 @@ use Rattle.std.specs.Prelude.{All}
 use Rattle.std.specs.Ordering.{is_gt}
 use Rattle.std.specs.declared.cmp.Ordering.{Ordering}
 use Rattle.base_core.specs.declared.cause.Cause.{Cause}
-use Rattle.adb_view.specs.Plain.{Plain, Plains, none, more, arr_value, blob_or_null, obj_value}
+use Rattle.adb_view.specs.Plain.{Plain, Plains, none, more, array_or_null, blob_or_null, trimmed_object_or_null}
 use Rattle.adb_view.specs.Shaped.{Each}
 use Rattle.adb_view.specs.Schema.{shape_of, shapes_of, table}
-use Rattle.make_index.specs.adb_schema.Texts.{Surroundings, surroundings_of_fields, surroundings_of_root, text_rule}
+use Rattle.make_index.specs.adb_schema.Texts.{Surroundings, surroundings_of_fields, surroundings_of_root, is_allowed_text_of_field}
 use Rattle.make_index.specs.adb_fields.Repeated.{repeated_fault}
 use Rattle.make_index.specs.adb_schema.Soundness.{payload_in, root_value, schema_word}
 use Rattle.adb_view.specs.declared.tables.Which.TheVariants.{Package, PkgInfo, Index}
@@ -19,12 +19,12 @@ use Rattle.make_index.specs.adb_write.File.{file_of}
 use Rattle.make_index.specs.pkg_core.Whole.{container_fault, package_fault}
 use Rattle.command_core.specs.Files.{without_dot_slash}
 use Rattle.command_core.specs.declared.operands.Operand.{Operand}
-use Rattle.make_index.specs.Index.{and_entries, found_entries, found_entry, index_container, index_of, index_of_found, value_of_index, entry_unless, description_in, made_index}
+use Rattle.make_index.specs.Index.{and_entries, found_entries, found_entry, index_container, index_of_entries, index_of_found, value_of_index, entry_unless, description_in, made_index}
 use Rattle.make_index.specs.make_info.Values.{plains_of_list}
 use Rattle.command_core.specs.Command.{CommandLine}
 use Rattle.make_index.specs.Entries.{entry_of_package}
 use Rattle.make_index.specs.EntryOrder.{entry_cmp}
-use Rattle.base_core.specs.Sorted.{sorted_by, with_element}
+use Rattle.base_core.specs.Sorted.{sorted_by, with_element_inserted}
 use Rattle.base_core.specs.Files.{AreFileBytes}
 use Rattle.make_index.specs.Files.{FindOnlyFiles}
 use Rattle.make_package.specs.adb_sound.Root.{IsRootOf}
@@ -41,10 +41,10 @@ each_by : (P : Plain → Type 0) (b : Bool) (xs ys : List Plain) → Each P (pla
 each_by P true xs ys x y = x
 each_by P false xs ys x y = y
 
-each_placed : (P : Plain → Type 0) (cmp : Plain → Plain → Ordering) (x : Plain) (xs : List Plain) → P x → Each P (plains_of_list xs) → Each P (plains_of_list (with_element cmp x xs))
+each_placed : (P : Plain → Type 0) (cmp : Plain → Plain → Ordering) (x : Plain) (xs : List Plain) → P x → Each P (plains_of_list xs) → Each P (plains_of_list (with_element_inserted cmp x xs))
 each_placed P cmp x [] a h = (a, tt)
 each_placed P cmp x (y ∷ ys) a h =
-    each_by P (is_gt (cmp x y)) (y ∷ with_element cmp x ys) (x ∷ y ∷ ys) (h.0, each_placed P cmp x ys a h.1) (a, (h.0, h.1))
+    each_by P (is_gt (cmp x y)) (y ∷ with_element_inserted cmp x ys) (x ∷ y ∷ ys) (h.0, each_placed P cmp x ys a h.1) (a, (h.0, h.1))
 
 each_in_order : (P : Plain → Type 0) (cmp : Plain → Plain → Ordering) (xs : List Plain) → Each P (plains_of_list xs) → Each P (plains_of_list (sorted_by cmp xs))
 each_in_order P cmp [] h = tt
@@ -89,14 +89,14 @@ entries_good laws around read n (o ∷ operands) entries files root e =
 -- ---- the index
 
 abbrev index_fields : List ℕ → List Plain → Plains
-index_fields description entries = more (blob_or_null description) (more (arr_value (plains_of_list entries)) none)
+index_fields description entries = more (blob_or_null description) (more (array_or_null (plains_of_list entries)) none)
 
 abbrev around_entries : List ℕ → List Plain → Surroundings
-around_entries description entries = surroundings_of_fields 8 (surroundings_of_root Index) (obj_value (index_fields description entries))
+around_entries description entries = surroundings_of_fields 8 (surroundings_of_root Index) (trimmed_object_or_null (index_fields description entries))
 
 index_good : (description : List ℕ) (entries : List Plain) → ((around : Surroundings) → around.root ≡ Index → Each (IsEntry around) (plains_of_list entries))
     → IsGood (shape_of (Obj Index)) 0 (surroundings_of_root Index) (value_of_index description entries)
-unfolding shape_of value_of_index text_rule
+unfolding shape_of value_of_index is_allowed_text_of_field
 index_good description entries each =
     let around : Surroundings = around_entries description entries in
     obj_good 8 (shapes_of (table Index)) 0 (surroundings_of_root Index) around (index_fields description entries) refl
@@ -124,7 +124,7 @@ module _ (P : Plain → List ℕ → Type 0) where
 
   found_holds : Holds → Exact → (description : List ℕ) (r : Result (List Plain) MakeFault) (bytes : List ℕ) → ((entries : List Plain) (around : Surroundings) → r ≡ Ok entries → around.root ≡ Index → Each (IsEntry around) (plains_of_list entries))
       → index_of_found description r ≡ Ok bytes → (v : Plain) × (index_value_of_entries description r ≡ Ok v) × P v bytes
-  unfolding index_of
+  unfolding index_of_entries
   found_holds holds exact description (Err f) bytes each e = absurd (cc (e))
   found_holds holds exact description (Ok entries) bytes each e =
       let v : Plain = value_of_index description (sorted_by entry_cmp entries) in

@@ -8,7 +8,7 @@ use Rattle.adb_view.specs.Plain.{Plain}
 use Rattle.make_index.specs.adb_schema.declared.read.TheConstants.{PACKAGE_WORD}
 use Rattle.adb_view.specs.declared.tables.Which.TheVariants.{Package}
 use Rattle.make_index.specs.adb_write.Canonical.{PayloadCounts, canonical, overflow_of}
-use Rattle.make_index.specs.pkg_core.Contents.{Contents, expected_contents}
+use Rattle.make_index.specs.pkg_core.Contents.{Contents, expected_files_of_package}
 use Rattle.make_index.specs.pkg_core.GoodContents.{AreContentsOf}
 use Rattle.make_index.specs.pkg_core.Whole.{container_fault, package_with_contents}
 use Rattle.command_core.specs.Command.{CommandLine}
@@ -19,7 +19,7 @@ use Rattle.make_package.specs.adb_sound.Contents.{contents_size}
 use Rattle.make_package.specs.adb_sound.Container.{container_of, packed_from_parts}
 use Rattle.make_package.specs.Making.{container_unless, made_package, or_info_bad, package_container, package_of_parts}
 use Rattle.make_package.specs.package_files.Package.{Script, SourceFolder, contents_of_folders, installed_size, value_of_package}
-use Rattle.make_package.specs.package_files.Sources.{AreNamesBelowFirst, and_then, folders_below, values_of_letter, scripts_from, texts_of}
+use Rattle.make_package.specs.package_files.Sources.{AreNamesBelowFirstFolder, and_then, folders_below, values_of_letter, scripts_from, texts_of}
 use Rattle.make_package.specs.adb_sound.Root.{IsRootOf}
 use Rattle.make_index.specs.make_info.Reads.{Reads}
 use Rattle.make_core.proofs.Apart.{Tells, package_once, rises_from_pairs}
@@ -40,7 +40,7 @@ pub record Sizes : Type 0 where
 -- what holds of the value, of the contents and of the container of each good package
 module _ (P : Plain → List Contents → List ℕ → Type 0) where
   abbrev pub Holds : Type 0
-  Holds = (v : Plain) (contents : List Contents) → IsRootOf Package v → AreContentsOf (expected_contents v) contents → length (container_of PACKAGE_WORD v contents) < 2 ^ 64 → P v contents (container_of PACKAGE_WORD v contents)
+  Holds = (v : Plain) (contents : List Contents) → IsRootOf Package v → AreContentsOf (expected_files_of_package v) contents → length (container_of PACKAGE_WORD v contents) < 2 ^ 64 → P v contents (container_of PACKAGE_WORD v contents)
 
   value_holds : Holds → Sizes → Exact → Needs → Tells → (items : List FieldWithValue) (sources : List SourceFolder) (scripts : List Script) (triggers : List (List ℕ)) → IsInformation items → AreSources sources
       → (v : Plain) → v ≡ value_of_package (information_value items (installed_size sources)) sources scripts triggers (replaces_priority items)
@@ -83,7 +83,7 @@ are_listed folder (name ∷ names) all =
     let first = All-head (IsNameBelow folder) name names all in
     ((first.below.0, first.below.1, first.named), are_listed folder names (All-tail (IsNameBelow folder) name names all))
 
-sources_are : (read : Reads) (n : ℕ) (values : List OptionValue) (names : List (List ℕ)) (sources : List SourceFolder) → AreNamesBelowFirst values names → folders_below read n values names ≡ Ok sources → AreSources sources
+sources_are : (read : Reads) (n : ℕ) (values : List OptionValue) (names : List (List ℕ)) (sources : List SourceFolder) → AreNamesBelowFirstFolder values names → folders_below read n values names ≡ Ok sources → AreSources sources
 sources_are read n [] names sources below e =
     let same : [] ≡ sources = cc (e) in
     subst AreSources same (record { named = tt; apart = tt; files_apart = tt })
@@ -104,7 +104,7 @@ pub record IsMadeOf (P : Plain → List Contents → List ℕ → Type 0) (comma
   pub sources_read : folders_below read (length scripts) (values_of_letter FILES command.values) names ≡ Ok sources
   pub holds : P (value_of_package (information_value items (installed_size sources)) sources scripts (texts_of (values_of_letter TRIGGER command.values)) (replaces_priority items)) (contents_of_folders 1 sources) bytes
 
-pub made_of : (P : Plain → List Contents → List ℕ → Type 0) → Holds P → Sizes → Exact → Needs → Tells → (command : CommandLine) (names : List (List ℕ)) (read : Reads) (bytes : List ℕ) → AreNamesBelowFirst (values_of_letter FILES command.values) names
+pub made_of : (P : Plain → List Contents → List ℕ → Type 0) → Holds P → Sizes → Exact → Needs → Tells → (command : CommandLine) (names : List (List ℕ)) (read : Reads) (bytes : List ℕ) → AreNamesBelowFirstFolder (values_of_letter FILES command.values) names
     → made_package command names read ≡ Ok bytes → length bytes < 2 ^ 64 → IsMadeOf P command names read bytes
 unfolding made_package
 made_of P holds sizes exact needs tells command names read bytes below e short =
@@ -131,7 +131,7 @@ made_of P holds sizes exact needs tells command names read bytes below e short =
 abbrev pub IsSoundFile : Plain → List Contents → List ℕ → Type 0
 IsSoundFile v contents bytes = container_fault bytes ≡ None
 
-pub made_sound : Holds IsSoundFile → Sizes → Exact → Needs → Tells → (command : CommandLine) (names : List (List ℕ)) (read : Reads) (bytes : List ℕ) → AreNamesBelowFirst (values_of_letter FILES command.values) names
+pub made_sound : Holds IsSoundFile → Sizes → Exact → Needs → Tells → (command : CommandLine) (names : List (List ℕ)) (read : Reads) (bytes : List ℕ) → AreNamesBelowFirstFolder (values_of_letter FILES command.values) names
     → made_package command names read ≡ Ok bytes → length bytes < 2 ^ 64 → container_fault bytes ≡ None
 made_sound holds sizes exact needs tells command names read bytes below e short =
     (made_of IsSoundFile holds sizes exact needs tells command names read bytes below e short).holds
@@ -140,7 +140,7 @@ made_sound holds sizes exact needs tells command names read bytes below e short 
 abbrev pub IsReadBack : Plain → List Contents → List ℕ → Type 0
 IsReadBack v contents bytes = package_with_contents bytes ≡ packed_from_parts v contents
 
-pub made_back : Holds IsReadBack → Sizes → Exact → Needs → Tells → (command : CommandLine) (names : List (List ℕ)) (read : Reads) (bytes : List ℕ) → AreNamesBelowFirst (values_of_letter FILES command.values) names
+pub made_back : Holds IsReadBack → Sizes → Exact → Needs → Tells → (command : CommandLine) (names : List (List ℕ)) (read : Reads) (bytes : List ℕ) → AreNamesBelowFirstFolder (values_of_letter FILES command.values) names
     → made_package command names read ≡ Ok bytes → length bytes < 2 ^ 64 → packed_package command names read ≡ Ok (package_with_contents bytes)
 made_back holds sizes exact needs tells command names read bytes below e short =
     let made = made_of IsReadBack holds sizes exact needs tells command names read bytes below e short in

@@ -7,24 +7,24 @@ use Rattle.std.specs.List.Sorted.{IsPermutation}
 use Rattle.base_core.specs.Files.{Files}
 use Rattle.adb_view.specs.Plain.{Plain}
 use Rattle.make_index.specs.adb_fields.Paths.{path_of}
-use Rattle.make_index.specs.adb_fields.Repeated.{files_in, folders_in, name_of, paths_in}
-use Rattle.make_package.specs.package_files.Folders.{path_below}
+use Rattle.make_index.specs.adb_fields.Repeated.{files_in, folders_in, name_of, paths_of_package_files}
+use Rattle.make_package.specs.package_files.Folders.{path_relative_to}
 use Rattle.make_package.specs.package_files.Package.{value_of_file}
 
 -- the name in the tree of a path below a folder: the folder, a slash (47) and the path
-abbrev pub name_below : List ℕ → List ℕ → List ℕ
-name_below dir path = dir ++ 47 ∷ path
+abbrev pub path_joined_to_folder : List ℕ → List ℕ → List ℕ
+path_joined_to_folder dir path = dir ++ 47 ∷ path
 
 -- a file of a package, in a folder of the package, is what the bytes under its path in the tree are
 pub record IsFileBelow (files : Files) (dir folder : List ℕ) (file : Plain) : Type 0 where
   pub bytes : List ℕ
-  pub located : files (name_below dir (path_of folder (name_of file))) ≡ Some bytes
+  pub located : files (path_joined_to_folder dir (path_of folder (name_of file))) ≡ Some bytes
   pub is : file ≡ value_of_file (record { name = name_of file; bytes = bytes })
 
 -- the paths in a package are exactly those of some names below a folder of the tree, each once, and
 -- each of its files is the one under its name
 pub record HasFilesBelow (files : Files) (dir : List ℕ) (names : List (List ℕ)) (pkg : Plain) :
     Type 0 where
-  pub paths : IsPermutation (map (path_below dir) names) (paths_in pkg)
+  pub paths : IsPermutation (map (path_relative_to dir) names) (paths_of_package_files pkg)
   pub each : All (λ folder. All (IsFileBelow files dir (name_of folder)) (files_in folder))
       (folders_in pkg)

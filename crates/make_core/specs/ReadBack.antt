@@ -21,7 +21,8 @@ use Rattle.make_index.specs.pkg_core.Whole.{PackageWithContents}
 -- the value and the contents of a package, given what was read of each part, in the order in which the
 -- parts are read
 abbrev pub packed_of_parts :
-    CommandLine → List Script → List FieldWithValue → List SourceFolder → Result PackageWithContents MakeFault
+    CommandLine → List Script → List FieldWithValue → List SourceFolder
+    → Result PackageWithContents MakeFault
 packed_of_parts command scripts about folders =
     Ok (packed_from_parts
     (value_of_package (information_value about (installed_size folders)) folders scripts

@@ -5,9 +5,9 @@ ghost use Rattle.base_core.specs.Calls.{IfObservable};
 ghost use Rattle.base_core.specs.Read.{OnlyReads};
 ghost use Rattle.make_index.specs.Files.{FindOnlyFiles, reads_of};
 ghost use Rattle.make_index.specs.Index.{made_index};
-ghost use Rattle.make_index.specs.Kept.{AgreesUnlessStopped};
+ghost use Rattle.make_index.specs.Kept.{AgreesUnlessMemoryOrDisk};
 ghost use Rattle.make_index.specs.make_info.Reads.{Reads};
-ghost use Rattle.make_package.specs.Answers.{IsMadeBySome, IsMadeFromTree, UnlessDiskOrMemory};
+ghost use Rattle.make_package.specs.Answers.{IsMadeBySomeReads, IsMadeFromTree, UnlessDiskOrMemory};
 ghost use Rattle.make_index.specs.pkg_core.Whole.{container_fault};
 ghost use Rattle.std.specs.Prelude.{◌≡◌, Ok, None, IfOk, IfErr};
 
@@ -34,8 +34,9 @@ pub fn mkpkg<T: Tree>(alloc: Global, command: &Command, tree: &mut T) -> Result<
     ensures err { IfErr result (λ fault. UnlessDiskOrMemory fault (λ made.
         IfObservable (T.history tree.old) (λ v. IsMadeFromTree command.now v made))) }
     // Over every tree: by some names below the folder and some reads.
-    ensures found { IfOk result (λ file. IsMadeBySome command.now (Ok file.items)) }
-    ensures found_err { IfErr result (λ fault. UnlessDiskOrMemory fault (IsMadeBySome command.now)) }
+    ensures found { IfOk result (λ file. IsMadeBySomeReads command.now (Ok file.items)) }
+    ensures found_err { IfErr result (λ fault. UnlessDiskOrMemory fault
+        (IsMadeBySomeReads command.now)) }
     // What is made passes all tests of a container.
     ensures sound { IfOk result (λ file. container_fault file.items ≡ None) }
     // The tree is only read, and `Disk` has a fault of the tree as its cause.
@@ -59,10 +60,11 @@ pub fn mkndx<T: Tree>(alloc: Global, command: &Command, tree: &mut T) -> Result<
     requires { command.now.applet ≡ Applet.Mkndx }
     // If the tree's files are observable.
     ensures made { IfObservable (T.history tree.old) (λ v.
-        AgreesUnlessStopped (λ file. file.items) result (made_index command.now (reads_of v))) }
+        AgreesUnlessMemoryOrDisk (λ file. file.items) result (made_index command.now
+        (reads_of v))) }
     // Over every tree: by some bytes for each read. The first operand's read has the number 0.
     ensures found { (read : Reads) × FindOnlyFiles read 0 command.now.operands
-        × AgreesUnlessStopped (λ file. file.items) result (made_index command.now read) }
+        × AgreesUnlessMemoryOrDisk (λ file. file.items) result (made_index command.now read) }
     // What is made passes all tests of a container.
     ensures sound { IfOk result (λ file. container_fault file.items ≡ None) }
     // The tree is only read, and `Disk` has a fault of the tree as its cause.

@@ -9,7 +9,7 @@ ghost use Rattle.make_index.specs.Files.{FindOnlyFiles};
 ghost use Rattle.make_index.specs.Index.{made_index};
 ghost use Rattle.make_index.specs.make_info.Reads.{Reads};
 ghost use Rattle.make_package.specs.Making.{made_package};
-ghost use Rattle.make_package.specs.package_files.Sources.{AreNamesBelowFirst, values_of_letter};
+ghost use Rattle.make_package.specs.package_files.Sources.{AreNamesBelowFirstFolder, values_of_letter};
 ghost use Rattle.make_core.specs.ReadBack.{index_value_of_command, packed_package};
 ghost use Rattle.make_index.specs.pkg_core.Whole.{container_fault, package_with_contents};
 ghost use Rattle.std.specs.Prelude.{◌≡◌, ◌<◌, ◌^◌, ◌∷◌, ◌⊎◌, ℕ, List, length, None, Ok, Err};
@@ -53,7 +53,7 @@ pub fn a_made_index_is_sound()
 /// than 2^64 bytes and is made from names below its folder, in byte order and each once.
 pub fn a_made_package_is_sound()
     ensures { (command : CommandLine) (names : List (List ℕ)) (read : Reads) (bytes : List ℕ)
-        → AreNamesBelowFirst (values_of_letter FILES command.values) names
+        → AreNamesBelowFirstFolder (values_of_letter FILES command.values) names
         → made_package command names read ≡ Ok bytes → length bytes < 2 ^ 64
         → container_fault bytes ≡ None }
 {
@@ -84,7 +84,7 @@ pub fn a_made_index_is_read_back()
 /// if it has fewer than 2^64 bytes.
 pub fn a_made_package_is_read_back()
     ensures { (command : CommandLine) (names : List (List ℕ)) (read : Reads) (bytes : List ℕ)
-        → AreNamesBelowFirst (values_of_letter FILES command.values) names
+        → AreNamesBelowFirstFolder (values_of_letter FILES command.values) names
         → made_package command names read ≡ Ok bytes → length bytes < 2 ^ 64
         → packed_package command names read ≡ Ok (package_with_contents bytes) }
 {

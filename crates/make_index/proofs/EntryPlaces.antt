@@ -7,7 +7,7 @@ use Rattle.adb_view.specs.Schema.{table}
 use Rattle.adb_view.specs.Values.{text_in}
 use Rattle.adb_view.specs.declared.tables.Which.TheVariants.{PkgInfo}
 use Rattle.adb_view.proofs.ValueEntries.{nth_obj}
-use Rattle.adb_view.specs.Plain.{Plain, Plains, none, more, obj_value}
+use Rattle.adb_view.specs.Plain.{Plain, Plains, none, more, trimmed_object_or_null}
 use Rattle.base_core.specs.ByteOrder.{bytes_cmp}
 use Rattle.make_index.specs.EntryOrder.{entry_cmp, id_of_index_entry, name_of_index_entry, version_of_index_entry}
 use Rattle.make_info.specs.Named.{value_by_name}
@@ -36,20 +36,20 @@ by_id a b e f g h = λ k. all (e k) (f k) (g k) (h k)
 
 -- ---- the fields by which they are ordered
 
-pub name_field : (fields : Plains) (v : Plain) → value_by_name (codes "name") (table PkgInfo) fields ≡ Some v → name_of_index_entry (obj_value fields) ≡ text_in v
+pub name_field : (fields : Plains) (v : Plain) → value_by_name (codes "name") (table PkgInfo) fields ≡ Some v → name_of_index_entry (trimmed_object_or_null fields) ≡ text_in v
 name_field none v e = absurd (cc (e))
 name_field (more name fields) v e =
     let same : name ≡ v = cc (e) in
     ap text_in (nth_obj (more name fields) 0 ∙ same)
 
-pub version_field : (fields : Plains) (v : Plain) → value_by_name (codes "version") (table PkgInfo) fields ≡ Some v → version_of_index_entry (obj_value fields) ≡ text_in v
+pub version_field : (fields : Plains) (v : Plain) → value_by_name (codes "version") (table PkgInfo) fields ≡ Some v → version_of_index_entry (trimmed_object_or_null fields) ≡ text_in v
 version_field none v e = absurd (cc (e))
 version_field (more name none) v e = absurd (cc (e))
 version_field (more name (more version fields)) v e =
     let same : version ≡ v = cc (e) in
     ap text_in (nth_obj (more name (more version fields)) 1 ∙ same)
 
-pub id_field : (fields : Plains) (v : Plain) → value_by_name (codes "hashes") (table PkgInfo) fields ≡ Some v → id_of_index_entry (obj_value fields) ≡ text_in v
+pub id_field : (fields : Plains) (v : Plain) → value_by_name (codes "hashes") (table PkgInfo) fields ≡ Some v → id_of_index_entry (trimmed_object_or_null fields) ≡ text_in v
 id_field none v e = absurd (cc (e))
 id_field (more name none) v e = absurd (cc (e))
 id_field (more name (more version none)) v e = absurd (cc (e))

@@ -1,6 +1,6 @@
 -- Entries: they are normal, have the shape of an info, and are entries of themselves.
 use Rattle.std.proofs.Common.{◌≡◌, ℕ, ◌<◌, ◌^◌, List, ap, sym, ◌∙◌, arith}
-use Rattle.adb_view.specs.Plain.{Plain, int, blob, Plains, obj_of, IsNormal}
+use Rattle.adb_view.specs.Plain.{Plain, int, blob, Plains, object_or_null, IsNormal}
 use Rattle.adb_view.specs.Shaped.{HasShape}
 use Rattle.adb_view.specs.Schema.{shape_of}
 use Rattle.adb_view.specs.Values.{nth, entries_in, entry_in, int_in, text_in}
@@ -43,7 +43,7 @@ module _ (info : Plain) (id : List ℕ) (len : ℕ) where
 
 entry_of_fields : (info other : Plain) (id : List ℕ) (len : ℕ) → ((i : ℕ) → without_zeros (nth (with_both id len (entries_in info)) i) ≡ without_zeros (nth (with_both id len (entries_in other)) i)) → info_with_id_and_size info id len ≡ info_with_id_and_size other id len
 unfolding info_with_id_and_size without_zeros
-entry_of_fields info other id len h = ap obj_of (trimmed_same (all_without_zeros (with_both id len (entries_in info))) (all_without_zeros (with_both id len (entries_in other))) (λ i. nth_zeros (with_both id len (entries_in info)) i ∙ (h i ∙ sym (nth_zeros (with_both id len (entries_in other)) i))))
+entry_of_fields info other id len h = ap object_or_null (trimmed_same (all_without_zeros (with_both id len (entries_in info))) (all_without_zeros (with_both id len (entries_in other))) (λ i. nth_zeros (with_both id len (entries_in info)) i ∙ (h i ∙ sym (nth_zeros (with_both id len (entries_in other)) i))))
 
 -- an entry made once more of its own fields is itself
 pub entry_again : (info : Plain) (id : List ℕ) (len : ℕ) → copy_of_entry (info_with_id_and_size info id len) ≡ info_with_id_and_size info id len

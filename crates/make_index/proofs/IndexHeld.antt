@@ -4,7 +4,7 @@ use Rattle.std.specs.Prelude.{is_some, is_none, unwrap_or, nat_lt, IfSome, All, 
 use Rattle.std.proofs.lemmas.Bool.{ltb-false, le-ltb}
 use Rattle.base_core.specs.declared.cause.Cause.TheVariants.{Truncated}
 use Rattle.std.specs.Int.{w32, to_le_bytes}
-use Rattle.adb_view.specs.Head.{head_fault, root_of}
+use Rattle.adb_view.specs.Head.{payload_head_fault, root_word_of_payload}
 use Rattle.adb_view.specs.Plain.{Plain, null, int, blob, arr, obj, Plains, none, more, Shape, plain_of, value_of, IsNormal, AreNormal}
 use Rattle.adb_view.specs.Shaped.{HasShape}
 use Rattle.adb_copy.specs.adb_write.Canonical.{Layout, write, empty_layout, payload_with_root, canonical, exceeds_a_limit, overflow_of, or_overflow, payload_or_overflow, PayloadCounts, MOST_BYTES}
@@ -12,7 +12,7 @@ use Rattle.adb_copy.specs.adb_write.Size.{size_of, value_count}
 use Rattle.adb_view.specs.Schema.{shape_of}
 use Rattle.adb_view.specs.Values.{is_sound, value_at, nth, entry_in, text_in}
 use Rattle.pkg_core.specs.adb_schema.SoundValues.{IsSoundPackage}
-use Rattle.pkg_core.specs.adb_schema.Soundness.{root_value, payload_in, first_fault}
+use Rattle.pkg_core.specs.adb_schema.Soundness.{root_value, payload_in, container_fault_except_contents}
 use Rattle.pkg_core.specs.adb_schema.SoundContainers.{IsSoundValue}
 use Rattle.adb_view.specs.declared.tables.Which.{Which}
 use Rattle.adb_view.specs.declared.tables.Which.TheVariants as Tables
@@ -57,7 +57,7 @@ within v law e = ltb-false MOST_BYTES (size_of v) (neither_first (nat_lt MOST_BY
 
 -- ---- it is read back
 
-head_good : (root : ℕ) (out : Layout) → head_fault (payload_with_root root out) ≡ None
+head_good : (root : ℕ) (out : Layout) → payload_head_fault (payload_with_root root out) ≡ None
 head_good root out = ap (λ b. if b then Some (Truncated 0) else None) (le-ltb (length (payload_with_root root out)) 8 (omega (arith, long)))
   where
     long : length (to_le_bytes w32 root ++ out.body) ≡ 4 + length out.body
@@ -105,19 +105,19 @@ module _
       let back : value_of (canonical e) (shape_of (Kinds.Obj Tables.PkgInfo)) ≡ Some e = read_back (shape_of (Kinds.Obj Tables.PkgInfo)) e n (entry_shape info id len shaped) (within e (overflows e n) (written_is e p made).1) in
       subst (λ q. HoldsEntry q e) (sym is) (record {
         head = ap is_none (head_good (write e empty_layout).0 (write e empty_layout).1);
-        sound = sound_of (canonical e) (Kinds.Obj Tables.PkgInfo) (root_of (canonical e)) e back;
-        value = ap copy_of_entry (value_of_plain (canonical e) (Kinds.Obj Tables.PkgInfo) (root_of (canonical e)) e back) ∙ entry_again info id len;
+        sound = sound_of (canonical e) (Kinds.Obj Tables.PkgInfo) (root_word_of_payload (canonical e)) e back;
+        value = ap copy_of_entry (value_of_plain (canonical e) (Kinds.Obj Tables.PkgInfo) (root_word_of_payload (canonical e)) e back) ∙ entry_again info id len;
       })
 
 -- the info of a package has the shape of one
 package_info_shape : FoundShapes → (payload : List ℕ) → HasShape (shape_of (Kinds.Obj Tables.PkgInfo)) (entry_in (root_value Tables.Package payload) 0)
-package_info_shape shapes payload = info_of_package (root_value Tables.Package payload) (value_shape shapes payload (Kinds.Obj Tables.Package) (root_of payload))
+package_info_shape shapes payload = info_of_package (root_value Tables.Package payload) (value_shape shapes payload (Kinds.Obj Tables.Package) (root_word_of_payload payload))
 
 -- what a law of `adb_schema` says
 abbrev pub SoundContainers : Type 0
-SoundContainers = (which : Which) (file : List ℕ) → first_fault which file ≡ None → IsSoundValue which (root_value which (payload_in file))
+SoundContainers = (which : Which) (file : List ℕ) → container_fault_except_contents which file ≡ None → IsSoundValue which (root_value which (payload_in file))
 
-package_version : SoundContainers → (file : List ℕ) → first_fault Tables.Package file ≡ None → is_version (text_in (entry_in (entry_in (root_value Tables.Package (payload_in file)) 0) 1)) ≡ true
+package_version : SoundContainers → (file : List ℕ) → container_fault_except_contents Tables.Package file ≡ None → is_version (text_in (entry_in (entry_in (root_value Tables.Package (payload_in file)) 0) 1)) ≡ true
 package_version containers file sound =
     let held : IsSoundPackage Tables.Package (root_value Tables.Package (payload_in file)) = (containers Tables.Package file sound).rules in
     let info = held.info in
@@ -125,7 +125,7 @@ package_version containers file sound =
 
 -- ---- what an entry is ordered by
 
-pub keyed_of : SoundContainers → (file name version id : List ℕ) (info : Plain) → info ≡ entry_in (root_value Tables.Package (payload_in file)) 0 → name ≡ text_in (entry_in info 0) → version ≡ text_in (entry_in info 1) → id ≡ package_id file → first_fault Tables.Package file ≡ None → IsEntryWithKeys name version id (entry_of_package file)
+pub keyed_of : SoundContainers → (file name version id : List ℕ) (info : Plain) → info ≡ entry_in (root_value Tables.Package (payload_in file)) 0 → name ≡ text_in (entry_in info 0) → version ≡ text_in (entry_in info 1) → id ≡ package_id file → container_fault_except_contents Tables.Package file ≡ None → IsEntryWithKeys name version id (entry_of_package file)
 keyed_of containers file name version id info is e0 e1 e2 sound =
     let here : Plain = entry_in (root_value Tables.Package (payload_in file)) 0 in
     let v : version ≡ text_in (entry_in here 1) = e1 ∙ ap (λ i. text_in (entry_in i 1)) is in
@@ -151,7 +151,7 @@ pub holds_found : FoundShapes →
     → (found : Option (Vec ℕ Global)) → IfSome found (λ own. payload_or_overflow (info_with_id_and_size (entry_in value 0) (sha256 payload) (length file)) ≡ Ok own.items) → IfSome found (λ own. HoldsEntry own.items (entry_of_package file))
 holds_found shapes read_back overflows normal file value payload is_value is_payload bytes small found h =
     let info : Plain = entry_in (root_value Tables.Package (payload_in file)) 0 in
-    let value_is_normal : IsNormal (root_value Tables.Package (payload_in file)) = value_normal read_back overflows normal (payload_in file) (Kinds.Obj Tables.Package) (root_of (payload_in file)) (payload_all (λ b. b < 256) file bytes) in
+    let value_is_normal : IsNormal (root_value Tables.Package (payload_in file)) = value_normal read_back overflows normal (payload_in file) (Kinds.Obj Tables.Package) (root_word_of_payload (payload_in file)) (payload_all (λ b. b < 256) file bytes) in
     if_some _ _ found (λ own made. holds read_back overflows normal info (package_id file) (length file) own.items
     (entry_in_normal read_back overflows normal (root_value Tables.Package (payload_in file)) 0 value_is_normal)
     (package_info_shape shapes (payload_in file)) small
@@ -162,7 +162,7 @@ holds_found shapes read_back overflows normal file value payload is_value is_pay
 pub entry_of_shape : FoundShapes → (file : List ℕ) → HasShape (shape_of (Kinds.Obj Tables.PkgInfo)) (entry_of_package file)
 entry_of_shape shapes file = entry_shape (entry_in (root_value Tables.Package (payload_in file)) 0) (package_id file) (length file) (package_info_shape shapes (payload_in file))
 
-pub entry_of_version : SoundContainers → (file : List ℕ) → first_fault Tables.Package file ≡ None → is_version (text_in (entry_in (entry_of_package file) 1)) ≡ true
+pub entry_of_version : SoundContainers → (file : List ℕ) → container_fault_except_contents Tables.Package file ≡ None → is_version (text_in (entry_in (entry_of_package file) 1)) ≡ true
 entry_of_version containers file sound = ap is_version (entry_version (entry_in (root_value Tables.Package (payload_in file)) 0) (package_id file) (length file)) ∙ package_version containers file sound
 
 all_normal : ((payload : List ℕ) → All (λ b. b < 256) payload → (shape : Shape) (word : ℕ) → IfSome (plain_of payload shape word) IsNormal) → (p : List ℕ) (k : Kind) (w : ℕ) → All (λ b. b < 256) p → IsNormal (value_at p k w)
@@ -190,4 +190,4 @@ in_normal (obj vs) i h = nth_is_normal vs i h.2
 pub entry_of_normal : ((payload : List ℕ) → All (λ b. b < 256) payload → (shape : Shape) (word : ℕ) → IfSome (plain_of payload shape word) IsNormal) → (file : List ℕ) → All (λ b. b < 256) file → length file < 2 ^ 64 → IsNormal (entry_of_package file)
 entry_of_normal normal file bytes small =
     entry_normal (entry_in (root_value Tables.Package (payload_in file)) 0) (package_id file) (length file)
-    (in_normal (root_value Tables.Package (payload_in file)) 0 (all_normal normal (payload_in file) (Kinds.Obj Tables.Package) (root_of (payload_in file)) (payload_all (λ b. b < 256) file bytes))) small
+    (in_normal (root_value Tables.Package (payload_in file)) 0 (all_normal normal (payload_in file) (Kinds.Obj Tables.Package) (root_word_of_payload (payload_in file)) (payload_all (λ b. b < 256) file bytes))) small

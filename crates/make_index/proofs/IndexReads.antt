@@ -12,13 +12,13 @@ use Rattle.command_core.specs.Named.{operand_file}
 use Rattle.command_core.specs.Files.{without_dot_slash}
 use Rattle.command_core.specs.declared.operands.Operand.{Operand}
 use Rattle.make_index.specs.Index.{and_entries, found_entries, found_entry}
-use Rattle.make_index.specs.Kept.{AgreesUnlessMemory, AgreesUnlessStopped}
+use Rattle.make_index.specs.Kept.{AgreesUnlessMemory, AgreesUnlessMemoryOrDisk}
 use Rattle.make_index.specs.Files.{reads_of, FindOnlyFiles}
 use Rattle.base_core.specs.Files.{AreFileBytes}
 use Rattle.make_info.specs.declared.fault.MakeFault.{MakeFault}
 use Rattle.make_info.specs.declared.fault.MakeFault.TheVariants.{FileMissing, FileBad, InfoBad, TooLarge, Disk, Memory}
 
-pub by_made : {A B : Type 0} (view : A → B) (r : Result A MakeFault) (told : Result B MakeFault) → AgreesUnlessMemory view r told → AgreesUnlessStopped view r told
+pub by_made : {A B : Type 0} (view : A → B) (r : Result A MakeFault) (told : Result B MakeFault) → AgreesUnlessMemory view r told → AgreesUnlessMemoryOrDisk view r told
 by_made view (Ok x) told h = h
 by_made view (Err (FileMissing p)) told h = h
 by_made view (Err (FileBad p c)) told h = h
@@ -28,7 +28,7 @@ by_made view (Err Disk) told h = tt
 by_made view (Err Memory) told h = tt
 
 pub found_told : {A : Type 0} (view : A → Plain) (history : List TreeState) (r : Result A MakeFault) (place : ℕ) (name : List ℕ) (found : Option (List ℕ)) → IfObservable history (λ v. found ≡ files_of v name) → AgreesUnlessMemory view r (found_entry place found)
-    → IfObservable history (λ v. AgreesUnlessStopped view r (found_entry place (files_of v name)))
+    → IfObservable history (λ v. AgreesUnlessMemoryOrDisk view r (found_entry place (files_of v name)))
 found_told view [] r place name found h made = tt
 found_told view (v ∷ earlier) r place name found h made =
     by_made view r (found_entry place (files_of v name)) (subst (λ (o : Option (List ℕ)). AgreesUnlessMemory view r (found_entry place o)) h made)
@@ -40,8 +40,8 @@ operand_name os i o name at e =
     cc (both)
 
 pub named_as : {A : Type 0} (view : A → Plain) (history : List TreeState) (r : Result A MakeFault) (place : ℕ) (file name : List ℕ) → file ≡ name
-    → IfObservable history (λ v. AgreesUnlessStopped view r (found_entry place (files_of v file))) → IfObservable history (λ v. AgreesUnlessStopped view r (found_entry place (files_of v name)))
-named_as view history r place file name e h = let P : List ℕ → Type 0 = λ f. IfObservable history (λ v. AgreesUnlessStopped view r (found_entry place (files_of v f))) in subst P e h
+    → IfObservable history (λ v. AgreesUnlessMemoryOrDisk view r (found_entry place (files_of v file))) → IfObservable history (λ v. AgreesUnlessMemoryOrDisk view r (found_entry place (files_of v name)))
+named_as view history r place file name e h = let P : List ℕ → Type 0 = λ f. IfObservable history (λ v. AgreesUnlessMemoryOrDisk view r (found_entry place (files_of v f))) in subst P e h
 
 -- ---- the operands
 
@@ -83,13 +83,13 @@ pub so_far_all : (read : ℕ → List ℕ → Option (List ℕ)) (os : List Oper
 so_far_all read os i es past so = so ∙ (ap (λ (l : List Operand). in_front es (found_entries read i l)) (drop_of_length-le os past) ∙ ap Ok (append-nil es))
 
 -- a refusal at an operand is that of all
-pub so_far_err : {A : Type 0} (view : A → List Plain) (read : ℕ → List ℕ → Option (List ℕ)) (os : List Operand) (i : ℕ) (o : Operand) (es : List Plain) (fault : MakeFault) (r : Result A MakeFault) → slice_get os i ≡ Some o → IsSoFar read os i es → {B : Type 0} (one : B → Plain) → AgreesUnlessStopped one (Err fault) (found_entry o.place (read i (without_dot_slash o.text))) → r ≡ Err fault → AgreesUnlessStopped view r (found_entries read 0 os)
-so_far_err view read os i o es fault r at so one made e = subst (λ x. AgreesUnlessStopped view x (found_entries read 0 os)) (sym e) (go fault made)
+pub so_far_err : {A : Type 0} (view : A → List Plain) (read : ℕ → List ℕ → Option (List ℕ)) (os : List Operand) (i : ℕ) (o : Operand) (es : List Plain) (fault : MakeFault) (r : Result A MakeFault) → slice_get os i ≡ Some o → IsSoFar read os i es → {B : Type 0} (one : B → Plain) → AgreesUnlessMemoryOrDisk one (Err fault) (found_entry o.place (read i (without_dot_slash o.text))) → r ≡ Err fault → AgreesUnlessMemoryOrDisk view r (found_entries read 0 os)
+so_far_err view read os i o es fault r at so one made e = subst (λ x. AgreesUnlessMemoryOrDisk view x (found_entries read 0 os)) (sym e) (go fault made)
   where
     told : (f : MakeFault) → found_entry o.place (read i (without_dot_slash o.text)) ≡ Err f → found_entries read 0 os ≡ Err f
     told f t = here read os i o es at so ∙ ap (λ (x : Result Plain MakeFault). in_front es (and_entries x (found_entries read (i + 1) (drop (i + 1) os)))) t
 
-    go : (f : MakeFault) → AgreesUnlessStopped one (Err f) (found_entry o.place (read i (without_dot_slash o.text))) → AgreesUnlessStopped view (Err f) (found_entries read 0 os)
+    go : (f : MakeFault) → AgreesUnlessMemoryOrDisk one (Err f) (found_entry o.place (read i (without_dot_slash o.text))) → AgreesUnlessMemoryOrDisk view (Err f) (found_entries read 0 os)
     go (FileMissing p) h = told (FileMissing p) h
     go (FileBad p c) h = told (FileBad p c) h
     go (InfoBad p) h = told (InfoBad p) h
@@ -145,21 +145,21 @@ read_more os i o es new e at so f file one is = record {
 pub read_all_is : (os : List Operand) (i : ℕ) (es : List Plain) → length os ≤ i → IsReadTo os i es → (read : ℕ → List ℕ → Option (List ℕ)) × FindOnlyFiles read 0 os × (found_entries read 0 os ≡ Ok es)
 read_all_is os i es past so = (so.found, files_all so.found so.files 0 os, so_far_all so.found os i es past (so.rest so.found (λ k lt. refl)))
 
-pub read_err : {A B : Type 0} (view : A → List Plain) (one : B → Plain) (os : List Operand) (i : ℕ) (o : Operand) (es : List Plain) (fault : MakeFault) (r : Result A MakeFault) → slice_get os i ≡ Some o → IsReadTo os i es → (found : Option (List ℕ)) × IfSome found AreFileBytes × AgreesUnlessStopped one (Err fault) (found_entry o.place found) → r ≡ Err fault → (read : ℕ → List ℕ → Option (List ℕ)) × FindOnlyFiles read 0 os × AgreesUnlessStopped view r (found_entries read 0 os)
+pub read_err : {A B : Type 0} (view : A → List Plain) (one : B → Plain) (os : List Operand) (i : ℕ) (o : Operand) (es : List Plain) (fault : MakeFault) (r : Result A MakeFault) → slice_get os i ≡ Some o → IsReadTo os i es → (found : Option (List ℕ)) × IfSome found AreFileBytes × AgreesUnlessMemoryOrDisk one (Err fault) (found_entry o.place found) → r ≡ Err fault → (read : ℕ → List ℕ → Option (List ℕ)) × FindOnlyFiles read 0 os × AgreesUnlessMemoryOrDisk view r (found_entries read 0 os)
 read_err view one os i o es fault r at so made e =
     let f : Option (List ℕ) = made.0 in (
       found_with so.found i f,
       files_all (found_with so.found i f) (with_files so.found i f made.1 so.files) 0 os,
       so_far_err view (found_with so.found i f) os i o es fault r at (so.rest (found_with so.found i f) (λ k lt. with_before so.found i f k lt)) one
-          (subst (λ x. AgreesUnlessStopped one (Err fault) (found_entry o.place x)) (sym (with_value_at_index so.found i f (without_dot_slash o.text))) made.2) e,
+          (subst (λ x. AgreesUnlessMemoryOrDisk one (Err fault) (found_entry o.place x)) (sym (with_value_at_index so.found i f (without_dot_slash o.text))) made.2) e,
     )
 
 -- for lack of memory nothing is said of what was found
-pub read_stopped : {A : Type 0} (view : A → List Plain) (os : List Operand) (r : Result A MakeFault) → IsErrAnd r (λ e. e ≡ Memory) → (read : ℕ → List ℕ → Option (List ℕ)) × FindOnlyFiles read 0 os × AgreesUnlessStopped view r (found_entries read 0 os)
+pub read_stopped : {A : Type 0} (view : A → List Plain) (os : List Operand) (r : Result A MakeFault) → IsErrAnd r (λ e. e ≡ Memory) → (read : ℕ → List ℕ → Option (List ℕ)) × FindOnlyFiles read 0 os × AgreesUnlessMemoryOrDisk view r (found_entries read 0 os)
 read_stopped view os (Ok x) e = absurd e
 read_stopped view os (Err fault) e =
     let nothing : ℕ → List ℕ → Option (List ℕ) = λ k q. None in
-    let P : MakeFault → Type 0 = λ f. AgreesUnlessStopped view (Err f) (found_entries nothing 0 os) in
+    let P : MakeFault → Type 0 = λ f. AgreesUnlessMemoryOrDisk view (Err f) (found_entries nothing 0 os) in
     (nothing, files_all nothing (λ k q. tt) 0 os, subst P (sym e) tt)
 
 -- ---- over a tree that tells its files
@@ -173,10 +173,10 @@ told_more [] now os i o es new e at same so one is = tt
 told_more (v ∷ earlier) now os i o es new e at same so one is =
     so_far_more (reads_of v) os i o es new e at so (subst (λ (t : List TreeState). IfObservable t (λ w. found_entry o.place (files_of w (without_dot_slash o.text)) ≡ Ok e)) same one) is
 
-pub told_err : {A B : Type 0} (view : A → List Plain) (one : B → Plain) (old now : List TreeState) (os : List Operand) (i : ℕ) (o : Operand) (es : List Plain) (fault : MakeFault) (r : Result A MakeFault) → slice_get os i ≡ Some o → now ≡ old → IfObservable old (λ v. IsSoFar (reads_of v) os i es) → IfObservable now (λ v. AgreesUnlessStopped one (Err fault) (found_entry o.place (files_of v (without_dot_slash o.text)))) → r ≡ Err fault → IfObservable old (λ v. AgreesUnlessStopped view r (found_entries (reads_of v) 0 os))
+pub told_err : {A B : Type 0} (view : A → List Plain) (one : B → Plain) (old now : List TreeState) (os : List Operand) (i : ℕ) (o : Operand) (es : List Plain) (fault : MakeFault) (r : Result A MakeFault) → slice_get os i ≡ Some o → now ≡ old → IfObservable old (λ v. IsSoFar (reads_of v) os i es) → IfObservable now (λ v. AgreesUnlessMemoryOrDisk one (Err fault) (found_entry o.place (files_of v (without_dot_slash o.text)))) → r ≡ Err fault → IfObservable old (λ v. AgreesUnlessMemoryOrDisk view r (found_entries (reads_of v) 0 os))
 told_err view one [] now os i o es fault r at same so made e = tt
 told_err view one (v ∷ earlier) now os i o es fault r at same so made e =
-    so_far_err view (reads_of v) os i o es fault r at so one (subst (λ (t : List TreeState). IfObservable t (λ w. AgreesUnlessStopped one (Err fault) (found_entry o.place (files_of w (without_dot_slash o.text))))) same made) e
+    so_far_err view (reads_of v) os i o es fault r at so one (subst (λ (t : List TreeState). IfObservable t (λ w. AgreesUnlessMemoryOrDisk one (Err fault) (found_entry o.place (files_of w (without_dot_slash o.text))))) same made) e
 
 pub told_start : (history : List TreeState) (os : List Operand) (es : List Plain) → es ≡ [] → IfObservable history (λ v. IsSoFar (reads_of v) os 0 es)
 told_start history os es e = subst (λ (xs : List Plain). IfObservable history (λ v. IsSoFar (reads_of v) os 0 xs)) (sym e) (told_none history os)

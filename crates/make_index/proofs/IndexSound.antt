@@ -4,8 +4,8 @@ use Rattle.std.specs.Prelude.{All, nat_lt, if◌then◌else◌, ◌||◌, ◌==�
 use Rattle.std.proofs.lemmas.List.Elements.{All-take, All-drop}
 use Rattle.base_core.specs.declared.cause.Cause.{Cause}
 use Rattle.adb_block.specs.declared.block.BlockKind.{BlockKind}
-use Rattle.adb_block.specs.Framing.{HeadFields, Step, ended, failed, block, step_by_size, step_by_order, step_by_head, step_at_end, next_step, head_of, kind_of_number}
-use Rattle.adb_block.specs.Piece.{Piece, may_be_next_kind, least_payload, padding_of}
+use Rattle.adb_block.specs.Framing.{HeadFields, Step, ended, failed, block, step_by_size, step_by_order, step_by_head, step_at_end, next_step, block_head_fields, kind_of_number}
+use Rattle.adb_block.specs.Piece.{Piece, may_be_next_kind, least_payload_len, padding_of}
 use Rattle.adb_block.specs.Header.{header_of}
 use Rattle.adb_block.specs.Reading.{Reading, block_stream_after_step, block_stream_from_offset, block_stream_from}
 use Rattle.pkg_core.specs.adb_schema.Soundness.{first_block_payload, payload_after_header, payload_in}
@@ -25,7 +25,7 @@ module _ (P : ℕ → Type 0) where
   sized_all : (at : ℕ) (bytes : List ℕ) (head : HeadFields) (kind : BlockKind) → All P bytes → PieceAll P (step_by_size at bytes head kind)
   sized_all at bytes head kind h =
       if_step (nat_lt head.raw head.len || nat_lt (length bytes) head.raw) _ _ tt
-      (if_step (nat_lt (head.raw - head.len) (least_payload kind)) _ (block (record { kind = kind; payload = take (head.raw - head.len) (drop head.len bytes) }) (head.raw + padding_of head.raw)) tt
+      (if_step (nat_lt (head.raw - head.len) (least_payload_len kind)) _ (block (record { kind = kind; payload = take (head.raw - head.len) (drop head.len bytes) }) (head.raw + padding_of head.raw)) tt
       (All-take P (head.raw - head.len) (drop head.len bytes) (All-drop P head.len bytes h)))
 
   ordered_all : (last : Option BlockKind) (at : ℕ) (bytes : List ℕ) (head : HeadFields) (kind : Option BlockKind) → All P bytes → PieceAll P (step_by_order last at bytes head kind)
@@ -42,7 +42,7 @@ module _ (P : ℕ → Type 0) where
 
   step_all : (last : Option BlockKind) (at : ℕ) (bytes : List ℕ) → All P bytes → PieceAll P (next_step last at bytes)
   unfolding next_step
-  step_all last at bytes h = if_step (length bytes == 0) _ _ (at_end_all last at) (headed_all last at bytes (head_of bytes) h)
+  step_all last at bytes h = if_step (length bytes == 0) _ _ (at_end_all last at) (headed_all last at bytes (block_head_fields bytes) h)
 
   nothing : All P []
   nothing = λ k d h. absurd (omega arith)

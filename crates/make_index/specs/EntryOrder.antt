@@ -26,4 +26,5 @@ id_of_index_entry entry = text_in (entry_in entry INFO_HASHES)
 unfoldable pub entry_cmp : Plain → Plain → Ordering
 entry_cmp =
     then_cmp (on name_of_index_entry bytes_cmp)
-    (then_cmp (on version_of_index_entry version_cmp) (then_cmp (on version_of_index_entry bytes_cmp) (on id_of_index_entry bytes_cmp)))
+    (then_cmp (on version_of_index_entry version_cmp)
+    (then_cmp (on version_of_index_entry bytes_cmp) (on id_of_index_entry bytes_cmp)))

@@ -7,8 +7,8 @@ use Rattle.command_core.specs.Files.{without_dot_slash}
 use Rattle.command_core.specs.declared.operands.Operand.{Operand}
 use Rattle.make_info.specs.Reads.{Reads}
 
--- the reads of operands find files, if they find anything; the read of the first operand has the number
--- `n`
+-- each read of an operand finds nothing, or the bytes that a file may have; the read of the first
+-- operand has the number `n`
 abbrev pub FindOnlyFiles : Reads → ℕ → List Operand → Type 0
 FindOnlyFiles read n [] = Unit {0}
 FindOnlyFiles read n (o ∷ operands) =

@@ -5,7 +5,7 @@ use Rattle.command_core.specs.declared.values.TheConstants.{DESCRIPTION}
 use Rattle.std.specs.Prelude.{ℕ, ◌+◌, ◌==◌, List, [], ◌∷◌, Option, Some, None, Result, Ok, Err}
 use Rattle.std.specs.List.{find}
 use Rattle.base_core.specs.declared.cause.Cause.{Cause}
-use Rattle.adb_view.specs.Plain.{Plain, none, more, blob_or_null, arr_value, obj_value}
+use Rattle.adb_view.specs.Plain.{Plain, none, more, blob_or_null, array_or_null, trimmed_object_or_null}
 use Rattle.pkg_core.specs.adb_schema.declared.read.TheConstants.{INDEX_WORD}
 use Rattle.adb_copy.specs.adb_write.Canonical.{PayloadCounts, payload_or_overflow}
 use Rattle.adb_copy.specs.adb_write.File.{file_of}
@@ -28,7 +28,8 @@ use Rattle.base_core.specs.Sorted.{sorted_by}
 -- packages' files
 unfoldable pub value_of_index : List ℕ → List Plain → Plain
 value_of_index description entries =
-    obj_value (more (blob_or_null description) (more (arr_value (plains_of_list entries)) none))
+    trimmed_object_or_null (more (blob_or_null description)
+    (more (array_or_null (plains_of_list entries)) none))
 
 -- ---- the packages, operand by operand
 
@@ -66,13 +67,13 @@ index_container (Ok payload) = Ok (file_of INDEX_WORD payload)
 index_container (Err counts) = Err (TooLarge counts.0 counts.1)
 
 -- the index of these entries, sorted, or the refusal if it exceeds a limit
-unfoldable pub index_of : List ℕ → List Plain → Result (List ℕ) MakeFault
-index_of description entries =
+unfoldable pub index_of_entries : List ℕ → List Plain → Result (List ℕ) MakeFault
+index_of_entries description entries =
     index_container (payload_or_overflow (value_of_index description (sorted_by entry_cmp entries)))
 
 -- the index of the entries of packages that were found, or the first fault
 abbrev pub index_of_found : List ℕ → Result (List Plain) MakeFault → Result (List ℕ) MakeFault
-index_of_found description (Ok entries) = index_of description entries
+index_of_found description (Ok entries) = index_of_entries description entries
 index_of_found description (Err fault) = Err fault
 
 -- the index of the packages that operands name, given what each read finds

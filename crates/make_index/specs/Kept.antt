@@ -4,7 +4,7 @@
 -- contracts of `src/entry.rt` and `src/source.rt`.
 use Rattle.std.specs.Prelude.{◌≡◌, ℕ, List, true, IsTrue, is_none, Option, Some, Result, Ok, Err}
 use Rattle.base_core.specs.declared.cause.Cause.{Cause}
-use Rattle.adb_view.specs.Head.{head_fault, root_of}
+use Rattle.adb_view.specs.Head.{payload_head_fault, root_word_of_payload}
 use Rattle.adb_view.specs.Plain.{Plain}
 use Rattle.pkg_core.specs.adb_schema.Soundness.{root_value}
 use Rattle.adb_view.specs.FieldIndexes.{INFO_FILE_SIZE, INFO_HASHES}
@@ -22,7 +22,7 @@ use Rattle.make_index.specs.declared.source.EntrySource.TheVariants.{Payload, Fi
 
 -- ---- entries
 
--- an entry, rebuilt from its own fields: nothing is lost by writing it into another payload
+-- an entry, rebuilt from its own fields, as it is written into another payload
 abbrev pub copy_of_entry : Plain → Plain
 copy_of_entry entry = info_with_id_and_size entry (text_in (entry_in entry INFO_HASHES))
     (int_in (entry_in entry INFO_FILE_SIZE))
@@ -32,13 +32,14 @@ abbrev pub entry_of_source : EntrySource → Plain
 entry_of_source (Payload own) = copy_of_entry (root_value PkgInfo own.payload.items)
 entry_of_source (File own) = entry_of_package own.file.items
 
--- a payload of its own can be read, and its root is this entry
+-- the payload can be read, and its root is this entry
 pub record HoldsEntry (payload : List ℕ) (entry : Plain) : Type 0 where
-  pub head : is_none (head_fault payload) ≡ true
-  pub sound : is_sound payload (Obj PkgInfo) (root_of payload) ≡ true
+  pub head : is_none (payload_head_fault payload) ≡ true
+  pub sound : is_sound payload (Obj PkgInfo) (root_word_of_payload payload) ≡ true
   pub value : copy_of_entry (root_value PkgInfo payload) ≡ entry
 
--- the name, version and id are those of the entry, by which it is ordered, and the version is one
+-- the name, the version and the id, by which entries are ordered, are those of this entry; and the
+-- version is valid
 pub record IsEntryWithKeys (name version id : List ℕ) (entry : Plain) : Type 0 where
   pub by_name : name ≡ name_of_index_entry entry
   pub by_version : version ≡ version_of_index_entry entry
@@ -47,8 +48,8 @@ pub record IsEntryWithKeys (name version id : List ℕ) (entry : Plain) : Type 0
 
 -- ---- results
 
--- a result, seen by a view, is the value of a definition; out of memory says nothing, and no tree can
--- have failed
+-- a result, whose value is mapped by `view`, equals the specified one. If it is out of memory,
+-- nothing is required; an I/O error of the tree is impossible
 abbrev pub AgreesUnlessMemory :
     {A B : Type 0} → (A → B) → Result A MakeFault → Result B MakeFault → Type 0
 AgreesUnlessMemory view (Ok x) wanted = wanted ≡ Ok (view x)
@@ -56,14 +57,14 @@ AgreesUnlessMemory view (Err Memory) wanted = Unit {0}
 AgreesUnlessMemory view (Err Disk) wanted = ⊥
 AgreesUnlessMemory view (Err fault) wanted = wanted ≡ Err fault
 
--- a result, seen by a view, is the value of a definition; out of memory and an I/O error of the tree
--- say nothing
-abbrev pub AgreesUnlessStopped :
+-- a result, whose value is mapped by `view`, equals the specified one. If it is out of memory or an
+-- I/O error of the tree, nothing is required
+abbrev pub AgreesUnlessMemoryOrDisk :
     {A B : Type 0} → (A → B) → Result A MakeFault → Result B MakeFault → Type 0
-AgreesUnlessStopped view (Ok x) wanted = wanted ≡ Ok (view x)
-AgreesUnlessStopped view (Err Memory) wanted = Unit {0}
-AgreesUnlessStopped view (Err Disk) wanted = Unit {0}
-AgreesUnlessStopped view (Err fault) wanted = wanted ≡ Err fault
+AgreesUnlessMemoryOrDisk view (Ok x) wanted = wanted ≡ Ok (view x)
+AgreesUnlessMemoryOrDisk view (Err Memory) wanted = Unit {0}
+AgreesUnlessMemoryOrDisk view (Err Disk) wanted = Unit {0}
+AgreesUnlessMemoryOrDisk view (Err fault) wanted = wanted ≡ Err fault
 
 -- a package that the operand at this place names is refused for the first of its tests that fails
 abbrev pub IsRefusedAt : ℕ → MakeFault → Option Cause → Type 0

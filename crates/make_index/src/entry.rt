@@ -1,7 +1,7 @@
 //! An entry of an index: the tests of its package, and its order among the others.
 //! The rules are in `docs/commands.md`, "`mkndx PACKAGE..`" (the order of packages, and that each
 //! must pass all tests of `verify`), and "`verify FILE..`" there.
-ghost use Rattle.pkg_core.specs.adb_schema.Soundness.{first_fault, payload_in, root_value};
+ghost use Rattle.pkg_core.specs.adb_schema.Soundness.{container_fault_except_contents, payload_in, root_value};
 ghost use Rattle.adb_copy.specs.adb_values.Drafts.{draft_with};
 ghost use Rattle.base_core.specs.declared.cause.Cause.{Cause};
 ghost use Rattle.make_index.specs.Entries.{entry_of_package};
@@ -41,7 +41,7 @@ pub(crate) struct Entry {
     id: [u8; 32],
     /// The source from which the entry is written.
     source: EntrySource,
-    // The three are those of the entry, and the version is one.
+    // Name, version and id are those of the entry, and the version is valid.
     ghost keyed: { IsEntryWithKeys name.items version.items id (entry_of_source source) },
 }
 
@@ -130,7 +130,8 @@ fn read_parts(alloc: Global, place: u32, file: &[u8]) -> Result<Parts, MakeFault
     // A refusal has the first test that fails.
     ensures bad { IfErr result (λ fault. IsRefusedAt place fault (package_fault file.now)) }
     ensures sound { IfOk result (λ _. package_fault file.now ≡ None) }
-    ensures opened { IfOk result (λ _. first_fault Tables.Package file.now ≡ None) }
+    ensures opened { IfOk result (λ _. container_fault_except_contents Tables.Package file.now
+        ≡ None) }
     ensures keys { IfOk result (λ parts.
         IsEntryWithKeys parts.name.items parts.version.items parts.id (entry_of_package file.now)) }
     // A payload that is kept has the entry.
@@ -169,7 +170,8 @@ pub(crate) fn open_tested<'a>(
 ) -> Result<Package<'a>, MakeFault>
     ensures bad { IfErr result (λ fault. IsRefusedAt place fault (package_fault file.entry.now)) }
     ensures sound { IfOk result (λ _. package_fault file.entry.now ≡ None) }
-    ensures opened { IfOk result (λ _. first_fault Tables.Package file.entry.now ≡ None) }
+    ensures opened { IfOk result
+        (λ _. container_fault_except_contents Tables.Package file.entry.now ≡ None) }
     ensures value { IfOk result (λ pkg.
         opened_value pkg ≡ root_value Tables.Package (payload_in file.entry.now)) }
     ensures payload { IfOk result (λ pkg. opened_payload pkg ≡ payload_in file.entry.now) }

@@ -4,10 +4,10 @@
 //! fields in `docs/formats.md`, "Schemas", table 8.
 
 ghost use Rattle.adb_view.specs.Schema.{shape_of, table};
-ghost use Rattle.pkg_core.specs.adb_schema.Soundness.{first_fault};
+ghost use Rattle.pkg_core.specs.adb_schema.Soundness.{container_fault_except_contents};
 ghost use Rattle.adb_view.specs.declared.tables.Kind.TheVariants as Kinds;
 ghost use Rattle.adb_view.specs.declared.tables.Which.TheVariants as Tables;
-ghost use Rattle.adb_view.specs.Plain.{Plain, arr_value, IsNormal, Plains, obj_value};
+ghost use Rattle.adb_view.specs.Plain.{Plain, array_or_null, IsNormal, Plains, trimmed_object_or_null};
 ghost use Rattle.adb_view.specs.Shaped.{HasShape};
 ghost use Rattle.adb_copy.specs.adb_values.Drafts.{draft_with};
 ghost use Rattle.adb_copy.specs.adb_write.Canonical.{payload_or_overflow, MOST_BYTES};
@@ -19,8 +19,8 @@ ghost use Rattle.make_index.specs.EntryOrder.{entry_cmp, version_of_index_entry,
 ghost use Rattle.base_core.specs.Sorted.{sorted_by};
 ghost use Rattle.base_core.specs.Files.{AreFileBytes};
 ghost use Rattle.make_index.specs.Files.{FindOnlyFiles, reads_of};
-ghost use Rattle.make_index.specs.Index.{description_in, index_of, value_of_index, found_entries, found_entry, made_index};
-ghost use Rattle.make_index.specs.Kept.{AgreesUnlessMemory, AgreesUnlessStopped};
+ghost use Rattle.make_index.specs.Index.{description_in, index_of_entries, value_of_index, found_entries, found_entry, made_index};
+ghost use Rattle.make_index.specs.Kept.{AgreesUnlessMemory, AgreesUnlessMemoryOrDisk};
 ghost use Rattle.make_index.specs.Views.{entries_view, entry_view};
 ghost use Rattle.make_info.specs.Faults.{IsOverflowFault};
 ghost use Rattle.make_info.specs.Reads.{Reads};
@@ -56,10 +56,11 @@ pub fn make<T: Tree>(alloc: Global, command: &Command, tree: &mut T) -> Result<V
     requires { command.now.applet ≡ Applet.Mkndx }
     // If the tree's files are observable.
     ensures made { IfObservable (T.history tree.old) (λ v.
-        AgreesUnlessStopped (λ file. file.items) result (made_index command.now (reads_of v))) }
+        AgreesUnlessMemoryOrDisk (λ file. file.items) result (made_index command.now
+        (reads_of v))) }
     // Over every tree: by some bytes for each read. The first operand's read has the number 0.
     ensures found { (read : Reads) × FindOnlyFiles read 0 command.now.operands
-        × AgreesUnlessStopped (λ file. file.items) result (made_index command.now read) }
+        × AgreesUnlessMemoryOrDisk (λ file. file.items) result (made_index command.now read) }
     // The tree is only read, and `Disk` has a fault of the tree as its cause.
     ensures tree { OnlyReads MakeFault.Disk (T.history tree.old) (T.history tree.new)
         (T.counts tree.old) (T.counts tree.new) result }
@@ -89,9 +90,9 @@ fn read_entries<T: Tree>(
 ) -> Result<Vec<Entry>, MakeFault>
     requires { IsTrue (are_files operands.now) }
     ensures made { IfObservable (T.history tree.old) (λ v.
-        AgreesUnlessStopped entries_view result (found_entries (reads_of v) 0 operands.now)) }
+        AgreesUnlessMemoryOrDisk entries_view result (found_entries (reads_of v) 0 operands.now)) }
     ensures found { (read : Reads) × FindOnlyFiles read 0 operands.now
-        × AgreesUnlessStopped entries_view result (found_entries read 0 operands.now) }
+        × AgreesUnlessMemoryOrDisk entries_view result (found_entries read 0 operands.now) }
     ensures tree { OnlyReads MakeFault.Disk (T.history tree.old) (T.history tree.new)
         (T.counts tree.old) (T.counts tree.new) result }
 {
@@ -123,9 +124,9 @@ fn read_entry<T: Tree>(
     tree: &mut T,
 ) -> Result<Entry, MakeFault>
     ensures made { IfObservable (T.history tree.old) (λ v.
-        AgreesUnlessStopped entry_view result (found_entry place (files_of v file.now))) }
+        AgreesUnlessMemoryOrDisk entry_view result (found_entry place (files_of v file.now))) }
     ensures found { (found : Option (List ℕ)) × IfSome found AreFileBytes
-        × AgreesUnlessStopped entry_view result (found_entry place found) }
+        × AgreesUnlessMemoryOrDisk entry_view result (found_entry place found) }
     ensures tree { OnlyReads MakeFault.Disk (T.history tree.old) (T.history tree.new)
         (T.counts tree.old) (T.counts tree.new) result }
 {
@@ -152,7 +153,7 @@ fn entry_of(alloc: Global, place: u32, found: Option<Vec<u8>>) -> Result<Entry, 
 /// `TooLarge` if the payload exceeds a limit of the writer, or `Memory`.
 fn index_file(alloc: Global, description: &[u8], entries: Vec<Entry>) -> Result<Vec<u8>, MakeFault>
     ensures { AgreesUnlessMemory (λ file. file.items) result
-        (index_of description.now (map entry_view entries.items)) }
+        (index_of_entries description.now (map entry_view entries.items)) }
 {
     // Only the order changes.
     let mut entries = entries;
@@ -205,7 +206,7 @@ fn write_index(
 /// Writes entries as an array, in their order.
 fn write_entries(alloc: Global, draft: &mut Draft, entries: &[Entry]) -> Result<(), AllocError>
     ensures { OnOk result (draft.new
-        ≡ draft_with (arr_value (plains_of_list (map entry_view entries.now))) draft.old) }
+        ≡ draft_with (array_or_null (plains_of_list (map entry_view entries.now))) draft.old) }
 {
     draft.open_list()?;
     for entry in entries {
@@ -224,7 +225,7 @@ pub fn an_entry_is_an_info()
     ensures normal { (file : List ℕ) → All (λ b. b < 256) file → length file < 2 ^ 64
         → IsNormal (entry_of_package file) }
     // It has a version if the package is sound.
-    ensures version { (file : List ℕ) → first_fault Tables.Package file ≡ None
+    ensures version { (file : List ℕ) → container_fault_except_contents Tables.Package file ≡ None
         → is_version (version_of_index_entry (entry_of_package file)) ≡ true }
 {
     sound_containers_hold_sound_values();
@@ -249,11 +250,14 @@ pub fn an_index_is_in_order()
 pub fn entries_stand_by_name_version_and_id()
     ensures name { (a b : Plain) → bytes_cmp (name_of_index_entry a) (name_of_index_entry b) ≡ Less
         → entry_cmp a b ≡ Less }
-    ensures version { (a b : Plain) → bytes_cmp (name_of_index_entry a) (name_of_index_entry b) ≡ Equal
-        → version_cmp (version_of_index_entry a) (version_of_index_entry b) ≡ Less → entry_cmp a b ≡ Less }
+    ensures version { (a b : Plain) → bytes_cmp (name_of_index_entry a) (name_of_index_entry b)
+        ≡ Equal
+        → version_cmp (version_of_index_entry a) (version_of_index_entry b) ≡ Less
+        → entry_cmp a b ≡ Less }
     ensures text { (a b : Plain) → bytes_cmp (name_of_index_entry a) (name_of_index_entry b) ≡ Equal
         → version_cmp (version_of_index_entry a) (version_of_index_entry b) ≡ Equal
-        → bytes_cmp (version_of_index_entry a) (version_of_index_entry b) ≡ Less → entry_cmp a b ≡ Less }
+        → bytes_cmp (version_of_index_entry a) (version_of_index_entry b) ≡ Less → entry_cmp a b
+        ≡ Less }
     ensures id { (a b : Plain) → bytes_cmp (name_of_index_entry a) (name_of_index_entry b) ≡ Equal
         → version_cmp (version_of_index_entry a) (version_of_index_entry b) ≡ Equal
         → bytes_cmp (version_of_index_entry a) (version_of_index_entry b) ≡ Equal
@@ -265,11 +269,11 @@ pub fn entries_stand_by_name_version_and_id()
 pub fn an_entry_is_ordered_by_its_named_fields()
     ensures name { (fields : Plains) (v : Plain)
         → value_by_name (codes "name") (table PkgInfo) fields ≡ Some v
-        → name_of_index_entry (obj_value fields) ≡ text_in v }
+        → name_of_index_entry (trimmed_object_or_null fields) ≡ text_in v }
     ensures version { (fields : Plains) (v : Plain)
         → value_by_name (codes "version") (table PkgInfo) fields ≡ Some v
-        → version_of_index_entry (obj_value fields) ≡ text_in v }
+        → version_of_index_entry (trimmed_object_or_null fields) ≡ text_in v }
     ensures id { (fields : Plains) (v : Plain)
         → value_by_name (codes "hashes") (table PkgInfo) fields ≡ Some v
-        → id_of_index_entry (obj_value fields) ≡ text_in v }
+        → id_of_index_entry (trimmed_object_or_null fields) ≡ text_in v }
 {}

@@ -2,11 +2,11 @@
 //! `docs/DECISIONS.md`, "Making", has the rule: the file of a package whose information alone
 //! exceeds a limit of the writer is kept to the end. `docs/commands.md`, "`mkndx PACKAGE..`",
 //! defines an entry.
-ghost use Rattle.pkg_core.specs.adb_schema.Soundness.{first_fault, root_value};
+ghost use Rattle.pkg_core.specs.adb_schema.Soundness.{container_fault_except_contents, root_value};
 ghost use Rattle.adb_view.specs.FieldIndexes.{PACKAGE_INFO};
 ghost use Rattle.adb_view.specs.Values.{entry_in, is_sound, value_at};
 ghost use Rattle.adb_view.specs.Adb.{payload_of};
-ghost use Rattle.adb_view.specs.Head.{head_fault, root_of};
+ghost use Rattle.adb_view.specs.Head.{payload_head_fault, root_word_of_payload};
 ghost use Rattle.adb_copy.specs.adb_values.Drafts.{draft_with};
 ghost use Rattle.adb_copy.specs.adb_write.Canonical.{payload_or_overflow};
 ghost use Rattle.make_index.specs.Entries.{entry_of_package};
@@ -28,8 +28,9 @@ pub(crate) struct EntryPayload {
     /// The bytes of the payload.
     pub(crate) payload: Vec<u8>,
     // The payload can be read, and its root is an object of the fields of table 3.
-    ghost head: { is_none (head_fault payload.items) ≡ true },
-    ghost sound: { is_sound payload.items (Kinds.Obj Tables.PkgInfo) (root_of payload.items)
+    ghost head: { is_none (payload_head_fault payload.items) ≡ true },
+    ghost sound: { is_sound payload.items (Kinds.Obj Tables.PkgInfo)
+        (root_word_of_payload payload.items)
         ≡ true },
 }
 
@@ -40,7 +41,7 @@ pub(crate) struct PackageFile {
     pub(crate) file: Vec<u8>,
     // The first block of the file passes all tests of a package; the contents after it were tested
     // before.
-    ghost sound: { is_none (first_fault Tables.Package file.items) ≡ true },
+    ghost sound: { is_none (container_fault_except_contents Tables.Package file.items) ≡ true },
 }
 
 /// The source from which the entry of a package is written.
@@ -110,7 +111,8 @@ fn write_package(
 ) -> Result<(), AllocError>
     requires { id.now ≡ sha256 (opened_payload pkg.now) }
     ensures { OnOk result (draft.new ≡ draft_with
-        (info_with_id_and_size (entry_in (opened_value pkg.now) PACKAGE_INFO) (sha256 (opened_payload pkg.now))
+        (info_with_id_and_size (entry_in (opened_value pkg.now) PACKAGE_INFO) (sha256
+        (opened_payload pkg.now))
         len) draft.old) }
 {
     let info = pkg.view().info();
@@ -146,7 +148,8 @@ pub(crate) fn entry_payload(
     requires { id.now ≡ sha256 (opened_payload pkg.now) }
     ensures small { len < 2 ^ 64 }
     ensures payload { IfOk result (λ found. IfSome found (λ payload. payload_or_overflow
-        (info_with_id_and_size (entry_in (opened_value pkg.now) PACKAGE_INFO) (sha256 (opened_payload pkg.now))
+        (info_with_id_and_size (entry_in (opened_value pkg.now) PACKAGE_INFO) (sha256
+        (opened_payload pkg.now))
         len) ≡ Ok payload.items)) }
 {
     let mut draft = Draft::new(alloc);

@@ -8,8 +8,8 @@ use Rattle.std.specs.Cmp.Lexicographic.{bytes_decides}
 use Rattle.std.proofs.lemmas.Bool.{and_parts, and_from, lt-ltb, ltb-true, not-true, or_parts, false_from_ne_true}
 use Rattle.std.proofs.lemmas.Bool.Decides.{nat_tests}
 use Rattle.std.proofs.lemmas.Str.{IsUtf8-from_ascii, is_utf8-from_IsUtf8}
-use Rattle.base_core.specs.Name.{is_name, is_part, parts_of}
-use Rattle.dep_core.specs.Dependency.{begins_with_punctuation, is_dep_name, is_name_end_mark, is_name_byte, is_package_name}
+use Rattle.base_core.specs.Name.{is_name, is_path_part, path_parts_of}
+use Rattle.dep_core.specs.Dependency.{begins_with_dash_or_dot, is_dep_name, is_name_end_mark, is_name_byte, is_package_name}
 use Rattle.version_core.specs.Grammar.{is_version_byte}
 use Rattle.version_core.specs.Order.{is_version}
 use Rattle.version_core.proofs.VersionBytes.{all-imp, all-append}
@@ -44,8 +44,8 @@ name_bytes (b ∷ rest) h k =
 
 package_name_bytes : (name : List ℕ) → is_package_name name ≡ true → (list_all is_file_byte name ≡ true) × (0 < length name)
 package_name_bytes name h =
-    let all = and_parts (is_dep_name name && not (begins_with_punctuation name)) (not (list_any (λ b. eqb b 47) name)) h in
-    let dep = (and_parts (is_dep_name name) (not (begins_with_punctuation name)) all.0).0 in
+    let all = and_parts (is_dep_name name && not (begins_with_dash_or_dot name)) (not (list_any (λ b. eqb b 47) name)) h in
+    let dep = (and_parts (is_dep_name name) (not (begins_with_dash_or_dot name)) all.0).0 in
     let parts = and_parts (nat_lt 0 (length name) && nat_le (length name) 255) (list_all is_name_byte name) dep in
     let some = (and_parts (nat_lt 0 (length name)) (nat_le (length name) 255) parts.0).0 in
     (name_bytes name parts.1 (not-true (list_any (λ b. eqb b 47) name) all.1), ltb-true 0 (length name) some)
@@ -82,7 +82,7 @@ differs : (xs ys : List ℕ) → length ys < length xs → bytes_eq xs ys ≡ fa
 differs xs ys h =
     false_from_ne_true (bytes_eq xs ys) (λ t. let same : length xs ≡ length ys = ap length ((bytes_decides xs ys).0 t) in omega (arith, same, h))
 
-is_a_part : (xs : List ℕ) → 2 < length xs → is_part xs ≡ true
+is_a_part : (xs : List ℕ) → 2 < length xs → is_path_part xs ≡ true
 is_a_part xs h =
     let nonempty : not (eqb (length xs) 0) ≡ true = grind (arith, nat_tests) in
     and_from (not (eqb (length xs) 0) && not (bytes_eq xs (codes "."))) (not (bytes_eq xs (codes "..")))
@@ -95,8 +95,8 @@ file_name xs h long short =
     let some : nat_lt 0 (length xs) ≡ true = lt-ltb 0 (length xs) (omega (arith, long)) in
     let fits : nat_le (length xs) 1024 ≡ true = grind (arith, nat_tests) in
     let no_zero : not (list_any (λ b. eqb b 0) xs) ≡ true = ap not (none_is 0 not_zero xs h) in
-    let parts : list_all is_part (parts_of xs) ≡ true =
-    ap (list_all is_part) (one_part (λ b. eqb b 47) xs (none_is 47 not_slash xs h)) ∙ and_from (is_part xs) true (is_a_part xs long) refl in
+    let parts : list_all is_path_part (path_parts_of xs) ≡ true =
+    ap (list_all is_path_part) (one_part (λ b. eqb b 47) xs (none_is 47 not_slash xs h)) ∙ and_from (is_path_part xs) true (is_a_part xs long) refl in
     and_from _ _ (and_from _ _ (and_from _ _ (and_from _ _ some fits) no_zero) (is_utf8-from_IsUtf8 xs (IsUtf8-from_ascii xs (ascii xs h)))) parts
 
 package_file_is_name : HaveVersionBytes → (name version : List ℕ) → is_package_name name ≡ true → is_version version ≡ true → length (package_file_name name version) ≤ 1016 → is_name (package_file_name name version) ≡ true

@@ -10,7 +10,7 @@ use Rattle.version_core.specs.Order.{is_version}
 use Rattle.command_core.specs.Command.{CommandLine}
 use Rattle.command_core.specs.Sound.{IsValidCommand}
 use Rattle.command_core.specs.Values.{first_value}
-use Rattle.command_core.specs.Files.{is_file, is_output_argument, most_output_path_bytes, without_dot_slash}
+use Rattle.command_core.specs.Files.{is_file_argument, is_output_argument, most_output_path_bytes, without_dot_slash}
 use Rattle.command_core.specs.declared.values.OptionValue.{OptionValue}
 use Rattle.make_info.specs.declared.field.Field.{Field}
 use Rattle.make_info.specs.declared.field.Field.TheVariants as Fields
@@ -33,16 +33,16 @@ pub named_short : AreOutputs → (command : CommandLine) (file : List ℕ) → I
 named_short law command file is h =
     let named = named_by (first_value OUTPUT command.values) file h in
     let v : OptionValue = named.0 in
-    subst (λ f. length f ≤ most_output_path_bytes) named.2 (leb-true (length (without_dot_slash v.text)) most_output_path_bytes (and_parts (is_file v.text) (nat_le (length (without_dot_slash v.text)) most_output_path_bytes) (law command v is named.1)).1)
+    subst (λ f. length f ≤ most_output_path_bytes) named.2 (leb-true (length (without_dot_slash v.text)) most_output_path_bytes (and_parts (is_file_argument v.text) (nat_le (length (without_dot_slash v.text)) most_output_path_bytes) (law command v is named.1)).1)
 
-file_by : AreOutputs → (command : CommandLine) → IsValidCommand command → (o : Option OptionValue) → first_value OUTPUT command.values ≡ o → IfSome o (λ v. is_file v.text ≡ true)
+file_by : AreOutputs → (command : CommandLine) → IsValidCommand command → (o : Option OptionValue) → first_value OUTPUT command.values ≡ o → IfSome o (λ v. is_file_argument v.text ≡ true)
 file_by law command is None e = tt
-file_by law command is (Some v) e = (and_parts (is_file v.text) (nat_le (length (without_dot_slash v.text)) most_output_path_bytes) (law command v is e)).0
+file_by law command is (Some v) e = (and_parts (is_file_argument v.text) (nat_le (length (without_dot_slash v.text)) most_output_path_bytes) (law command v is e)).0
 
 -- so it is read as a name
-pub output_is_file : AreOutputs → (command : CommandLine) (values : List OptionValue) → IsValidCommand command → values ≡ command.values → IfSome (first_value OUTPUT values) (λ v. is_file v.text ≡ true)
+pub output_is_file : AreOutputs → (command : CommandLine) (values : List OptionValue) → IsValidCommand command → values ≡ command.values → IfSome (first_value OUTPUT values) (λ v. is_file_argument v.text ≡ true)
 output_is_file law command values is e =
-    let P : List OptionValue → Type 0 = λ vs. IfSome (first_value OUTPUT vs) (λ v. is_file v.text ≡ true) in
+    let P : List OptionValue → Type 0 = λ vs. IfSome (first_value OUTPUT vs) (λ v. is_file_argument v.text ≡ true) in
     subst P (sym e) (file_by law command is (first_value OUTPUT command.values) refl)
 
 -- whether it is there

@@ -16,9 +16,9 @@ use Rattle.make_info.specs.declared.field.Field.{Field}
 use Rattle.make_info.specs.declared.field.Field.TheVariants as Fields
 use Rattle.make_info.specs.declared.field.Kind.{Kind}
 use Rattle.make_info.specs.declared.field.Kind.TheVariants as Kinds
-use Rattle.make_info.specs.Fields.{FieldValue, text, number, value_of_digits, field_word, fields, may_repeat, kind_of_field, field_among, decimal_number, values_by_kind, text_value_if}
+use Rattle.make_info.specs.Fields.{FieldValue, text, number, values_of_hex_digits, field_word, fields, may_repeat, kind_of_field, field_among, decimal_number, values_by_kind, text_value_if}
 use Rattle.make_info.specs.FieldTexts.{FieldText, field_text_in, values_of_info, is_option_for_field, is_text_for_field, is_same_field, is_default_output_too_long}
-use Rattle.make_info.specs.Information.{FieldWithValue, items_of_valid_options, first_offence, information_of, is_item_for, gives_single_field_again, field_with_value, items_of_text, items_of_option, lacks_name_or_version, offends, unless_offence, with_values}
+use Rattle.make_info.specs.Information.{FieldWithValue, items_of_valid_options, first_offence, information_of, is_item_for, gives_single_field_again, field_with_value, items_of_text, items_of_option, lacks_name_or_version, offends, unless_offence, items_with_values_of_field}
 use Rattle.make_info.specs.Reading.{has_no_name_or_version, items_with_option_text, items_with_text}
 
 -- ---- fields are told apart by their words
@@ -59,7 +59,7 @@ one_text : (b : Bool) (value : List ℕ) (said : List FieldValue) → text_value
 one_text true value said h = (text value, cc)
 one_text false value said h = cc
 
-one_bytes : (r : Result (List ℕ) FromHexError) (said : List FieldValue) → value_of_digits r ≡ Some said → IsOne said
+one_bytes : (r : Result (List ℕ) FromHexError) (said : List FieldValue) → values_of_hex_digits r ≡ Some said → IsOne said
 one_bytes (Ok bytes) said h = (text bytes, cc)
 one_bytes (Err e) said h = cc
 
@@ -100,7 +100,7 @@ abbrev offends_given : Bool → List OptionValue → Option FieldText → Bool
 offends_given too_long done given =
     not (is_some (option_and_then items_of_text given)) || (gives_single_field_again done given || (too_long && is_text_for_field Fields.Version given))
 
-by_parts : (x l d h : Bool) (s : Option (List FieldValue)) (f : Field) (before : List FieldWithValue) → (l ≡ false → h ≡ d) → (not (is_some (with_values [] f s)) || ((not l && d) || x)) ≡ not (is_some (cond x None (cond (not l && h) None (with_values before f s))))
+by_parts : (x l d h : Bool) (s : Option (List FieldValue)) (f : Field) (before : List FieldWithValue) → (l ≡ false → h ≡ d) → (not (is_some (items_with_values_of_field [] f s)) || ((not l && d) || x)) ≡ not (is_some (cond x None (cond (not l && h) None (items_with_values_of_field before f s))))
 by_parts true l d h None f before same = refl
 by_parts false true d h None f before same = refl
 by_parts false false d true None f before same = refl
@@ -110,9 +110,9 @@ by_parts true false true h (Some s) f before same = refl
 by_parts true false false h (Some s) f before same = refl
 by_parts false true d h (Some s) f before same = refl
 by_parts false false true h (Some s) f before same =
-    ap (λ b. not (is_some (cond b None (with_values before f (Some s))))) (sym (same refl))
+    ap (λ b. not (is_some (cond b None (items_with_values_of_field before f (Some s))))) (sym (same refl))
 by_parts false false false h (Some s) f before same =
-    ap (λ b. not (is_some (cond b None (with_values before f (Some s))))) (sym (same refl))
+    ap (λ b. not (is_some (cond b None (items_with_values_of_field before f (Some s))))) (sym (same refl))
 
 judged_given : (too_long : Bool) (done : List OptionValue) (said : List FieldWithValue) (given : Option FieldText) → IsFresh done said → offends_given too_long done given ≡ not (is_some (items_with_text too_long said given))
 judged_given too_long done said None fresh = refl
@@ -130,7 +130,7 @@ SaysAs said new done given =
     (new ≡ said ++ unwrap_or (option_and_then items_of_text given) [])
     × ((f : Field) → may_repeat (kind_of_field f) ≡ false → is_some (find (is_item_for f) (unwrap_or (option_and_then items_of_text given) [])) ≡ is_text_for_field f given)
 
-by_taking : (x y : Bool) (g : FieldText) (s : Option (List FieldValue)) (said new : List FieldWithValue) (done : List OptionValue) → values_by_kind (kind_of_field g.field) g.value ≡ s → Some new ≡ cond x None (cond y None (with_values said g.field s)) → (new ≡ said ++ unwrap_or (with_values [] g.field s) []) × ((f : Field) → may_repeat (kind_of_field f) ≡ false → is_some (find (is_item_for f) (unwrap_or (with_values [] g.field s) [])) ≡ is_same_field g.field f)
+by_taking : (x y : Bool) (g : FieldText) (s : Option (List FieldValue)) (said new : List FieldWithValue) (done : List OptionValue) → values_by_kind (kind_of_field g.field) g.value ≡ s → Some new ≡ cond x None (cond y None (items_with_values_of_field said g.field s)) → (new ≡ said ++ unwrap_or (items_with_values_of_field [] g.field s) []) × ((f : Field) → may_repeat (kind_of_field f) ≡ false → is_some (find (is_item_for f) (unwrap_or (items_with_values_of_field [] g.field s) [])) ≡ is_same_field g.field f)
 by_taking true y g s said new done e h = cc
 by_taking false true g s said new done e h = cc
 by_taking false false g None said new done e h = cc

@@ -4,18 +4,18 @@ use Rattle.std.specs.Prelude.{ℕ, List, [], ◌∷◌}
 use Rattle.adb_view.specs.Plain.{Plain, null, Plains, none, more}
 use Rattle.make_info.specs.declared.writing.Column.{Column}
 use Rattle.make_info.specs.declared.writing.Column.TheVariants.{Single, List as ListOf, InstalledSize, Null}
-use Rattle.make_info.specs.Information.{FieldWithValue, value_of_list, value_of_single}
+use Rattle.make_info.specs.Information.{FieldWithValue, value_of_list_field, value_of_single_field}
 use Rattle.make_info.specs.Values.{size_value}
 
 -- the plain value of one field of the table, by what is given for it; the number is the installed size
 abbrev pub column_value : List FieldWithValue → ℕ → Column → Plain
-column_value info size (Single f) = value_of_single f info
-column_value info size (ListOf f) = value_of_list f info
+column_value info size (Single f) = value_of_single_field f info
+column_value info size (ListOf f) = value_of_list_field f info
 column_value info size InstalledSize = size_value size
 column_value info size Null = null
 
 -- the plain values of several fields, in the order of the table
-abbrev pub column_values : List FieldWithValue → ℕ → List Column → Plains
-column_values info size [] = none
-column_values info size (column ∷ columns) =
-    more (column_value info size column) (column_values info size columns)
+abbrev pub column_values_by_installed_size : List FieldWithValue → ℕ → List Column → Plains
+column_values_by_installed_size info size [] = none
+column_values_by_installed_size info size (column ∷ columns) =
+    more (column_value info size column) (column_values_by_installed_size info size columns)

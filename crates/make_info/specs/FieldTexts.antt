@@ -108,4 +108,5 @@ is_output_name_too_long (Some file) = nat_lt most_output_path_bytes (length file
 
 -- whether the output is NAME-VERSION.apk, and that is too long
 abbrev pub is_default_output_too_long : List OptionValue → Bool
-is_default_output_too_long values = not (is_some (named_output values)) && is_output_name_too_long (default_output values)
+is_default_output_too_long values =
+    not (is_some (named_output values)) && is_output_name_too_long (default_output values)

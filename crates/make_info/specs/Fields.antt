@@ -98,9 +98,9 @@ text_value_if true value = Some (text value ∷ [])
 text_value_if false value = None
 
 -- the values of a field of hexadecimal digits: the decoded bytes; None if the text is not hexadecimal
-abbrev pub value_of_digits : Result (List ℕ) FromHexError → Option (List FieldValue)
-value_of_digits (Ok bytes) = Some (text bytes ∷ [])
-value_of_digits (Err e) = None
+abbrev pub values_of_hex_digits : Result (List ℕ) FromHexError → Option (List FieldValue)
+values_of_hex_digits (Ok bytes) = Some (text bytes ∷ [])
+values_of_hex_digits (Err e) = None
 
 -- the number that a text encodes; None if it is none, has a leading zero or more than 64 bits
 abbrev pub decimal_number : List ℕ → Option ℕ
@@ -129,14 +129,16 @@ abbrev pub untagged_dependency_in : List ℕ → Option Dependency
 untagged_dependency_in part = option_and_then if_untagged (dependency_of part)
 
 -- the values of a dependency followed by others; None if one of them is no dependency
-abbrev pub dependency_value_and_others : Option Dependency → Option (List FieldValue) → Option (List FieldValue)
+abbrev pub dependency_value_and_others : Option Dependency → Option (List FieldValue)
+    → Option (List FieldValue)
 dependency_value_and_others d others =
     option_and_then (λ d. option_map (λ others. need d ∷ others) others) d
 
 -- the values of a list of dependencies, one for each part; None if a part is no dependency
 abbrev pub dependency_values_in : List (List ℕ) → Option (List FieldValue)
 dependency_values_in [] = Some []
-dependency_values_in (part ∷ parts) = dependency_value_and_others (untagged_dependency_in part) (dependency_values_in parts)
+dependency_values_in (part ∷ parts) =
+    dependency_value_and_others (untagged_dependency_in part) (dependency_values_in parts)
 
 -- the values of a text under a kind: several or none for a list, one for another kind; None if the text
 -- is not allowed
@@ -144,7 +146,7 @@ abbrev pub values_by_kind : Kind → List ℕ → Option (List FieldValue)
 values_by_kind Kinds.PackageName value = text_value_if (is_package_name value) value
 values_by_kind Kinds.PackageVersion value = text_value_if (is_version value) value
 values_by_kind Kinds.AnyText value = text_value_if true value
-values_by_kind Kinds.HexDigits value = value_of_digits (decode_of value)
+values_by_kind Kinds.HexDigits value = values_of_hex_digits (decode_of value)
 values_by_kind Kinds.Number value = option_map (λ n. number n ∷ []) (decimal_number value)
 values_by_kind Kinds.Dependencies value = dependency_values_in (nonempty_parts value)
 values_by_kind Kinds.Texts value = Some (text_values (nonempty_parts value))

@@ -5,7 +5,7 @@ use Rattle.std.specs.Prelude.{ℕ, Bool, false, ◌&&◌, ◌||◌, not, if◌th
 use Rattle.std.specs.List.{find, flat_map, list_any}
 use Rattle.command_core.specs.Command.{CommandLine}
 use Rattle.command_core.specs.declared.values.OptionValue.{OptionValue}
-use Rattle.adb_view.specs.Plain.{Plain, null, int, Plains, none, more, blob_or_null, arr_value, obj_value}
+use Rattle.adb_view.specs.Plain.{Plain, null, int, Plains, none, more, blob_or_null, array_or_null, trimmed_object_or_null}
 use Rattle.dep_core.specs.Value.{DepValue, dep_value}
 use Rattle.make_info.specs.declared.field.Field.{Field}
 use Rattle.make_info.specs.declared.field.Field.TheVariants as Fields
@@ -25,21 +25,22 @@ field_with_value f value = record { field = f; value = value }
 
 -- the items so far, followed by one for each of these values of a field; None if there are no values,
 -- since the text is not allowed
-abbrev pub with_values :
+abbrev pub items_with_values_of_field :
     List FieldWithValue → Field → Option (List FieldValue) → Option (List FieldWithValue)
-with_values before f values = option_map (λ values. before ++ map (field_with_value f) values) values
+items_with_values_of_field before f values =
+    option_map (λ values. before ++ map (field_with_value f) values) values
 
 -- the items of a field with a text; None if the text is not allowed
 abbrev pub items_of_text : FieldText → Option (List FieldWithValue)
 items_of_text given =
-    with_values [] given.field (values_by_kind (kind_of_field given.field) given.value)
+    items_with_values_of_field [] given.field (values_by_kind (kind_of_field given.field) given.value)
 
 -- the items of one value of `-I`; None if it is no FIELD:VALUE, or the value is not in the field's
 -- grammar
 abbrev pub items_of_option : OptionValue → Option (List FieldWithValue)
 items_of_option v = option_and_then items_of_text (field_text_in v.text)
 
--- whether a value is for a single field for which one is given before
+-- whether a value is for a field that is given once, and a value for that field is before it
 abbrev pub gives_single_field_again : List OptionValue → Option FieldText → Bool
 gives_single_field_again before None = false
 gives_single_field_again before (Some given) =
@@ -49,8 +50,8 @@ gives_single_field_again before (Some given) =
 abbrev pub repeats_single_field : List OptionValue → OptionValue → Bool
 repeats_single_field before v = gives_single_field_again before (field_text_in v.text)
 
--- whether a value offends: it is not allowed, it is a second one, or it is the version that makes the
--- output's name too long
+-- whether a value offends: it is not allowed, it is a second one of a field that is given once, or it is
+-- the version while the output's name is too long (`too_long`)
 abbrev pub offends : Bool → List OptionValue → OptionValue → Bool
 offends too_long before v =
     not (is_some (items_of_option v))
@@ -66,7 +67,8 @@ first_offence too_long before (v ∷ vs) =
 -- whether no value is for the package's name, or none for its version
 abbrev pub lacks_name_or_version : List OptionValue → Bool
 lacks_name_or_version values =
-    not (list_any (is_option_for_field Fields.Name) values) || not (list_any (is_option_for_field Fields.Version) values)
+    not (list_any (is_option_for_field Fields.Name) values)
+    || not (list_any (is_option_for_field Fields.Version) values)
 
 -- the items of values that do not offend
 abbrev pub items_of_valid_options : List OptionValue → List FieldWithValue
@@ -96,7 +98,7 @@ information command = information_of command.values command.behind
 -- the object of a dependency (table 1): name, version, match
 abbrev pub dependency_object : DepValue → Plain
 dependency_object v =
-    obj_value
+    trimmed_object_or_null
     (more (blob_or_null v.name) (more (blob_or_null v.version) (more (number_value v.matching) none)))
 
 -- the plain value of one value of a field; an empty text is Null
@@ -115,8 +117,8 @@ item_value None = null
 item_value (Some item) = plain_value item.value
 
 -- the value of a field that is given once
-abbrev pub value_of_single : Field → List FieldWithValue → Plain
-value_of_single f info = item_value (find (is_item_for f) info)
+abbrev pub value_of_single_field : Field → List FieldWithValue → Plain
+value_of_single_field f info = item_value (find (is_item_for f) info)
 
 -- the plain values of all items of a field, in their order
 abbrev pub plain_values_of_field : Field → List FieldWithValue → Plains
@@ -126,27 +128,28 @@ plain_values_of_field f (item ∷ items) =
     else plain_values_of_field f items
 
 -- the value of a field to which each value adds: an array
-abbrev pub value_of_list : Field → List FieldWithValue → Plain
-value_of_list f info = arr_value (plain_values_of_field f info)
+abbrev pub value_of_list_field : Field → List FieldWithValue → Plain
+value_of_list_field f info = array_or_null (plain_values_of_field f info)
 
 -- the 22 fields of table 3 in order, with the size of the files; hashes (3), file-size (13), layer (20)
 -- and the unused one (22) are Null
 abbrev pub information_fields : List FieldWithValue → ℕ → Plains
 information_fields info size =
-    more (value_of_single Fields.Name info) (more (value_of_single Fields.Version info) (more null
-    (more (value_of_single Fields.Description info) (more (value_of_single Fields.Arch info)
-    (more (value_of_single Fields.License info) (more (value_of_single Fields.Origin info)
-    (more (value_of_single Fields.Maintainer info) (more (value_of_single Fields.Url info)
-    (more (value_of_single Fields.RepoCommit info) (more (value_of_single Fields.BuildTime info)
-    (more (size_value size) (more null (more (value_of_single Fields.ProviderPriority info)
-    (more (value_of_list Fields.Depends info) (more (value_of_list Fields.Provides info)
-    (more (value_of_list Fields.Replaces info) (more (value_of_list Fields.InstallIf info)
-    (more (value_of_list Fields.Recommends info) (more null
-    (more (value_of_list Fields.Tags info) (more null none)))))))))))))))))))))
+    more (value_of_single_field Fields.Name info)
+    (more (value_of_single_field Fields.Version info) (more null
+    (more (value_of_single_field Fields.Description info) (more (value_of_single_field Fields.Arch info)
+    (more (value_of_single_field Fields.License info) (more (value_of_single_field Fields.Origin info)
+    (more (value_of_single_field Fields.Maintainer info) (more (value_of_single_field Fields.Url info)
+    (more (value_of_single_field Fields.RepoCommit info) (more (value_of_single_field Fields.BuildTime info)
+    (more (size_value size) (more null (more (value_of_single_field Fields.ProviderPriority info)
+    (more (value_of_list_field Fields.Depends info) (more (value_of_list_field Fields.Provides info)
+    (more (value_of_list_field Fields.Replaces info) (more (value_of_list_field Fields.InstallIf info)
+    (more (value_of_list_field Fields.Recommends info) (more null
+    (more (value_of_list_field Fields.Tags info) (more null none)))))))))))))))))))))
 
 -- the object of a package's information, with the size of the files
 unfoldable pub information_value : List FieldWithValue → ℕ → Plain
-information_value info size = obj_value (information_fields info size)
+information_value info size = trimmed_object_or_null (information_fields info size)
 
 -- the number that a value is, if it is one
 abbrev pub number_in : FieldValue → Option ℕ

@@ -9,7 +9,7 @@ use Rattle.adb_view.specs.Plain.{Plain, Plains, none, more}
 use Rattle.make_info.specs.declared.field.Field as Options
 use Rattle.make_info.specs.declared.field.Field.TheVariants as Fields
 use Rattle.make_info.specs.Fields.{kind_of_field, may_repeat}
-use Rattle.make_info.specs.Information.{FieldWithValue, value_of_list, value_of_single}
+use Rattle.make_info.specs.Information.{FieldWithValue, value_of_list_field, value_of_single_field}
 
 -- the value at the field of this name, of values in the order of a table's fields; None if no field
 -- has the name
@@ -24,5 +24,5 @@ value_by_name word (f ∷ fields) (more v values) =
 abbrev pub value_of_field : Options.Field → List FieldWithValue → Option Plain
 value_of_field Fields.ReplacesPriority info = None
 value_of_field f info =
-    if may_repeat (kind_of_field f) then Some (value_of_list f info)
-    else Some (value_of_single f info)
+    if may_repeat (kind_of_field f) then Some (value_of_list_field f info)
+    else Some (value_of_single_field f info)

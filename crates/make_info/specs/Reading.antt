@@ -6,7 +6,7 @@ use Rattle.std.specs.List.{find}
 use Rattle.make_info.specs.declared.field.Field.TheVariants as Fields
 use Rattle.make_info.specs.Fields.{is_nonempty, kind_of_field, may_repeat, values_by_kind}
 use Rattle.make_info.specs.FieldTexts.{FieldText, field_text_in, is_same_field}
-use Rattle.make_info.specs.Information.{FieldWithValue, is_item_for, with_values}
+use Rattle.make_info.specs.Information.{FieldWithValue, is_item_for, items_with_values_of_field}
 
 -- the list of a part between spaces, unless it is empty
 abbrev pub nonempty_part : List ℕ → List (List ℕ)
@@ -24,7 +24,7 @@ items_with_text too_long before None = None
 items_with_text too_long before (Some given) =
     if too_long && is_same_field given.field Fields.Version then None else
     if not (may_repeat (kind_of_field given.field)) && has_item_for given before then None else
-    with_values before given.field (values_by_kind (kind_of_field given.field) given.value)
+    items_with_values_of_field before given.field (values_by_kind (kind_of_field given.field) given.value)
 
 -- the items so far, with those of the text of a value; None if the value offends
 unfoldable pub items_with_option_text : Bool → List FieldWithValue → List ℕ → Option (List FieldWithValue)

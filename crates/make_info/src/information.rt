@@ -6,9 +6,9 @@ ghost use Rattle.dep_core.specs.Meets.{dependency};
 ghost use Rattle.hex.specs.Hex.{decode_of};
 ghost use Rattle.make_info.specs.Faults.{IsInfoFault};
 ghost use Rattle.make_info.specs.FieldTexts.{field_text_in};
-ghost use Rattle.make_info.specs.Fields.{value_of_digits, kind_of_field, untagged_dependency_in, dependency_values_in, number, decimal_number, nonempty_parts, values_by_kind, text_value_if, text_values, field_word};
+ghost use Rattle.make_info.specs.Fields.{values_of_hex_digits, kind_of_field, untagged_dependency_in, dependency_values_in, number, decimal_number, nonempty_parts, values_by_kind, text_value_if, text_values, field_word};
 ghost use Rattle.make_info.specs.Reading.{nonempty_part, has_no_name_or_version, items_with_option_text};
-ghost use Rattle.make_info.specs.Information.{information, information_of, is_item_for, field_with_value, with_values, FieldWithValue, first_offence, information_fields};
+ghost use Rattle.make_info.specs.Information.{information, information_of, is_item_for, field_with_value, items_with_values_of_field, FieldWithValue, first_offence, information_fields};
 ghost use Rattle.make_info.specs.Views.{field_text_view, item_view, value_view};
 ghost use Rattle.std.specs.List.{find};
 ghost use Rattle.std.specs.Option.{option_map};
@@ -221,7 +221,7 @@ impl<'a> Items<'a> {
     /// Adds the items of a value for its field. False: the value is not in the field's grammar.
     pub(crate) fn add(&mut self, given: FieldText<'a>) -> Result<bool, AllocError>
         ensures { IfOk result (λ good. (if good then Some self.new else None)
-            ≡ with_values self.old given.entry.field
+            ≡ items_with_values_of_field self.old given.entry.field
             (values_by_kind (kind_of_field given.entry.field) given.entry.value.now)) }
     {
         let FieldText { field, value } = given;
@@ -239,7 +239,7 @@ impl<'a> Items<'a> {
     // Adds a text that its rule allows. False: the rule does not.
     fn add_text(&mut self, field: Field, text: &'a [u8], is_good: bool) -> Result<bool, AllocError>
         ensures { IfOk result (λ good. (if good then Some self.new else None)
-            ≡ with_values self.old field (text_value_if is_good text.entry.now)) }
+            ≡ items_with_values_of_field self.old field (text_value_if is_good text.entry.now)) }
     {
         if !is_good {
             return Ok(false);
@@ -251,7 +251,8 @@ impl<'a> Items<'a> {
     // Adds the bytes that hexadecimal digits encode. False: the text is not hexadecimal.
     fn add_bytes(&mut self, field: Field, digits: &'a [u8]) -> Result<bool, AllocError>
         ensures { IfOk result (λ good. (if good then Some self.new else None)
-            ≡ with_values self.old field (value_of_digits (decode_of digits.entry.now))) }
+            ≡ items_with_values_of_field self.old field (values_of_hex_digits
+            (decode_of digits.entry.now))) }
     {
         match hex::decode(self.alloc, digits) {
             Ok(bytes) => {
@@ -266,7 +267,7 @@ impl<'a> Items<'a> {
     // Adds a number. False: the text is no number below 2^64, or has a leading zero.
     fn add_number(&mut self, field: Field, digits: &[u8]) -> Result<bool, AllocError>
         ensures { IfOk result (λ good. (if good then Some self.new else None)
-            ≡ with_values self.old field (option_map (λ n. number n ∷ [])
+            ≡ items_with_values_of_field self.old field (option_map (λ n. number n ∷ [])
             (decimal_number digits.now))) }
     {
         let Some(n) = read_number(digits) else {
@@ -279,7 +280,8 @@ impl<'a> Items<'a> {
     // Adds dependencies, with spaces between them. False: one of them is no dependency without tag.
     fn add_needs(&mut self, field: Field, texts: &'a [u8]) -> Result<bool, AllocError>
         ensures { IfOk result (λ good. (if good then Some self.new else None)
-            ≡ with_values self.old field (dependency_values_in (nonempty_parts texts.entry.now))) }
+            ≡ items_with_values_of_field self.old field (dependency_values_in
+            (nonempty_parts texts.entry.now))) }
     {
         for part in texts.split(|byte| *byte == b' ') {
             if !self.add_need(field, part)? {
@@ -293,7 +295,8 @@ impl<'a> Items<'a> {
     // tag.
     fn add_need(&mut self, field: Field, part: &'a [u8]) -> Result<bool, AllocError>
         ensures { IfOk result (λ good. (if good then Some self.new else None)
-            ≡ with_values self.old field (dependency_values_in (nonempty_part part.entry.now))) }
+            ≡ items_with_values_of_field self.old field (dependency_values_in
+            (nonempty_part part.entry.now))) }
     {
         if part.is_empty() {
             return Ok(true);
@@ -310,7 +313,8 @@ impl<'a> Items<'a> {
     // Adds the texts between spaces that are not empty. True always.
     fn add_texts(&mut self, field: Field, texts: &'a [u8]) -> Result<bool, AllocError>
         ensures { IfOk result (λ good. (if good then Some self.new else None)
-            ≡ with_values self.old field (Some (text_values (nonempty_parts texts.entry.now)))) }
+            ≡ items_with_values_of_field self.old field (Some (text_values
+            (nonempty_parts texts.entry.now)))) }
     {
         for part in texts.split(|byte| *byte == b' ') {
             if !part.is_empty() {

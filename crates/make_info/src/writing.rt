@@ -5,8 +5,8 @@ ghost use Rattle.adb_values.specs.Drafts.{draft_with, draft_with_all};
 ghost use Rattle.adb_view.specs.Plain.{blob_or_null};
 ghost use Rattle.dep_core.specs.Meets.{dependency};
 ghost use Rattle.dep_core.specs.Value.{dep_value, match_number_of};
-ghost use Rattle.make_info.specs.Columns.{column_value, column_values};
-ghost use Rattle.make_info.specs.Information.{information_value, value_of_list, dependency_object, number_in, replaces_priority, plain_value, value_of_single};
+ghost use Rattle.make_info.specs.Columns.{column_value, column_values_by_installed_size};
+ghost use Rattle.make_info.specs.Information.{information_value, value_of_list_field, dependency_object, number_in, replaces_priority, plain_value, value_of_single_field};
 ghost use Rattle.make_info.specs.Values.{number_value, size_value};
 ghost use Rattle.make_info.specs.Views.{value_view};
 ghost use Rattle.std.specs.Prelude.{◌≡◌, OnOk};
@@ -86,7 +86,7 @@ impl Items<'_> {
         installed_size: u64,
     ) -> Result<(), AllocError>
         ensures { OnOk result (draft.new
-            ≡ draft_with_all (column_values self.now installed_size columns.now) draft.old) }
+            ≡ draft_with_all (column_values_by_installed_size self.now installed_size columns.now) draft.old) }
     {
         for column in columns {
             self.write_column(draft, *column, installed_size)?;
@@ -114,7 +114,8 @@ impl Items<'_> {
 
     // Writes the value of a field that is given once.
     fn write_single(&self, draft: &mut Draft, field: Field) -> Result<(), AllocError>
-        ensures { OnOk result (draft.new ≡ draft_with (value_of_single field self.now) draft.old) }
+        ensures { OnOk result (draft.new
+            ≡ draft_with (value_of_single_field field self.now) draft.old) }
     {
         match self.find(field) {
             Some(entry) => entry.value.write(draft),
@@ -124,7 +125,8 @@ impl Items<'_> {
 
     // Writes all values of a field.
     fn write_list(&self, draft: &mut Draft, field: Field) -> Result<(), AllocError>
-        ensures { OnOk result (draft.new ≡ draft_with (value_of_list field self.now) draft.old) }
+        ensures { OnOk result (draft.new
+            ≡ draft_with (value_of_list_field field self.now) draft.old) }
     {
         draft.open_list()?;
         for entry in &self.entries {

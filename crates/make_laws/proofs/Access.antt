@@ -5,14 +5,14 @@ use Rattle.std.proofs.lemmas.List.Elements.{All-cons, All-nil}
 use Rattle.adb_view.proofs.ValueEntries.{nth_obj}
 use Rattle.make_core.specs.package_files.Package.{Source, SourceFolder, access_value, file_fields, folder_fields, kind_of_file, value_of_file, value_of_folder}
 use Rattle.make_core.proofs.PackageFiles.{files_stand}
-use Rattle.make_laws.specs.MadePackages.{IsEnterableFolder, IsReadableFile, enterable, readable}
+use Rattle.make_laws.specs.MadePackages.{IsEnterableFolder, IsReadableFile, ENTERABLE_FOLDER_MODE, READABLE_FILE_MODE}
 use Rattle.make_laws.specs.NamedFields.{IsAccessOfRoot}
 
 access_stands : (mode : ℕ) → IsAccessOfRoot mode (access_value mode)
 access_stands mode = record { of_mode = refl; of_user = refl; of_group = refl }
 
 file_readable : (s : Source) → IsReadableFile (value_of_file s)
-file_readable s = subst (IsAccessOfRoot readable) (sym (nth_obj (file_fields s.name (kind_of_file s.bytes)) 1)) (access_stands readable)
+file_readable s = subst (IsAccessOfRoot READABLE_FILE_MODE) (sym (nth_obj (file_fields s.name (kind_of_file s.bytes)) 1)) (access_stands READABLE_FILE_MODE)
 
 files_readable : (ss : List Source) → All IsReadableFile (map value_of_file ss)
 files_readable [] = All-nil IsReadableFile
@@ -21,7 +21,7 @@ files_readable (s ∷ ss) = All-cons IsReadableFile (value_of_file s) (map value
 folder_enterable : (s : SourceFolder) → IsEnterableFolder (value_of_folder s)
 folder_enterable s =
     record {
-      itself = subst (IsAccessOfRoot enterable) (sym (nth_obj (folder_fields s.name (map value_of_file s.files)) 1)) (access_stands enterable);
+      itself = subst (IsAccessOfRoot ENTERABLE_FOLDER_MODE) (sym (nth_obj (folder_fields s.name (map value_of_file s.files)) 1)) (access_stands ENTERABLE_FOLDER_MODE);
       files = subst (All IsReadableFile) (sym (files_stand s)) (files_readable s.files);
     }
 

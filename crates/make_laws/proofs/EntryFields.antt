@@ -9,7 +9,7 @@ use Rattle.adb_view.specs.Values.{entries_in, entry_in, int_in, nth}
 use Rattle.adb_view.specs.declared.tables.Field.{Field}
 use Rattle.adb_view.specs.declared.tables.Which.TheVariants.{Package, PkgInfo}
 use Rattle.adb_view.proofs.ValueEntries.{nth_obj}
-use Rattle.adb_view.specs.Plain.{Plain, null, int, blob, arr, obj, Plains, none, more, blob_or_null, obj_of, without_last_nulls}
+use Rattle.adb_view.specs.Plain.{Plain, null, int, blob, arr, obj, Plains, none, more, blob_or_null, object_or_null, without_last_nulls}
 use Rattle.make_core.specs.make_index.Entries.{entry_of_package}
 use Rattle.make_core.proofs.ValueParts.{placed_later}
 use Rattle.make_laws.specs.MadePackages.{package_in_container}
@@ -18,7 +18,7 @@ use Rattle.make_core.specs.pkg_core.Whole.{package_id}
 
 -- ---- values without zeros
 
-no_int : (us : Plains) → obj_of us ≢ int 0
+no_int : (us : Plains) → object_or_null us ≢ int 0
 no_int none e = absurd (cc (e))
 no_int (more u us) e = absurd (cc (e))
 

@@ -12,10 +12,10 @@ use Rattle.command_core.specs.Command.{CommandLine}
 use Rattle.command_core.specs.Files.{without_dot_slash}
 use Rattle.command_core.specs.declared.values.OptionValue.{OptionValue}
 use Rattle.make_core.specs.make_info.Reads.{Reads}
-use Rattle.make_core.specs.package_files.Folders.{prefixes_before_slashes, all_folders_above, folder_listings_of, folders_above, is_slash, folder_listing_of, path_below}
+use Rattle.make_core.specs.package_files.Folders.{prefixes_before_slashes, all_folders_above, folder_listings_of, folders_above, is_slash, folder_listing_of, path_relative_to}
 use Rattle.make_core.specs.package_files.Package.{SourceFolder}
-use Rattle.make_core.specs.package_files.Sources.{AreNamesBelowFirst, folders_below, values_of_letter}
-use Rattle.make_core.specs.FilesBelow.{name_below}
+use Rattle.make_core.specs.package_files.Sources.{AreNamesBelowFirstFolder, folders_below, values_of_letter}
+use Rattle.make_core.specs.FilesBelow.{path_joined_to_folder}
 use Rattle.make_core.proofs.ListedNames.{AreListed, below_is, listed_in}
 use Rattle.make_core.proofs.SoundPackage.{are_listed}
 use Rattle.make_laws.specs.MadePackages.{HasJustFoldersAbove, IsAboveOnePath, IsAbovePath}
@@ -68,21 +68,21 @@ in_from x xs h = in-from_index x x xs h.0 h.1 h.2
 
 module _ (dir : List ℕ) (names : List (List ℕ)) (all : AreListed dir names) (law : AreFolderNames) where
   abbrev paths : List (List ℕ)
-  paths = map (path_below dir) names
+  paths = map (path_relative_to dir) names
 
   over_one : (f : List ℕ) → IsIn f (all_folders_above paths) → IsAboveOnePath dir names f
   over_one f h =
       let found = law.over paths f (contains-from_in f (all_folders_above paths) h) in
       let path : List ℕ = found.1 in
       let here : IsIn path paths = in-from_index path path paths found.0 found.2 found.3 in
-      let (name, at, is) = from-map (path_below dir) path names here in
+      let (name, at, is) = from-map (path_relative_to dir) path names here in
       let listed = listed_in dir names name all at in
-      let same : name ≡ name_below dir path = listed.is ∙ ap (name_below dir) (sym is) in
+      let same : name ≡ path_joined_to_folder dir path = listed.is ∙ ap (path_joined_to_folder dir) (sym is) in
       (path, subst (λ (n : List ℕ). IsIn n names) same at, over_is path f (in_from f (folders_above path) found.4))
 
   one_over : (f : List ℕ) → IsAboveOnePath dir names f → IsIn f (all_folders_above paths)
   one_over f (path, at, over) =
-      let here : IsIn path paths = subst (λ (p : List ℕ). IsIn p paths) (below_is dir path) (in-map (path_below dir) (name_below dir path) names at) in
+      let here : IsIn path paths = subst (λ (p : List ℕ). IsIn p paths) (below_is dir path) (in-map (path_relative_to dir) (path_joined_to_folder dir path) names at) in
       in_from f (all_folders_above paths) (law.whole paths path f (contains-from_in path paths here) (contains-from_in f (folders_above path) (over_there path f over)))
 
   pub names_over : (pkg : Plain) → map name_of (folders_in pkg) ≡ all_folders_above paths → HasJustFoldersAbove dir names pkg
@@ -90,17 +90,17 @@ module _ (dir : List ℕ) (names : List (List ℕ)) (all : AreListed dir names) 
       (λ h. over_one f (subst (IsIn f) e h), λ h. subst (IsIn f) (sym e) (one_over f h))
 
 names_read : (read : Reads) (n place : ℕ) (dir : List ℕ) (names : List (List ℕ)) (sources : List SourceFolder) (v : OptionValue) (vs : List OptionValue) → folders_below read n (v ∷ vs) names ≡ Ok sources
-    → map (λ (s : SourceFolder). s.name) sources ≡ all_folders_above (map (path_below (without_dot_slash v.text)) names)
+    → map (λ (s : SourceFolder). s.name) sources ≡ all_folders_above (map (path_relative_to (without_dot_slash v.text)) names)
 unfolding folder_listings_of
 names_read read n place dir names sources v vs e =
-    let fs : List (List ℕ) = all_folders_above (map (path_below (without_dot_slash v.text)) names) in
+    let fs : List (List ℕ) = all_folders_above (map (path_relative_to (without_dot_slash v.text)) names) in
     listed_names (without_dot_slash v.text) names fs sources (folders_named v.place read n (map (folder_listing_of (without_dot_slash v.text) names) fs) sources e)
 
-pub folders_over_paths : AreFolderNames → (command : CommandLine) (names : List (List ℕ)) (read : Reads) (pkg : Plain) (v : OptionValue) (vs : List OptionValue) → AreNamesBelowFirst (values_of_letter FILES command.values) names
+pub folders_over_paths : AreFolderNames → (command : CommandLine) (names : List (List ℕ)) (read : Reads) (pkg : Plain) (v : OptionValue) (vs : List OptionValue) → AreNamesBelowFirstFolder (values_of_letter FILES command.values) names
     → values_of_letter FILES command.values ≡ v ∷ vs → IsMadeFrom command names read pkg → HasJustFoldersAbove (without_dot_slash v.text) names pkg
 folders_over_paths law command names read pkg v vs below given m =
     let dir : List ℕ = without_dot_slash v.text in
-    let named : AreNamesBelowFirst (v ∷ vs) names = subst (λ (l : List OptionValue). AreNamesBelowFirst l names) given below in
+    let named : AreNamesBelowFirstFolder (v ∷ vs) names = subst (λ (l : List OptionValue). AreNamesBelowFirstFolder l names) given below in
     let read_of : folders_below read (length m.scripts) (v ∷ vs) names ≡ Ok m.sources =
     ap (λ (l : List OptionValue). folders_below read (length m.scripts) l names) (sym given) ∙ m.sources_read in
     names_over dir names (are_listed dir names named.each) law pkg

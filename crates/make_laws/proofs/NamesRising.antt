@@ -19,9 +19,9 @@ use Rattle.command_core.specs.Command.{CommandLine}
 use Rattle.command_core.specs.Files.{without_dot_slash}
 use Rattle.command_core.specs.declared.values.OptionValue.{OptionValue}
 use Rattle.make_core.specs.make_info.Reads.{Reads}
-use Rattle.make_core.specs.package_files.Folders.{FolderListing, all_folders_above, folder_listings_of, folders_above, last_part_of, folder_listing_of, names_in_folder, path_below}
+use Rattle.make_core.specs.package_files.Folders.{FolderListing, all_folders_above, folder_listings_of, folders_above, last_part_of, folder_listing_of, names_in_folder, path_relative_to}
 use Rattle.make_core.specs.package_files.Package.{Source, SourceFolder, kind_of_file, value_of_file, value_of_folder}
-use Rattle.make_core.specs.package_files.Sources.{AreNamesBelowFirst, source_file_read_at, source_folder_read_at, folders_below, found_bytes_or_missing, source_folders_from, sources_from, values_of_letter}
+use Rattle.make_core.specs.package_files.Sources.{AreNamesBelowFirstFolder, source_file_read_at, source_folder_read_at, folders_below, found_bytes_or_missing, source_folders_from, sources_from, values_of_letter}
 use Rattle.make_core.proofs.Apart.{Rises, cmp, in_order_rises, rises_from_pairs}
 use Rattle.make_core.proofs.ListedNames.{AllOf, AreListed, after_ok, each_read, filter_in, listed_in, recovered, stands_in}
 use Rattle.make_core.proofs.PackageFiles.{files_stand, folder_name_stands, name_stands}
@@ -149,20 +149,20 @@ files_rise dir names (f ∷ fs) (s ∷ ss) all rises h =
 abbrev AreInOrder : List SourceFolder → Type 0
 AreInOrder sources = AreSortedDistinctNames (names_of sources) × All HasFilesRising (map value_of_folder sources)
 
-sources_in_order : (read : Reads) (n : ℕ) (values : List OptionValue) (names : List (List ℕ)) (sources : List SourceFolder) → AreNamesBelowFirst values names → folders_below read n values names ≡ Ok sources → AreInOrder sources
+sources_in_order : (read : Reads) (n : ℕ) (values : List OptionValue) (names : List (List ℕ)) (sources : List SourceFolder) → AreNamesBelowFirstFolder values names → folders_below read n values names ≡ Ok sources → AreInOrder sources
 unfolding folder_listings_of
 sources_in_order read n [] names sources below e =
     let same : [] ≡ sources = cc (e) in
     subst AreInOrder same (pairs_rise [] tt, All-nil HasFilesRising)
 sources_in_order read n (v ∷ vs) names sources below e =
     let dir : List ℕ = without_dot_slash v.text in
-    let fs : List (List ℕ) = all_folders_above (map (path_below dir) names) in
+    let fs : List (List ℕ) = all_folders_above (map (path_relative_to dir) names) in
     let are = folders_named v.place read n (map (folder_listing_of dir names) fs) sources e in (
-      subst AreSortedDistinctNames (sym (listed_names dir names fs sources are)) (pairs_rise fs (in_order_rises (flat_map folders_above (map (path_below dir) names)))),
+      subst AreSortedDistinctNames (sym (listed_names dir names fs sources are)) (pairs_rise fs (in_order_rises (flat_map folders_above (map (path_relative_to dir) names)))),
       files_rise dir names fs sources (are_listed dir names below.each) (rises_from_pairs names below.rising) are,
     )
 
-pub in_byte_order : (command : CommandLine) (names : List (List ℕ)) (read : Reads) (pkg : Plain) → AreNamesBelowFirst (values_of_letter FILES command.values) names → IsMadeFrom command names read pkg → IsInByteOrder pkg
+pub in_byte_order : (command : CommandLine) (names : List (List ℕ)) (read : Reads) (pkg : Plain) → AreNamesBelowFirstFolder (values_of_letter FILES command.values) names → IsMadeFrom command names read pkg → IsInByteOrder pkg
 in_byte_order command names read pkg below m =
     let are = folders_are command names read pkg m in
     let order = sources_in_order read (length m.scripts) (values_of_letter FILES command.values) names m.sources below m.sources_read in

@@ -9,7 +9,7 @@ use Rattle.command_core.specs.Files.{without_dot_slash}
 use Rattle.command_core.specs.Values.{script_file, script_type, script_types}
 use Rattle.command_core.specs.declared.values.OptionValue.{OptionValue}
 use Rattle.make_core.specs.make_info.Reads.{Reads}
-use Rattle.make_core.specs.package_files.Package.{Script, script_fields, script_in, value_of_scripts}
+use Rattle.make_core.specs.package_files.Package.{Script, script_fields, script_bytes_of_field, value_of_scripts}
 use Rattle.make_core.specs.package_files.Sources.{found_bytes_or_missing, script_at, script_with, scripts_from}
 use Rattle.make_core.proofs.ListedNames.{AllOf, after_ok, each_read}
 use Rattle.make_core.proofs.PackageFolder.{found_is}
@@ -37,22 +37,22 @@ module _ (read : Reads) where
       not_given o (inl is) t = other (ap (λ (x : OptionValue). script_type x.text) (sym is) ∙ t)
       not_given o (inr more) t = none o more t
 
-  given : (type : List ℕ) (vs : List OptionValue) (ss : List Script) → AllOf IsReadFrom vs ss → IsScriptGiven read vs type (blob_or_null (script_in ss type))
+  given : (type : List ℕ) (vs : List OptionValue) (ss : List Script) → AllOf IsReadFrom vs ss → IsScriptGiven read vs type (blob_or_null (script_bytes_of_field ss type))
   given type [] [] all = inr ((λ o h t. absurd h), refl)
   given type [] (s ∷ ss) all = absurd all
   given type (v ∷ vs) [] all = absurd all
   given type (v ∷ vs) (s ∷ ss) all = by_type (bytes_eq s.field type) refl (given type vs ss all.1)
     where
-      by_type : (b : Bool) → bytes_eq s.field type ≡ b → IsScriptGiven read vs type (blob_or_null (script_in ss type))
-          → IsScriptGiven read (v ∷ vs) type (blob_or_null (if b then s.bytes else script_in ss type))
+      by_type : (b : Bool) → bytes_eq s.field type ≡ b → IsScriptGiven read vs type (blob_or_null (script_bytes_of_field ss type))
+          → IsScriptGiven read (v ∷ vs) type (blob_or_null (if b then s.bytes else script_bytes_of_field ss type))
       by_type true e rest =
           let is : s.field ≡ type = (bytes_eq-Decides s.field type).0 e in
           inl (s.bytes, record { option = v; given = inl refl; of_type = all.0.0 ∙ is; number = all.0.1.0; found = all.0.1.1 }, refl)
       by_type false e rest =
-          further type v vs (blob_or_null (script_in ss type)) (λ t. let same : bytes_eq s.field type ≡ true = (bytes_eq-Decides s.field type).1 (sym all.0.0 ∙ t) in cc (e, same)) rest
+          further type v vs (blob_or_null (script_bytes_of_field ss type)) (λ t. let same : bytes_eq s.field type ≡ true = (bytes_eq-Decides s.field type).1 (sym all.0.0 ∙ t) in cc (e, same)) rest
 
   abbrev Stands : List Script → List ℕ → Type 0
-  Stands scripts t = field_named Scripts t (value_of_scripts scripts) ≡ blob_or_null (script_in scripts t)
+  Stands scripts t = field_named Scripts t (value_of_scripts scripts) ≡ blob_or_null (script_bytes_of_field scripts t)
 
   script_stands : (scripts : List Script) (type : List ℕ) → IsIn type script_types → Stands scripts type
   script_stands scripts type (inl e) = subst (Stands scripts) (sym e) (nth_obj (script_fields scripts) 0)

@@ -17,7 +17,7 @@ use Rattle.make_core.specs.make_info.declared.field.Field.{Field}
 use Rattle.make_core.specs.make_info.declared.field.Field.TheVariants as Fields
 use Rattle.make_core.specs.make_info.Fields.{FieldValue, text, number, need, field_word, kind_of_field, values_by_kind}
 use Rattle.make_core.specs.make_info.FieldTexts.{FieldText, field_text_in, is_same_field, is_default_output_too_long, values_of_info}
-use Rattle.make_core.specs.make_info.Information.{FieldWithValue, items_of_valid_options, first_offence, field_with_value, information_fields, information_of, information_value, is_item_for, item_value, items_of_option, items_of_text, lacks_name_or_version, number_in, offends, plain_value, plain_values_of_field, replaces_priority, unless_offence, value_of_list, value_of_single, with_values}
+use Rattle.make_core.specs.make_info.Information.{FieldWithValue, items_of_valid_options, first_offence, field_with_value, information_fields, information_of, information_value, is_item_for, item_value, items_of_option, items_of_text, lacks_name_or_version, number_in, offends, plain_value, plain_values_of_field, replaces_priority, unless_offence, value_of_list_field, value_of_single_field, items_with_values_of_field}
 use Rattle.make_core.specs.make_info.Values.{number_value}
 use Rattle.make_core.proofs.make_info.Reading.{same_field}
 use Rattle.make_laws.specs.NamedFields.{field_named}
@@ -57,7 +57,7 @@ other_values f g (x ∷ xs) e =
 
 module _ (spelled : (t : List ℕ) (d : Dependency) → dependency_of t ≡ Some d → SpellsDependency t d) (read : (t : List ℕ) (d : Dependency) → SpellsDependency t d → dependency_of t ≡ Some d) where
   said_by_text : (f : Field) (v : OptionValue) (g : FieldText) (o : Option (List FieldValue)) (items : List FieldWithValue) → field_text_in v.text ≡ Some g → values_by_kind (kind_of_field g.field) g.value ≡ o
-      → with_values [] g.field o ≡ Some items → OptionGivesFieldValues f v (values_for f items)
+      → items_with_values_of_field [] g.field o ≡ Some items → OptionGivesFieldValues f v (values_for f items)
   said_by_text f v g None items is kind e = absurd (cc (e))
   said_by_text f v g (Some said) items is kind e = by_field (is_same_field g.field f) refl
     where
@@ -119,7 +119,7 @@ told_list f (x ∷ xs) = by_test (is_item_for f x) (told_list f xs)
     by_test true e = ap (λ (l : List Plain). plain_value x.value ∷ l) e
     by_test false e = e
 
-tells_all : (f : Field) (items : List FieldWithValue) (v : Plain) → v ≡ value_of_list f items → HasAllValues (values_for f items) v
+tells_all : (f : Field) (items : List FieldWithValue) (v : Plain) → v ≡ value_of_list_field f items → HasAllValues (values_for f items) v
 tells_all f items v e =
     ap (λ (u : Plain). list_of (entries_in u)) e ∙ (ap list_of (entries_arr (plain_values_of_field f items)) ∙ told_list f items)
 
@@ -132,7 +132,7 @@ told_first f (x ∷ xs) = by_test (is_item_for f x) (told_first f xs)
     by_test true e = refl
     by_test false e = e
 
-tells_first : (f : Field) (items : List FieldWithValue) (v : Plain) → v ≡ value_of_single f items → HasFirstValue (values_for f items) v
+tells_first : (f : Field) (items : List FieldWithValue) (v : Plain) → v ≡ value_of_single_field f items → HasFirstValue (values_for f items) v
 tells_first f items v e = subst (HasFirstValue (values_for f items)) (sym e) (told_first f items)
 
 abbrev field_at : Field → List FieldWithValue → ℕ → Plain

@@ -14,16 +14,16 @@ use Rattle.base_core.specs.Files.{IsFolderOf}
 use Rattle.base_core.specs.Listed.{AreSortedDistinctNames}
 use Rattle.command_core.specs.Command.{CommandLine}
 use Rattle.command_core.specs.declared.values.OptionValue.{OptionValue}
-use Rattle.make_core.specs.FilesBelow.{name_below}
+use Rattle.make_core.specs.FilesBelow.{path_joined_to_folder}
 use Rattle.make_core.specs.make_info.Reads.{Reads}
 use Rattle.make_core.specs.make_package.Making.{made_package}
-use Rattle.make_core.specs.package_files.Sources.{AreNamesBelowFirst, values_of_letter}
+use Rattle.make_core.specs.package_files.Sources.{AreNamesBelowFirstFolder, values_of_letter}
 use Rattle.make_laws.specs.NamedFields.{IsAccessOfRoot, entries_named, field_named}
 
 -- `mkpkg` makes these bytes, fewer than 2^64, from names below the given folder
 pub record IsMadePackage (command : CommandLine) (names : List (List ℕ)) (read : Reads)
     (bytes : List ℕ) : Type 0 where
-  pub below : AreNamesBelowFirst (values_of_letter FILES command.values) names
+  pub below : AreNamesBelowFirstFolder (values_of_letter FILES command.values) names
   pub made : made_package command names read ≡ Ok bytes
   pub short : length bytes < 2 ^ 64
 
@@ -45,7 +45,7 @@ IsAbovePath folder path = (folder ≡ []) ⊎ IsFolderOf folder path
 -- a folder of the package is above the path of one of the names, which are below `dir` of the tree
 abbrev pub IsAboveOnePath : List ℕ → List (List ℕ) → List ℕ → Type 0
 IsAboveOnePath dir names folder =
-    (path : List ℕ) × IsIn (name_below dir path) names × IsAbovePath folder path
+    (path : List ℕ) × IsIn (path_joined_to_folder dir path) names × IsAbovePath folder path
 
 -- the folders of a package are exactly those above the path of a name
 abbrev pub HasJustFoldersAbove : List ℕ → List (List ℕ) → Plain → Type 0
@@ -54,15 +54,15 @@ HasJustFoldersAbove dir names pkg =
 
 -- ---- access rights
 
--- the digit of a mode by which the bytes of a file, or the names in a folder, may be read
+-- the octal digit of a mode that allows to read a file, or the names in a folder
 abbrev pub MAY_READ : ℕ
 MAY_READ = 4
 
--- the digit of a mode by which the bytes of a file, or the names in a folder, may be changed
+-- the octal digit of a mode that allows to change a file, or the names in a folder
 abbrev pub MAY_WRITE : ℕ
 MAY_WRITE = 2
 
--- the digit of a mode by which a folder may be entered, or a file be run
+-- the octal digit of a mode that allows to enter a folder, or to run a file
 abbrev pub MAY_ENTER : ℕ
 MAY_ENTER = 1
 
@@ -71,20 +71,21 @@ abbrev pub mode_of_rights : ℕ → ℕ → ℕ → ℕ
 mode_of_rights user group others = 64 * user + 8 * group + others
 
 -- the mode of a file that all may read and its user may write: octal 644
-abbrev pub readable : ℕ
-readable = mode_of_rights (MAY_READ + MAY_WRITE) MAY_READ MAY_READ
+abbrev pub READABLE_FILE_MODE : ℕ
+READABLE_FILE_MODE = mode_of_rights (MAY_READ + MAY_WRITE) MAY_READ MAY_READ
 
 -- the mode of a folder that all may read and enter, and its user may write: octal 755
-abbrev pub enterable : ℕ
-enterable = mode_of_rights (MAY_READ + MAY_WRITE + MAY_ENTER) (MAY_READ + MAY_ENTER) (MAY_READ + MAY_ENTER)
+abbrev pub ENTERABLE_FOLDER_MODE : ℕ
+ENTERABLE_FOLDER_MODE =
+    mode_of_rights (MAY_READ + MAY_WRITE + MAY_ENTER) (MAY_READ + MAY_ENTER) (MAY_READ + MAY_ENTER)
 
 -- the access list of a file says that all may read it and root may write it
 abbrev pub IsReadableFile : Plain → Type 0
-IsReadableFile file = IsAccessOfRoot readable (field_named File (codes "acl") file)
+IsReadableFile file = IsAccessOfRoot READABLE_FILE_MODE (field_named File (codes "acl") file)
 
 -- a folder may be entered by all, and its files be read
 pub record IsEnterableFolder (folder : Plain) : Type 0 where
-  pub itself : IsAccessOfRoot enterable (field_named Dir (codes "acl") folder)
+  pub itself : IsAccessOfRoot ENTERABLE_FOLDER_MODE (field_named Dir (codes "acl") folder)
   pub files : All IsReadableFile (files_in folder)
 
 -- ---- triggers and sizes

@@ -51,19 +51,19 @@ SpellDependencies (part ∷ parts) (need d ∷ values) =
 
 -- ---- field by field
 
--- a value of a field of text means the value itself
+-- a value of a text field has one meaning: the text itself
 abbrev pub SaysText : List ℕ → List FieldValue → Type 0
 SaysText value said = said ≡ text value ∷ []
 
--- a value of a field of a number means one number
+-- a value of a number field has one meaning: the number that it spells
 abbrev pub SaysNumber : List ℕ → List FieldValue → Type 0
 SaysNumber value said = (n : ℕ) × SpellsNumber value n × (said ≡ number n ∷ [])
 
--- a value of a list of dependencies means a dependency for each part
-abbrev pub SaysNeeds : List ℕ → List FieldValue → Type 0
-SaysNeeds value said = SpellDependencies (spaced_parts value) said
+-- a value of a field of dependencies has as its meaning one dependency for each part between spaces
+abbrev pub SaysDependencies : List ℕ → List FieldValue → Type 0
+SaysDependencies value said = SpellDependencies (spaced_parts value) said
 
--- a value is allowed for the field, and means this
+-- the text `value` is valid for the field, and its meaning is the list `said`
 abbrev pub FieldTextGivesValues : Field → List ℕ → List FieldValue → Type 0
 FieldTextGivesValues Fields.Name value said = (is_package_name value ≡ true) × SaysText value said
 FieldTextGivesValues Fields.Version value said = (is_version value ≡ true) × SaysText value said
@@ -78,11 +78,11 @@ FieldTextGivesValues Fields.RepoCommit value said =
 FieldTextGivesValues Fields.BuildTime value said = SaysNumber value said
 FieldTextGivesValues Fields.ProviderPriority value said = SaysNumber value said
 FieldTextGivesValues Fields.ReplacesPriority value said = SaysNumber value said
-FieldTextGivesValues Fields.Depends value said = SaysNeeds value said
-FieldTextGivesValues Fields.Provides value said = SaysNeeds value said
-FieldTextGivesValues Fields.Replaces value said = SaysNeeds value said
-FieldTextGivesValues Fields.InstallIf value said = SaysNeeds value said
-FieldTextGivesValues Fields.Recommends value said = SaysNeeds value said
+FieldTextGivesValues Fields.Depends value said = SaysDependencies value said
+FieldTextGivesValues Fields.Provides value said = SaysDependencies value said
+FieldTextGivesValues Fields.Replaces value said = SaysDependencies value said
+FieldTextGivesValues Fields.InstallIf value said = SaysDependencies value said
+FieldTextGivesValues Fields.Recommends value said = SaysDependencies value said
 FieldTextGivesValues Fields.Tags value said = said ≡ map text (spaced_parts value)
 
 -- ---- a value of `-I` among others

@@ -29,23 +29,26 @@ abbrev pub OptionsGiveFieldValues : Field → List OptionValue → List FieldVal
 OptionsGiveFieldValues f [] said = said ≡ []
 OptionsGiveFieldValues f (option ∷ options) said =
     (here : List FieldValue) × (further : List FieldValue)
-    × OptionGivesFieldValues f option here × OptionsGiveFieldValues f options further × (said ≡ here ++ further)
+    × OptionGivesFieldValues f option here × OptionsGiveFieldValues f options further
+    × (said ≡ here ++ further)
 
--- a value has all given values, in this order
+-- the entries of the plain value are the values of the list, in this order
 abbrev pub HasAllValues : List FieldValue → Plain → Type 0
 HasAllValues said v = list_of (entries_in v) ≡ map plain_value said
 
--- a value is the first given one, and Null if none is given
+-- the plain value is the first value of the list, or Null if the list is empty
 abbrev pub HasFirstValue : List FieldValue → Plain → Type 0
 HasFirstValue [] v = v ≡ null
 HasFirstValue (x ∷ said) v = v ≡ plain_value x
 
--- a value has the given ones: all of them for a list, otherwise the first
+-- the plain value has the values of the list: all of them if the field is a list, otherwise the
+-- first
 abbrev pub HasValuesAsList : Bool → List FieldValue → Plain → Type 0
 HasValuesAsList true said v = HasAllValues said v
 HasValuesAsList false said v = HasFirstValue said v
 
--- a value has the given ones of the field: all of them for a list, of another field the first
+-- the plain value of the field has the values of the list: all of them if the field is a list,
+-- otherwise the first
 abbrev pub HasValuesOfField : Field → List FieldValue → Plain → Type 0
 HasValuesOfField f said v = HasValuesAsList (is_list_field f) said v
 

@@ -6,7 +6,7 @@
 ghost use Rattle.make_core.specs.adb_copy.Zeros.{without_zeros};
 ghost use Rattle.adb_view.specs.Values.{entry_in, int_in, text_in};
 ghost use Rattle.adb_view.specs.declared.tables.Which.TheVariants.{Dep, File, Index, Package, PkgInfo};
-ghost use Rattle.adb_view.specs.Plain.{Plain, arr_value, blob_or_null, int, null};
+ghost use Rattle.adb_view.specs.Plain.{Plain, array_or_null, blob_or_null, int, null};
 ghost use Rattle.command_core.specs.Values.{script_file, script_type};
 ghost use Rattle.command_core.specs.declared.values.OptionValue.{OptionValue};
 ghost use Rattle.dep_core.specs.Dependency.{Dependency};
@@ -100,7 +100,8 @@ pub fn an_entry_has_the_values_of_its_package()
         → int_in (field_named PkgInfo (codes "file-size") (entry_of_package file)) ≡ length file }
     ensures others { (file name : List ℕ) → name ≢ codes "hashes" → name ≢ codes "file-size"
         → field_named PkgInfo name (entry_of_package file) ≡ without_zeros
-        (field_named PkgInfo name (field_named Package (codes "info") (package_in_container file))) }
+        (field_named PkgInfo name (field_named Package (codes "info")
+        (package_in_container file))) }
 {}
 
 /// A value without zeros is read the same: it has the same number, the same text, and the same
@@ -119,5 +120,5 @@ pub fn an_index_has_its_description_and_packages()
         → (field_named Index (codes "description") (value_of_index description entries)
         ≡ blob_or_null description)
         × (field_named Index (codes "packages") (value_of_index description entries)
-        ≡ arr_value (plains_of_list entries)) }
+        ≡ array_or_null (plains_of_list entries)) }
 {}

@@ -22,7 +22,7 @@ use Rattle.command_core.specs.Sound.{value_rules, IsValidCommand, may_both_be_gi
 use Rattle.command_core.specs.declared.values.ValueRule.{ValueRule}
 use Rattle.command_core.specs.Command.{CommandLine}
 use Rattle.command_core.specs.Values.{first_value, script_file, script_type, script_types}
-use Rattle.command_core.specs.Files.{is_file, without_dot_slash}
+use Rattle.command_core.specs.Files.{is_file_argument, without_dot_slash}
 use Rattle.command_core.specs.declared.command.Applet.{Applet}
 use Rattle.command_core.specs.declared.command.Applet.TheVariants.{Mkpkg}
 use Rattle.command_core.specs.declared.values.OptionValue.{OptionValue}
@@ -68,16 +68,16 @@ first_two options v vs h =
     ((and_parts (is_allowed_value (rule_for options v.letter) v.text) (list_all (may_both_be_given options v) vs) parts.0).0, parts.1)
 
 -- the value of the option for scripts gives a file
-pub script_allowed : (vs : List OptionValue) (i : ℕ) (v : OptionValue) → are_allowed_values (value_rules Mkpkg) vs ≡ true → slice_get vs i ≡ Some v → v.letter ≡ SCRIPT → is_file (script_file v.text) ≡ true
+pub script_allowed : (vs : List OptionValue) (i : ℕ) (v : OptionValue) → are_allowed_values (value_rules Mkpkg) vs ≡ true → slice_get vs i ≡ Some v → v.letter ≡ SCRIPT → is_file_argument (script_file v.text) ≡ true
 script_allowed vs i v h at e =
     let good : is_allowed_value (rule_for (value_rules Mkpkg) SCRIPT) v.text ≡ true =
     subst (λ (l : ℕ). is_allowed_value (rule_for (value_rules Mkpkg) l) v.text ≡ true) e (value_at (value_rules Mkpkg) vs i v h at) in
-    (and_parts (list_any (λ t. bytes_eq t (script_type v.text)) script_types) (is_file (script_file v.text)) good).1
+    (and_parts (list_any (λ t. bytes_eq t (script_type v.text)) script_types) (is_file_argument (script_file v.text)) good).1
 
 pub script_there : (vs : List OptionValue) (i : ℕ) (v : OptionValue) → are_allowed_values (value_rules Mkpkg) vs ≡ true → slice_get vs i ≡ Some v → v.letter ≡ SCRIPT
-    → IfSome (slice_get vs i) (λ w. (w.letter ≡ SCRIPT) × (is_file (script_file w.text) ≡ true))
+    → IfSome (slice_get vs i) (λ w. (w.letter ≡ SCRIPT) × (is_file_argument (script_file w.text) ≡ true))
 script_there vs i v h at e =
-    let P : Option OptionValue → Type 0 = λ o. IfSome o (λ w. (w.letter ≡ SCRIPT) × (is_file (script_file w.text) ≡ true)) in
+    let P : Option OptionValue → Type 0 = λ o. IfSome o (λ w. (w.letter ≡ SCRIPT) × (is_file_argument (script_file w.text) ≡ true)) in
     subst P (sym at) (e, script_allowed vs i v h at e)
 
 pub script_name : (vs : List OptionValue) (i : ℕ) (v : OptionValue) (name : List ℕ) → slice_get vs i ≡ Some v
@@ -87,11 +87,11 @@ script_name vs i v name at e =
     cc (both)
 
 -- and that of the option for a folder names one
-pub folder_file : (vs : List OptionValue) → are_allowed_values (value_rules Mkpkg) vs ≡ true → IfSome (first_value FILES vs) (λ v. is_file v.text ≡ true)
+pub folder_file : (vs : List OptionValue) → are_allowed_values (value_rules Mkpkg) vs ≡ true → IfSome (first_value FILES vs) (λ v. is_file_argument v.text ≡ true)
 folder_file [] h = tt
 folder_file (u ∷ us) h = by_letter (eqb u.letter FILES) refl (folder_file us (first_two (value_rules Mkpkg) u us h).1)
   where
-    by_letter : (b : Bool) → eqb u.letter FILES ≡ b → IfSome (first_value FILES us) (λ v. is_file v.text ≡ true) → IfSome (cond b (Some u) (first_value FILES us)) (λ v. is_file v.text ≡ true)
+    by_letter : (b : Bool) → eqb u.letter FILES ≡ b → IfSome (first_value FILES us) (λ v. is_file_argument v.text ≡ true) → IfSome (cond b (Some u) (first_value FILES us)) (λ v. is_file_argument v.text ≡ true)
     by_letter true t rest =
         let good : is_allowed_value (rule_for (value_rules Mkpkg) FILES) u.text ≡ true =
         subst (λ (l : ℕ). is_allowed_value (rule_for (value_rules Mkpkg) l) u.text ≡ true) (eqb-true u.letter FILES t) (first_two (value_rules Mkpkg) u us h).0 in

@@ -23,7 +23,7 @@ use Rattle.package_files.specs.Package.{SourceFolder}
 use Rattle.package_files.specs.Packed.{IsPacking}
 use Rattle.package_files.specs.Runs.{AgreesOrIsFault, IsExplainedBySomeReads}
 use Rattle.make_package.specs.Scripts.{AreScripts, IsScript, script_view, scripts_view}
-use Rattle.package_files.specs.Sources.{AreNamesBelowFirst, and_then, each_from, source_folder_read_at, folders_below, source_folders_from, found_bytes_or_missing, values_of_letter, script_at, scripts_from}
+use Rattle.package_files.specs.Sources.{AreNamesBelowFirstFolder, and_then, results_from_read, source_folder_read_at, folders_below, source_folders_from, found_bytes_or_missing, values_of_letter, script_at, scripts_from}
 use Rattle.package_files.specs.make_info.Reads.{Reads}
 use Rattle.package_files.specs.make_info.declared.fault.MakeFault.{MakeFault}
 use Rattle.package_files.specs.make_info.declared.fault.MakeFault.TheVariants.{FileMissing, FileBad, InfoBad, TooLarge, Disk, Memory}
@@ -81,9 +81,9 @@ module _ {X Y : Type 0} (count : X → ℕ) (of : ℕ → X → Result Y MakeFau
   long_by (Ok y0) (Err x) ys m e h = absurd (cc)
   long_by (Err x) e ys m i h = absurd (cc)
 
-  each_long : (n : ℕ) (xs : List X) (ys : List Y) → each_from count of n xs ≡ Ok ys → length ys ≡ length xs
+  each_long : (n : ℕ) (xs : List X) (ys : List Y) → results_from_read count of n xs ≡ Ok ys → length ys ≡ length xs
   each_long n [] ys e = let none : ys ≡ [] = cc in ap length none
-  each_long n (x ∷ xs) ys e = long_by (of n x) (each_from count of (n + count x) xs) ys (length xs) e (λ l g. each_long (n + count x) xs l g)
+  each_long n (x ∷ xs) ys e = long_by (of n x) (results_from_read count of (n + count x) xs) ys (length xs) e (λ l g. each_long (n + count x) xs l g)
 
 ones : (xs : List OptionValue) → total one_read xs ≡ length xs
 ones [] = refl
@@ -172,7 +172,7 @@ module _ (command : CommandLine) (names : List (List ℕ)) (read : Reads) where
 
 -- ---- a run, of what is made
 
-pub made_by : (told : List TreeState) (command : CommandLine) (names : List (List ℕ)) (r : Result (Vec ℕ Global) MakeFault) → AreNamesBelowFirst (values_of_letter FILES command.values) names → IfObservable told (λ v. AreNamesBelowFirstOption (values_of_letter FILES command.values) v names)
+pub made_by : (told : List TreeState) (command : CommandLine) (names : List (List ℕ)) (r : Result (Vec ℕ Global) MakeFault) → AreNamesBelowFirstFolder (values_of_letter FILES command.values) names → IfObservable told (λ v. AreNamesBelowFirstOption (values_of_letter FILES command.values) v names)
     → IsExplainedBySomeReads told (λ read. AgreesOrIsFault IsBytes r (made_package command names read)) → IsMakeResult told command r
 made_by told command names (Ok file) named below p = record { names = names; named = named; below = below; reads = record { read = p.read; observed = p.observed; is = p.is.1 ∙ ap Ok p.is.2 } }
 made_by told command names (Err Disk) named below p = tt
@@ -183,7 +183,7 @@ made_by told command names (Err (InfoBad q)) named below p = record { names = na
 made_by told command names (Err (TooLarge b v)) named below p = record { names = names; named = named; below = below; reads = p }
 
 -- the tree was asked before the run, and stayed as it was
-pub run_as : (t0 t1 : List TreeState) (command : CommandLine) (names : List (List ℕ)) (r : Result (Vec ℕ Global) MakeFault) → t1 ≡ t0 → AreNamesBelowFirst (values_of_letter FILES command.values) names → IfObservable t0 (λ v. AreNamesBelowFirstOption (values_of_letter FILES command.values) v names)
+pub run_as : (t0 t1 : List TreeState) (command : CommandLine) (names : List (List ℕ)) (r : Result (Vec ℕ Global) MakeFault) → t1 ≡ t0 → AreNamesBelowFirstFolder (values_of_letter FILES command.values) names → IfObservable t0 (λ v. AreNamesBelowFirstOption (values_of_letter FILES command.values) v names)
     → IsExplainedBySomeReads t1 (λ read. AgreesOrIsFault IsBytes r (made_package command names read)) → IsMakeResult t0 command r
 run_as t0 t1 command names r e named below p =
     let P : List TreeState → Type 0 = λ t. IsExplainedBySomeReads t (λ read. AgreesOrIsFault IsBytes r (made_package command names read)) in
@@ -195,11 +195,11 @@ pub below_as : (told : List TreeState) (command : CommandLine) (values : List Op
     → IfObservable told (λ v. AreNamesBelowFirstOption (values_of_letter FILES command.values) v names)
 below_as told command values names e h = let P : List OptionValue → Type 0 = λ vs. IfObservable told (λ v. AreNamesBelowFirstOption (values_of_letter FILES vs) v names) in subst P e h
 
-pub named_as : (command : CommandLine) (values : List OptionValue) (names : List (List ℕ)) → values ≡ command.values → AreNamesBelowFirst (values_of_letter FILES values) names → AreNamesBelowFirst (values_of_letter FILES command.values) names
-named_as command values names e h = let P : List OptionValue → Type 0 = λ vs. AreNamesBelowFirst (values_of_letter FILES vs) names in subst P e h
+pub named_as : (command : CommandLine) (values : List OptionValue) (names : List (List ℕ)) → values ≡ command.values → AreNamesBelowFirstFolder (values_of_letter FILES values) names → AreNamesBelowFirstFolder (values_of_letter FILES command.values) names
+named_as command values names e h = let P : List OptionValue → Type 0 = λ vs. AreNamesBelowFirstFolder (values_of_letter FILES vs) names in subst P e h
 
-pub nothing_named : (dirs : List OptionValue) (names : List (List ℕ)) → dirs ≡ [] → AreNamesBelowFirst dirs names
-nothing_named dirs names e = let P : List OptionValue → Type 0 = λ l. AreNamesBelowFirst l names in subst P (sym e) tt
+pub nothing_named : (dirs : List OptionValue) (names : List (List ℕ)) → dirs ≡ [] → AreNamesBelowFirstFolder dirs names
+nothing_named dirs names e = let P : List OptionValue → Type 0 = λ l. AreNamesBelowFirstFolder l names in subst P (sym e) tt
 
 pub nothing_below : (told : List TreeState) (dirs : List OptionValue) (names : List (List ℕ)) → dirs ≡ [] → IfObservable told (λ v. AreNamesBelowFirstOption dirs v names)
 nothing_below [] dirs names e = tt
@@ -247,9 +247,9 @@ listed_for told vs folder names f h =
     let Q : List ℕ → Type 0 = λ d. IfObservable told (λ w. IsListOf d w names) in
     subst P (sym f.first) (subst Q (sym f.name) h)
 
-pub named_for : (vs : List OptionValue) (folder : List ℕ) (names : List (List ℕ)) → IsFolder vs folder → AreNamesBelow folder names → AreNamesBelowFirst (values_of_letter FILES vs) names
+pub named_for : (vs : List OptionValue) (folder : List ℕ) (names : List (List ℕ)) → IsFolder vs folder → AreNamesBelow folder names → AreNamesBelowFirstFolder (values_of_letter FILES vs) names
 named_for vs folder names f h =
-    let P : List OptionValue → Type 0 = λ l. AreNamesBelowFirst l names in
+    let P : List OptionValue → Type 0 = λ l. AreNamesBelowFirstFolder l names in
     let Q : List ℕ → Type 0 = λ d. AreNamesBelow d names in
     subst P (sym f.first) (subst Q (sym f.name) h)
 

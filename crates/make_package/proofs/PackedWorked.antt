@@ -1,6 +1,6 @@
 -- Packages worked by hand: their folders, values and files.
 use Rattle.std.proofs.Common.{◌≡◌, [], ◌∷◌, refl, codes}
-use Rattle.adb_view.specs.Plain.{Plain, none, more, blob_or_null, obj_value}
+use Rattle.adb_view.specs.Plain.{Plain, none, more, blob_or_null, trimmed_object_or_null}
 use Rattle.package_files.specs.Folders.{all_folders_above, folder_of, last_part_of, folder_listings_of}
 
 a_path : folder_of (codes "usr/bin/hello") ≡ codes "usr/bin"
@@ -29,4 +29,4 @@ their_files = refl
 
 -- a name and a version alone
 info : Plain
-info = obj_value (more (blob_or_null (codes "a")) (more (blob_or_null (codes "1")) none))
+info = trimmed_object_or_null (more (blob_or_null (codes "a")) (more (blob_or_null (codes "1")) none))

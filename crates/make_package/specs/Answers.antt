@@ -16,11 +16,12 @@ use Rattle.package_files.specs.make_info.declared.fault.MakeFault.{MakeFault}
 use Rattle.package_files.specs.make_info.declared.fault.MakeFault.TheVariants.{Disk, Memory}
 use Rattle.make_package.specs.Making.{made_package}
 use Rattle.package_files.specs.Runs.{IsExplainedBySomeReads}
-use Rattle.package_files.specs.Sources.{AreNamesBelowFirst, values_of_letter}
+use Rattle.package_files.specs.Sources.{AreNamesBelowFirstFolder, values_of_letter}
 
 -- ---- parts of a run
 
--- the first of some values was found; none if there is no value
+-- the option value, if there is one, is the first element of the list; without one the list is
+-- empty
 abbrev pub IsFirstValue : Option (Bor OptionValue) → List OptionValue → Type 0
 IsFirstValue None values = values ≡ []
 IsFirstValue (Some v) values = (others : List OptionValue) × (values ≡ v.now ∷ others)
@@ -29,7 +30,7 @@ IsFirstValue (Some v) values = (others : List OptionValue) × (values ≡ v.now 
 abbrev pub IsBytes : Vec ℕ Global → List ℕ → Type 0
 IsBytes file bytes = bytes ≡ file.items
 
--- an error is an I/O error of the tree, or out of memory
+-- the result is Ok, an I/O error of the tree, or out of memory
 abbrev pub IsOkOrDiskOrMemory : {A : Type 0} → Result A MakeFault → Type 0
 IsOkOrDiskOrMemory (Ok x) = Unit {0}
 IsOkOrDiskOrMemory (Err Disk) = Unit {0}
@@ -47,7 +48,8 @@ abbrev pub AreNamesBelowFirstOption : List OptionValue → TreeState → List (L
 AreNamesBelowFirstOption [] v names = Unit {0}
 AreNamesBelowFirstOption (dir ∷ dirs) v names = IsListOf (without_dot_slash dir.text) v names
 
--- this holds of a refusal with a fault; an I/O error of the tree and out of memory say nothing
+-- `P` holds of the refusal with this error; of an I/O error of the tree and of out of memory
+-- nothing is required
 abbrev pub UnlessDiskOrMemory : MakeFault → (Result (List ℕ) MakeFault → Type 0) → Type 0
 UnlessDiskOrMemory Disk P = Unit {0}
 UnlessDiskOrMemory Memory P = Unit {0}
@@ -60,8 +62,9 @@ UnlessDiskOrMemory fault P = P (Err fault)
 pub record IsMadeOf (history : List TreeState) (command : CommandLine)
     (made : Result (List ℕ) MakeFault) : Type 0 where
   pub names : List (List ℕ)
-  pub named : AreNamesBelowFirst (values_of_letter FILES command.values) names
-  pub below : IfObservable history (λ v. AreNamesBelowFirstOption (values_of_letter FILES command.values) v names)
+  pub named : AreNamesBelowFirstFolder (values_of_letter FILES command.values) names
+  pub below : IfObservable history
+      (λ v. AreNamesBelowFirstOption (values_of_letter FILES command.values) v names)
   pub reads : IsExplainedBySomeReads history (λ read. made_package command names read ≡ made)
 
 -- the result of a run is what is made; an I/O error of the tree and out of memory may occur in any case
@@ -77,8 +80,8 @@ pub record IsMadeFromTree (command : CommandLine) (v : TreeState) (made : Result
   pub is : made_package command names (λ n name. files_of v name) ≡ made
 
 -- `made` is made from a command, some names below its folder and some reads
-pub record IsMadeBySome (command : CommandLine) (made : Result (List ℕ) MakeFault) : Type 0 where
+pub record IsMadeBySomeReads (command : CommandLine) (made : Result (List ℕ) MakeFault) : Type 0 where
   pub names : List (List ℕ)
-  pub named : AreNamesBelowFirst (values_of_letter FILES command.values) names
+  pub named : AreNamesBelowFirstFolder (values_of_letter FILES command.values) names
   pub read : Reads
   pub is : made_package command names read ≡ made

@@ -19,21 +19,22 @@ use Rattle.package_files.specs.Sources.{and_then, values_of_letter, texts_of, sc
 
 -- ---- the file
 
--- the bytes of a package, if its value exceeds no limit of the writer; otherwise the refusal, with the
+-- the container of a package, or, if its value exceeds a limit of the writer, the error with the
 -- two counts at which it does
 abbrev pub container_unless :
     Option PayloadCounts → Plain → List Contents → Result (List ℕ) MakeFault
 container_unless None v contents = Ok (container_of PACKAGE_WORD v contents)
 container_unless (Some counts) v contents = Err (TooLarge counts.0 counts.1)
 
--- the container of a package's value and of the contents of its files, unless the value exceeds a limit
--- limit
+-- the container of a package's value and of the contents of its files; an error if the value
+-- exceeds a limit of the writer
 unfoldable pub package_container : Plain → List Contents → Result (List ℕ) MakeFault
 package_container v contents = container_unless (overflow_of v) v contents
 
 -- ---- the package
 
--- the information of `-I`; a place at which it is not allowed is a fault of making
+-- the information of the options `-I`; an option that is not accepted becomes an error at its place
+-- in the command line
 abbrev pub or_info_bad : Result (List FieldWithValue) ℕ → Result (List FieldWithValue) MakeFault
 or_info_bad (Ok information) = Ok information
 or_info_bad (Err place) = Err (InfoBad place)

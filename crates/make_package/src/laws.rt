@@ -3,14 +3,14 @@
 //! 7, by the names of the fields there.
 ghost use Rattle.adb_view.specs.Schema.{field_name_text, table};
 ghost use Rattle.adb_view.specs.declared.tables.Which.TheVariants.{Dir, File, Package, Scripts};
-ghost use Rattle.adb_view.specs.Plain.{Plain, arr_value, blob_or_null, null};
+ghost use Rattle.adb_view.specs.Plain.{Plain, array_or_null, blob_or_null, null};
 ghost use Rattle.command_core.specs.Values.{script_types};
 ghost use Rattle.package_files.specs.make_info.declared.field.Field.TheVariants.{ReplacesPriority};
 ghost use Rattle.package_files.specs.make_info.Fields.{field_word};
 ghost use Rattle.package_files.specs.make_info.Named.{value_by_name};
 ghost use Rattle.package_files.specs.make_info.Values.{number_value, plains_of_list, size_value};
 ghost use Rattle.package_files.specs.Folders.{all_folders_above, folder_listings_of, folders_above};
-ghost use Rattle.package_files.specs.Package.{FILE_MODE, FOLDER_MODE, Script, access_value, file_fields, folder_fields, is_link_file, kind_of_file, link_text, package_fields, script_fields, script_in};
+ghost use Rattle.package_files.specs.Package.{FILE_MODE, FOLDER_MODE, Script, access_value, file_fields, folder_fields, is_link_file, kind_of_file, link_text, package_fields, script_fields, script_bytes_of_field};
 ghost use Rattle.package_files.specs.declared.file.FileKind.{FileKind};
 ghost use Rattle.sha2.specs.Sha256.{sha256};
 ghost use Rattle.std.specs.Cmp.Lexicographic.{slice_cmp};
@@ -28,7 +28,7 @@ pub fn a_part_is_in_the_field_of_its_name()
     // A script is at the field of its type.
     ensures scripts { (scripts : List Script) → All (λ type.
         value_by_name type (table Scripts) (script_fields scripts)
-        ≡ Some (blob_or_null (script_in scripts type))) script_types }
+        ≡ Some (blob_or_null (script_bytes_of_field scripts type))) script_types }
     // The priority in replacing is at the package's field of that name.
     ensures priority { (info : Plain) (paths : List Plain) (scripts : List Script)
         (triggers : List (List ℕ)) (priority : Option ℕ)
@@ -89,5 +89,5 @@ pub fn the_fields_of_a_file_are_those_of_its_bytes()
         × (value_by_name (codes "acl") (table Dir) (folder_fields name files)
         ≡ Some (access_value FOLDER_MODE))
         × (value_by_name (codes "files") (table Dir) (folder_fields name files)
-        ≡ Some (arr_value (plains_of_list files))) }
+        ≡ Some (array_or_null (plains_of_list files))) }
 {}

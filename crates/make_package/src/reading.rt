@@ -13,7 +13,7 @@ ghost use Rattle.make_package.specs.Answers.{IsOkOrDiskOrMemory, IsFirstValue, A
 ghost use Rattle.package_files.specs.Packed.{IsPacking};
 ghost use Rattle.package_files.specs.Runs.{AgreesOrIsFault, IsExplainedBySomeReads};
 ghost use Rattle.make_package.specs.Scripts.{AreScripts, IsScript};
-ghost use Rattle.package_files.specs.Sources.{AreNamesBelowFirst, folders_below, values_of_letter, script_at, scripts_from};
+ghost use Rattle.package_files.specs.Sources.{AreNamesBelowFirstFolder, folders_below, values_of_letter, script_at, scripts_from};
 ghost use Rattle.std.specs.Prelude.{◌≡◌, ◌++◌, ◌∷◌, [], ℕ, IfOk, IsTrue, OnOk};
 
 use crate::writing::Script;
@@ -39,7 +39,8 @@ pub(crate) fn list_names<T: Tree>(
     ensures names { IfOk result (λ names. IfObservable (T.history tree.old) (λ v.
         AreNamesBelowFirstOption (values_of_letter FILES values.now) v names)) }
     // Whatever the tree returns, these are names below the folder, in byte order and each once.
-    ensures order { IfOk result (λ names. AreNamesBelowFirst (values_of_letter FILES values.now) names) }
+    ensures order { IfOk result (λ names. AreNamesBelowFirstFolder
+        (values_of_letter FILES values.now) names) }
 {
     match values.first_file(FILES) {
         Some(folder) => {

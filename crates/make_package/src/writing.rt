@@ -4,10 +4,10 @@
 //! in `docs/formats.md`, "Schemas", tables 2, 4, 5, 6 and 7: the fields in their order.
 ghost use Rattle.command_core.specs.declared.values.TheConstants.{TRIGGER};
 ghost use Rattle.package_files.specs.adb_values.Drafts.{draft_with};
-ghost use Rattle.adb_view.specs.Plain.{arr_value, blob_or_null};
+ghost use Rattle.adb_view.specs.Plain.{array_or_null, blob_or_null};
 ghost use Rattle.package_files.specs.make_info.Information.{information_value, replaces_priority};
 ghost use Rattle.package_files.specs.make_info.Values.{plains_of_list};
-ghost use Rattle.package_files.specs.Package.{access_value, script_in, value_of_scripts, package_with};
+ghost use Rattle.package_files.specs.Package.{access_value, script_bytes_of_field, value_of_scripts, package_with};
 ghost use Rattle.package_files.specs.Packed.{packed_file, packed_folder};
 ghost use Rattle.make_package.specs.Scripts.{scripts_view};
 ghost use Rattle.package_files.specs.Sources.{values_of_letter, texts_of};
@@ -51,7 +51,7 @@ pub(crate) fn write_package(
 /// Writes the folders of a package, each with its files.
 fn write_paths(draft: &mut Draft, folders: &[Folder<'_>]) -> Result<(), AllocError>
     ensures { OnOk result (draft.new
-        ≡ draft_with (arr_value (plains_of_list (map packed_folder folders.now))) draft.old) }
+        ≡ draft_with (array_or_null (plains_of_list (map packed_folder folders.now))) draft.old) }
 {
     draft.open_list()?;
     for folder in folders {
@@ -74,7 +74,7 @@ fn write_folder(draft: &mut Draft, folder: &Folder<'_>) -> Result<(), AllocError
 /// Writes the files of a folder.
 fn write_files(draft: &mut Draft, files: &[File<'_>]) -> Result<(), AllocError>
     ensures { OnOk result (draft.new
-        ≡ draft_with (arr_value (plains_of_list (map packed_file files.now))) draft.old) }
+        ≡ draft_with (array_or_null (plains_of_list (map packed_file files.now))) draft.old) }
 {
     draft.open_list()?;
     for file in files {
@@ -136,7 +136,7 @@ fn write_scripts(draft: &mut Draft, scripts: &[Script<'_>]) -> Result<(), AllocE
 
 /// The bytes of the first script of a type, or none if there is none.
 fn script_of<'a>(scripts: &'a [Script<'_>], kind: &[u8]) -> &'a [u8]
-    ensures { result.now ≡ script_in (scripts_view scripts.now) kind.now }
+    ensures { result.now ≡ script_bytes_of_field (scripts_view scripts.now) kind.now }
 {
     for script in scripts {
         if script.kind == kind {
@@ -148,7 +148,7 @@ fn script_of<'a>(scripts: &'a [Script<'_>], kind: &[u8]) -> &'a [u8]
 
 /// Writes the triggers: the values of `-t`, in the order given.
 fn write_triggers(draft: &mut Draft, values: &Values) -> Result<(), AllocError>
-    ensures { OnOk result (draft.new ≡ draft_with (arr_value (plains_of_list (map blob_or_null
+    ensures { OnOk result (draft.new ≡ draft_with (array_or_null (plains_of_list (map blob_or_null
         (texts_of (values_of_letter TRIGGER values.now))))) draft.old) }
 {
     draft.open_list()?;

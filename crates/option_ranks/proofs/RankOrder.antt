@@ -3,7 +3,7 @@ use Rattle.std.specs.Cmp.{IsTotalOrder, on_total, back_total, then_total, nat_cm
 use Rattle.std.specs.Cmp.Lexicographic.{nat_list_cmp_total, options_total}
 use Rattle.version_core.specs.Order.{version_cmp}
 use Rattle.candidate_core.specs.Candidates.{Candidate, Need, version_meeting_need}
-use Rattle.candidate_core.specs.Rank.{SealedPool, UpgradedNames, rank_cmp, quality_first, is_pinned, is_untagged, has_needed_name, is_kept_installed, tag_name_kept_cmp, version_and_priority_cmp, text_cmp, candidate_at, greater_version}
+use Rattle.candidate_core.specs.Rank.{SealedPool, UpgradedNames, rank_cmp, quality_first, is_pinned, is_untagged, has_needed_name, is_kept_installed, tag_name_kept_cmp, version_and_priority_cmp, version_text_and_repository_cmp, candidate_at, greater_version}
 use Rattle.option_ranks.specs.Ranking.{Ranking, ranking_cmp, truth_first, version_key_cmp, version_order}
 use Rattle.option_ranks.specs.declared.rank.VersionKey.{VersionKey}
 use Rattle.option_ranks.specs.declared.rank.VersionKey.TheVariants.{ByRank, ByText}
@@ -30,7 +30,7 @@ module _ (versions : IsTotalOrder version_cmp) where
       (then_total (on_total (λ (c : Candidate). c.name) nat_list_cmp_total)
       (on_total (λ (c : Candidate). c.version) versions_back)))
 
-  text_total : IsTotalOrder text_cmp
+  text_total : IsTotalOrder version_text_and_repository_cmp
   text_total =
       then_total (on_total (λ (c : Candidate). c.version) (options_total nat_list_cmp_total))
       (on_total (λ (c : Candidate). c.repository) (back_total (options_total (back_total nat_cmp_total))))

@@ -55,7 +55,8 @@ with_version ranked version = record ranked { version = version }
 abbrev pub with_values_of_candidate : SealedPool → Need → Candidate → Ranking → Ranking
 with_values_of_candidate pool need c r =
     ranking_from_parts (is_pinned pool.world c) (is_untagged c) (has_needed_name need c)
-    (is_kept_installed pool.upgraded c) (with_version r.under (version_meeting_need need c)) c.priority c.name
+    (is_kept_installed pool.upgraded c)
+    (with_version r.under (version_meeting_need need c)) c.priority c.name
     (with_version r.version c.version) c.repository r.place
 
 -- there is a candidate at the place of the ranking, and the ranking is that of it

@@ -27,7 +27,8 @@ pub record HaveSamePlace (one other : RankedVersion) : Type 0 where
 -- A ranking has the candidate's own version (`version`), and the version under which the candidate
 -- meets the need (`under`). Each of the two, if it exists, is the text at its place in these sources.
 abbrev pub HasVersionTextsOfSources : List Source → Ranking → Type 0
-HasVersionTextsOfSources sources r = HasVersionTextFrom (source_text sources) r.under × HasVersionTextFrom (source_text sources) r.version
+HasVersionTextsOfSources sources r =
+    HasVersionTextFrom (source_text sources) r.under × HasVersionTextFrom (source_text sources) r.version
 
 -- ---- ranks
 
@@ -90,7 +91,8 @@ IsReadTogether versions v = (text : ℕ → ℕ → List ℕ)
 -- these versions, and the versions of one kind of all these rankings, are read from the same texts
 abbrev pub AreReadTogether : VersionKind → List RankedVersion → List Ranking → Type 0
 AreReadTogether kind versions rankings = (text : ℕ → ℕ → List ℕ)
-    × (All (HasVersionTextFrom text) versions × All (λ r. HasVersionTextFrom text (version_of kind r)) rankings)
+    × (All (HasVersionTextFrom text) versions
+    × All (λ r. HasVersionTextFrom text (version_of kind r)) rankings)
 
 -- the rankings `after` are those `before` in some order, each with the rank of its version among some
 -- that include the versions of all

@@ -11,7 +11,7 @@ use Rattle.engine_core.specs.package_changes.Changes.{Replacement}
 use Rattle.tell_core.specs.path_clashes.Clash.{NamePair}
 use Rattle.report_core.specs.declared.refusal.Refusal.{Refusal}
 use Rattle.outcome.specs.Effect.{Effect, Changes}
-use Rattle.outcome.specs.Given.{IsClashBy}
+use Rattle.outcome.specs.Given.{IsFirstClashForEffect}
 
 -- a change of files under finitely many names has a first clash, or none, and no second one
 abbrev pub HaveClash : Type 0
@@ -33,7 +33,7 @@ of_selected have command read files within (Ok s) finite = unless_simulated have
 of_selected have command read files within (Err refusal) finite = (None, refl)
 
 pub clash_exists : HaveClash → (effect : Effect) (command : CommandLine) (read : Reads) (files : Files) (within : List (List ℕ)) (chosen : Option (List ℕ)) → HasNamesAmong within files
-    → (clash : Option NamePair) × IsClashBy effect command read files chosen clash
+    → (clash : Option NamePair) × IsFirstClashForEffect effect command read files chosen clash
 clash_exists have Changes command read files within chosen finite = of_selected have command read files within (selected_for command read chosen) finite
 clash_exists have other command read files within chosen finite = (None, refl)
 
@@ -48,6 +48,6 @@ one_selected one command read files (Ok s) a b x y = one_unless one command.flag
 one_selected one command read files (Err refusal) a b x y = x ∙ sym y
 
 pub clash_one : HaveOneClash → (effect : Effect) (command : CommandLine) (read : Reads) (files : Files) (chosen : Option (List ℕ)) (a b : Option NamePair)
-    → IsClashBy effect command read files chosen a → IsClashBy effect command read files chosen b → a ≡ b
+    → IsFirstClashForEffect effect command read files chosen a → IsFirstClashForEffect effect command read files chosen b → a ≡ b
 clash_one one Changes command read files chosen a b x y = one_selected one command read files (selected_for command read chosen) a b x y
 clash_one one other command read files chosen a b x y = x ∙ sym y

@@ -24,9 +24,9 @@ use Rattle.outcome.specs.Changing.{change_outcome}
 use Rattle.outcome.specs.Given.{Given}
 use Rattle.outcome.specs.Commands.{IsOutcomeWithoutDemo, IsOutcomeUnlessBadIntent, effect_outcome, reads_in}
 use Rattle.outcome.specs.Effect.{Effect, Computes, OnlyReadsFiles, AsksRoot, Makes, Changes, does_only_read, effect_of_arguments, effect_of, reads_only}
-use Rattle.outcome.specs.Make.{files_with_output, index_line, make_outcome, unless_reserved}
+use Rattle.outcome.specs.Make.{files_with_output, index_report_line, make_outcome, unless_reserved}
 use Rattle.outcome.specs.Outcome.{Outcome, commit_report, just_refusal}
-use Rattle.outcome.specs.Work.{recovery_fault, work_files}
+use Rattle.outcome.specs.Work.{recovery_fault, files_recovered_if_needed}
 
 -- it commits, or is refused, and not both
 abbrev pub CommitsUnlessRefused : Outcome → Type 0
@@ -51,12 +51,12 @@ made_commits files output report (Err Memory) fine = absurd fine
 
 applet_commits : (applet : Applet) (command : CommandLine) (given : Given) (files : Files) → effect_of applet ≡ Makes → CommitsUnlessRefused (effect_outcome (effect_of applet) applet command given (reads_in files) files)
 applet_commits Mkpkg command given files makes = made_commits files (output_name command) [] (made_package command given.names (reads_in files)) (package_fine command given.names (reads_in files))
-applet_commits Mkndx command given files makes = made_commits files (output_name command) (index_line (length command.operands)) (made_index command (reads_in files)) (index_fine command (reads_in files))
+applet_commits Mkndx command given files makes = made_commits files (output_name command) (index_report_line (length command.operands)) (made_index command (reads_in files)) (index_fine command (reads_in files))
 applet_commits other command given files makes = cc
 
 commits_unless : (fault : Option Cause) (command : CommandLine) (files : Files) (o : Outcome) → effect_of command.applet ≡ Makes → IsOutcomeUnlessBadIntent fault command files o → CommitsUnlessRefused o
 commits_unless (Some cause) command files o makes is = subst CommitsUnlessRefused (sym is) refl
-commits_unless None command files o makes (given, are, is) = subst CommitsUnlessRefused (sym is) (applet_commits command.applet command given (work_files (effect_of command.applet) files) makes)
+commits_unless None command files o makes (given, are, is) = subst CommitsUnlessRefused (sym is) (applet_commits command.applet command given (files_recovered_if_needed (effect_of command.applet) files) makes)
 
 commits_by : (read : Result CommandLine ℕ) (files : Files) (o : Outcome) → effect_of_arguments read ≡ Makes → IsOutcomeWithoutDemo read files o → CommitsUnlessRefused o
 commits_by (Err place) files o makes is = cc
@@ -81,7 +81,7 @@ applet_changes applet command given files changes =
 
 changes_unless : (fault : Option Cause) (command : CommandLine) (files : Files) (o : Outcome) → effect_of command.applet ≡ Changes → IsOutcomeUnlessBadIntent fault command files o → CommitsNoRefusal o
 changes_unless (Some cause) command files o changes is = λ some. ap (λ (p : Outcome). p.commits) is
-changes_unless None command files o changes (given, are, is) = subst CommitsNoRefusal (sym is) (applet_changes command.applet command given (work_files (effect_of command.applet) files) changes)
+changes_unless None command files o changes (given, are, is) = subst CommitsNoRefusal (sym is) (applet_changes command.applet command given (files_recovered_if_needed (effect_of command.applet) files) changes)
 
 changes_by : (read : Result CommandLine ℕ) (files : Files) (o : Outcome) → effect_of_arguments read ≡ Changes → IsOutcomeWithoutDemo read files o → CommitsNoRefusal o
 changes_by (Err place) files o changes is = cc
@@ -92,7 +92,7 @@ changes_by (Ok command) files o changes is = changes_unless (recovery_fault (eff
 tells_unless : (fault : Option Cause) (command : CommandLine) (files : Files) (o : Outcome) → effect_of command.applet ≡ AsksRoot → IsOutcomeUnlessBadIntent fault command files o → o.commits ≡ false
 tells_unless (Some cause) command files o tells is = ap (λ (p : Outcome). p.commits) is
 tells_unless None command files o tells (given, are, is) =
-    let work = work_files (effect_of command.applet) files in
+    let work = files_recovered_if_needed (effect_of command.applet) files in
     ap (λ (p : Outcome). p.commits) (is ∙ sym (report_is command.applet command given (reads_in work) work tells))
     ∙ told_commits work (report_for_command command (reads_in work))
 
@@ -104,22 +104,22 @@ tells_by (Ok command) files o tells is = tells_unless (recovery_fault (effect_of
 pub teller_commits : (words : List (List ℕ)) (files : Files) (o : Outcome) → effect_of_arguments (command_of words) ≡ AsksRoot → IsOutcomeWithoutDemo (command_of words) files o → o.commits ≡ false
 teller_commits words files o tells is = tells_by (command_of words) files o tells is
 
-tells_files : (fault : Option Cause) (command : CommandLine) (files : Files) (o : Outcome) → effect_of command.applet ≡ AsksRoot → IsOutcomeUnlessBadIntent fault command files o → (o.files ≡ files) ⊎ (o.files ≡ work_files AsksRoot files)
+tells_files : (fault : Option Cause) (command : CommandLine) (files : Files) (o : Outcome) → effect_of command.applet ≡ AsksRoot → IsOutcomeUnlessBadIntent fault command files o → (o.files ≡ files) ⊎ (o.files ≡ files_recovered_if_needed AsksRoot files)
 tells_files (Some cause) command files o tells is = inl (ap (λ (p : Outcome). p.files) is)
 tells_files None command files o tells (given, are, is) =
-    let work = work_files (effect_of command.applet) files in
+    let work = files_recovered_if_needed (effect_of command.applet) files in
     inr (
     ap (λ (p : Outcome). p.files) (is ∙ sym (report_is command.applet command given (reads_in work) work tells))
     ∙ told_files work (report_for_command command (reads_in work))
-    ∙ ap (λ (e : Effect). work_files e files) tells
+    ∙ ap (λ (e : Effect). files_recovered_if_needed e files) tells
     )
 
-files_by : (read : Result CommandLine ℕ) (files : Files) (o : Outcome) → effect_of_arguments read ≡ AsksRoot → IsOutcomeWithoutDemo read files o → (o.files ≡ files) ⊎ (o.files ≡ work_files AsksRoot files)
+files_by : (read : Result CommandLine ℕ) (files : Files) (o : Outcome) → effect_of_arguments read ≡ AsksRoot → IsOutcomeWithoutDemo read files o → (o.files ≡ files) ⊎ (o.files ≡ files_recovered_if_needed AsksRoot files)
 files_by (Err place) files o tells is = cc
 files_by (Ok command) files o tells is = tells_files (recovery_fault (effect_of command.applet) files) command files o tells is
 
 -- and leaves the files that a recovery leaves
-pub teller_files : (words : List (List ℕ)) (files : Files) (o : Outcome) → effect_of_arguments (command_of words) ≡ AsksRoot → IsOutcomeWithoutDemo (command_of words) files o → (o.files ≡ files) ⊎ (o.files ≡ work_files AsksRoot files)
+pub teller_files : (words : List (List ℕ)) (files : Files) (o : Outcome) → effect_of_arguments (command_of words) ≡ AsksRoot → IsOutcomeWithoutDemo (command_of words) files o → (o.files ≡ files) ⊎ (o.files ≡ files_recovered_if_needed AsksRoot files)
 teller_files words files o tells is = files_by (command_of words) files o tells is
 
 -- ---- a refusal

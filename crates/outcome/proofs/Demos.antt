@@ -12,7 +12,7 @@ use Rattle.command_core.specs.declared.command.Applet.{Applet}
 use Rattle.command_core.specs.declared.command.Applet.TheVariants.{Help, Mkndx, Mkpkg, ProgramVersion}
 use Rattle.demo_lines.specs.Lines.{add_words, demo_file, demo_repositories, demo_text, mkndx_words, mkpkg_words}
 use Rattle.demo_lines.specs.Report.{demo_line}
-use Rattle.engine_core.specs.journal_core.Replacing.{scratch_of}
+use Rattle.engine_core.specs.journal_core.Replacing.{scratch_name_of}
 use Rattle.make_core.specs.make_index.Index.{made_index}
 use Rattle.make_core.specs.make_info.Output.{output_name}
 use Rattle.make_core.specs.make_info.declared.fault.MakeFault.{MakeFault}
@@ -21,17 +21,17 @@ use Rattle.make_core.specs.make_package.Making.{made_package}
 use Rattle.report_core.specs.declared.refusal.Refusal.{Refusal}
 use Rattle.report_core.specs.declared.refusal.Refusal.TheVariants.{Reserved, ResultTooLarge}
 use Rattle.root_names.specs.RootNames.{repositories_name}
-use Rattle.words_core.specs.Grammar.{help_or_version_option_at, help_or_version_or_err, command_of, command_of_reading, spelled_command, next_after, applet_site_at, spelled_command_or_help_or_version, can_be_option, unless_refused_at}
+use Rattle.words_core.specs.Grammar.{help_or_version_option_at, help_or_version_or_err, command_of, command_of_reading, spelled_command, next_word_of_command_line, applet_site_of_word, spelled_command_or_help_or_version, can_be_option, unless_refused_at}
 use Rattle.words_core.specs.Options.{applet_of_help_or_version_option}
 use Rattle.outcome.proofs.Existing.{work_within}
 use Rattle.outcome.proofs.Looking.{read_leaves}
 use Rattle.outcome.specs.Commands.{IsOutcomeWithoutDemo, IsOutcomeUnlessBadIntent, effect_outcome, reads_in}
-use Rattle.outcome.specs.Demo.{IsOutcomeAfterIndexing, IsOutcomeAfterInstalling, IsOutcomeAfterPackaging, IsDemoOutcome, IsOutcomeOfNextRun, IsOutcomeOfNextRunUnlessRefused, outcome_before_demo, with_demo_file}
+use Rattle.outcome.specs.Demo.{IsDemoOutcomeAfterIndexing, IsDemoOutcomeAfterInstalling, IsDemoOutcomeAfterPackaging, IsDemoOutcome, IsOutcomeOfNextRun, IsOutcomeOfNextRunUnlessRefused, outcome_before_demo, with_demo_file}
 use Rattle.outcome.specs.Effect.{Makes, does_only_read, effect_of}
 use Rattle.outcome.specs.Given.{Given}
-use Rattle.outcome.specs.Make.{files_with_output, index_line, make_outcome, unless_reserved}
+use Rattle.outcome.specs.Make.{files_with_output, index_report_line, make_outcome, unless_reserved}
 use Rattle.outcome.specs.Outcome.{Outcome, just_refusal, just_report, outcome_of, report_unless}
-use Rattle.outcome.specs.Work.{recovery_fault, work_files}
+use Rattle.outcome.specs.Work.{recovery_fault, files_recovered_if_needed}
 
 -- ---- files under finitely many names
 
@@ -55,7 +55,7 @@ few_drop files name (names, within) = (names, λ q some. within q (if_there (byt
 
 few_with : (output : Option (List ℕ)) (bytes : List ℕ) (files : Files) → AreFew files → AreFew (files_with_output output bytes files)
 few_with None bytes files few = few
-few_with (Some name) bytes files few = few_put (drop_name files (scratch_of name)) name bytes (few_drop files (scratch_of name) few)
+few_with (Some name) bytes files few = few_put (drop_name files (scratch_name_of name)) name bytes (few_drop files (scratch_name_of name) few)
 
 -- ---- what a command leaves that makes a file
 
@@ -78,14 +78,14 @@ few_made files output report (Err Memory) few = few
 
 few_applet : (applet : Applet) (command : CommandLine) (given : Given) (files : Files) → effect_of applet ≡ Makes → AreFew files → AreFew ((effect_outcome (effect_of applet) applet command given (reads_in files) files).files)
 few_applet Mkpkg command given files makes few = few_made files (output_name command) [] (made_package command given.names (reads_in files)) few
-few_applet Mkndx command given files makes few = few_made files (output_name command) (index_line (length command.operands)) (made_index command (reads_in files)) few
+few_applet Mkndx command given files makes few = few_made files (output_name command) (index_report_line (length command.operands)) (made_index command (reads_in files)) few
 few_applet other command given files makes few = cc
 
 few_unless : (fault : Option Cause) (command : CommandLine) (files : Files) (o : Outcome) → effect_of command.applet ≡ Makes → IsOutcomeUnlessBadIntent fault command files o → AreFew files → AreFew o.files
 few_unless (Some cause) command files o makes is few = subst AreFew (sym (ap (λ (p : Outcome). p.files) is)) few
 few_unless None command files o makes (given, are, is) few =
     let (names, within) = few in
-    let work = work_files (effect_of command.applet) files in
+    let work = files_recovered_if_needed (effect_of command.applet) files in
     subst AreFew (sym (ap (λ (p : Outcome). p.files) is)) (few_applet command.applet command given work makes (work_within (effect_of command.applet) files names within))
 
 -- words that make a file, or only read, if they are a command
@@ -126,14 +126,14 @@ asked_makes words place (Some applet) computes = inr computes
 
 line_makes : (words : List (List ℕ)) (line : Result CommandLine ℕ) → DoMake line → DoMake (spelled_command_or_help_or_version words line)
 line_makes words (Ok command) makes = makes
-line_makes words (Err place) makes = asked_makes words place (help_or_version_option_at words place) (place_asks (can_be_option (next_after (take (place - 1) words))) (slice_get words (place - 1)))
+line_makes words (Err place) makes = asked_makes words place (help_or_version_option_at words place) (place_asks (can_be_option (next_word_of_command_line (take (place - 1) words))) (slice_get words (place - 1)))
 
 mkpkg_line : (words : List (List ℕ)) → DoMake (spelled_command (codes "mkpkg" ∷ words))
-unfolding spelled_command applet_site_at command_of_reading
+unfolding spelled_command applet_site_of_word command_of_reading
 mkpkg_line words = unless_makes _ _ _ _ refl
 
 mkndx_line : (words : List (List ℕ)) → DoMake (spelled_command (codes "mkndx" ∷ words))
-unfolding spelled_command applet_site_at command_of_reading
+unfolding spelled_command applet_site_of_word command_of_reading
 mkndx_line words = unless_makes _ _ _ _ refl
 
 mkpkg_makes : (words : List (List ℕ)) → DoMake (command_of (codes "mkpkg" ∷ words))
@@ -162,7 +162,7 @@ few_after : (refusal : Option Refusal) (words : List (List ℕ)) (files : Files)
 few_after (Some refusal) words files before o makes is few few_now = subst AreFew (sym (ap (λ (p : Outcome). p.files) is)) few
 few_after None words files before o makes is few few_now = few_by (command_of words) files o makes is few_now
 
-packaged_exists : HaveOutcome → (n : ℕ) → One (IsOutcomeAfterPackaging n)
+packaged_exists : HaveOutcome → (n : ℕ) → One (IsDemoOutcomeAfterPackaging n)
 packaged_exists have zero =
     let start : Files = put_name no_names repositories_name demo_repositories in
     (outcome_before_demo, refl, few_put no_names repositories_name demo_repositories ([], λ q some. cc))
@@ -173,13 +173,13 @@ packaged_exists have (suc i) =
     let (o, is_next) = unless_exists have before.refusal (mkpkg_words (suc i)) files before few_now in
     (o, (before, is, is_next), few_after before.refusal (mkpkg_words (suc i)) files before o (mkpkg_makes _) is_next few few_now)
 
-indexed_exists : HaveOutcome → (n : ℕ) → One (IsOutcomeAfterIndexing n)
+indexed_exists : HaveOutcome → (n : ℕ) → One (IsDemoOutcomeAfterIndexing n)
 indexed_exists have n =
     let (before, is, few) = packaged_exists have n in
     let (o, is_next) = unless_exists have before.refusal (mkndx_words n) before.files before few in
     (o, (before, is, is_next), few_after before.refusal (mkndx_words n) before.files before o (mkndx_makes _) is_next few few)
 
-installed_exists : HaveOutcome → (n : ℕ) → (o : Outcome) × IsOutcomeAfterInstalling n o
+installed_exists : HaveOutcome → (n : ℕ) → (o : Outcome) × IsDemoOutcomeAfterInstalling n o
 installed_exists have n =
     let (before, is, few) = indexed_exists have n in
     let (o, is_next) = unless_exists have before.refusal (add_words n) before.files before few in
@@ -205,15 +205,15 @@ behind_one : HaveOneOutcome → (words : List (List ℕ)) (next : Outcome → Fi
 behind_one one words next p q a b same x y =
     unless_one one q.refusal words (next q) q a b (subst (λ (r : Outcome). IsOutcomeOfNextRun words (next r) r a) same x) y
 
-packaged_one : HaveOneOutcome → (n : ℕ) (a b : Outcome) → IsOutcomeAfterPackaging n a → IsOutcomeAfterPackaging n b → a ≡ b
+packaged_one : HaveOneOutcome → (n : ℕ) (a b : Outcome) → IsDemoOutcomeAfterPackaging n a → IsDemoOutcomeAfterPackaging n b → a ≡ b
 packaged_one one zero a b x y = x ∙ sym y
 packaged_one one (suc i) a b (p, is_p, x) (q, is_q, y) =
     behind_one one (mkpkg_words (suc i)) (λ (o : Outcome). with_demo_file (suc i) o.files) p q a b (packaged_one one i p q is_p is_q) x y
 
-indexed_one : HaveOneOutcome → (n : ℕ) (a b : Outcome) → IsOutcomeAfterIndexing n a → IsOutcomeAfterIndexing n b → a ≡ b
+indexed_one : HaveOneOutcome → (n : ℕ) (a b : Outcome) → IsDemoOutcomeAfterIndexing n a → IsDemoOutcomeAfterIndexing n b → a ≡ b
 indexed_one one n a b (p, is_p, x) (q, is_q, y) = behind_one one (mkndx_words n) (λ (o : Outcome). o.files) p q a b (packaged_one one n p q is_p is_q) x y
 
-installed_one : HaveOneOutcome → (n : ℕ) (a b : Outcome) → IsOutcomeAfterInstalling n a → IsOutcomeAfterInstalling n b → a ≡ b
+installed_one : HaveOneOutcome → (n : ℕ) (a b : Outcome) → IsDemoOutcomeAfterInstalling n a → IsDemoOutcomeAfterInstalling n b → a ≡ b
 installed_one one n a b (p, is_p, x) (q, is_q, y) = behind_one one (add_words n) (λ (o : Outcome). o.files) p q a b (indexed_one one n p q is_p is_q) x y
 
 pub demo_one : HaveOneOutcome → (n : ℕ) (files : Files) (a b : Outcome) → IsDemoOutcome n files a → IsDemoOutcome n files b → a ≡ b

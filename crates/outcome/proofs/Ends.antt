@@ -1,14 +1,14 @@
 -- How a change ends.
 use Rattle.std.proofs.Common.{◌≡◌, ℕ, ◌+◌, Bool, true, false, List, [], ◌∷◌, Option, Some, None, Result, Ok, Err, refl}
 use Rattle.std.specs.Prelude.{if◌then◌else◌, nat_lt, length}
-use Rattle.gen_core.specs.adb_schema.Soundness.{first_fault}
+use Rattle.gen_core.specs.adb_schema.Soundness.{container_fault_except_contents}
 use Rattle.adb_view.specs.declared.tables.Which.TheVariants.{Idb, Index}
 use Rattle.base_core.specs.declared.cause.Cause.{Cause}
 use Rattle.tell_core.specs.change_inputs.Candidates.{candidates_of, root_pool}
 use Rattle.tell_core.specs.change_inputs.Chains.{and_then, refused_as, unless_cause}
 use Rattle.tell_core.specs.change_inputs.Database.{payload_database, root_database}
 use Rattle.tell_core.specs.change_inputs.Indexes.{index_file, index_files_from, index_in_file, indexes_in_files}
-use Rattle.tell_core.specs.change_inputs.Inputs.{Inputs, database_read, first_index_read, index_reads_from, indexes_of, inputs_of, repositories_read, root_for, root_found, text_database_read, world_read}
+use Rattle.tell_core.specs.change_inputs.Inputs.{Inputs, database_read_number, first_index_read_number, index_reads_from, indexes_of, inputs_of, repositories_read_number, root_for, root_found, text_database_read_number, world_read_number}
 use Rattle.tell_core.specs.change_inputs.Repositories.{if_untrusted_allowed, root_repositories}
 use Rattle.tell_core.specs.change_inputs.World.{root_world, found_text_or_empty}
 use Rattle.command_core.specs.Command.{CommandLine}
@@ -53,7 +53,7 @@ payload_stated (Err (TooLarge bytes values)) = refl
 payload_stated (Err Memory) = refl
 
 pub database_stated : (may_begin : Bool) (file text : Option (List ℕ)) → HasKnownRefusal is_input_refusal (root_database may_begin file text)
-database_stated may_begin (Some file) text = cause_stated DatabaseBad (first_fault Idb file) _ (λ c. refl)
+database_stated may_begin (Some file) text = cause_stated DatabaseBad (container_fault_except_contents Idb file) _ (λ c. refl)
 database_stated may_begin None (Some text) = payload_stated (payload_of_text text)
 database_stated true None None = tt
 database_stated false None None = refl
@@ -86,15 +86,15 @@ files_stated n (f ∷ found) =
 indexes_stated : (n : ℕ) (files : List (List ℕ)) → HasKnownRefusal is_input_refusal (indexes_in_files n files)
 indexes_stated n [] = tt
 indexes_stated n (file ∷ files) =
-    then_stated is_input_refusal (index_in_file n file) _ (cause_stated (IndexBad n) (first_fault Index file) _ (λ c. refl)) (λ index.
+    then_stated is_input_refusal (index_in_file n file) _ (cause_stated (IndexBad n) (container_fault_except_contents Index file) _ (λ c. refl)) (λ index.
     then_stated is_input_refusal (indexes_in_files (n + 1) files) _ (indexes_stated (n + 1) files) (λ indexes. tt))
 
 pub inputs_stated : (command : CommandLine) (read : Reads) → HasKnownRefusal is_input_refusal (inputs_of command read)
 unfolding inputs_of
 inputs_stated command read =
-    then_stated is_input_refusal (root_for command read) _ (found_stated command (read database_read database_name) (read text_database_read text_database_name) (read world_read world_name) (read repositories_read repositories_name)) (λ root.
+    then_stated is_input_refusal (root_for command read) _ (found_stated command (read database_read_number database_name) (read text_database_read_number text_database_name) (read world_read_number world_name) (read repositories_read_number repositories_name)) (λ root.
     then_stated is_input_refusal (indexes_of read root.repositories) _
-    (then_stated is_input_refusal (index_files_from 1 (index_reads_from read first_index_read root.repositories)) (indexes_in_files 1) (files_stated 1 (index_reads_from read first_index_read root.repositories)) (indexes_stated 1))
+    (then_stated is_input_refusal (index_files_from 1 (index_reads_from read first_index_read_number root.repositories)) (indexes_in_files 1) (files_stated 1 (index_reads_from read first_index_read_number root.repositories)) (indexes_stated 1))
     (λ indexes. tt))
 
 pub pool_stated : (inputs : Inputs) (upgraded : UpgradedNames) → HasKnownRefusal is_input_refusal (root_pool inputs upgraded)

@@ -23,12 +23,12 @@ use Rattle.command_core.specs.declared.values.OptionValue.{OptionValue}
 use Rattle.make_core.specs.package_files.Sources.{values_of_letter}
 use Rattle.outcome.proofs.Clashes.{HaveClash, HaveOneClash, clash_exists, clash_one}
 use Rattle.outcome.proofs.Recovered.{unstaged_within}
-use Rattle.outcome.specs.Given.{Given, IsChosenFor, IsClashBy, IsGiven, IsListingFor}
-use Rattle.outcome.specs.Commands.{IsOutcomeWithoutDemo, IsOutcomeAfterRecovery, IsOutcomeUnlessBadIntent, effect_outcome, reads_in}
+use Rattle.outcome.specs.Given.{Given, IsChosenFor, IsFirstClashForEffect, IsListingChoiceAndClashFor, IsListingFor}
+use Rattle.outcome.specs.Commands.{IsOutcomeWithoutDemo, IsOutcomeOverRecoveredFiles, IsOutcomeUnlessBadIntent, effect_outcome, reads_in}
 use Rattle.outcome.specs.Effect.{Effect, Computes, OnlyReadsFiles, AsksRoot, Makes, Changes, effect_of}
-use Rattle.outcome.specs.Make.{AreNamesBelowOption, files_below}
+use Rattle.outcome.specs.Make.{AreNamesBelowOptionFolder, files_below}
 use Rattle.outcome.specs.Outcome.{Outcome, just_refusal}
-use Rattle.outcome.specs.Work.{recovery_fault, work_files}
+use Rattle.outcome.specs.Work.{recovery_fault, files_recovered_if_needed}
 
 -- files under finitely many names have a list of them, and no second one
 abbrev pub HaveList : Type 0
@@ -45,7 +45,7 @@ within_below folder files within h q some =
       | false ↦ λ s. absurd (false≢true s)
     ] some
 
-listing_exists : HaveList → (values : List OptionValue) (files : Files) (within : List (List ℕ)) → HasNamesAmong within files → (names : List (List ℕ)) × AreNamesBelowOption values files names
+listing_exists : HaveList → (values : List OptionValue) (files : Files) (within : List (List ℕ)) → HasNamesAmong within files → (names : List (List ℕ)) × AreNamesBelowOptionFolder values files names
 listing_exists have [] files within h = ([], refl)
 listing_exists have (v ∷ values) files within h = have (files_below (without_dot_slash v.text) files) within (within_below (without_dot_slash v.text) files within h)
 
@@ -53,7 +53,7 @@ names_exist : HaveList → (applet : Applet) (command : CommandLine) (files : Fi
 names_exist have Mkpkg command files within h = listing_exists have (values_of_letter FILES command.values) files within h
 names_exist have other command files within h = ([], refl)
 
-pub work_within : (effect : Effect) (files : Files) (within : List (List ℕ)) → HasNamesAmong within files → (names : List (List ℕ)) × HasNamesAmong names (work_files effect files)
+pub work_within : (effect : Effect) (files : Files) (within : List (List ℕ)) → HasNamesAmong within files → (names : List (List ℕ)) × HasNamesAmong names (files_recovered_if_needed effect files)
 work_within Computes files within h = (within, h)
 work_within OnlyReadsFiles files within h = (within, h)
 work_within AsksRoot files within h = unstaged_within files within h
@@ -75,7 +75,7 @@ chosen_one : HaveOneChoice → (effect : Effect) (command : CommandLine) (read :
 chosen_one one Changes command read a b x y = one (pool_of_command command read) a b x y
 chosen_one one other command read a b x y = x ∙ sym y
 
-given_exists : HaveList → HaveChoice → HaveClash → (command : CommandLine) (read : Reads) (files : Files) (within : List (List ℕ)) → HasNamesAmong within files → (given : Given) × IsGiven command read files given
+given_exists : HaveList → HaveChoice → HaveClash → (command : CommandLine) (read : Reads) (files : Files) (within : List (List ℕ)) → HasNamesAmong within files → (given : Given) × IsListingChoiceAndClashFor command read files given
 given_exists have choose clashes command read files within finite =
     let (names, listed) = names_exist have command.applet command files within finite in
     let (chosen, choice) = chosen_exists choose (effect_of command.applet) command read in
@@ -85,7 +85,7 @@ given_exists have choose clashes command read files within finite =
 outcome_unless : HaveList → HaveChoice → HaveClash → (fault : Option Cause) (command : CommandLine) (files : Files) (within : List (List ℕ)) → HasNamesAmong within files → (o : Outcome) × IsOutcomeUnlessBadIntent fault command files o
 outcome_unless have choose clashes (Some cause) command files within h = (just_refusal files (IntentBad cause), refl)
 outcome_unless have choose clashes None command files within h =
-    let work = work_files (effect_of command.applet) files in
+    let work = files_recovered_if_needed (effect_of command.applet) files in
     let (within_work, is) = work_within (effect_of command.applet) files within h in
     let (given, are) = given_exists have choose clashes command (reads_in work) work within_work is in
     (effect_outcome (effect_of command.applet) command.applet command given (reads_in work) work, (given, are, refl))
@@ -94,7 +94,7 @@ pub outcome_by : HaveList → HaveChoice → HaveClash → (read : Result Comman
 outcome_by have choose clashes (Err place) files within h = (just_refusal files (Usage place), refl)
 outcome_by have choose clashes (Ok command) files within h = outcome_unless have choose clashes (recovery_fault (effect_of command.applet) files) command files within h
 
-pub listing_one : HaveOneList → (values : List OptionValue) (files : Files) (a b : List (List ℕ)) → AreNamesBelowOption values files a → AreNamesBelowOption values files b → a ≡ b
+pub listing_one : HaveOneList → (values : List OptionValue) (files : Files) (a b : List (List ℕ)) → AreNamesBelowOptionFolder values files a → AreNamesBelowOptionFolder values files b → a ≡ b
 listing_one one [] files a b x y = x ∙ sym y
 listing_one one (v ∷ values) files a b x y = one (files_below (without_dot_slash v.text) files) a b x y
 
@@ -102,15 +102,15 @@ names_one : HaveOneList → (applet : Applet) (command : CommandLine) (files : F
 names_one one Mkpkg command files a b x y = listing_one one (values_of_letter FILES command.values) files a b x y
 names_one one other command files a b x y = x ∙ sym y
 
-given_one : HaveOneList → HaveOneChoice → HaveOneClash → (command : CommandLine) (read : Reads) (files : Files) (a b : Given) → IsGiven command read files a → IsGiven command read files b → a ≡ b
+given_one : HaveOneList → HaveOneChoice → HaveOneClash → (command : CommandLine) (read : Reads) (files : Files) (a b : Given) → IsListingChoiceAndClashFor command read files a → IsListingChoiceAndClashFor command read files b → a ≡ b
 given_one one choice clashes command read files a b x y =
     let names : a.names ≡ b.names = names_one one command.applet command files a.names b.names x.names y.names in
     let chosen : a.chosen ≡ b.chosen = chosen_one choice (effect_of command.applet) command read a.chosen b.chosen x.chosen y.chosen in
     let clash : a.clash ≡ b.clash = clash_one clashes (effect_of command.applet) command read files a.chosen a.clash b.clash x.clash
-    (subst (λ (c : Option (List ℕ)). IsClashBy (effect_of command.applet) command read files c b.clash) (sym chosen) y.clash) in
+    (subst (λ (c : Option (List ℕ)). IsFirstClashForEffect (effect_of command.applet) command read files c b.clash) (sym chosen) y.clash) in
     λ i. record { names = names i; chosen = chosen i; clash = clash i }
 
-pub over_one : HaveOneList → HaveOneChoice → HaveOneClash → (command : CommandLine) (files : Files) (a b : Outcome) → IsOutcomeAfterRecovery command files a → IsOutcomeAfterRecovery command files b → a ≡ b
+pub over_one : HaveOneList → HaveOneChoice → HaveOneClash → (command : CommandLine) (files : Files) (a b : Outcome) → IsOutcomeOverRecoveredFiles command files a → IsOutcomeOverRecoveredFiles command files b → a ≡ b
 over_one one choice clashes command files a b (g, is_g, x) (h, is_h, y) =
     x
     ∙ ap (λ given. effect_outcome (effect_of command.applet) command.applet command given (reads_in files) files) (given_one one choice clashes command (reads_in files) files g h is_g is_h)
@@ -118,7 +118,7 @@ over_one one choice clashes command files a b (g, is_g, x) (h, is_h, y) =
 
 unless_one : HaveOneList → HaveOneChoice → HaveOneClash → (fault : Option Cause) (command : CommandLine) (files : Files) (a b : Outcome) → IsOutcomeUnlessBadIntent fault command files a → IsOutcomeUnlessBadIntent fault command files b → a ≡ b
 unless_one one choice clashes (Some cause) command files a b x y = x ∙ sym y
-unless_one one choice clashes None command files a b x y = over_one one choice clashes command (work_files (effect_of command.applet) files) a b x y
+unless_one one choice clashes None command files a b x y = over_one one choice clashes command (files_recovered_if_needed (effect_of command.applet) files) a b x y
 
 pub outcome_one : HaveOneList → HaveOneChoice → HaveOneClash → (read : Result CommandLine ℕ) (files : Files) (a b : Outcome) → IsOutcomeWithoutDemo read files a → IsOutcomeWithoutDemo read files b → a ≡ b
 outcome_one one choice clashes (Err place) files a b x y = x ∙ sym y

@@ -12,7 +12,7 @@ use Rattle.engine_core.specs.change_outcome.ChangeOutcome.{ChangeDone, ChangeWis
 use Rattle.engine_core.specs.change_outcome.ConfigurationLines.{configuration_lines}
 use Rattle.engine_core.specs.change_outcome.Triggers.{trigger_lines}
 use Rattle.command_core.specs.Command.{CommandLine}
-use Rattle.engine_core.specs.Changed.{IsClashFor, InputsAndReplacement, change_of_selected, change_of_command, selected_by, selected_of_inputs, simulated_change}
+use Rattle.engine_core.specs.Changed.{IsClashOfCommand, InputsAndReplacement, change_of_selected, change_of_command, selected_by, selected_of_inputs, simulated_change}
 use Rattle.engine_core.specs.Choice.{IsChoiceFrom}
 use Rattle.engine_core.specs.Selecting.{pool_of_inputs, pool_of_command, replacement_of_choice}
 use Rattle.engine_core.specs.Wishes.{names_to_reinstall, names_to_upgrade, unknown_operand_place, unless_unknown_operand, wishes_of}
@@ -27,13 +27,13 @@ use Rattle.report_core.specs.declared.refusal.Refusal.TheVariants.{NotInstalled}
 use Rattle.outcome.proofs.Applets.{change_is}
 use Rattle.outcome.proofs.Ends.{HasKnownRefusal, inputs_stated, pool_stated}
 use Rattle.outcome.proofs.PackageRefusals.{refusal_stated}
-use Rattle.outcome.specs.ChangeEnd.{IsChangeEnd, IsEndBy, IsRunEnd, is_input_refusal, is_refusal_after_choice}
+use Rattle.outcome.specs.ChangeEnd.{IsChangeEnd, IsEndOfSelectedChange, IsChangeEndOrIntentRefusal, is_input_refusal, is_refusal_after_choice}
 use Rattle.outcome.specs.Changing.{change_outcome}
-use Rattle.outcome.specs.Commands.{IsOutcomeWithoutDemo, IsOutcomeAfterRecovery, IsOutcomeUnlessBadIntent, reads_in}
+use Rattle.outcome.specs.Commands.{IsOutcomeWithoutDemo, IsOutcomeOverRecoveredFiles, IsOutcomeUnlessBadIntent, reads_in}
 use Rattle.outcome.specs.Effect.{Changes, Effect, effect_of}
-use Rattle.outcome.specs.Given.{IsChosenFor, IsClashBy}
+use Rattle.outcome.specs.Given.{IsChosenFor, IsFirstClashForEffect}
 use Rattle.outcome.specs.Outcome.{Outcome}
-use Rattle.outcome.specs.Work.{recovery_fault, work_files}
+use Rattle.outcome.specs.Work.{recovery_fault, files_recovered_if_needed}
 
 -- ---- what is made is reported
 
@@ -77,7 +77,7 @@ MadeBy command files clash s simulate =
     change_or_refusal s.inputs s.replacement (wishes_of command) (reads_in files) clash files
 
 end_by : IsMadeKnown → (command : CommandLine) (files : Files) (clash : Option NamePair) (s : InputsAndReplacement) (simulate : Bool) → command.flags.simulate ≡ simulate
-    → (result : Result ChangeDone Refusal) → MadeBy command files clash s simulate ≡ result → IsEndBy command files s result (change_outcome files result)
+    → (result : Result ChangeDone Refusal) → MadeBy command files clash s simulate ≡ result → IsEndOfSelectedChange command files s result (change_outcome files result)
 end_by known command files clash s true simulates (Ok done) is =
     let (rest, lines) = subst (λ (d : ChangeDone). HasChangeLines s.replacement d.report) (ap done_or is) (simulated_lines s.replacement (wishes_of command).to_remove) in
     record { outcome = refl; rest = rest; report = lines; simulated = λ simulated. (sym (ap (λ (r : Result ChangeDone Refusal). (done_or r).files) is), sym (ap (λ (r : Result ChangeDone Refusal). (done_or r).commits) is)) }
@@ -101,7 +101,7 @@ module _ (known : IsMadeKnown) (command : CommandLine) (files : Files) where
 
   by_choice : (inputs : Inputs) (pool : SealedPool) (chosen : Option (List ℕ)) (clash : Option NamePair)
       → inputs_of command (reads_in files) ≡ Ok inputs → pool_of_inputs command inputs ≡ Ok pool → unknown_operand_place command.applet inputs command.operands ≡ None
-      → IsChoiceFrom (Ok pool) chosen → IsClashFor command (reads_in files) files chosen clash
+      → IsChoiceFrom (Ok pool) chosen → IsClashOfCommand command (reads_in files) files chosen clash
       → IsChangeEnd command files (end_of clash (selected_by command inputs pool chosen))
   by_choice inputs pool None clash are is known_names choice is_clash =
       inr (inl (record { pool = pool; is_pool = ap (λ (r : Result Inputs Refusal). and_then r (pool_of_inputs command)) are ∙ is; none = choice; outcome = refl }))
@@ -126,7 +126,7 @@ module _ (known : IsMadeKnown) (command : CommandLine) (files : Files) where
 
   by_place : (inputs : Inputs) (pool : SealedPool) (place : Option ℕ) (chosen : Option (List ℕ)) (clash : Option NamePair)
       → inputs_of command (reads_in files) ≡ Ok inputs → pool_of_inputs command inputs ≡ Ok pool → unknown_operand_place command.applet inputs command.operands ≡ place
-      → IsChoiceFrom (Ok pool) chosen → IsClashFor command (reads_in files) files chosen clash
+      → IsChoiceFrom (Ok pool) chosen → IsClashOfCommand command (reads_in files) files chosen clash
       → IsChangeEnd command files (end_of clash (unless_unknown_operand place (selected_by command inputs pool chosen)))
   by_place inputs pool None chosen clash are is at choice is_clash = by_choice inputs pool chosen clash are is at choice is_clash
   by_place inputs pool (Some place) chosen clash are is at choice is_clash =
@@ -142,7 +142,7 @@ module _ (known : IsMadeKnown) (command : CommandLine) (files : Files) where
 
   by_pool : (inputs : Inputs) (pool : Result SealedPool Refusal) (chosen : Option (List ℕ)) (clash : Option NamePair)
       → inputs_of command (reads_in files) ≡ Ok inputs → pool_of_inputs command inputs ≡ pool
-      → IsChoiceFrom pool chosen → IsClashFor command (reads_in files) files chosen clash
+      → IsChoiceFrom pool chosen → IsClashOfCommand command (reads_in files) files chosen clash
       → IsChangeEnd command files (end_of clash (and_then pool (λ pool. unless_unknown_operand (unknown_operand_place command.applet inputs command.operands) (selected_by command inputs pool chosen))))
   by_pool inputs (Ok pool) chosen clash are is choice is_clash = by_place inputs pool (unknown_operand_place command.applet inputs command.operands) chosen clash are is refl choice is_clash
   by_pool inputs (Err refusal) chosen clash are is choice is_clash =
@@ -156,31 +156,31 @@ module _ (known : IsMadeKnown) (command : CommandLine) (files : Files) where
       })
 
   by_inputs : (inputs : Result Inputs Refusal) (chosen : Option (List ℕ)) (clash : Option NamePair) → inputs_of command (reads_in files) ≡ inputs
-      → IsChoiceFrom (and_then inputs (pool_of_inputs command)) chosen → IsClashFor command (reads_in files) files chosen clash
+      → IsChoiceFrom (and_then inputs (pool_of_inputs command)) chosen → IsClashOfCommand command (reads_in files) files chosen clash
       → IsChangeEnd command files (end_of clash (and_then inputs (selected_of_inputs command chosen)))
   by_inputs (Ok inputs) chosen clash are choice is_clash = by_pool inputs (pool_of_inputs command inputs) chosen clash are refl choice is_clash
   by_inputs (Err refusal) chosen clash are choice is_clash =
       inl (record { refusal = refusal; stated = subst (HasKnownRefusal is_input_refusal) are (inputs_stated command (reads_in files)); outcome = refl; unchosen = λ other. ap (λ (r : Result Inputs Refusal). and_then r (selected_of_inputs command other)) are })
 
-  change_end : (chosen : Option (List ℕ)) (clash : Option NamePair) → IsChoiceFrom (pool_of_command command (reads_in files)) chosen → IsClashFor command (reads_in files) files chosen clash
+  change_end : (chosen : Option (List ℕ)) (clash : Option NamePair) → IsChoiceFrom (pool_of_command command (reads_in files)) chosen → IsClashOfCommand command (reads_in files) files chosen clash
       → IsChangeEnd command files (change_outcome files (change_of_command command (reads_in files) files chosen clash))
   unfolding change_of_command
   change_end chosen clash choice is_clash = by_inputs (inputs_of command (reads_in files)) chosen clash refl choice is_clash
 
 -- ---- over the files on which it works, and by the words
 
-pub over_end : IsMadeKnown → (command : CommandLine) (files : Files) (o : Outcome) → effect_of command.applet ≡ Changes → IsOutcomeAfterRecovery command files o → IsChangeEnd command files o
+pub over_end : IsMadeKnown → (command : CommandLine) (files : Files) (o : Outcome) → effect_of command.applet ≡ Changes → IsOutcomeOverRecoveredFiles command files o → IsChangeEnd command files o
 over_end known command files o changes (given, are, is) =
     subst (IsChangeEnd command files) (change_is command.applet command given (reads_in files) files changes ∙ sym is)
     (change_end known command files given.chosen given.clash
     (subst (λ (e : Effect). IsChosenFor e command (reads_in files) given.chosen) changes are.chosen)
-    (subst (λ (e : Effect). IsClashBy e command (reads_in files) files given.chosen given.clash) changes are.clash))
+    (subst (λ (e : Effect). IsFirstClashForEffect e command (reads_in files) files given.chosen given.clash) changes are.clash))
 
-unless_end : IsMadeKnown → (fault : Option Cause) (command : CommandLine) (files : Files) (o : Outcome) → effect_of command.applet ≡ Changes → recovery_fault Changes files ≡ fault → IsOutcomeUnlessBadIntent fault command files o → IsRunEnd command files o
+unless_end : IsMadeKnown → (fault : Option Cause) (command : CommandLine) (files : Files) (o : Outcome) → effect_of command.applet ≡ Changes → recovery_fault Changes files ≡ fault → IsOutcomeUnlessBadIntent fault command files o → IsChangeEndOrIntentRefusal command files o
 unless_end known (Some cause) command files o changes at is = inl (record { cause = cause; bad = at; outcome = is })
 unless_end known None command files o changes at is =
-    inr (over_end known command (work_files Changes files) o changes (subst (λ (e : Effect). IsOutcomeAfterRecovery command (work_files e files) o) changes is))
+    inr (over_end known command (files_recovered_if_needed Changes files) o changes (subst (λ (e : Effect). IsOutcomeOverRecoveredFiles command (files_recovered_if_needed e files) o) changes is))
 
-pub run_end : IsMadeKnown → (command : CommandLine) (files : Files) (o : Outcome) → effect_of command.applet ≡ Changes → IsOutcomeWithoutDemo (Ok command) files o → IsRunEnd command files o
+pub run_end : IsMadeKnown → (command : CommandLine) (files : Files) (o : Outcome) → effect_of command.applet ≡ Changes → IsOutcomeWithoutDemo (Ok command) files o → IsChangeEndOrIntentRefusal command files o
 run_end known command files o changes is =
     unless_end known (recovery_fault Changes files) command files o changes refl (subst (λ (e : Effect). IsOutcomeUnlessBadIntent (recovery_fault e files) command files o) changes is)

@@ -35,16 +35,16 @@ use Rattle.tell_core.specs.ReportForCommand.{report_for_command}
 use Rattle.words_core.specs.Grammar.{command_of}
 use Rattle.outcome.proofs.Applets.{told_files}
 use Rattle.outcome.specs.Changing.{change_outcome}
-use Rattle.outcome.specs.Commands.{IsOutcomeWithoutDemo, IsOutcomeAfterRecovery, IsOutcomeUnlessBadIntent, computing_outcome, effect_outcome, making_outcome, reading_outcome, reads_in}
+use Rattle.outcome.specs.Commands.{IsOutcomeWithoutDemo, IsOutcomeOverRecoveredFiles, IsOutcomeUnlessBadIntent, outcome_from_arguments_alone, effect_outcome, making_outcome, reading_outcome, reads_in}
 use Rattle.outcome.specs.Dump.{adbdump, dump_of, dump_outcome, text_outcome}
 use Rattle.outcome.specs.Effect.{Effect, Changes, Computes, Makes, OnlyReadsFiles, AsksRoot, effect_of_arguments, effect_of}
 use Rattle.outcome.specs.Generate.{adbgen, container_outcome, generate_outcome}
 use Rattle.outcome.specs.Given.{Given}
-use Rattle.outcome.specs.Make.{files_with_output, index_line, make_outcome, unless_reserved}
+use Rattle.outcome.specs.Make.{files_with_output, index_report_line, make_outcome, unless_reserved}
 use Rattle.outcome.specs.Outcome.{Outcome, commit_report, just_refusal, outcome_of, report_unless}
 use Rattle.outcome.specs.Verify.{sound_lines, verify_refusal}
-use Rattle.outcome.specs.Version.{invalid_lines, order_report, version, version_refusal}
-use Rattle.outcome.specs.Work.{recovery_fault, work_files}
+use Rattle.outcome.specs.Version.{invalid_version_lines, version_order_report, version, version_refusal}
+use Rattle.outcome.specs.Work.{recovery_fault, files_recovered_if_needed}
 
 abbrev LeavesIdle : Files → Outcome → Type 0
 LeavesIdle files o = o.commits ≡ false → o.files ≡ files
@@ -58,8 +58,8 @@ unless_idle files (Some refusal) report idle = refl
 version_idle : (files : Files) (flags : Flags) (operands : List Operand) → LeavesIdle files (version files flags operands)
 version_idle files flags operands = by_test flags.test
   where
-    by_test : (b : Bool) → LeavesIdle files (if b then report_unless files (version_refusal operands) (order_report operands) else outcome_of (version_refusal operands) (invalid_lines operands) files)
-    by_test true = unless_idle files (version_refusal operands) (order_report operands)
+    by_test : (b : Bool) → LeavesIdle files (if b then report_unless files (version_refusal operands) (version_order_report operands) else outcome_of (version_refusal operands) (invalid_version_lines operands) files)
+    by_test true = unless_idle files (version_refusal operands) (version_order_report operands)
     by_test false = λ idle. refl
 
 text_idle : (files : Files) (place : ℕ) (text : Result (List ℕ) Cause) → LeavesIdle files (text_outcome files place text)
@@ -88,7 +88,7 @@ adbgen_idle : (read : Reads) (files : Files) (operands : List Operand) → Leave
 adbgen_idle read files [] idle = refl
 adbgen_idle read files (o ∷ operands) idle = generate_idle files o.place (read 0 (without_dot_slash o.text)) idle
 
-computing_idle : (applet : Applet) (command : CommandLine) (files : Files) → LeavesIdle files (computing_outcome applet command files)
+computing_idle : (applet : Applet) (command : CommandLine) (files : Files) → LeavesIdle files (outcome_from_arguments_alone applet command files)
 computing_idle Version command files = version_idle files command.flags command.operands
 computing_idle other command files = λ idle. refl
 
@@ -119,7 +119,7 @@ made_idle files output report (Err Memory) = λ idle. refl
 
 making_idle : (applet : Applet) (command : CommandLine) (names : List (List ℕ)) (read : Reads) (files : Files) → LeavesIdle files (making_outcome applet command names read files)
 making_idle Mkpkg command names read files = made_idle files (output_name command) [] (made_package command names read)
-making_idle Mkndx command names read files = made_idle files (output_name command) (index_line (length command.operands)) (made_index command read)
+making_idle Mkndx command names read files = made_idle files (output_name command) (index_report_line (length command.operands)) (made_index command read)
 making_idle other command names read files = λ idle. refl
 
 -- ---- a change
@@ -186,22 +186,22 @@ effect_idle rooted idle AsksRoot applet command given files = λ nothing. told_f
 effect_idle rooted idle Makes applet command given files = making_idle applet command given.names (reads_in files) files
 effect_idle rooted idle Changes applet command given files = change_idle rooted idle command files given.chosen given.clash (change_of_command command (reads_in files) files given.chosen given.clash) refl
 
-pub over_idle : HaveRoot → HaveIdle → (command : CommandLine) (files : Files) (o : Outcome) → IsOutcomeAfterRecovery command files o → o.commits ≡ false → o.files ≡ files
+pub over_idle : HaveRoot → HaveIdle → (command : CommandLine) (files : Files) (o : Outcome) → IsOutcomeOverRecoveredFiles command files o → o.commits ≡ false → o.files ≡ files
 over_idle rooted idle command files o (given, are, is) nothing =
     subst (LeavesIdle files) (sym is) (effect_idle rooted idle (effect_of command.applet) command.applet command given files) nothing
 
 -- ---- by the words
 
 unless_leaves : HaveRoot → HaveIdle → (fault : Option Cause) (command : CommandLine) (files : Files) (o : Outcome) → IsOutcomeUnlessBadIntent fault command files o → o.commits ≡ false
-    → (o.files ≡ files) ⊎ (o.files ≡ work_files (effect_of command.applet) files)
+    → (o.files ≡ files) ⊎ (o.files ≡ files_recovered_if_needed (effect_of command.applet) files)
 unless_leaves rooted idle (Some cause) command files o is nothing = inl (ap (λ (p : Outcome). p.files) is)
-unless_leaves rooted idle None command files o is nothing = inr (over_idle rooted idle command (work_files (effect_of command.applet) files) o is nothing)
+unless_leaves rooted idle None command files o is nothing = inr (over_idle rooted idle command (files_recovered_if_needed (effect_of command.applet) files) o is nothing)
 
 leaves_by : HaveRoot → HaveIdle → (read : Result CommandLine ℕ) (files : Files) (o : Outcome) → IsOutcomeWithoutDemo read files o → o.commits ≡ false
-    → (o.files ≡ files) ⊎ (o.files ≡ work_files (effect_of_arguments read) files)
+    → (o.files ≡ files) ⊎ (o.files ≡ files_recovered_if_needed (effect_of_arguments read) files)
 leaves_by rooted idle (Err place) files o is nothing = inl (ap (λ (p : Outcome). p.files) is)
 leaves_by rooted idle (Ok command) files o is nothing = unless_leaves rooted idle (recovery_fault (effect_of command.applet) files) command files o is nothing
 
 pub leaves_idle : HaveRoot → HaveIdle → (words : List (List ℕ)) (files : Files) (o : Outcome) → IsOutcomeWithoutDemo (command_of words) files o → o.commits ≡ false
-    → (o.files ≡ files) ⊎ (o.files ≡ work_files (effect_of_arguments (command_of words)) files)
+    → (o.files ≡ files) ⊎ (o.files ≡ files_recovered_if_needed (effect_of_arguments (command_of words)) files)
 leaves_idle rooted idle words files o is nothing = leaves_by rooted idle (command_of words) files o is nothing

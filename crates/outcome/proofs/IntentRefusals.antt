@@ -19,15 +19,15 @@ use Rattle.report_core.specs.declared.refusal.Refusal.{Refusal}
 use Rattle.report_core.specs.declared.refusal.Refusal.TheVariants.{IntentBad, Reserved, Unsatisfied}
 use Rattle.tell_core.specs.ReportForCommand.{report_for_command}
 use Rattle.words_core.specs.Grammar.{command_of}
-use Rattle.outcome.specs.ChangeEnd.{IsChangeEnd, IsEndBy, is_input_refusal, is_refusal_after_choice}
-use Rattle.outcome.specs.Commands.{IsOutcomeWithoutDemo, IsOutcomeAfterRecovery, IsOutcomeUnlessBadIntent, effect_outcome, reads_in}
+use Rattle.outcome.specs.ChangeEnd.{IsChangeEnd, IsEndOfSelectedChange, is_input_refusal, is_refusal_after_choice}
+use Rattle.outcome.specs.Commands.{IsOutcomeWithoutDemo, IsOutcomeOverRecoveredFiles, IsOutcomeUnlessBadIntent, effect_outcome, reads_in}
 use Rattle.outcome.specs.Effect.{Effect, Computes, OnlyReadsFiles, AsksRoot, Makes, Changes, does_recover, effect_of_arguments, effect_of}
 use Rattle.outcome.specs.Given.{Given}
 use Rattle.outcome.specs.Make.{make_outcome, unless_reserved}
 use Rattle.outcome.specs.Outcome.{Outcome, just_refusal}
 use Rattle.outcome.specs.OutcomeOfReport.{outcome_of_report}
 use Rattle.outcome.specs.Words.{IsOutcome, IsOutcomeOfApplet}
-use Rattle.outcome.specs.Work.{recovery_fault, work_files}
+use Rattle.outcome.specs.Work.{recovery_fault, files_recovered_if_needed}
 use Rattle.outcome.proofs.Applets.{report_is}
 
 -- it tells something else than a bad intent
@@ -51,7 +51,7 @@ input_other refusal stated cause is = false≢true (sym (ap is_input_refusal is)
 package_other : (refusal : Refusal) → is_refusal_after_choice refusal ≡ true → IsOther refusal
 package_other refusal stated cause is = false≢true (sym (ap is_refusal_after_choice is) ∙ stated)
 
-end_other : (command : CommandLine) (files : Files) (s : InputsAndReplacement) (o : Outcome) (result : Result ChangeDone Refusal) → IsEndBy command files s result o → NamesNoIntent o
+end_other : (command : CommandLine) (files : Files) (s : InputsAndReplacement) (o : Outcome) (result : Result ChangeDone Refusal) → IsEndOfSelectedChange command files s result o → NamesNoIntent o
 end_other command files s o (Ok done) reported = subst NamesNoIntent (sym reported.outcome) (λ cause is. cc (is))
 end_other command files s o (Err refusal) (stated, is) = subst NamesNoIntent (sym is) (refused_other files refusal (package_other refusal stated))
 
@@ -94,8 +94,8 @@ module _ (refused : (c : CommandLine) (read : Reads) (refusal : Refusal) → rep
 
   -- ---- by the words
 
-  module _ (ends : (command : CommandLine) (files : Files) (o : Outcome) → effect_of command.applet ≡ Changes → IsOutcomeAfterRecovery command files o → IsChangeEnd command files o) where
-    over_other : (command : CommandLine) (files : Files) (o : Outcome) (effect : Effect) → effect_of command.applet ≡ effect → does_recover effect ≡ true → IsOutcomeAfterRecovery command files o → NamesNoIntent o
+  module _ (ends : (command : CommandLine) (files : Files) (o : Outcome) → effect_of command.applet ≡ Changes → IsOutcomeOverRecoveredFiles command files o → IsChangeEnd command files o) where
+    over_other : (command : CommandLine) (files : Files) (o : Outcome) (effect : Effect) → effect_of command.applet ≡ effect → does_recover effect ≡ true → IsOutcomeOverRecoveredFiles command files o → NamesNoIntent o
     over_other command files o Computes at recovers over = absurd (false≢true recovers)
     over_other command files o OnlyReadsFiles at recovers over = absurd (false≢true recovers)
     over_other command files o AsksRoot at recovers (given, are, is) =
@@ -111,7 +111,7 @@ module _ (refused : (c : CommandLine) (read : Reads) (refusal : Refusal) → rep
     unless_other command files o cause (Some bad) recovers is refusal =
         ap (λ (c : Cause). Some c) (same_cause bad cause (some_same (IntentBad bad) (IntentBad cause) (sym (ap (λ (p : Outcome). p.refusal) is) ∙ refusal)))
     unless_other command files o cause None recovers over refusal =
-        absurd (over_other command (work_files (effect_of command.applet) files) o (effect_of command.applet) refl recovers over cause refusal)
+        absurd (over_other command (files_recovered_if_needed (effect_of command.applet) files) o (effect_of command.applet) refl recovers over cause refusal)
 
     -- `demo` does not recover
     no_demo : (applet : Applet) (command : CommandLine) (files : Files) (o : Outcome) → does_recover (effect_of applet) ≡ true → IsOutcomeOfApplet applet command files o → IsOutcomeWithoutDemo (Ok command) files o

@@ -1,6 +1,6 @@
 -- A root has no database only where no file of one stands there.
 use Rattle.std.proofs.Common.{◌≡◌, ℕ, Bool, true, false, List, Option, Some, None, Result, Ok, Err, refl}
-use Rattle.gen_core.specs.adb_schema.Soundness.{first_fault, payload_fault}
+use Rattle.gen_core.specs.adb_schema.Soundness.{container_fault_except_contents, payload_fault}
 use Rattle.adb_view.specs.declared.tables.Which.TheVariants.{Idb}
 use Rattle.gen_core.specs.adb_write.Canonical.{PayloadCounts, payload_or_overflow}
 use Rattle.base_core.specs.Files.{Files}
@@ -12,7 +12,7 @@ use Rattle.command_core.specs.Command.{CommandLine}
 use Rattle.report_core.specs.declared.refusal.Refusal.TheVariants.{DatabaseBad, NoDatabase}
 use Rattle.root_names.specs.RootNames.{database_name, text_database_name}
 use Rattle.tell_core.specs.v2_core.Database.{value_of_records}
-use Rattle.tell_core.specs.v2_core.Payload.{or_too_large, payload_of_text, payload_if_sound, unless_bad, written_payload}
+use Rattle.tell_core.specs.v2_core.Payload.{or_too_large, payload_of_text, payload_if_sound, payload_unless_fault, payload_of_records}
 use Rattle.tell_core.specs.v2_core.Reading.{records_of}
 use Rattle.tell_core.specs.v2_core.Records.{Record}
 use Rattle.tell_core.specs.v2_core.declared.read.V2Fault.{V2Fault}
@@ -21,7 +21,7 @@ use Rattle.outcome.specs.Commands.{reads_in}
 
 -- ---- a text is never refused for want of memory
 
-pub bad_remembers : (payload : List ℕ) (cause : Option Cause) → unless_bad payload cause ≡ Err Memory → ⊥
+pub bad_remembers : (payload : List ℕ) (cause : Option Cause) → payload_unless_fault payload cause ≡ Err Memory → ⊥
 bad_remembers payload None e = cc (e)
 bad_remembers payload (Some cause) e = cc (e)
 
@@ -29,7 +29,7 @@ pub large_remembers : (r : Result (List ℕ) PayloadCounts) → or_too_large r �
 large_remembers (Ok payload) e = cc (e)
 large_remembers (Err counts) e = cc (e)
 
-pub written_remembers : (r : Result (List Record) ℕ) → written_payload r ≡ Err Memory → ⊥
+pub written_remembers : (r : Result (List Record) ℕ) → payload_of_records r ≡ Err Memory → ⊥
 written_remembers (Ok records) e = large_remembers (payload_or_overflow (value_of_records records)) e
 written_remembers (Err line) e = cc (e)
 
@@ -39,7 +39,7 @@ tested_remembers (Err fault) h e = h e
 
 pub text_remembers : (text : List ℕ) → payload_of_text text ≡ Err Memory → ⊥
 unfolding payload_of_text
-text_remembers text e = tested_remembers (written_payload (records_of text)) (written_remembers (records_of text)) e
+text_remembers text e = tested_remembers (payload_of_records (records_of text)) (written_remembers (records_of text)) e
 
 -- ---- so none is missing where there is a file
 
@@ -54,7 +54,7 @@ payload_found (Err (TooLarge bytes values)) h e = cc (e)
 payload_found (Err Memory) h e = h refl
 
 lacking_by : (may_begin : Bool) (file text : Option (List ℕ)) → root_database may_begin file text ≡ Err NoDatabase → (file ≡ None) × (text ≡ None) × (may_begin ≡ false)
-lacking_by may_begin (Some file) text e = absurd (cause_found (first_fault Idb file) _ e)
+lacking_by may_begin (Some file) text e = absurd (cause_found (container_fault_except_contents Idb file) _ e)
 lacking_by may_begin None (Some text) e = absurd (payload_found (payload_of_text text) (text_remembers text) e)
 lacking_by true None None e = absurd (cc (e))
 lacking_by false None None e = (refl, refl, refl)

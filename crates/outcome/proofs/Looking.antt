@@ -14,15 +14,15 @@ use Rattle.gen_core.specs.declared.generate.GenFault.{GenFault}
 use Rattle.gen_core.specs.declared.generate.GenFault.TheVariants.{Bad, TooLarge, Memory}
 use Rattle.make_core.specs.make_info.Reads.{Reads}
 use Rattle.report_core.specs.declared.refusal.Refusal.{Refusal}
-use Rattle.outcome.specs.Commands.{IsOutcomeWithoutDemo, IsOutcomeAfterRecovery, IsOutcomeUnlessBadIntent, computing_outcome, effect_outcome, reading_outcome, reads_in}
+use Rattle.outcome.specs.Commands.{IsOutcomeWithoutDemo, IsOutcomeOverRecoveredFiles, IsOutcomeUnlessBadIntent, outcome_from_arguments_alone, effect_outcome, reading_outcome, reads_in}
 use Rattle.outcome.specs.Dump.{adbdump, dump_of, dump_outcome, text_outcome}
 use Rattle.outcome.specs.Effect.{Effect, Changes, Computes, Makes, OnlyReadsFiles, AsksRoot, does_only_read, effect_of, reads_only}
 use Rattle.outcome.specs.Generate.{adbgen, container_outcome, generate_outcome}
 use Rattle.outcome.specs.Given.{Given}
 use Rattle.outcome.specs.Outcome.{Outcome, outcome_of, report_unless}
 use Rattle.outcome.specs.Verify.{sound_lines, verify_refusal}
-use Rattle.outcome.specs.Version.{invalid_lines, order_report, version_refusal}
-use Rattle.outcome.specs.Work.{recovery_fault, work_files}
+use Rattle.outcome.specs.Version.{invalid_version_lines, version_order_report, version_refusal}
+use Rattle.outcome.specs.Work.{recovery_fault, files_recovered_if_needed}
 
 abbrev pub LeavesFiles : Files → Outcome → Type 0
 LeavesFiles files o = (o.files ≡ files) × (o.commits ≡ false)
@@ -59,10 +59,10 @@ adbgen_leaves : (read : Reads) (files : Files) (os : List Operand) → LeavesFil
 adbgen_leaves read files [] = (refl, refl)
 adbgen_leaves read files (o ∷ os) = generate_leaves files o.place (read 0 (without_dot_slash o.text))
 
-pub computing_leaves : (applet : Applet) (command : CommandLine) (files : Files) → LeavesFiles files (computing_outcome applet command files)
+pub computing_leaves : (applet : Applet) (command : CommandLine) (files : Files) → LeavesFiles files (outcome_from_arguments_alone applet command files)
 computing_leaves Version command files =
-    elim command.flags.test as (λ b. LeavesFiles files (if b then report_unless files (version_refusal command.operands) (order_report command.operands) else outcome_of (version_refusal command.operands) (invalid_lines command.operands) files)) [
-      | true ↦ unless_leaves files (version_refusal command.operands) (order_report command.operands)
+    elim command.flags.test as (λ b. LeavesFiles files (if b then report_unless files (version_refusal command.operands) (version_order_report command.operands) else outcome_of (version_refusal command.operands) (invalid_version_lines command.operands) files)) [
+      | true ↦ unless_leaves files (version_refusal command.operands) (version_order_report command.operands)
       | false ↦ (refl, refl)
     ]
 computing_leaves other command files = (refl, refl)
@@ -89,7 +89,7 @@ no_fault AsksRoot files reads = absurd (false≢true reads)
 no_fault Makes files reads = absurd (false≢true reads)
 no_fault Changes files reads = absurd (false≢true reads)
 
-same_files : (effect : Effect) (files : Files) → does_only_read effect ≡ true → work_files effect files ≡ files
+same_files : (effect : Effect) (files : Files) → does_only_read effect ≡ true → files_recovered_if_needed effect files ≡ files
 same_files Computes files reads = refl
 same_files OnlyReadsFiles files reads = refl
 same_files AsksRoot files reads = absurd (false≢true reads)
@@ -100,6 +100,6 @@ pub read_leaves : (read : Result CommandLine ℕ) (files : Files) (o : Outcome) 
 read_leaves (Err place) files o reads is = (ap (λ (p : Outcome). p.files) is, ap (λ (p : Outcome). p.commits) is)
 read_leaves (Ok command) files o reads is =
     let effect = effect_of command.applet in
-    let over : IsOutcomeAfterRecovery command (work_files effect files) o = subst (λ (f : Option Cause). IsOutcomeUnlessBadIntent f command files o) (no_fault effect files reads) is in
-    let here : IsOutcomeAfterRecovery command files o = subst (λ (work : Files). IsOutcomeAfterRecovery command work o) (same_files effect files reads) over in
+    let over : IsOutcomeOverRecoveredFiles command (files_recovered_if_needed effect files) o = subst (λ (f : Option Cause). IsOutcomeUnlessBadIntent f command files o) (no_fault effect files reads) is in
+    let here : IsOutcomeOverRecoveredFiles command files o = subst (λ (work : Files). IsOutcomeOverRecoveredFiles command work o) (same_files effect files reads) over in
     subst (LeavesFiles files) (sym here.2) (look_leaves effect command.applet command here.0 files reads)

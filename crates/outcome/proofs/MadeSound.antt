@@ -12,10 +12,10 @@ use Rattle.base_core.specs.Listed.{AreNamesBelow, IsNameBelow, IsNamesOf}
 use Rattle.base_core.specs.Tree.{IsWellFormed, TreeState, files_of}
 use Rattle.base_core.specs.declared.cause.Cause.{Cause}
 use Rattle.command_core.specs.declared.values.TheConstants.{FILES, SCRIPT, TRIGGER}
-use Rattle.engine_core.specs.journal_core.Replacing.{replaced_files, scratch_of}
+use Rattle.engine_core.specs.journal_core.Replacing.{replaced_files, scratch_name_of}
 use Rattle.engine_core.specs.journal_core.Staged.{unstaged_files}
 use Rattle.make_core.specs.package_files.Folders.{FolderListing, folder_listings_of, last_part_of}
-use Rattle.make_core.specs.make_index.Index.{and_entries, found_entries, found_entry, index_container, index_of, index_of_found, value_of_index, entry_unless, description_in, made_index}
+use Rattle.make_core.specs.make_index.Index.{and_entries, found_entries, found_entry, index_container, index_of_entries, index_of_found, value_of_index, entry_unless, description_in, made_index}
 use Rattle.make_core.specs.make_index.EntryOrder.{entry_cmp}
 use Rattle.base_core.specs.Sorted.{sorted_by}
 use Rattle.make_core.specs.make_info.Information.{FieldWithValue, information_value, information, replaces_priority}
@@ -23,7 +23,7 @@ use Rattle.make_core.specs.make_package.Making.{container_unless, made_package, 
 use Rattle.make_core.specs.make_info.Output.{output_name}
 use Rattle.make_core.specs.package_files.Package.{Script, Source, SourceFolder, contents_of_folders, installed_size, value_of_package}
 use Rattle.make_core.specs.make_index.Files.{FindOnlyFiles}
-use Rattle.make_core.specs.package_files.Sources.{AreNamesBelowFirst, and_then, each_from, source_file_read_at, sources_from, source_folder_read_at, folders_below, found_bytes_or_missing, values_of_letter, script_at, scripts_from, texts_of}
+use Rattle.make_core.specs.package_files.Sources.{AreNamesBelowFirstFolder, and_then, results_from_read, source_file_read_at, sources_from, source_folder_read_at, folders_below, found_bytes_or_missing, values_of_letter, script_at, scripts_from, texts_of}
 use Rattle.make_core.specs.make_info.Reads.{Reads}
 use Rattle.make_core.specs.make_info.declared.fault.MakeFault.{MakeFault}
 use Rattle.make_core.specs.make_info.declared.fault.MakeFault.TheVariants.{FileMissing, FileBad, InfoBad, TooLarge, Disk, Memory}
@@ -43,15 +43,15 @@ use Rattle.engine_core.proofs.journal_core.Below.{is_below}
 use Rattle.outcome.proofs.Listings.{if_some}
 use Rattle.outcome.specs.Given.{Given, IsListingFor}
 use Rattle.outcome.specs.Commands.{IsOutcomeWithoutDemo, IsOutcomeUnlessBadIntent, effect_outcome, reads_in}
-use Rattle.outcome.specs.Effect.{Effect, Computes, OnlyReadsFiles, AsksRoot, Makes, Changes, effect_of, output, output_of_arguments, output_for_effect}
-use Rattle.outcome.specs.Make.{AreNamesBelowOption, files_below, index_line, make_outcome, mkndx, mkpkg}
+use Rattle.outcome.specs.Effect.{Effect, Computes, OnlyReadsFiles, AsksRoot, Makes, Changes, effect_of, output, output_name_of_arguments, output_name_for_effect}
+use Rattle.outcome.specs.Make.{AreNamesBelowOptionFolder, files_below, index_report_line, make_outcome, mkndx, mkpkg}
 use Rattle.outcome.specs.Outcome.{Outcome, commit_report, just_refusal}
 use Rattle.outcome.specs.Sound.{IsSoundFileAt}
-use Rattle.outcome.specs.Work.{recovery_fault, work_files}
+use Rattle.outcome.specs.Work.{recovery_fault, files_recovered_if_needed}
 
 -- a package that is made of names below its folder is sound, and so is an index of files
 abbrev pub SoundPackage : Type 0
-SoundPackage = (command : CommandLine) (names : List (List ℕ)) (read : Reads) (bytes : List ℕ) → AreNamesBelowFirst (values_of_letter FILES command.values) names → made_package command names read ≡ Ok bytes → length bytes < 2 ^ 64 → container_fault bytes ≡ None
+SoundPackage = (command : CommandLine) (names : List (List ℕ)) (read : Reads) (bytes : List ℕ) → AreNamesBelowFirstFolder (values_of_letter FILES command.values) names → made_package command names read ≡ Ok bytes → length bytes < 2 ^ 64 → container_fault bytes ≡ None
 
 abbrev pub SoundIndex : Type 0
 SoundIndex = (command : CommandLine) (read : Reads) (bytes : List ℕ) → FindOnlyFiles read 0 command.operands → made_index command read ≡ Ok bytes → container_fault bytes ≡ None
@@ -69,7 +69,7 @@ names_below folder files names good are = record {
   each = All-weaker (Contains names) (IsNameBelow folder) (λ q here. name_below folder files good q ((are.each q).0 here)) names (All-contains_itself names);
 }
 
-names_for : (values : List OptionValue) (files : Files) (names : List (List ℕ)) → AreNamedFiles files → AreNamesBelowOption values files names → AreNamesBelowFirst values names
+names_for : (values : List OptionValue) (files : Files) (names : List (List ℕ)) → AreNamedFiles files → AreNamesBelowOptionFolder values files names → AreNamesBelowFirstFolder values names
 names_for [] files names good are = tt
 names_for (folder ∷ values) files names good are = names_below (without_dot_slash folder.text) files names good are
 
@@ -102,11 +102,11 @@ after_fine : {A B : Type 0} (r : Result A MakeFault) (next : A → Result B Make
 after_fine (Ok x) next h further = further x
 after_fine {A} {B} (Err why) next h further = fine_err A B why h
 
-each_fine : {X Y : Type 0} (count : X → ℕ) (of : ℕ → X → Result Y MakeFault) → ((n : ℕ) (x : X) → IsRefusalOrMade (of n x)) → (n : ℕ) (xs : List X) → IsRefusalOrMade (each_from count of n xs)
+each_fine : {X Y : Type 0} (count : X → ℕ) (of : ℕ → X → Result Y MakeFault) → ((n : ℕ) (x : X) → IsRefusalOrMade (of n x)) → (n : ℕ) (xs : List X) → IsRefusalOrMade (results_from_read count of n xs)
 each_fine count of h n [] = tt
 each_fine count of h n (x ∷ xs) =
-    after_fine (of n x) (λ y. and_then (each_from count of (n + count x) xs) (λ ys. Ok (y ∷ ys))) (h n x)
-    (λ y. after_fine (each_from count of (n + count x) xs) (λ ys. Ok (y ∷ ys)) (each_fine count of h (n + count x) xs) (λ ys. tt))
+    after_fine (of n x) (λ y. and_then (results_from_read count of (n + count x) xs) (λ ys. Ok (y ∷ ys))) (h n x)
+    (λ y. after_fine (results_from_read count of (n + count x) xs) (λ ys. Ok (y ∷ ys)) (each_fine count of h (n + count x) xs) (λ ys. tt))
 
 found_fine : (place : ℕ) (found : Option (List ℕ)) → IsRefusalOrMade (found_bytes_or_missing place found)
 found_fine place None = tt
@@ -192,7 +192,7 @@ written_fine (Ok payload) = tt
 written_fine (Err counts) = tt
 
 of_found_fine : (description : List ℕ) (entries : Result (List Plain) MakeFault) → IsRefusalOrMade entries → IsRefusalOrMade (index_of_found description entries)
-unfolding index_of
+unfolding index_of_entries
 of_found_fine description (Ok entries) h = written_fine (payload_or_overflow (value_of_index description (sorted_by entry_cmp entries)))
 of_found_fine description (Err why) h = fine_err (List Plain) (List ℕ) why h
 
@@ -206,7 +206,7 @@ abbrev Stands : List ℕ → Result (List ℕ) MakeFault → Outcome → Type 0
 Stands name result outcome = (bytes : List ℕ) × (result ≡ Ok bytes) × (outcome.files name ≡ Some bytes)
 
 put_there : (name bytes : List ℕ) (files : Files) → replaced_files name bytes files name ≡ Some bytes
-put_there name bytes files = ap (λ (b : Bool). if b then Some bytes else drop_name files (scratch_of name) name) ((bytes_eq-Decides name name).1 refl)
+put_there name bytes files = ap (λ (b : Bool). if b then Some bytes else drop_name files (scratch_name_of name) name) ((bytes_eq-Decides name name).1 refl)
 
 stands_unless : (reserved : Bool) (name bytes report : List ℕ) (files : Files) → (if reserved then just_refusal files (Reserved name) else commit_report (replaced_files name bytes files) report).refusal ≡ None
     → (if reserved then just_refusal files (Reserved name) else commit_report (replaced_files name bytes files) report).files name ≡ Some bytes
@@ -233,7 +233,7 @@ stands_at files output name report result fine is =
 
 -- ---- the outcome of a command
 
-package_sound : SoundPackage → (command : CommandLine) (names : List (List ℕ)) (files : Files) (name : List ℕ) → AreNamedFiles files → AreNamesBelowOption (values_of_letter FILES command.values) files names → output_name command ≡ Some name
+package_sound : SoundPackage → (command : CommandLine) (names : List (List ℕ)) (files : Files) (name : List ℕ) → AreNamedFiles files → AreNamesBelowOptionFolder (values_of_letter FILES command.values) files names → output_name command ≡ Some name
     → (mkpkg (reads_in files) files command names).refusal ≡ None → IsSoundFileAt name (mkpkg (reads_in files) files command names).files
 package_sound law command names files name good are is none =
     let read : Reads = reads_in files in
@@ -244,11 +244,11 @@ index_sound : SoundIndex → (command : CommandLine) (files : Files) (name : Lis
     → (mkndx (reads_in files) files command).refusal ≡ None → IsSoundFileAt name (mkndx (reads_in files) files command).files
 index_sound law command files name good is none =
     let read : Reads = reads_in files in
-    let (bytes, ok, here) = stands_at files (output_name command) name (index_line (length command.operands)) (made_index command read) (index_fine command read) is none in
+    let (bytes, ok, here) = stands_at files (output_name command) name (index_report_line (length command.operands)) (made_index command read) (index_fine command read) is none in
     (bytes, here, λ few. law command read bytes (files_found files good 0 command.operands) ok)
 
 applet_sound : SoundPackage → SoundIndex → (applet : Applet) (command : CommandLine) (given : Given) (files : Files) (name : List ℕ) → AreNamedFiles files → IsListingFor applet command files given.names
-    → output_for_effect (effect_of applet) command ≡ Some name → (effect_outcome (effect_of applet) applet command given (reads_in files) files).refusal ≡ None → IsSoundFileAt name (effect_outcome (effect_of applet) applet command given (reads_in files) files).files
+    → output_name_for_effect (effect_of applet) command ≡ Some name → (effect_outcome (effect_of applet) applet command given (reads_in files) files).refusal ≡ None → IsSoundFileAt name (effect_outcome (effect_of applet) applet command given (reads_in files) files).files
 applet_sound packages indexes Mkpkg command given files name good are is none = package_sound packages command given.names files name good are is none
 applet_sound packages indexes Mkndx command given files name good are is none = index_sound indexes command files name good is none
 applet_sound packages indexes other command given files name good are is none = absurd (cc (is))
@@ -257,7 +257,7 @@ applet_sound packages indexes other command given files name good are is none = 
 abbrev pub StayNamed : Type 0
 StayNamed = (files : Files) → AreNamedFiles files → AreNamedFiles (unstaged_files files)
 
-work_named : StayNamed → (effect : Effect) (files : Files) → AreNamedFiles files → AreNamedFiles (work_files effect files)
+work_named : StayNamed → (effect : Effect) (files : Files) → AreNamedFiles files → AreNamedFiles (files_recovered_if_needed effect files)
 work_named stay Computes files good = good
 work_named stay OnlyReadsFiles files good = good
 work_named stay AsksRoot files good = stay files good
@@ -265,14 +265,14 @@ work_named stay Makes files good = stay files good
 work_named stay Changes files good = stay files good
 
 sound_unless : StayNamed → SoundPackage → SoundIndex → (fault : Option Cause) (command : CommandLine) (files : Files) (o : Outcome) (name : List ℕ) → AreNamedFiles files → IsOutcomeUnlessBadIntent fault command files o → o.refusal ≡ None
-    → output_for_effect (effect_of command.applet) command ≡ Some name → IsSoundFileAt name o.files
+    → output_name_for_effect (effect_of command.applet) command ≡ Some name → IsSoundFileAt name o.files
 sound_unless stay packages indexes (Some cause) command files o name good is none named = absurd (let e : Some (IntentBad cause) ≡ None = ap (λ (p : Outcome). p.refusal) (sym is) ∙ none in cc)
 sound_unless stay packages indexes None command files o name good (given, are, is) none named =
-    let work = work_files (effect_of command.applet) files in
+    let work = files_recovered_if_needed (effect_of command.applet) files in
     subst (λ (p : Outcome). IsSoundFileAt name p.files) (sym is)
     (applet_sound packages indexes command.applet command given work name (work_named stay (effect_of command.applet) files good) are.names named (ap (λ (p : Outcome). p.refusal) (sym is) ∙ none))
 
-sound_by : StayNamed → SoundPackage → SoundIndex → (read : Result CommandLine ℕ) (files : Files) (o : Outcome) (name : List ℕ) → AreNamedFiles files → IsOutcomeWithoutDemo read files o → o.refusal ≡ None → output_of_arguments read ≡ Some name
+sound_by : StayNamed → SoundPackage → SoundIndex → (read : Result CommandLine ℕ) (files : Files) (o : Outcome) (name : List ℕ) → AreNamedFiles files → IsOutcomeWithoutDemo read files o → o.refusal ≡ None → output_name_of_arguments read ≡ Some name
     → IsSoundFileAt name o.files
 sound_by stay packages indexes (Err place) files o name good is none named = absurd (cc (named))
 sound_by stay packages indexes (Ok command) files o name good is none named = sound_unless stay packages indexes (recovery_fault (effect_of command.applet) files) command files o name good is none named

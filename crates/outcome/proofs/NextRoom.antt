@@ -7,7 +7,7 @@ use Rattle.tell_core.specs.change_inputs.Inputs.{Inputs}
 use Rattle.engine_core.specs.change_outcome.ChangeOutcome.{ChangeDone, ChangeWishes, IsClashOfChange, change_or_refusal}
 use Rattle.command_core.specs.Command.{CommandLine}
 use Rattle.command_core.specs.declared.command.Applet.{Applet}
-use Rattle.engine_core.specs.Changed.{IsClashFor, IsClashOfSelected, IsClashUnlessSimulated, InputsAndReplacement, change_of_selected, change_of_command, selected_for, simulated_change}
+use Rattle.engine_core.specs.Changed.{IsClashOfCommand, IsClashOfSelected, IsClashUnlessSimulated, InputsAndReplacement, change_of_selected, change_of_command, selected_for, simulated_change}
 use Rattle.engine_core.specs.Wishes.{wishes_of}
 use Rattle.engine_core.specs.journal_core.Recovery.{Intent, intent_in_file, intent_name, is_staged, recovered_files, files_after_intent}
 use Rattle.engine_core.specs.journal_core.Staged.{AreReplayPathsFree, AreStagingPathsFree, unstaged_files}
@@ -20,11 +20,11 @@ use Rattle.outcome.proofs.Applets.{change_is}
 use Rattle.outcome.proofs.Idle.{chain_ok}
 use Rattle.outcome.proofs.Recovered.{ReadSound}
 use Rattle.outcome.specs.Changing.{change_outcome}
-use Rattle.outcome.specs.Commands.{IsOutcomeWithoutDemo, IsOutcomeAfterRecovery, IsOutcomeUnlessBadIntent, effect_outcome, reads_in}
+use Rattle.outcome.specs.Commands.{IsOutcomeWithoutDemo, IsOutcomeOverRecoveredFiles, IsOutcomeUnlessBadIntent, effect_outcome, reads_in}
 use Rattle.outcome.specs.Effect.{Changes, Effect, effect_of_arguments, effect_of}
-use Rattle.outcome.specs.Given.{Given, IsClashBy}
+use Rattle.outcome.specs.Given.{Given, IsFirstClashForEffect}
 use Rattle.outcome.specs.Outcome.{Outcome}
-use Rattle.outcome.specs.Work.{fault_of_intent, recovery_fault, work_files}
+use Rattle.outcome.specs.Work.{fault_of_intent, recovery_fault, files_recovered_if_needed}
 
 -- a change leaves room to stage, and brings no intent
 abbrev pub KeepsRoom : Type 0
@@ -54,28 +54,28 @@ module _ (room : KeepsRoom) (gone : BringsNoIntent) where
       (gone s.inputs s.replacement (wishes_of command) read clash files done is absent, room s.inputs s.replacement (wishes_of command) read clash files done is is_clash stage)
 
   changed_room : (command : CommandLine) (read : Reads) (files : Files) (chosen : Option (List ℕ)) (clash : Option NamePair) (done : ChangeDone)
-      → IsClashFor command read files chosen clash → change_of_command command read files chosen clash ≡ Ok done → HasRoomNow files → HasRoomNow done.files
+      → IsClashOfCommand command read files chosen clash → change_of_command command read files chosen clash ≡ Ok done → HasRoomNow files → HasRoomNow done.files
   unfolding change_of_command
   changed_room command read files chosen clash done is_clash is now =
       let (s, selected, rest) = chain_ok (selected_for command read chosen) (change_of_selected command read files clash) done is in
       selected_room command read files clash s done command.flags.simulate rest (subst (λ (r : Result InputsAndReplacement Refusal). IsClashOfSelected command read files r clash) selected is_clash) now
 
   change_room : (command : CommandLine) (files : Files) (chosen : Option (List ℕ)) (clash : Option NamePair) (result : Result ChangeDone Refusal)
-      → change_of_command command (reads_in files) files chosen clash ≡ result → IsClashFor command (reads_in files) files chosen clash
+      → change_of_command command (reads_in files) files chosen clash ≡ result → IsClashOfCommand command (reads_in files) files chosen clash
       → (change_outcome files result).refusal ≡ None → HasRoomNow files → HasRoomNow (change_outcome files result).files
   change_room command files chosen clash (Ok done) is is_clash unrefused now = changed_room command (reads_in files) files chosen clash done is_clash is now
   change_room command files chosen clash (Err refusal) is is_clash unrefused now = absurd (cc (unrefused))
 
   applet_room : (applet : Applet) (command : CommandLine) (given : Given) (files : Files) → effect_of applet ≡ Changes
-      → IsClashBy (effect_of applet) command (reads_in files) files given.chosen given.clash
+      → IsFirstClashForEffect (effect_of applet) command (reads_in files) files given.chosen given.clash
       → (effect_outcome (effect_of applet) applet command given (reads_in files) files).refusal ≡ None → HasRoomNow files
       → HasRoomNow (effect_outcome (effect_of applet) applet command given (reads_in files) files).files
   applet_room applet command given files changes is_clash =
       subst (λ (o : Outcome). o.refusal ≡ None → HasRoomNow files → HasRoomNow o.files) (change_is applet command given (reads_in files) files changes)
       (change_room command files given.chosen given.clash (change_of_command command (reads_in files) files given.chosen given.clash) refl
-      (subst (λ (e : Effect). IsClashBy e command (reads_in files) files given.chosen given.clash) changes is_clash))
+      (subst (λ (e : Effect). IsFirstClashForEffect e command (reads_in files) files given.chosen given.clash) changes is_clash))
 
-  over_room : (command : CommandLine) (files : Files) (o : Outcome) → effect_of command.applet ≡ Changes → IsOutcomeAfterRecovery command files o → o.refusal ≡ None → HasRoomNow files → HasRoomNow o.files
+  over_room : (command : CommandLine) (files : Files) (o : Outcome) → effect_of command.applet ≡ Changes → IsOutcomeOverRecoveredFiles command files o → o.refusal ≡ None → HasRoomNow files → HasRoomNow o.files
   over_room command files o changes (given, are, is) =
       subst (λ (p : Outcome). p.refusal ≡ None → HasRoomNow files → HasRoomNow p.files) (sym is) (applet_room command.applet command given files changes are.clash)
 
@@ -111,7 +111,7 @@ module _ (room : KeepsRoom) (gone : BringsNoIntent) (sound : ReadSound) where
   unless_room (Some cause) command files o changes at is unrefused stage = absurd (let e = sym (ap (λ (p : Outcome). p.refusal) is) ∙ unrefused in cc (e))
   unless_room None command files o changes at is unrefused stage =
       let good = subst (λ (e : Effect). recovery_fault e files ≡ None) changes at in
-      let over = subst (λ (e : Effect). IsOutcomeAfterRecovery command (work_files e files) o) changes is in
+      let over = subst (λ (e : Effect). IsOutcomeOverRecoveredFiles command (files_recovered_if_needed e files) o) changes is in
       room_now o.files (over_room room gone command (unstaged_files files) o changes over unrefused (intent_gone sound files (files intent_name) refl good, stage))
 
   by_line : (read : Result CommandLine ℕ) (files : Files) (o : Outcome) → effect_of_arguments read ≡ Changes → IsOutcomeWithoutDemo read files o → o.refusal ≡ None → AreStagingPathsFree (unstaged_files files) → LeavesNext o

@@ -9,9 +9,9 @@ use Rattle.base_core.specs.declared.cause.Cause.{Cause}
 use Rattle.engine_core.specs.change_files.PlanLists.{first_reserved_path}
 use Rattle.tell_core.specs.change_inputs.Chains.{and_then}
 use Rattle.tell_core.specs.change_inputs.Inputs.{Inputs}
-use Rattle.engine_core.specs.change_outcome.ChangeOutcome.{ChangeDone, ChangeWishes, actions_of, change_done, change_members, change_or_refusal, change_with_members, file_change, new_records, touched_paths, unless_clash, unless_contested, or_result_too_large, unless_overflow, unless_reserved_path, unless_too_large}
-use Rattle.engine_core.specs.change_outcome.MembersAfter.{MemberFound, added_package_by_path, added_member_found, members_after, name_after, name_by_change, name_by_selected, member_of_removed_name, names_after}
-use Rattle.engine_core.specs.change_outcome.PackageFiles.{AddedPackage, first_script_of, package_file_of, added_package_or_refusal, scripts_of_change, unless_different, unless_script_number, unless_package_bad, unless_script}
+use Rattle.engine_core.specs.change_outcome.ChangeOutcome.{ChangeDone, ChangeWishes, intent_of_change, change_done, members_after_change, change_or_refusal, change_with_members, file_change, new_records, touched_paths, unless_clash, unless_contested, or_result_too_large, unless_overflow, unless_reserved_path, unless_too_large}
+use Rattle.engine_core.specs.change_outcome.MembersAfter.{MemberFound, added_package_by_path, added_member_found, members_after, member_of_name_after, member_of_name_by_change, member_of_name_by_selected, member_of_removed_name, names_after}
+use Rattle.engine_core.specs.change_outcome.PackageFiles.{AddedPackage, first_script_of, package_file_of, added_package_or_refusal, scripts_of_change, unless_different, unless_script_number, unless_package_bad, unless_script_needed}
 use Rattle.engine_core.specs.change_outcome.Triggers.{folders_of_paths, has_due_trigger, unless_trigger_due}
 use Rattle.tell_core.specs.db_core.Members.{Member}
 use Rattle.engine_core.specs.db_write.NewDatabase.{database_of}
@@ -59,7 +59,7 @@ number_stated : {A : Type 0} (name : List ℕ) (number : Option ℕ) (a : A) →
 number_stated name None a = tt
 number_stated name (Some number) a = refl
 
-script_stated : {A : Type 0} (no_scripts : Bool) (name : List ℕ) (pkg : Plain) (numbers : List ℕ) (a : A) → IsPackagesResult (unless_script no_scripts name pkg numbers a)
+script_stated : {A : Type 0} (no_scripts : Bool) (name : List ℕ) (pkg : Plain) (numbers : List ℕ) (a : A) → IsPackagesResult (unless_script_needed no_scripts name pkg numbers a)
 script_stated true name pkg numbers a = tt
 script_stated false name pkg numbers a = number_stated name (first_script_of pkg numbers) a
 
@@ -70,21 +70,21 @@ goes_stated no_scripts name change None = tt
 goes_stated no_scripts name change (Some pkg) = script_stated no_scripts name pkg (scripts_of_change change) None
 
 selected_stated : (read : Reads) (repositories : List Repository) (no_scripts : Bool) (n : ℕ) (name : List ℕ) (change : Change) (before : Option Plain) (selected : Option Candidate)
-    → IsPackagesResult (name_by_selected read repositories no_scripts n name change before selected)
+    → IsPackagesResult (member_of_name_by_selected read repositories no_scripts n name change before selected)
 selected_stated read repositories no_scripts n name change before None = goes_stated no_scripts name change before
 selected_stated read repositories no_scripts n name change before (Some c) =
     then_stated is_refusal_after_choice (added_package_by_path read n c (package_file_of repositories c)) _ (path_stated read n c (package_file_of repositories c)) (λ pkg.
     script_stated no_scripts name pkg.value (scripts_of_change change) (Some (added_member_found pkg)))
 
 change_stated : (read : Reads) (repositories : List Repository) (no_scripts : Bool) (n : ℕ) (name : List ℕ) (change : Option Change) (before : Option Plain) (selected : Option Candidate)
-    → IsPackagesResult (name_by_change read repositories no_scripts n name change before selected)
+    → IsPackagesResult (member_of_name_by_change read repositories no_scripts n name change before selected)
 change_stated read repositories no_scripts n name None before selected = tt
 change_stated read repositories no_scripts n name (Some change) before selected = selected_stated read repositories no_scripts n name change before selected
 
 names_stated : (r : Replacement) (read : Reads) (repositories : List Repository) (no_scripts : Bool) (n : ℕ) (names : List (List ℕ)) → IsPackagesResult (names_after r read repositories no_scripts n names)
 names_stated r read repositories no_scripts n [] = tt
 names_stated r read repositories no_scripts n (name ∷ names) =
-    then_stated is_refusal_after_choice (name_after r read repositories no_scripts n name) _ (change_stated read repositories no_scripts n name _ _ _) (λ first.
+    then_stated is_refusal_after_choice (member_of_name_after r read repositories no_scripts n name) _ (change_stated read repositories no_scripts n name _ _ _) (λ first.
     then_stated is_refusal_after_choice (names_after r read repositories no_scripts (suc n) names) _ (names_stated r read repositories no_scripts (suc n) names) (λ others. tt))
 
 members_stated : (r : Replacement) (read : Reads) (repositories : List Repository) (no_scripts : Bool) → IsPackagesResult (members_after r read repositories no_scripts)
@@ -124,12 +124,12 @@ too_large_stated inputs r wishes found files =
     then_stated {A = List ℕ} {B = ChangeDone} is_refusal_after_choice (or_result_too_large (database_of members (owned_flags_of members)))
     (λ database.
     let records = new_records inputs database in
-    let actions = actions_of inputs (file_change inputs wishes found) files records in
+    let actions = intent_of_change inputs (file_change inputs wishes found) files records in
     unless_overflow (overflow_of (value_of_intent (intent_of_lists actions.removals actions.writes))) (change_done inputs r wishes found files records))
     (large_stated (database_of members (owned_flags_of members)))
     (λ database.
     let records = new_records inputs database in
-    let actions = actions_of inputs (file_change inputs wishes found) files records in
+    let actions = intent_of_change inputs (file_change inputs wishes found) files records in
     overflow_stated (overflow_of (value_of_intent (intent_of_lists actions.removals actions.writes))) (change_done inputs r wishes found files records))
 
 with_members_stated : (inputs : Inputs) (r : Replacement) (wishes : ChangeWishes) (clash : Option NamePair) (files : Files) (found : List MemberFound) → IsPackagesResult (change_with_members inputs r wishes clash files found)
@@ -144,4 +144,4 @@ with_members_stated inputs r wishes clash files found =
 pub refusal_stated : (inputs : Inputs) (r : Replacement) (wishes : ChangeWishes) (read : Reads) (clash : Option NamePair) (files : Files) → IsPackagesResult (change_or_refusal inputs r wishes read clash files)
 unfolding change_or_refusal
 refusal_stated inputs r wishes read clash files =
-    then_stated is_refusal_after_choice (change_members inputs r wishes read) _ (members_stated r read inputs.root.repositories wishes.no_scripts) (with_members_stated inputs r wishes clash files)
+    then_stated is_refusal_after_choice (members_after_change inputs r wishes read) _ (members_stated r read inputs.root.repositories wishes.no_scripts) (with_members_stated inputs r wishes clash files)

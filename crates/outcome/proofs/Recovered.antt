@@ -8,10 +8,10 @@ use Rattle.std.proofs.lemmas.Option.{same_Some}
 use Rattle.std.proofs.lemmas.Slice.Eq.{bytes_eq-Decides}
 use Rattle.make_core.specs.adb_fields.Repeated.{list_of}
 use Rattle.gen_core.specs.adb_schema.Reserved.{is_intent_or_stage_name}
-use Rattle.gen_core.specs.adb_schema.Rules.{is_changeable_name}
-use Rattle.gen_core.specs.adb_schema.SoundValues.{IsChangeableName}
+use Rattle.gen_core.specs.adb_schema.Rules.{is_name_allowed_in_intent}
+use Rattle.gen_core.specs.adb_schema.SoundValues.{IsNameAllowedInIntent}
 use Rattle.gen_core.specs.adb_schema.SoundContainers.{IsSoundContainer, IsSoundValue}
-use Rattle.gen_core.specs.adb_schema.Soundness.{first_fault, payload_in, root_value}
+use Rattle.gen_core.specs.adb_schema.Soundness.{container_fault_except_contents, payload_in, root_value}
 use Rattle.adb_view.specs.Values.{entries_in, entry_in, text_in}
 use Rattle.adb_view.specs.declared.tables.Which.{Which}
 use Rattle.adb_view.specs.declared.tables.Which.TheVariants.{Intent as IntentTable}
@@ -112,10 +112,10 @@ unstaged_within files within h =
 
 -- an intent is read from a sound container, whose value is sound
 abbrev pub ReadSound : Type 0
-ReadSound = (file : List ℕ) → first_fault IntentTable file ≡ None → read_intent file ≡ Some (intent_of_value (root_value IntentTable (payload_in file)))
+ReadSound = (file : List ℕ) → container_fault_except_contents IntentTable file ≡ None → read_intent file ≡ Some (intent_of_value (root_value IntentTable (payload_in file)))
 
 abbrev pub ReadNone : Type 0
-ReadNone = (file : List ℕ) (cause : Cause) → first_fault IntentTable file ≡ Some cause → read_intent file ≡ None
+ReadNone = (file : List ℕ) (cause : Cause) → container_fault_except_contents IntentTable file ≡ Some cause → read_intent file ≡ None
 
 abbrev pub HoldsSound : Type 0
 HoldsSound = (which : Which) (file : List ℕ) → IsSoundContainer which file → IsSoundValue which (root_value which (payload_in file))
@@ -124,17 +124,17 @@ HoldsSound = (which : Which) (file : List ℕ) → IsSoundContainer which file �
 abbrev NamedFile : Property
 NamedFile q bytes = IsName q × AreFileBytes bytes
 
-change_named : (name : List ℕ) → is_changeable_name name ≡ true → IsName name
+change_named : (name : List ℕ) → is_name_allowed_in_intent name ≡ true → IsName name
 change_named name h = (and_parts (is_name name) (not (is_intent_or_stage_name name)) h).0
 
-named_carries : (vs : Plains) → Each IsChangeableName vs → Carries NamedFile (map text_in (list_of vs))
+named_carries : (vs : Plains) → Each IsNameAllowedInIntent vs → Carries NamedFile (map text_in (list_of vs))
 named_carries none each = tt
 named_carries (more v vs) (one, others) = (λ from bytes h. (change_named (text_in v) one, h.1), named_carries vs others)
 
 file_named : ReadSound → ReadNone → HoldsSound → (file : List ℕ) (intent : Intent) → read_intent file ≡ Some intent → Carries NamedFile intent.writes
-file_named read none_read sound file intent is = by_fault (first_fault IntentTable file) refl
+file_named read none_read sound file intent is = by_fault (container_fault_except_contents IntentTable file) refl
   where
-    by_fault : (fault : Option Cause) → first_fault IntentTable file ≡ fault → Carries NamedFile intent.writes
+    by_fault : (fault : Option Cause) → container_fault_except_contents IntentTable file ≡ fault → Carries NamedFile intent.writes
     by_fault None good =
         let v : Plain = root_value IntentTable (payload_in file) in
         subst (λ (i : Intent). Carries NamedFile i.writes) (same_Some (intent_of_value v) intent (sym (read file good) ∙ is)) (named_carries (entries_in (entry_in v 1)) (sound IntentTable file good).rules.writes)

@@ -12,12 +12,12 @@ use Rattle.report_core.specs.declared.refusal.Refusal.TheVariants.{IntentBad}
 use Rattle.words_core.specs.Grammar.{command_of}
 use Rattle.outcome.proofs.Idle.{HaveIdle, HaveRoot, over_idle}
 use Rattle.outcome.proofs.Worded.{of_by}
-use Rattle.outcome.specs.Commands.{IsOutcomeWithoutDemo, IsOutcomeAfterRecovery, IsOutcomeUnlessBadIntent}
+use Rattle.outcome.specs.Commands.{IsOutcomeWithoutDemo, IsOutcomeOverRecoveredFiles, IsOutcomeUnlessBadIntent}
 use Rattle.outcome.specs.Effect.{Effect, Changes, Computes, Makes, OnlyReadsFiles, AsksRoot, does_only_read, does_recover, effect_of, reads_only}
 use Rattle.outcome.specs.Outcome.{Outcome, just_refusal}
 use Rattle.outcome.specs.Recovers.{must_recover}
 use Rattle.outcome.specs.Words.{IsOutcome}
-use Rattle.outcome.specs.Work.{fault_of_intent, recovery_fault, work_files}
+use Rattle.outcome.specs.Work.{fault_of_intent, recovery_fault, files_recovered_if_needed}
 
 pub recovers : (applet : Applet) → does_recover (effect_of applet) ≡ must_recover applet
 recovers Verify = refl
@@ -71,7 +71,7 @@ fault_is AsksRoot files h = refl
 fault_is Makes files h = refl
 fault_is Changes files h = refl
 
-pub work_is : (effect : Effect) (files : Files) → does_recover effect ≡ true → work_files effect files ≡ unstaged_files files
+pub work_is : (effect : Effect) (files : Files) → does_recover effect ≡ true → files_recovered_if_needed effect files ≡ unstaged_files files
 work_is Computes files h = absurd (true≢false (sym h))
 work_is OnlyReadsFiles files h = absurd (true≢false (sym h))
 work_is AsksRoot files h = refl
@@ -96,9 +96,9 @@ pub refuses_bad : (words : List (List ℕ)) (command : CommandLine) (files : Fil
 refuses_bad words command files o cause reads must at is = unless_refused_at (Some cause) words command files o reads must at is
 
 pub works_on_recovered : (words : List (List ℕ)) (command : CommandLine) (files : Files) (o : Outcome) → command_of words ≡ Ok command → must_recover command.applet ≡ true → fault_of_intent (files intent_name) ≡ None
-    → IsOutcome (command_of words) files o → IsOutcomeAfterRecovery command (unstaged_files files) o
+    → IsOutcome (command_of words) files o → IsOutcomeOverRecoveredFiles command (unstaged_files files) o
 works_on_recovered words command files o reads must at is =
-    subst (λ (work : Files). IsOutcomeAfterRecovery command work o) (work_is (effect_of command.applet) files (recovers command.applet ∙ must)) (unless_refused_at None words command files o reads must at is)
+    subst (λ (work : Files). IsOutcomeOverRecoveredFiles command work o) (work_is (effect_of command.applet) files (recovers command.applet ∙ must)) (unless_refused_at None words command files o reads must at is)
 
 pub leaves_recovered : HaveRoot → HaveIdle → (words : List (List ℕ)) (command : CommandLine) (files : Files) (o : Outcome) → command_of words ≡ Ok command → must_recover command.applet ≡ true → fault_of_intent (files intent_name) ≡ None
     → IsOutcome (command_of words) files o → o.commits ≡ false → o.files ≡ unstaged_files files

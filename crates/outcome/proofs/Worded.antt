@@ -9,7 +9,7 @@ use Rattle.demo_lines.specs.Count.{demo_count}
 use Rattle.outcome.proofs.Demos.{HaveOneOutcome, HaveOutcome, demo_everywhere, demo_exists, demo_leaves, demo_one}
 use Rattle.outcome.specs.Commands.{IsOutcomeWithoutDemo}
 use Rattle.outcome.specs.Demo.{IsDemoOutcome}
-use Rattle.outcome.specs.Effect.{Effect, Computes, AsksRoot, Makes, Changes, ignores_files, effect_of_arguments, effect_of, output_of_arguments, output_for_effect, depends_only_on_arguments}
+use Rattle.outcome.specs.Effect.{Effect, Computes, AsksRoot, Makes, Changes, ignores_files, effect_of_arguments, effect_of, output_name_of_arguments, output_name_for_effect, depends_only_on_arguments}
 use Rattle.outcome.specs.Outcome.{Outcome, outcome_of}
 use Rattle.outcome.specs.Words.{IsOutcome, IsOutcomeOfApplet}
 
@@ -59,10 +59,10 @@ makes_not effect makes computes = let e : Makes ≡ Computes = sym makes ∙ com
 pub changes_not : (effect : Effect) → effect ≡ Changes → effect ≡ Computes → ⊥
 changes_not effect changes computes = let e : Changes ≡ Computes = sym changes ∙ computes in cc
 
-pub output_not : (read : Result CommandLine ℕ) (name : List ℕ) → output_of_arguments read ≡ Some name → effect_of_arguments read ≡ Computes → ⊥
+pub output_not : (read : Result CommandLine ℕ) (name : List ℕ) → output_name_of_arguments read ≡ Some name → effect_of_arguments read ≡ Computes → ⊥
 output_not (Err place) name is computes = cc
 output_not (Ok command) name is computes =
-    let e : None ≡ Some name = subst (λ (effect : Effect). output_for_effect effect command ≡ Some name) computes is in cc
+    let e : None ≡ Some name = subst (λ (effect : Effect). output_name_for_effect effect command ≡ Some name) computes is in cc
 
 -- ---- it leaves the files
 

@@ -6,7 +6,7 @@ use Rattle.engine_core.specs.change_files.PlanLists.{sorted_distinct_names}
 use Rattle.demo_lines.specs.Lines.{demo_text}
 use Rattle.dep_core.specs.Dependency.{Dependency, dependency_from_parts}
 use Rattle.engine_core.specs.package_changes.Report.{still_needed_lines}
-use Rattle.tell_core.specs.candidate_core.Candidates.{Candidate, candidate_by}
+use Rattle.tell_core.specs.candidate_core.Candidates.{Candidate, candidate_from_parts}
 
 -- ---- who needs a package that stays: in byte order, whatever is selected first
 
@@ -17,7 +17,7 @@ abbrev installed_b : List Plain
 installed_b = obj (more (info_of (codes "b")) none) ∷ []
 
 abbrev selected : List ℕ → List Dependency → Candidate
-selected name depends = candidate_by (info_of name) name (Some (codes "1")) [] depends [] [] 0 None None true
+selected name depends = candidate_from_parts (info_of name) name (Some (codes "1")) [] depends [] [] 0 None None true
 
 abbrev needs_b : List Dependency
 needs_b = dependency_from_parts (codes "b") None 1 false None ∷ []

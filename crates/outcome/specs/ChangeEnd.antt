@@ -7,7 +7,7 @@ use Rattle.base_core.specs.Files.{Files}
 use Rattle.base_core.specs.declared.cause.Cause.{Cause}
 use Rattle.engine_core.specs.change_outcome.ChangeOutcome.{ChangeDone}
 use Rattle.command_core.specs.Command.{CommandLine}
-use Rattle.engine_core.specs.Changed.{IsClashFor, InputsAndReplacement, change_of_selected, selected_for}
+use Rattle.engine_core.specs.Changed.{IsClashOfCommand, InputsAndReplacement, change_of_selected, selected_for}
 use Rattle.engine_core.specs.Selecting.{pool_of_command}
 use Rattle.engine_core.specs.package_changes.Changes.{changes_of}
 use Rattle.engine_core.specs.package_changes.Placed.{candidates_at}
@@ -16,12 +16,12 @@ use Rattle.tell_core.specs.candidate_core.Rank.{SealedPool}
 use Rattle.report_core.specs.Reports.{change_lines}
 use Rattle.report_core.specs.declared.refusal.Refusal.{Refusal}
 use Rattle.report_core.specs.declared.refusal.Refusal.TheVariants.{DatabaseBad, IndexBad, IndexMissing, IntentBad, NoDatabase, NotInstalled, Owned, PackageBad, PackageDiffers, PackageMissing, PathClash, RepositoriesBad, Reserved, ResultTooLarge, ScriptNeeded, TooMany, TriggerNeeded, Unsatisfied, Untrusted, WorldBad}
-use Rattle.engine_core.specs.search_tables.Selection.{IsFirstSelection, IsSatisfying}
+use Rattle.engine_core.specs.search_tables.Selection.{IsFirstPreferredSelection, IsSatisfying}
 use Rattle.outcome.specs.Changing.{change_outcome}
 use Rattle.outcome.specs.Commands.{reads_in}
 use Rattle.outcome.specs.Effect.{Changes}
 use Rattle.outcome.specs.Outcome.{Outcome, just_refusal}
-use Rattle.outcome.specs.Work.{recovery_fault, work_files}
+use Rattle.outcome.specs.Work.{recovery_fault, files_recovered_if_needed}
 
 -- ---- stated faults
 
@@ -72,55 +72,63 @@ pub record HasNoSelection (command : CommandLine) (files : Files) (o : Outcome) 
   pub none : (selection : List ℕ) → IsSatisfying pool selection → ⊥
   pub outcome : o ≡ just_refusal files Unsatisfied
 
--- ---- with the first one
+-- ---- with the preferred selection
 
--- A change is committed and reported; the report begins with what becomes of each package. A simulated
--- one leaves the files.
-pub record IsReported (command : CommandLine) (files : Files) (selected : InputsAndReplacement)
+-- A change is committed and reported. Its report begins with a line for each package that changes. A
+-- simulated change leaves the files unchanged, and commits nothing.
+pub record IsChangeDoneAndReported (command : CommandLine) (files : Files) (selected : InputsAndReplacement)
     (done : ChangeDone) (o : Outcome) : Type 0 where
   pub outcome : o ≡ change_outcome files (Ok done)
   pub rest : List ℕ
   pub report : o.out ≡ change_lines (changes_of selected.replacement) ++ rest
   pub simulated : command.flags.simulate ≡ true → (o.files ≡ files) × (o.commits ≡ false)
 
--- how a change ends once its candidates are selected: it is made, or a stated fault of its packages is
--- refused
-abbrev pub IsEndBy :
+-- how a change ends once its candidates are selected: it is carried out and reported, or refused for a
+-- fault of its packages (*is_refusal_after_choice*)
+abbrev pub IsEndOfSelectedChange :
     CommandLine → Files → InputsAndReplacement → Result ChangeDone Refusal → Outcome → Type 0
-IsEndBy command files selected (Ok done) o = IsReported command files selected done o
-IsEndBy command files selected (Err refusal) o =
+IsEndOfSelectedChange command files selected (Ok done) o =
+    IsChangeDoneAndReported command files selected done o
+IsEndOfSelectedChange command files selected (Err refusal) o =
     (is_refusal_after_choice refusal ≡ true) × (o ≡ just_refusal files refusal)
 
--- the first preferred selection of the candidates replaces the packages before, up to the end of the
--- change
-pub record TakesFirstSelection (command : CommandLine) (files : Files) (o : Outcome) : Type 0 where
+-- the preferred selection (`trace`, places of candidates) replaces the packages before, and the change
+-- ends with it: carried out, or refused
+pub record TakesFirstPreferredSelection (command : CommandLine) (files : Files) (o : Outcome) : Type 0 where
+  -- the candidates of the command
   pub pool : SealedPool
   pub is_pool : pool_of_command command (reads_in files) ≡ Ok pool
+  -- the places of the chosen candidates, in the order chosen
   pub trace : List ℕ
-  pub first : IsFirstSelection pool trace
+  pub first : IsFirstPreferredSelection pool trace
+  -- what is read, and the packages before with the candidates that replace them
   pub selected : InputsAndReplacement
   pub selects : selected_for command (reads_in files) (Some trace) ≡ Ok selected
   pub candidates : selected.replacement.selected ≡ candidates_at pool trace
+  -- the first clash of the names after the change, if there is one
   pub clash : Option NamePair
-  pub is_clash : IsClashFor command (reads_in files) files (Some trace) clash
-  pub end : IsEndBy command files selected
+  pub is_clash : IsClashOfCommand command (reads_in files) files (Some trace) clash
+  -- how the change ends
+  pub end : IsEndOfSelectedChange command files selected
       (change_of_selected command (reads_in files) files clash selected) o
 
 -- ---- each end
 
--- each end of a change, over the files on which it works
+-- each end of a change over the recovered files: it is refused for its input, no selection satisfies the
+-- new world, or the preferred selection is taken
 abbrev pub IsChangeEnd : CommandLine → Files → Outcome → Type 0
 IsChangeEnd command files o =
     IsInputRefused command files o
-    ⊎ (HasNoSelection command files o ⊎ TakesFirstSelection command files o)
+    ⊎ (HasNoSelection command files o ⊎ TakesFirstPreferredSelection command files o)
 
--- a run refuses a bad intent, before all else, over the files in which it begins
+-- a run refuses a corrupt journal entry (intent) before all else; `files` are those at its start
 pub record IsIntentRefused (files : Files) (o : Outcome) : Type 0 where
   pub cause : Cause
   pub bad : recovery_fault Changes files ≡ Some cause
   pub outcome : o ≡ just_refusal files (IntentBad cause)
 
--- each end of a run: a bad intent, or an end over the files that a recovery leaves
-abbrev pub IsRunEnd : CommandLine → Files → Outcome → Type 0
-IsRunEnd command files o =
-    IsIntentRefused files o ⊎ IsChangeEnd command (work_files Changes files) o
+-- each end of a change that recovers first: a corrupt journal entry (intent) is refused, or the change
+-- ends over the files that recovery leaves
+abbrev pub IsChangeEndOrIntentRefusal : CommandLine → Files → Outcome → Type 0
+IsChangeEndOrIntentRefusal command files o =
+    IsIntentRefused files o ⊎ IsChangeEnd command (files_recovered_if_needed Changes files) o

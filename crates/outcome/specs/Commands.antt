@@ -1,7 +1,7 @@
 -- The outcome of a command. `demo` is apart, since it runs other commands. The rules are in
 -- `docs/commands.md`, "Commands that recover first", and in the section of each command.
 use Rattle.std.specs.Prelude.{◌≡◌, ◌⊎◌, ℕ, true, List, [], Option, Some, None, Result, Ok, Err}
-use Rattle.gen_core.specs.adb_schema.Soundness.{first_fault}
+use Rattle.gen_core.specs.adb_schema.Soundness.{container_fault_except_contents}
 use Rattle.adb_view.specs.declared.tables.Which.TheVariants.{Intent as IntentTable}
 use Rattle.base_core.specs.Files.{Files, no_names}
 use Rattle.base_core.specs.declared.cause.Cause.{Cause}
@@ -19,23 +19,23 @@ use Rattle.outcome.specs.Changing.{change_outcome}
 use Rattle.outcome.specs.Dump.{adbdump}
 use Rattle.outcome.specs.Effect.{Effect, Computes, OnlyReadsFiles, AsksRoot, Makes, Changes, does_recover, effect_of}
 use Rattle.outcome.specs.Generate.{adbgen}
-use Rattle.outcome.specs.Given.{Given, IsGiven, MayBeGiven}
+use Rattle.outcome.specs.Given.{Given, IsListingChoiceAndClashFor, MayBeListingChoiceAndClashFor}
 use Rattle.outcome.specs.Make.{mkndx, mkpkg}
 use Rattle.outcome.specs.Outcome.{Outcome, just_refusal, just_report}
 use Rattle.outcome.specs.OutcomeOfReport.{outcome_of_report}
 use Rattle.outcome.specs.Verify.{verify}
 use Rattle.outcome.specs.Version.{version}
-use Rattle.outcome.specs.Work.{recovery_fault, work_files}
+use Rattle.outcome.specs.Work.{recovery_fault, files_recovered_if_needed}
 
 -- ---- the outcome of an applet
 
 -- the outcome of an applet that reads its arguments only; `demo` has none here: what it runs is defined
 -- in `Demo`
-abbrev pub computing_outcome : Applet → CommandLine → Files → Outcome
-computing_outcome Version command files = version files command.flags command.operands
-computing_outcome Help command files = just_report files (help_text command.operands)
-computing_outcome ProgramVersion command files = just_report files version_line
-computing_outcome other command files = just_report files []
+abbrev pub outcome_from_arguments_alone : Applet → CommandLine → Files → Outcome
+outcome_from_arguments_alone Version command files = version files command.flags command.operands
+outcome_from_arguments_alone Help command files = just_report files (help_text command.operands)
+outcome_from_arguments_alone ProgramVersion command files = just_report files version_line
+outcome_from_arguments_alone other command files = just_report files []
 
 -- the outcome of an applet that reads files, by what its reads find
 abbrev pub reading_outcome : Applet → CommandLine → Reads → Files → Outcome
@@ -44,17 +44,17 @@ reading_outcome Adbdump command read files = adbdump read files command.operands
 reading_outcome Adbgen command read files = adbgen read files command.operands
 reading_outcome other command read files = just_report files []
 
--- the outcome of an applet that makes a file, by the names that it lists
+-- the outcome of an applet that makes a file, given the names below the folder of `mkpkg -F`
 abbrev pub making_outcome : Applet → CommandLine → List (List ℕ) → Reads → Files → Outcome
 making_outcome Mkpkg command names read files = mkpkg read files command names
 making_outcome Mkndx command names read files = mkndx read files command
 making_outcome other command names read files = just_report files []
 
--- The outcome of a command by its effect and its applet: from the parts that relations specify, from
--- what its reads find, and from the files, which it may change. All commands that only report have one
--- definition, and so have all changes.
+-- The outcome of a command, by its effect and its applet. It depends on `given` (listed names, chosen
+-- candidates, first clash), on what the reads find, and on the files. All commands that only report
+-- share one definition, and so do all changes.
 abbrev pub effect_outcome : Effect → Applet → CommandLine → Given → Reads → Files → Outcome
-effect_outcome Computes applet command given read files = computing_outcome applet command files
+effect_outcome Computes applet command given read files = outcome_from_arguments_alone applet command files
 effect_outcome OnlyReadsFiles applet command given read files =
     reading_outcome applet command read files
 effect_outcome AsksRoot applet command given read files = outcome_of_report files (report_for_command
@@ -70,11 +70,11 @@ effect_outcome Changes applet command given read files =
 abbrev pub reads_in : Files → Reads
 reads_in files n name = files name
 
--- the outcome of a command that works on these files
-abbrev pub IsOutcomeAfterRecovery : CommandLine → Files → Outcome → Type 0
-IsOutcomeAfterRecovery command files outcome =
+-- the outcome of a command over these files, which are the recovered ones if the command recovers first
+abbrev pub IsOutcomeOverRecoveredFiles : CommandLine → Files → Outcome → Type 0
+IsOutcomeOverRecoveredFiles command files outcome =
     (given : Given)
-    × IsGiven command (reads_in files) files given
+    × IsListingChoiceAndClashFor command (reads_in files) files given
     × (outcome
     ≡ effect_outcome (effect_of command.applet) command.applet command given (reads_in files) files)
 
@@ -84,7 +84,7 @@ abbrev pub IsOutcomeUnlessBadIntent : Option Cause → CommandLine → Files →
 IsOutcomeUnlessBadIntent (Some cause) command files outcome =
     outcome ≡ just_refusal files (IntentBad cause)
 IsOutcomeUnlessBadIntent None command files outcome =
-    IsOutcomeAfterRecovery command (work_files (effect_of command.applet) files) outcome
+    IsOutcomeOverRecoveredFiles command (files_recovered_if_needed (effect_of command.applet) files) outcome
 
 -- the outcome of parsed arguments that do not name `demo`: a usage error is reported before any file is
 -- read
@@ -110,27 +110,27 @@ pub record IsRefusedForSpoiledPackage (command : CommandLine) (read : Reads) (gi
       (found_packages command read (selected_for command read given.chosen)) refusal
   pub is : outcome ≡ just_refusal files refusal
 
--- the outcome for some listing, some contents at each read, and some files; and for the first clash of
--- names among some present files
+-- the outcome is one for some listing, some contents at each read, some files, and the first clash of
+-- names among some present files; or an added package is refused as spoiled
 abbrev pub IsPossibleOutcomeAfterRecovery : CommandLine → Outcome → Type 0
 IsPossibleOutcomeAfterRecovery command outcome =
     (given : Given)
     × (read : Reads)
     × (files : Files)
-    × MayBeGiven command read files given
+    × MayBeListingChoiceAndClashFor command read files given
     × ((outcome ≡ effect_outcome (effect_of command.applet) command.applet command given read files)
     ⊎ IsRefusedForSpoiledPackage command read given files outcome)
 
--- some file is no intent container, and that is refused; nothing else is known of the files
+-- some file is no sound journal entry (intent), and is refused as such; nothing is said of the tree's files
 abbrev pub IsPossibleIntentRefusal : Outcome → Type 0
 IsPossibleIntentRefusal outcome =
     (file : List ℕ)
     × (cause : Cause)
-    × (first_fault IntentTable file ≡ Some cause)
+    × (container_fault_except_contents IntentTable file ≡ Some cause)
     × (outcome ≡ just_refusal no_names (IntentBad cause))
 
--- the outcome of a command other than `demo` on a tree whose files no contract knows; a bad intent says
--- nothing of files
+-- the outcome of a command other than `demo` on a tree whose files no contract knows: one after recovery,
+-- or the refusal of a corrupt journal entry (intent)
 abbrev pub IsPossibleOutcomeWithoutDemo : CommandLine → Outcome → Type 0
 IsPossibleOutcomeWithoutDemo command outcome =
     IsPossibleOutcomeAfterRecovery command outcome

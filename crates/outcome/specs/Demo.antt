@@ -11,15 +11,18 @@ use Rattle.outcome.specs.Outcome.{Outcome, just_report, report_unless}
 
 -- ---- one run after another
 
--- the outcome of a run after another one: a refusal of that ends all; otherwise the command line is run
--- over the files that were left
-abbrev pub IsOutcomeOfNextRunUnlessRefused : Option Refusal → List (List ℕ) → Files → Outcome → Outcome → Type 0
+-- the outcome of the next run, given the refusal of the run before it, if there is one. A refusal ends
+-- `demo`, and its outcome stays; otherwise the command line `words` is run over `files`.
+abbrev pub IsOutcomeOfNextRunUnlessRefused : Option Refusal → List (List ℕ) → Files → Outcome → Outcome
+    → Type 0
 IsOutcomeOfNextRunUnlessRefused (Some refusal) words files before outcome = outcome ≡ before
-IsOutcomeOfNextRunUnlessRefused None words files before outcome = IsOutcomeWithoutDemo (command_of words) files outcome
+IsOutcomeOfNextRunUnlessRefused None words files before outcome =
+    IsOutcomeWithoutDemo (command_of words) files outcome
 
--- the outcome of a command line that is run after another outcome, over its files or changes of these
+-- the outcome of the command line `words` over `files`; a refusal by the run before it stays the outcome
 abbrev pub IsOutcomeOfNextRun : List (List ℕ) → Files → Outcome → Outcome → Type 0
-IsOutcomeOfNextRun words files before outcome = IsOutcomeOfNextRunUnlessRefused before.refusal words files before outcome
+IsOutcomeOfNextRun words files before outcome =
+    IsOutcomeOfNextRunUnlessRefused before.refusal words files before outcome
 
 -- ---- the runs
 
@@ -27,30 +30,30 @@ IsOutcomeOfNextRun words files before outcome = IsOutcomeOfNextRunUnlessRefused 
 abbrev pub outcome_before_demo : Outcome
 outcome_before_demo = just_report (put_name no_names repositories_name demo_repositories) []
 
--- the files with that of package i
+-- the files, with the one file that package i contains put under its name
 abbrev pub with_demo_file : ℕ → Files → Files
 with_demo_file i files = put_name files (demo_file i) (demo_text i)
 
--- the packages 1 to n are made, each of a file that is put there before
-abbrev pub IsOutcomeAfterPackaging : ℕ → Outcome → Type 0
-IsOutcomeAfterPackaging zero outcome = outcome ≡ outcome_before_demo
-IsOutcomeAfterPackaging (suc i) outcome =
+-- the outcome after packages 1 to n are made; the one file of each is written before its run of `mkpkg`
+abbrev pub IsDemoOutcomeAfterPackaging : ℕ → Outcome → Type 0
+IsDemoOutcomeAfterPackaging zero outcome = outcome ≡ outcome_before_demo
+IsDemoOutcomeAfterPackaging (suc i) outcome =
     (before : Outcome)
-    × IsOutcomeAfterPackaging i before
+    × IsDemoOutcomeAfterPackaging i before
     × IsOutcomeOfNextRun (mkpkg_words (suc i)) (with_demo_file (suc i) before.files) before outcome
 
--- the packages 1 to n are made, and then their index
-abbrev pub IsOutcomeAfterIndexing : ℕ → Outcome → Type 0
-IsOutcomeAfterIndexing n outcome =
+-- the outcome after packages 1 to n are made, and then their index
+abbrev pub IsDemoOutcomeAfterIndexing : ℕ → Outcome → Type 0
+IsDemoOutcomeAfterIndexing n outcome =
     (before : Outcome)
-    × IsOutcomeAfterPackaging n before
+    × IsDemoOutcomeAfterPackaging n before
     × IsOutcomeOfNextRun (mkndx_words n) before.files before outcome
 
--- the packages 1 to n are made and indexed, and then those on which no other depends are added
-abbrev pub IsOutcomeAfterInstalling : ℕ → Outcome → Type 0
-IsOutcomeAfterInstalling n outcome =
+-- the outcome after packages 1 to n are made and indexed, and those on which no other depends are added
+abbrev pub IsDemoOutcomeAfterInstalling : ℕ → Outcome → Type 0
+IsDemoOutcomeAfterInstalling n outcome =
     (before : Outcome)
-    × IsOutcomeAfterIndexing n before
+    × IsDemoOutcomeAfterIndexing n before
     × IsOutcomeOfNextRun (add_words n) before.files before outcome
 
 -- ---- the report
@@ -60,5 +63,5 @@ IsOutcomeAfterInstalling n outcome =
 abbrev pub IsDemoOutcome : ℕ → Files → Outcome → Type 0
 IsDemoOutcome n files outcome =
     (last : Outcome)
-    × IsOutcomeAfterInstalling n last
+    × IsDemoOutcomeAfterInstalling n last
     × (outcome ≡ report_unless files last.refusal (demo_line n last.out))

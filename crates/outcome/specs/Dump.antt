@@ -11,7 +11,7 @@ use Rattle.command_core.specs.declared.operands.Operand.{Operand}
 use Rattle.adb_block.specs.Header.{header_of}
 use Rattle.adb_block.specs.ReaderPosition.{first_block_position}
 use Rattle.adb_block.specs.Reading.{Reading, done, fault, more, block_stream_from}
-use Rattle.adb_view.specs.Head.{head_fault, root_of}
+use Rattle.adb_view.specs.Head.{payload_head_fault, root_word_of_payload}
 use Rattle.adb_view.specs.Schema.{shape_of}
 use Rattle.gen_core.specs.adb_schema.Soundness.{first_block_payload, root_value}
 use Rattle.adb_view.specs.Walk.{shape_fault}
@@ -29,43 +29,47 @@ framing_fault (fault c) = Some c
 framing_fault (more b at r) = framing_fault r
 
 -- the first fault of a payload's head and shape; its texts are not tested
-abbrev pub head_or_shape_fault : Which → List ℕ → Option Cause
-head_or_shape_fault which payload =
-    option_or (head_fault payload) (shape_fault payload (shape_of (Obj which)) (root_of payload))
+abbrev pub payload_head_or_shape_fault : Which → List ℕ → Option Cause
+payload_head_or_shape_fault which payload =
+    option_or (payload_head_fault payload)
+    (shape_fault payload (shape_of (Obj which)) (root_word_of_payload payload))
 
--- the first fault of the blocks: of the first block, and then of the framing of the others
-abbrev pub dump_fault : Which → Reading → Option Cause
-dump_fault which done = None
-dump_fault which (fault c) = Some c
-dump_fault which (more b at r) = option_or (head_or_shape_fault which b.payload) (framing_fault r)
+-- the first fault of the blocks: of the first block, and then of the framing of the later blocks
+abbrev pub dump_fault_of_blocks : Which → Reading → Option Cause
+dump_fault_of_blocks which done = None
+dump_fault_of_blocks which (fault c) = Some c
+dump_fault_of_blocks which (more b at r) =
+    option_or (payload_head_or_shape_fault which b.payload) (framing_fault r)
 
 -- the text of a container, unless a test failed
-abbrev pub or_text : Option Cause → List ℕ → Result (List ℕ) Cause
-or_text None text = Ok text
-or_text (Some cause) text = Err cause
+abbrev pub text_unless_fault : Option Cause → List ℕ → Result (List ℕ) Cause
+text_unless_fault None text = Ok text
+text_unless_fault (Some cause) text = Err cause
 
 -- the text of blocks with this table at their root, or the first failed test
 abbrev pub dump_of_blocks : Which → Reading → Result (List ℕ) Cause
 dump_of_blocks which r =
-    or_text (dump_fault which r) (dump_text which (root_value which (first_block_payload r)))
+    text_unless_fault (dump_fault_of_blocks which r)
+    (dump_text which (root_value which (first_block_payload r)))
 
 -- the text of blocks by the table at their root; a schema that is no table of a root is refused
-abbrev pub dump_with_root : ℕ → Reading → Option Which → Result (List ℕ) Cause
-dump_with_root schema r None = Err (WrongSchema schema)
-dump_with_root schema r (Some which) = dump_of_blocks which r
+abbrev pub dump_by_root_table : ℕ → Reading → Option Which → Result (List ℕ) Cause
+dump_by_root_table schema r None = Err (WrongSchema schema)
+dump_by_root_table schema r (Some which) = dump_of_blocks which r
 
 -- the text of a file by the schema in its header, or the header's fault
-abbrev pub dump_with_schema : List ℕ → Result ℕ Cause → Result (List ℕ) Cause
-dump_with_schema file (Err c) = Err c
-dump_with_schema file (Ok schema) =
-    dump_with_root schema (block_stream_from (first_block_position schema file)) (table_of_schema schema)
+abbrev pub dump_by_schema : List ℕ → Result ℕ Cause → Result (List ℕ) Cause
+dump_by_schema file (Err c) = Err c
+dump_by_schema file (Ok schema) =
+    dump_by_root_table schema (block_stream_from (first_block_position schema file))
+    (table_of_schema schema)
 
--- the text of a file, or the first failed test: its header, its schema, which is one of the four, its
--- first block, and the framing of the others
+-- the text of a file, or the first test that it fails: of its header, of its schema (one of four), of its
+-- first block, and of the framing of the later blocks
 unfoldable pub dump_of : List ℕ → Result (List ℕ) Cause
-dump_of file = dump_with_schema file (header_of file)
+dump_of file = dump_by_schema file (header_of file)
 
--- the outcome of a text: the text is the report, or the operand at this place is refused
+-- the outcome of a dump text or of a fault: the text is the report, or the operand at this place is refused
 abbrev pub text_outcome : Files → ℕ → Result (List ℕ) Cause → Outcome
 text_outcome files place (Ok text) = just_report files text
 text_outcome files place (Err cause) = just_refusal files (FileBad place cause)

@@ -9,11 +9,11 @@ use Rattle.command_core.specs.declared.command.Applet.TheVariants.{Adbdump, Adbg
 
 -- what a command may do to the files, from nothing to changing several of them
 pub data Effect : Type 0 where
-  -- the command looks at its words alone
+  -- the command reads its arguments only
   Computes : Effect
   -- the command reads files, and leaves them as they are
   OnlyReadsFiles : Effect
-  -- the command recovers, reads files, and leaves them as they are then
+  -- the command recovers first, reads files, and leaves the recovered files unchanged
   AsksRoot : Effect
   -- the command recovers, reads files, and writes one
   Makes : Effect
@@ -66,13 +66,13 @@ does_recover AsksRoot = true
 does_recover Makes = true
 does_recover Changes = true
 
--- the name under which a command writes a file, if it writes one
-abbrev pub output_for_effect : Effect → CommandLine → Option (List ℕ)
-output_for_effect Computes command = None
-output_for_effect OnlyReadsFiles command = None
-output_for_effect AsksRoot command = None
-output_for_effect Makes command = output_name command
-output_for_effect Changes command = None
+-- the name of the file that `mkpkg` or `mkndx` makes, if its arguments give one; None for other commands
+abbrev pub output_name_for_effect : Effect → CommandLine → Option (List ℕ)
+output_name_for_effect Computes command = None
+output_name_for_effect OnlyReadsFiles command = None
+output_name_for_effect AsksRoot command = None
+output_name_for_effect Makes command = output_name command
+output_name_for_effect Changes command = None
 
 -- ---- of a command line; a usage error reads and changes nothing
 
@@ -92,10 +92,10 @@ reads_only (Ok command) = does_only_read (effect_of command.applet)
 reads_only (Err place) = true
 
 -- the name of the file that a command line makes, if it makes one
-abbrev pub output_of_arguments : Result CommandLine ℕ → Option (List ℕ)
-output_of_arguments (Ok command) = output_for_effect (effect_of command.applet) command
-output_of_arguments (Err place) = None
+abbrev pub output_name_of_arguments : Result CommandLine ℕ → Option (List ℕ)
+output_name_of_arguments (Ok command) = output_name_for_effect (effect_of command.applet) command
+output_name_of_arguments (Err place) = None
 
--- the output of a command line, by its words
+-- the name of the file that a command line makes, if it makes one, given its arguments unparsed
 abbrev pub output : List (List ℕ) → Option (List ℕ)
-output words = output_of_arguments (command_of words)
+output words = output_name_of_arguments (command_of words)

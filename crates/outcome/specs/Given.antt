@@ -8,18 +8,18 @@ use Rattle.command_core.specs.Command.{CommandLine}
 use Rattle.command_core.specs.declared.command.Applet.{Applet}
 use Rattle.command_core.specs.declared.command.Applet.TheVariants.{Mkpkg}
 use Rattle.command_core.specs.declared.values.TheConstants.{FILES}
-use Rattle.engine_core.specs.Changed.{IsClashFor, IsClashForAmong}
+use Rattle.engine_core.specs.Changed.{IsClashOfCommand, IsClashOfCommandAmong}
 use Rattle.engine_core.specs.Choice.{IsChoiceFrom}
 use Rattle.engine_core.specs.Selecting.{pool_of_command}
 use Rattle.make_core.specs.make_info.Reads.{Reads}
-use Rattle.make_core.specs.package_files.Sources.{AreNamesBelowFirst, values_of_letter}
+use Rattle.make_core.specs.package_files.Sources.{AreNamesBelowFirstFolder, values_of_letter}
 use Rattle.tell_core.specs.path_clashes.Clash.{NamePair}
 use Rattle.outcome.specs.Effect.{Effect, Changes, effect_of}
-use Rattle.outcome.specs.Make.{AreNamesBelowOption}
+use Rattle.outcome.specs.Make.{AreNamesBelowOptionFolder}
 
 -- what an outcome depends on besides the command, what reads find, and the files
 pub record Given : Type 0 where
-  -- the names below the folder of `-F` that the command lists
+  -- the names below the folder of `mkpkg -F`
   pub names : List (List ℕ)
   -- the places of the candidates that the command chooses, in the order of the choice; None if none
   -- satisfy the world
@@ -28,12 +28,12 @@ pub record Given : Type 0 where
   pub clash : Option NamePair
 
 -- the parts for a command that lists and chooses nothing
-abbrev pub nothing_given : Given
-nothing_given = record { names = []; chosen = None; clash = None }
+abbrev pub no_listing_choice_or_clash : Given
+no_listing_choice_or_clash = record { names = []; chosen = None; clash = None }
 
 -- ---- the choice
 
--- what a command chooses, by what reads find; only a change chooses
+-- the places of the candidates that a command chooses, given what reads find; only a change chooses
 abbrev pub IsChosenFor : Effect → CommandLine → Reads → Option (List ℕ) → Type 0
 IsChosenFor Changes command read chosen = IsChoiceFrom (pool_of_command command read) chosen
 IsChosenFor other command read chosen = chosen ≡ None
@@ -43,42 +43,44 @@ IsChosenFor other command read chosen = chosen ≡ None
 -- the names that an applet lists: `mkpkg` those below its folder, the others none
 abbrev pub IsListingFor : Applet → CommandLine → Files → List (List ℕ) → Type 0
 IsListingFor Mkpkg command files names =
-    AreNamesBelowOption (values_of_letter FILES command.values) files names
+    AreNamesBelowOptionFolder (values_of_letter FILES command.values) files names
 IsListingFor other command files names = names ≡ []
 
 -- the first clash of the names after a command, which only a change has
-abbrev pub IsClashBy :
+abbrev pub IsFirstClashForEffect :
     Effect → CommandLine → Reads → Files → Option (List ℕ) → Option NamePair → Type 0
-IsClashBy Changes command read files chosen clash = IsClashFor command read files chosen clash
-IsClashBy other command read files chosen clash = clash ≡ None
+IsFirstClashForEffect Changes command read files chosen clash =
+    IsClashOfCommand command read files chosen clash
+IsFirstClashForEffect other command read files chosen clash = clash ≡ None
 
 -- all parts that a command is given, if reads find the contents of these files
-pub record IsGiven (command : CommandLine) (read : Reads) (files : Files) (given : Given)
+pub record IsListingChoiceAndClashFor (command : CommandLine) (read : Reads) (files : Files) (given : Given)
     : Type 0 where
   pub names : IsListingFor command.applet command files given.names
   pub chosen : IsChosenFor (effect_of command.applet) command read given.chosen
   pub clash :
-      IsClashBy (effect_of command.applet) command read files given.chosen given.clash
+      IsFirstClashForEffect (effect_of command.applet) command read files given.chosen given.clash
 
 -- ---- over a tree whose files no contract knows
 
 -- names that an applet may list: `mkpkg` some below its folder, in byte order and each once, the others
 -- none
 abbrev pub MayBeListedFor : Applet → CommandLine → List (List ℕ) → Type 0
-MayBeListedFor Mkpkg command names = AreNamesBelowFirst (values_of_letter FILES command.values) names
+MayBeListedFor Mkpkg command names = AreNamesBelowFirstFolder (values_of_letter FILES command.values) names
 MayBeListedFor other command names = names ≡ []
 
 -- the first clash of names after a command among some present files; only a change has one
-abbrev pub IsClashForEffect :
+abbrev pub MayBeFirstClashForEffect :
     Effect → CommandLine → Reads → Files → Option (List ℕ) → Option NamePair → Type 0
-IsClashForEffect Changes command read files chosen clash =
-    (present_files : Files) × IsClashForAmong command read files present_files chosen clash
-IsClashForEffect other command read files chosen clash = clash ≡ None
+MayBeFirstClashForEffect Changes command read files chosen clash =
+    (present_files : Files) × IsClashOfCommandAmong command read files present_files chosen clash
+MayBeFirstClashForEffect other command read files chosen clash = clash ≡ None
 
 -- all parts that a command may be given on a tree whose files no contract knows, by some files
-pub record MayBeGiven (command : CommandLine) (read : Reads) (files : Files) (given : Given)
+pub record MayBeListingChoiceAndClashFor (command : CommandLine) (read : Reads) (files : Files)
+    (given : Given)
     : Type 0 where
   pub names : MayBeListedFor command.applet command given.names
   pub chosen : IsChosenFor (effect_of command.applet) command read given.chosen
   pub clash :
-      IsClashForEffect (effect_of command.applet) command read files given.chosen given.clash
+      MayBeFirstClashForEffect (effect_of command.applet) command read files given.chosen given.clash

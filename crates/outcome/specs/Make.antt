@@ -27,9 +27,9 @@ files_below folder files name =
     if starts_with nat_eq name (folder ++ codes "/") then files name else None
 
 -- exactly the names of the files below the folder, in byte order; none if no folder is given
-abbrev pub AreNamesBelowOption : List OptionValue → Files → List (List ℕ) → Type 0
-AreNamesBelowOption [] files names = names ≡ []
-AreNamesBelowOption (folder ∷ values) files names =
+abbrev pub AreNamesBelowOptionFolder : List OptionValue → Files → List (List ℕ) → Type 0
+AreNamesBelowOptionFolder [] files names = names ≡ []
+AreNamesBelowOptionFolder (folder ∷ values) files names =
     IsNamesOf (files_below (without_dot_slash folder.text) files) names
 
 -- ---- the outcome
@@ -68,11 +68,11 @@ mkpkg read files command names =
     make_outcome files (output_name command) [] (made_package command names read)
 
 -- the report of `mkndx` over this many packages
-abbrev pub index_line : ℕ → List ℕ
-index_line count = codes "Index has " ++ decimal count ++ codes " packages\n"
+abbrev pub index_report_line : ℕ → List ℕ
+index_report_line count = codes "Index has " ++ decimal count ++ codes " packages\n"
 
 -- the outcome of `mkndx`: an index of the packages that the operands name, as reads find them
 abbrev pub mkndx : Reads → Files → CommandLine → Outcome
 mkndx read files command =
-    make_outcome files (output_name command) (index_line (length command.operands))
+    make_outcome files (output_name command) (index_report_line (length command.operands))
     (made_index command read)

@@ -18,17 +18,17 @@ pub record Outcome : Type 0 where
   -- whether the run writes or removes files
   pub commits : Bool
 
--- the line of a refusal, if there is one
-abbrev pub line_of : Option Refusal → List ℕ
-line_of None = []
-line_of (Some refusal) = refusal_line refusal
+-- the error line of a refusal; no bytes if there is no refusal
+abbrev pub refusal_line_or_empty : Option Refusal → List ℕ
+refusal_line_or_empty None = []
+refusal_line_or_empty (Some refusal) = refusal_line refusal
 
 -- the outcome with a report, and with a refusal after it, if there is one; nothing is written
 abbrev pub outcome_of : Option Refusal → List ℕ → Files → Outcome
 outcome_of refusal report files = record {
   refusal = refusal;
   out = report;
-  err = line_of refusal;
+  err = refusal_line_or_empty refusal;
   files = files;
   commits = false;
 }

@@ -22,7 +22,7 @@ abbrev pub file_refusal : ℕ → Option (List ℕ) → Option Refusal
 file_refusal place None = Some (FileMissing place)
 file_refusal place (Some bytes) = test_refusal place (container_fault bytes)
 
--- the first refusal, operand by operand; the first of these operands is the read with this number
+-- the refusal of the first missing or bad file, operand by operand; the first file has the read number `n`
 abbrev pub verify_refusal : Reads → ℕ → List Operand → Option Refusal
 verify_refusal read n [] = None
 verify_refusal read n (o ∷ operands) =

@@ -25,23 +25,23 @@ order_line Equal = codes "=\n"
 order_line Greater = codes ">\n"
 
 -- the report of `--test`: the order of the first two operands; the grammar gives exactly two
-abbrev pub order_report : List Operand → List ℕ
-order_report [] = []
-order_report (a ∷ []) = []
-order_report (a ∷ (b ∷ operands)) = order_line (version_cmp a.text b.text)
+abbrev pub version_order_report : List Operand → List ℕ
+version_order_report [] = []
+version_order_report (a ∷ []) = []
+version_order_report (a ∷ (b ∷ operands)) = order_line (version_cmp a.text b.text)
 
 -- the line of a text, which is empty if the text is a version
-abbrev pub invalid_line : List ℕ → List ℕ
-invalid_line text = if is_version text then [] else text ++ codes "\n"
+abbrev pub invalid_version_line : List ℕ → List ℕ
+invalid_version_line text = if is_version text then [] else text ++ codes "\n"
 
 -- the report of `--check`: each operand that is no version, on a line of its own
-abbrev pub invalid_lines : List Operand → List ℕ
-invalid_lines [] = []
-invalid_lines (o ∷ operands) = invalid_line o.text ++ invalid_lines operands
+abbrev pub invalid_version_lines : List Operand → List ℕ
+invalid_version_lines [] = []
+invalid_version_lines (o ∷ operands) = invalid_version_line o.text ++ invalid_version_lines operands
 
 -- `--test` prints the order, unless one operand is no version. `--check` prints the operands that are
 -- no versions, and refuses the first of them after that report.
 abbrev pub version : Files → Flags → List Operand → Outcome
 version files flags operands =
-    if flags.test then report_unless files (version_refusal operands) (order_report operands) else
-    outcome_of (version_refusal operands) (invalid_lines operands) files
+    if flags.test then report_unless files (version_refusal operands) (version_order_report operands) else
+    outcome_of (version_refusal operands) (invalid_version_lines operands) files

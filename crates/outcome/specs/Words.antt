@@ -13,7 +13,7 @@ use Rattle.outcome.specs.Effect.{effect_of}
 use Rattle.outcome.specs.Outcome.{Outcome, just_refusal}
 use Rattle.outcome.specs.Work.{recovery_fault}
 
--- the outcome of a command by its applet: `demo` runs others; any other recovers first, if it has to
+-- the outcome of a command: `demo` runs other commands; each other applet first recovers if its effect says so
 abbrev pub IsOutcomeOfApplet : Applet → CommandLine → Files → Outcome → Type 0
 IsOutcomeOfApplet Demo command files outcome =
     IsDemoOutcome (demo_count command.operands) files outcome
@@ -34,8 +34,9 @@ IsPossibleOutcomeOfApplet Demo command outcome =
     IsDemoOutcome (demo_count command.operands) no_names outcome
 IsPossibleOutcomeOfApplet other command outcome = IsPossibleOutcomeWithoutDemo command outcome
 
--- The outcome of parsed arguments for some listing, for some contents, or none, at each read and of the
--- intent, and for some files. Nothing is said of the files afterwards: a usage error leaves none here.
+-- An outcome of parsed arguments on a tree whose files no contract knows: for some listing, some contents
+-- (or none) at each read and of the journal entry, and some files. Nothing is said of the files
+-- afterwards: for a usage error they are none here.
 abbrev pub IsPossibleOutcome : Result CommandLine ℕ → Outcome → Type 0
 IsPossibleOutcome (Err place) outcome = outcome ≡ just_refusal no_names (Usage place)
 IsPossibleOutcome (Ok command) outcome = IsPossibleOutcomeOfApplet command.applet command outcome

@@ -30,15 +30,15 @@ ghost use Rattle.engine_core.specs.journal_core.Recovery.{intent_name};
 ghost use Rattle.engine_core.specs.journal_core.Staged.{AreReplayPathsFree, AreStagingPathsFree, unstaged_files};
 ghost use Rattle.tell_core.specs.installed_info.declared.telling.ReportAndRefusal.{ReportAndRefusal};
 ghost use Rattle.make_core.specs.make_info.Reads.{Reads};
-ghost use Rattle.outcome.specs.ChangeEnd.{IsChangeEnd, IsRunEnd, is_input_refusal};
-ghost use Rattle.outcome.specs.Commands.{IsOutcomeWithoutDemo, IsOutcomeAfterRecovery, reads_in};
+ghost use Rattle.outcome.specs.ChangeEnd.{IsChangeEnd, IsChangeEndOrIntentRefusal, is_input_refusal};
+ghost use Rattle.outcome.specs.Commands.{IsOutcomeWithoutDemo, IsOutcomeOverRecoveredFiles, reads_in};
 ghost use Rattle.outcome.specs.Effect.{Changes, Makes, AsksRoot, does_recover, effect_of_arguments, effect_of, output, reads_only, depends_only_on_arguments};
 ghost use Rattle.outcome.specs.Make.{files_below};
 ghost use Rattle.outcome.specs.Outcome.{Outcome, just_refusal, outcome_of};
 ghost use Rattle.outcome.specs.Recovers.{must_recover};
 ghost use Rattle.outcome.specs.Sound.{IsSoundFileAt};
 ghost use Rattle.outcome.specs.Words.{IsOutcome};
-ghost use Rattle.outcome.specs.Work.{fault_of_intent, recovery_fault, work_files};
+ghost use Rattle.outcome.specs.Work.{fault_of_intent, recovery_fault, files_recovered_if_needed};
 ghost use Rattle.report_core.specs.declared.refusal.Refusal.{Refusal};
 ghost use Rattle.report_core.specs.declared.refusal.Refusal.TheVariants.{IntentBad, NoDatabase};
 ghost use Rattle.root_names.specs.RootNames.{database_name, text_database_name};
@@ -76,10 +76,11 @@ pub fn an_outcome_is_unique()
     a_change_has_a_first_clash_or_none();
 }
 
-/// A command has one outcome over the files on which it works, and no second one.
+/// A command has at most one outcome over the files on which it works.
 pub fn an_outcome_over_files_is_unique()
     ensures { (command : CommandLine) (files : Files) (a b : Outcome)
-        → IsOutcomeAfterRecovery command files a → IsOutcomeAfterRecovery command files b → a ≡ b }
+        → IsOutcomeOverRecoveredFiles command files a
+        → IsOutcomeOverRecoveredFiles command files b → a ≡ b }
 {
     files_have_one_list_of_names();
     a_choice_is_unique();
@@ -112,7 +113,7 @@ fn reading_leaves_the_files()
 pub fn a_reporting_command_leaves_the_files()
     ensures files { (words : List (List ℕ)) (files : Files) (o : Outcome)
         → effect_of_arguments (command_of words) ≡ AsksRoot → IsOutcome (command_of words) files o
-        → (o.files ≡ files) ⊎ (o.files ≡ work_files AsksRoot files) }
+        → (o.files ≡ files) ⊎ (o.files ≡ files_recovered_if_needed AsksRoot files) }
     ensures commits { (words : List (List ℕ)) (files : Files) (o : Outcome)
         → effect_of_arguments (command_of words) ≡ AsksRoot → IsOutcome (command_of words) files o
         → o.commits ≡ false }
@@ -125,7 +126,7 @@ pub fn a_command_that_makes_commits_unless_refused()
         → o.commits ≡ not (is_some o.refusal) }
 {}
 
-/// A refusal commits nothing.
+/// An outcome with a refusal commits nothing.
 pub fn a_refusal_commits_nothing()
     ensures { (words : List (List ℕ)) (files : Files) (o : Outcome)
         → IsOutcome (command_of words) files o → IsSome o.refusal → o.commits ≡ false }
@@ -139,11 +140,11 @@ pub fn a_refusal_commits_nothing()
 pub fn a_command_that_commits_nothing_leaves_the_files()
     // Of a command over the files on which it works.
     ensures over { (command : CommandLine) (files : Files) (o : Outcome)
-        → IsOutcomeAfterRecovery command files o → o.commits ≡ false → o.files ≡ files }
+        → IsOutcomeOverRecoveredFiles command files o → o.commits ≡ false → o.files ≡ files }
     // Of a command line, which may first recover.
     ensures words { (words : List (List ℕ)) (files : Files) (o : Outcome)
         → IsOutcome (command_of words) files o → o.commits ≡ false → (o.files ≡ files)
-        ⊎ (o.files ≡ work_files (effect_of_arguments (command_of words)) files) }
+        ⊎ (o.files ≡ files_recovered_if_needed (effect_of_arguments (command_of words)) files) }
 {
     what_is_read_of_a_root_is_in_the_tree();
     a_change_that_writes_nothing_leaves_the_files();
@@ -155,19 +156,19 @@ pub fn a_command_that_commits_nothing_leaves_the_files()
 /// nothing. `verify`, `adbdump`, `adbgen`, `version`, `demo`, `--help` and `--version` leave all
 /// files unchanged.
 pub fn a_command_recovers()
-    // The list of `must_recover` is that of the effects.
+    // `must_recover` lists exactly the applets that recover by their effect.
     ensures recovers { (applet : Applet) → does_recover (effect_of applet) ≡ must_recover applet }
     // A bad intent is refused, and all files are unchanged.
     ensures bad { (words : List (List ℕ)) (command : CommandLine) (files : Files) (o : Outcome)
         (cause : Cause) → command_of words ≡ Ok command → IsTrue (must_recover command.applet)
         → fault_of_intent (files intent_name) ≡ Some cause → IsOutcome (command_of words) files o
         → o ≡ just_refusal files (IntentBad cause) }
-    // Else the command works on the files that a recovery leaves.
+    // Without a bad intent the command works on the files that recovery leaves.
     ensures works { (words : List (List ℕ)) (command : CommandLine) (files : Files) (o : Outcome)
         → command_of words ≡ Ok command → IsTrue (must_recover command.applet)
         → fault_of_intent (files intent_name) ≡ None → IsOutcome (command_of words) files o
-        → IsOutcomeAfterRecovery command (unstaged_files files) o }
-    // These files are left if the command commits nothing.
+        → IsOutcomeOverRecoveredFiles command (unstaged_files files) o }
+    // The recovered files are left if the command commits nothing.
     ensures leaves { (words : List (List ℕ)) (command : CommandLine) (files : Files) (o : Outcome)
         → command_of words ≡ Ok command → IsTrue (must_recover command.applet)
         → fault_of_intent (files intent_name) ≡ None → IsOutcome (command_of words) files o
@@ -186,7 +187,8 @@ pub fn a_command_recovers()
 /// first test that the intent fails.
 pub fn only_a_bad_intent_is_refused_as_one()
     ensures { (words : List (List ℕ)) (files : Files) (o : Outcome) (cause : Cause)
-        → does_recover (effect_of_arguments (command_of words)) ≡ true → IsOutcome (command_of words) files o
+        → does_recover (effect_of_arguments (command_of words)) ≡ true
+        → IsOutcome (command_of words) files o
         → o.refusal ≡ Some (IntentBad cause)
         → recovery_fault (effect_of_arguments (command_of words)) files ≡ Some cause }
 {
@@ -209,8 +211,8 @@ pub fn a_reporting_command_is_refused_for_its_input()
     info_refuses_only_for_an_operand();
 }
 
-/// A root is refused for having no database only if it has neither file of one, and the command may
-/// not begin one.
+/// A root is refused with `NoDatabase` only if it has neither a database file nor a text database,
+/// and `--initdb` is not given.
 pub fn a_root_without_a_database_file_has_no_database()
     ensures { (command : CommandLine) (files : Files)
         → database_for command (reads_in files) ≡ Err NoDatabase
@@ -219,19 +221,19 @@ pub fn a_root_without_a_database_file_has_no_database()
 {}
 
 /// Each command that changes what is installed ends in one of these ways. A bad intent is refused
-/// before all else. A stated fault of its input is refused. It is refused as unsatisfied exactly if
-/// no selection satisfies the new world. Otherwise the first preferred selection (the preferred
-/// solution) replaces the packages before: this is committed and reported, unless the packages have
-/// a stated fault.
+/// before all else. A stated fault of its input is refused. The change is refused as unsatisfied
+/// exactly if no selection satisfies the new world. Otherwise the first preferred selection (the
+/// preferred solution) replaces the packages before. This is committed and reported, unless the
+/// packages have a stated fault.
 pub fn a_change_takes_the_first_selection_or_is_refused()
     // Of a command over the files on which it works.
     ensures over { (command : CommandLine) (files : Files) (o : Outcome)
-        → effect_of command.applet ≡ Changes → IsOutcomeAfterRecovery command files o
+        → effect_of command.applet ≡ Changes → IsOutcomeOverRecoveredFiles command files o
         → IsChangeEnd command files o }
     // Of a run, which first recovers.
     ensures words { (words : List (List ℕ)) (command : CommandLine) (files : Files) (o : Outcome)
         → command_of words ≡ Ok command → effect_of command.applet ≡ Changes
-        → IsOutcome (command_of words) files o → IsRunEnd command files o }
+        → IsOutcome (command_of words) files o → IsChangeEndOrIntentRefusal command files o }
 {
     a_change_that_is_made_passes_each_test();
 }
@@ -242,8 +244,9 @@ pub fn a_change_leaves_free_paths_for_the_next()
     ensures { (words : List (List ℕ)) (files : Files) (o : Outcome)
         → effect_of_arguments (command_of words) ≡ Changes → IsOutcome (command_of words) files o
         → o.refusal ≡ None
-        → AreStagingPathsFree (work_files Changes files)
-        → AreReplayPathsFree o.files × AreStagingPathsFree (work_files Changes o.files) }
+        → AreStagingPathsFree (files_recovered_if_needed Changes files)
+        → AreReplayPathsFree o.files
+        × AreStagingPathsFree (files_recovered_if_needed Changes o.files) }
 {
     a_change_keeps_paths_free();
     an_intent_is_read_from_a_sound_container();

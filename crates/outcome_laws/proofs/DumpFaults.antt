@@ -5,7 +5,7 @@ use Rattle.std.specs.Option.{option_or}
 use Rattle.adb_block.specs.Header.{header_of}
 use Rattle.adb_block.specs.Reading.{Reading, done, fault, more, block_stream_from}
 use Rattle.adb_block.specs.ReaderPosition.{first_block_position}
-use Rattle.adb_view.specs.Head.{head_fault, root_of}
+use Rattle.adb_view.specs.Head.{payload_head_fault, root_word_of_payload}
 use Rattle.adb_view.specs.Schema.{shape_of}
 use Rattle.adb_view.specs.Walk.{shape_fault}
 use Rattle.adb_view.specs.declared.tables.Kind.TheVariants.{Obj}
@@ -18,7 +18,7 @@ use Rattle.command_core.specs.declared.operands.Operand.{Operand}
 use Rattle.container_laws.specs.TestsInOrder.{IsFirstFailing}
 use Rattle.container_laws.specs.adb_schema.Soundness.{first_block_payload, root_value}
 use Rattle.container_laws.specs.pkg_core.Whole.{table_of_schema}
-use Rattle.outcome.specs.Dump.{adbdump, dump_fault, dump_of, dump_outcome, dump_with_root, dump_with_schema, framing_fault, or_text, text_outcome}
+use Rattle.outcome.specs.Dump.{adbdump, dump_fault_of_blocks, dump_of, dump_outcome, dump_by_root_table, dump_by_schema, framing_fault, text_unless_fault, text_outcome}
 use Rattle.outcome.specs.adb_dump.Dump.{dump_text}
 use Rattle.outcome.specs.make_info.Reads.{Reads}
 use Rattle.outcome_laws.specs.DumpedFiles.{IsDumpRefusalCause, IsFaultOfPrinted}
@@ -72,38 +72,38 @@ failing a b d c f = go f.place f.fails f.before
 
 -- ---- the blocks
 
-blocks_told : (which : Which) (r : Reading) (c : Cause) → dump_fault which r ≡ Some c → IsFaultOfPrinted which r c
+blocks_told : (which : Which) (r : Reading) (c : Cause) → dump_fault_of_blocks which r ≡ Some c → IsFaultOfPrinted which r c
 blocks_told which done c e = absurd (cc (e))
 blocks_told which (fault d) c e = let same : d ≡ c = cc (e) in inl (ap fault same)
 blocks_told which (more b at r) c e =
-    inr (b, at, r, refl, first_of (head_fault b.payload) (shape_fault b.payload (shape_of (Obj which)) (root_of b.payload)) (framing_fault r) c e)
+    inr (b, at, r, refl, first_of (payload_head_fault b.payload) (shape_fault b.payload (shape_of (Obj which)) (root_word_of_payload b.payload)) (framing_fault r) c e)
 
-blocks_refused : (which : Which) (r : Reading) (c : Cause) → IsFaultOfPrinted which r c → dump_fault which r ≡ Some c
+blocks_refused : (which : Which) (r : Reading) (c : Cause) → IsFaultOfPrinted which r c → dump_fault_of_blocks which r ≡ Some c
 blocks_refused which r c f =
     elim f [
-      | inl e ↦ ap (dump_fault which) e
+      | inl e ↦ ap (dump_fault_of_blocks which) e
       | inr f ↦
           let (b, at, behind, e, first) = f in
-          ap (dump_fault which) e
-          ∙ failing (head_fault b.payload) (shape_fault b.payload (shape_of (Obj which)) (root_of b.payload)) (framing_fault behind) c first
+          ap (dump_fault_of_blocks which) e
+          ∙ failing (payload_head_fault b.payload) (shape_fault b.payload (shape_of (Obj which)) (root_word_of_payload b.payload)) (framing_fault behind) c first
     ]
 
 -- ---- the file
 
-no_text : (o : Option Cause) (text : List ℕ) (c : Cause) → or_text o text ≡ Err c → o ≡ Some c
+no_text : (o : Option Cause) (text : List ℕ) (c : Cause) → text_unless_fault o text ≡ Err c → o ≡ Some c
 no_text None text c e = absurd (cc (e))
 no_text (Some d) text c e = let same : d ≡ c = cc (e) in ap Some same
 
 by_root : (file : List ℕ) (c : Cause) (schema : ℕ) (root : Option Which) → header_of file ≡ Ok schema → table_of_schema schema ≡ root
-    → dump_with_root schema (block_stream_from (first_block_position schema file)) root ≡ Err c → IsDumpRefusalCause file c
+    → dump_by_root_table schema (block_stream_from (first_block_position schema file)) root ≡ Err c → IsDumpRefusalCause file c
 by_root file c schema None header root e =
     let same : WrongSchema schema ≡ c = cc (e) in
     inr (schema, header, inl (root, sym same))
 by_root file c schema (Some which) header root e =
     let r = block_stream_from (first_block_position schema file) in
-    inr (schema, header, inr (which, root, blocks_told which r c (no_text (dump_fault which r) (dump_text which (root_value which (first_block_payload r))) c e)))
+    inr (schema, header, inr (which, root, blocks_told which r c (no_text (dump_fault_of_blocks which r) (dump_text which (root_value which (first_block_payload r))) c e)))
 
-by_header : (file : List ℕ) (c : Cause) (h : Result ℕ Cause) → header_of file ≡ h → dump_with_schema file h ≡ Err c → IsDumpRefusalCause file c
+by_header : (file : List ℕ) (c : Cause) (h : Result ℕ Cause) → header_of file ≡ h → dump_by_schema file h ≡ Err c → IsDumpRefusalCause file c
 by_header file c (Err d) header e =
     let same : d ≡ c = cc (e) in
     inl (header ∙ ap Err same)
@@ -117,17 +117,17 @@ file_refused : (file : List ℕ) (c : Cause) → IsDumpRefusalCause file c → d
 unfolding dump_of
 file_refused file c f =
     elim f [
-      | inl e ↦ ap (dump_with_schema file) e
+      | inl e ↦ ap (dump_by_schema file) e
       | inr f ↦
           let (schema, header, rest) = f in
-          ap (dump_with_schema file) header
+          ap (dump_by_schema file) header
           ∙ elim rest [
-            | inl x ↦ ap (dump_with_root schema (block_stream_from (first_block_position schema file))) x.0 ∙ ap Err (sym x.1)
+            | inl x ↦ ap (dump_by_root_table schema (block_stream_from (first_block_position schema file))) x.0 ∙ ap Err (sym x.1)
             | inr x ↦
                 let (which, root, blocks) = x in
                 let r = block_stream_from (first_block_position schema file) in
-                ap (dump_with_root schema r) root
-                ∙ ap (λ (o : Option Cause). or_text o (dump_text which (root_value which (first_block_payload r)))) (blocks_refused which r c blocks)
+                ap (dump_by_root_table schema r) root
+                ∙ ap (λ (o : Option Cause). text_unless_fault o (dump_text which (root_value which (first_block_payload r)))) (blocks_refused which r c blocks)
           ]
     ]
 

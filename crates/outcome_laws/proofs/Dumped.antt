@@ -9,7 +9,7 @@ use Rattle.adb_block.specs.declared.block.BlockKind.{BlockKind}
 use Rattle.adb_block.specs.declared.block.BlockKind.TheVariants as Kinds
 use Rattle.outcome.specs.adb_dump.Dump.{dump_text}
 use Rattle.container_laws.specs.adb_schema.Soundness.{further_block_fault, contents_positions, first_block_payload, further_blocks_fault, payload_after_header, payload_in, root_value}
-use Rattle.adb_view.specs.Head.{root_of}
+use Rattle.adb_view.specs.Head.{root_word_of_payload}
 use Rattle.adb_view.specs.Plain.{Plain}
 use Rattle.adb_view.specs.Schema.{shape_of}
 use Rattle.adb_view.specs.Walk.{shape_fault}
@@ -24,8 +24,8 @@ use Rattle.command_core.specs.Files.{without_dot_slash}
 use Rattle.command_core.specs.declared.operands.Operand.{Operand}
 use Rattle.container_laws.specs.TestsInOrder.{PassesEveryTest}
 use Rattle.outcome.specs.make_info.Reads.{Reads}
-use Rattle.outcome.specs.Dump.{adbdump, dump_fault, dump_of, dump_of_blocks, dump_outcome, dump_with_root, dump_with_schema, framing_fault, or_text, text_outcome}
-use Rattle.container_laws.specs.pkg_core.Contents.{Expected, POSITIONS_LEN, contents_block_fault, expected_contents, fault_of_files_read, files_at_block, files_read_from_blocks, unless_fault, with_contents_of_next}
+use Rattle.outcome.specs.Dump.{adbdump, dump_fault_of_blocks, dump_of, dump_of_blocks, dump_outcome, dump_by_root_table, dump_by_schema, framing_fault, text_unless_fault, text_outcome}
+use Rattle.container_laws.specs.pkg_core.Contents.{ExpectedFile, POSITIONS_LEN, contents_block_fault, expected_files_of_package, fault_of_files_read, files_at_block, files_read_from_blocks, files_unless_fault, with_contents_of_next}
 use Rattle.container_laws.specs.pkg_core.Whole.{fault_of_further_blocks, table_of_schema}
 use Rattle.report_core.specs.declared.refusal.Refusal.TheVariants.{FileBad, FileMissing}
 use Rattle.outcome_laws.specs.DumpedFiles.{HasTextOfValue}
@@ -33,13 +33,13 @@ use Rattle.outcome_laws.specs.DumpedFiles.{HasTextOfValue}
 -- ---- the printed text
 
 told_text : (which : Which) (r : Reading) (text : List ℕ) → dump_of_blocks which r ≡ Ok text → text ≡ dump_text which (root_value which (first_block_payload r))
-told_text which r text e = go (dump_fault which r) e
+told_text which r text e = go (dump_fault_of_blocks which r) e
   where
-    go : (o : Option Cause) → or_text o (dump_text which (root_value which (first_block_payload r))) ≡ Ok text → text ≡ dump_text which (root_value which (first_block_payload r))
+    go : (o : Option Cause) → text_unless_fault o (dump_text which (root_value which (first_block_payload r))) ≡ Ok text → text ≡ dump_text which (root_value which (first_block_payload r))
     go None e = let same : dump_text which (root_value which (first_block_payload r)) ≡ text = cc in sym same
     go (Some c) e = absurd cc
 
-text_by_root : (file text : List ℕ) (schema : ℕ) (root : Option Which) → header_of file ≡ Ok schema → table_of_schema schema ≡ root → dump_with_root schema (block_stream_from (first_block_position schema file)) root ≡ Ok text → HasTextOfValue file text
+text_by_root : (file text : List ℕ) (schema : ℕ) (root : Option Which) → header_of file ≡ Ok schema → table_of_schema schema ≡ root → dump_by_root_table schema (block_stream_from (first_block_position schema file)) root ≡ Ok text → HasTextOfValue file text
 unfolding payload_in
 text_by_root file text schema None header root e = absurd cc
 text_by_root file text schema (Some which) header root e =
@@ -52,7 +52,7 @@ text_by_root file text schema (Some which) header root e =
           ∙ ap (λ (o : Result ℕ Cause). dump_text which (root_value which (payload_after_header file o))) (sym header);
     }
 
-text_by_header : (file text : List ℕ) (h : Result ℕ Cause) → header_of file ≡ h → dump_with_schema file h ≡ Ok text → HasTextOfValue file text
+text_by_header : (file text : List ℕ) (h : Result ℕ Cause) → header_of file ≡ h → dump_by_schema file h ≡ Ok text → HasTextOfValue file text
 text_by_header file text (Err c) header e = absurd cc
 text_by_header file text (Ok schema) header e = text_by_root file text schema (table_of_schema schema) header refl e
 
@@ -85,26 +85,26 @@ never_none : {A : Type 0} (b : Bool) (x y : A) → (if b then Some x else Some y
 never_none true x y e = absurd cc
 never_none false x y e = absurd cc
 
-framed_contents : (es : List Expected) (r : Reading) → fault_of_files_read (files_read_from_blocks es r) ≡ None → framing_fault r ≡ None
+framed_contents : (es : List ExpectedFile) (r : Reading) → fault_of_files_read (files_read_from_blocks es r) ≡ None → framing_fault r ≡ None
 unfolding files_read_from_blocks
 framed_contents es done e = refl
 framed_contents es (fault c) e = absurd cc
 framed_contents es (more b at r) e = by_kind b.kind e (λ left. framed_contents left r)
   where
-    by_fault : (o : Option Cause) (left : List Expected) → contents_block_fault b.payload at left ≡ o → fault_of_files_read (unless_fault o (with_contents_of_next b.payload (λ rest. files_read_from_blocks rest r) left)) ≡ None
-        → ((rest : List Expected) → fault_of_files_read (files_read_from_blocks rest r) ≡ None → framing_fault r ≡ None) → framing_fault r ≡ None
+    by_fault : (o : Option Cause) (left : List ExpectedFile) → contents_block_fault b.payload at left ≡ o → fault_of_files_read (files_unless_fault o (with_contents_of_next b.payload (λ rest. files_read_from_blocks rest r) left)) ≡ None
+        → ((rest : List ExpectedFile) → fault_of_files_read (files_read_from_blocks rest r) ≡ None → framing_fault r ≡ None) → framing_fault r ≡ None
     by_fault (Some c) left is e further = absurd cc
     by_fault None [] is e further = absurd (never_none (nat_lt (length b.payload) POSITIONS_LEN) (Truncated at) (DataOrder (0, 0) (contents_positions b.payload)) is)
     by_fault None (x ∷ xs) is e further = further xs e
 
     by_kind : (k : BlockKind) → fault_of_files_read (files_at_block k b.payload at (λ left. files_read_from_blocks left r) es) ≡ None
-        → ((rest : List Expected) → fault_of_files_read (files_read_from_blocks rest r) ≡ None → framing_fault r ≡ None) → framing_fault r ≡ None
+        → ((rest : List ExpectedFile) → fault_of_files_read (files_read_from_blocks rest r) ≡ None → framing_fault r ≡ None) → framing_fault r ≡ None
     by_kind Kinds.Contents e further = by_fault (contents_block_fault b.payload at es) es refl e further
     by_kind Kinds.Adb e further = further es e
     by_kind Kinds.Signature e further = further es e
 
 framed : (which : Which) (value : Plain) (r : Reading) → fault_of_further_blocks which value r ≡ None → framing_fault r ≡ None
-framed Tables.Package value r e = framed_contents (expected_contents value) r e
+framed Tables.Package value r e = framed_contents (expected_files_of_package value) r e
 framed Tables.Dep value r e = framed_further r e
 framed Tables.Acl value r e = framed_further r e
 framed Tables.PkgInfo value r e = framed_further r e
@@ -123,15 +123,15 @@ dumped file p =
     let r : Reading = more p.first p.at p.behind in
     let value : Plain = root_value p.which p.first.payload in
     let text : List ℕ = dump_text p.which value in
-    let good : dump_fault p.which r ≡ None =
-    ap (λ (o : Option Cause). option_or (option_or o (shape_fault p.first.payload (shape_of (Obj p.which)) (root_of p.first.payload))) (framing_fault p.behind)) (p.each 0 _ refl)
+    let good : dump_fault_of_blocks p.which r ≡ None =
+    ap (λ (o : Option Cause). option_or (option_or o (shape_fault p.first.payload (shape_of (Obj p.which)) (root_word_of_payload p.first.payload))) (framing_fault p.behind)) (p.each 0 _ refl)
     ∙ ap (λ (o : Option Cause). option_or o (framing_fault p.behind)) (p.each 1 _ refl)
     ∙ framed p.which value p.behind (p.each 4 _ refl) in (
       text,
-      ap (dump_with_schema file) p.header
-          ∙ ap (dump_with_root p.schema (block_stream_from (first_block_position p.schema file))) p.root
+      ap (dump_by_schema file) p.header
+          ∙ ap (dump_by_root_table p.schema (block_stream_from (first_block_position p.schema file))) p.root
           ∙ ap (dump_of_blocks p.which) p.blocks
-          ∙ ap (λ (o : Option Cause). or_text o text) good,
+          ∙ ap (λ (o : Option Cause). text_unless_fault o text) good,
     )
 
 pub sound_dumped : (read : Reads) (files : Files) (o : Operand) (file : List ℕ) → read 0 (without_dot_slash o.text) ≡ Some file → PassesEveryTest file

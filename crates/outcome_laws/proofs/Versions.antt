@@ -9,7 +9,7 @@ use Rattle.base_core.specs.Lists.{IsIn}
 use Rattle.command_core.specs.declared.command.Flags.{Flags}
 use Rattle.command_core.specs.declared.operands.Operand.{Operand}
 use Rattle.outcome.specs.Outcome.{outcome_of, report_unless}
-use Rattle.outcome.specs.Version.{invalid_lines, order_line, order_report, version, version_refusal}
+use Rattle.outcome.specs.Version.{invalid_version_lines, order_line, version_order_report, version, version_refusal}
 use Rattle.report_core.specs.Reports.{report_line, report_lines}
 use Rattle.report_core.specs.declared.refusal.Refusal.{Refusal}
 use Rattle.report_core.specs.declared.refusal.Refusal.TheVariants.{VersionBad}
@@ -23,8 +23,8 @@ refusal_by files (Some r) report = refl
 refusal_is : (files : Files) (flags : Flags) (operands : List Operand) → (version files flags operands).refusal ≡ version_refusal operands
 refusal_is files flags operands = go flags.test
   where
-    go : (b : Bool) → (if b then report_unless files (version_refusal operands) (order_report operands) else outcome_of (version_refusal operands) (invalid_lines operands) files).refusal ≡ version_refusal operands
-    go true = refusal_by files (version_refusal operands) (order_report operands)
+    go : (b : Bool) → (if b then report_unless files (version_refusal operands) (version_order_report operands) else outcome_of (version_refusal operands) (invalid_version_lines operands) files).refusal ≡ version_refusal operands
+    go true = refusal_by files (version_refusal operands) (version_order_report operands)
     go false = refl
 
 -- ---- the first operand that is no version
@@ -66,12 +66,12 @@ first_no_version files flags operands place = (
 
 -- ---- what `--check` prints
 
-checked_lines : (operands : List Operand) → invalid_lines operands ≡ report_lines (map (λ (o : Operand). o.text) (filter (λ (o : Operand). not (is_version o.text)) operands))
+checked_lines : (operands : List Operand) → invalid_version_lines operands ≡ report_lines (map (λ (o : Operand). o.text) (filter (λ (o : Operand). not (is_version o.text)) operands))
 checked_lines [] = refl
 checked_lines (o ∷ operands) = go (is_version o.text) (checked_lines operands)
   where
-    go : (b : Bool) → invalid_lines operands ≡ report_lines (map (λ (o : Operand). o.text) (filter (λ (o : Operand). not (is_version o.text)) operands))
-        → (if b then [] else o.text ++ codes "\n") ++ invalid_lines operands
+    go : (b : Bool) → invalid_version_lines operands ≡ report_lines (map (λ (o : Operand). o.text) (filter (λ (o : Operand). not (is_version o.text)) operands))
+        → (if b then [] else o.text ++ codes "\n") ++ invalid_version_lines operands
         ≡ report_lines (map (λ (o : Operand). o.text) (cond (not b) (o ∷ filter (λ (o : Operand). not (is_version o.text)) operands) (filter (λ (o : Operand). not (is_version o.text)) operands)))
     go true more = more
     go false more = ap (λ (t : List ℕ). report_line o.text ++ t) more
@@ -79,7 +79,7 @@ checked_lines (o ∷ operands) = go (is_version o.text) (checked_lines operands)
 pub checked : (files : Files) (flags : Flags) (operands : List Operand) → flags.test ≡ false
     → (version files flags operands).out ≡ report_lines (map (λ (o : Operand). o.text) (filter (λ (o : Operand). not (is_version o.text)) operands))
 checked files flags operands e =
-    ap (λ (b : Bool). (if b then report_unless files (version_refusal operands) (order_report operands) else outcome_of (version_refusal operands) (invalid_lines operands) files).out) e
+    ap (λ (b : Bool). (if b then report_unless files (version_refusal operands) (version_order_report operands) else outcome_of (version_refusal operands) (invalid_version_lines operands) files).out) e
     ∙ checked_lines operands
 
 -- ---- what `--test` prints
@@ -102,8 +102,8 @@ accepted files flags a b test = (
 
 printed : (files : Files) (flags : Flags) (a b : Operand) → flags.test ≡ true → AreBothVersions a b → (version files flags (a ∷ b ∷ [])).out ≡ order_line (version_cmp a.text b.text)
 printed files flags a b test v =
-    ap (λ (t : Bool). (if t then report_unless files (version_refusal (a ∷ b ∷ [])) (order_report (a ∷ b ∷ [])) else outcome_of (version_refusal (a ∷ b ∷ [])) (invalid_lines (a ∷ b ∷ [])) files).out) test
-    ∙ ap (λ (r : Option Refusal). (report_unless files r (order_report (a ∷ b ∷ []))).out) (both_versions a b v)
+    ap (λ (t : Bool). (if t then report_unless files (version_refusal (a ∷ b ∷ [])) (version_order_report (a ∷ b ∷ [])) else outcome_of (version_refusal (a ∷ b ∷ [])) (invalid_version_lines (a ∷ b ∷ [])) files).out) test
+    ∙ ap (λ (r : Option Refusal). (report_unless files r (version_order_report (a ∷ b ∷ []))).out) (both_versions a b v)
 
 line_less : (o : Ordering) → (order_line o ≡ codes "<\n") ↔ (o ≡ Less)
 line_less Less = (λ e. refl, λ e. refl)
@@ -145,10 +145,10 @@ shows_greater files flags a b test v =
 
 pub silent : (files : Files) (flags : Flags) (a b : Operand) → flags.test ≡ true → (AreBothVersions a b → ⊥) → (version files flags (a ∷ b ∷ [])).out ≡ []
 silent files flags a b test other =
-    ap (λ (t : Bool). (if t then report_unless files (version_refusal (a ∷ b ∷ [])) (order_report (a ∷ b ∷ [])) else outcome_of (version_refusal (a ∷ b ∷ [])) (invalid_lines (a ∷ b ∷ [])) files).out) test
+    ap (λ (t : Bool). (if t then report_unless files (version_refusal (a ∷ b ∷ [])) (version_order_report (a ∷ b ∷ [])) else outcome_of (version_refusal (a ∷ b ∷ [])) (invalid_version_lines (a ∷ b ∷ [])) files).out) test
     ∙ go (version_refusal (a ∷ b ∷ [])) refl
   where
-    go : (r : Option Refusal) → version_refusal (a ∷ b ∷ []) ≡ r → (report_unless files r (order_report (a ∷ b ∷ []))).out ≡ []
+    go : (r : Option Refusal) → version_refusal (a ∷ b ∷ []) ≡ r → (report_unless files r (version_order_report (a ∷ b ∷ []))).out ≡ []
     go (Some r) is = refl
     go None is =
         let t = none_by (is_version a.text) (is_version b.text) a.place b.place is in

@@ -7,7 +7,7 @@ use Rattle.adb_block.specs.Header.{header_of}
 use Rattle.adb_block.specs.Piece.{Piece}
 use Rattle.adb_block.specs.Reading.{Reading, fault, more, block_stream_from}
 use Rattle.adb_block.specs.ReaderPosition.{first_block_position}
-use Rattle.adb_view.specs.Head.{head_fault, root_of}
+use Rattle.adb_view.specs.Head.{payload_head_fault, root_word_of_payload}
 use Rattle.adb_view.specs.Schema.{shape_of}
 use Rattle.adb_view.specs.Walk.{shape_fault}
 use Rattle.adb_view.specs.declared.tables.Kind.TheVariants.{Obj}
@@ -32,8 +32,8 @@ pub record HasTextOfValue (file text : List ℕ) : Type 0 where
 -- the framing of the further blocks
 abbrev pub tests_of_printed : Which → List ℕ → Reading → List (Option Cause)
 tests_of_printed which payload behind =
-    head_fault payload
-    ∷ (shape_fault payload (shape_of (Obj which)) (root_of payload)
+    payload_head_fault payload
+    ∷ (shape_fault payload (shape_of (Obj which)) (root_word_of_payload payload)
     ∷ (framing_fault behind ∷ []))
 
 -- the fault of a file's blocks: the first block is bad; or it is good, and the fault is that of the

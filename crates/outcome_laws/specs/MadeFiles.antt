@@ -45,7 +45,8 @@ pub record HasOutputNamed (name bytes : List ℕ) (before after : Files) : Type 
   pub scratch : after (name ++ codes ".apk-tmp") ≡ None
   pub others : (q : List ℕ) → q ≢ name → q ≢ name ++ codes ".apk-tmp" → after q ≡ before q
 
--- the same for an output that a command may lack: then the files are as before
+-- the files after a command that may have no output: they are as before if it has none, and otherwise as
+-- *HasOutputNamed* says
 abbrev pub HasOutput : Option (List ℕ) → List ℕ → Files → Files → Type 0
 HasOutput None bytes before after = after ≡ before
 HasOutput (Some name) bytes before after = HasOutputNamed name bytes before after

@@ -19,7 +19,7 @@ use Rattle.path_claim_lists.proofs.path_claims.Places.{map_len, seen_at}
 use Rattle.change_files.specs.file_guard.Listed.{DescribesEntry}
 use Rattle.change_files.specs.file_guard.declared.compare.ListedFile.{ListedFile}
 use Rattle.change_files.specs.file_owners.Owners.{claims_in}
-use Rattle.change_files.specs.FileChange.{is_claimed, old_entry, old_listings}
+use Rattle.change_files.specs.FileChange.{is_listed_after_change, old_entry, old_listings}
 use Rattle.own_core.specs.ClaimEntries.{claim_entry}
 use Rattle.own_core.specs.Fates.{DescribesEntryIfAny}
 use Rattle.own_core.specs.Sides.{HasClaimsOfPackages, claims_after, claims_before, file_change_of}
@@ -78,7 +78,7 @@ none_found change h path f = subst (DescribesEntryIfAny None) (ap (option_map (c
 
 -- ---- after
 
-pub claimed_after : (change : ClaimChange) → HasClaimsOfPackages change → (path : List ℕ) → is_some (find (is_claim_of_path path) (claims_after change)) ≡ is_claimed (file_change_of change) path
+pub claimed_after : (change : ClaimChange) → HasClaimsOfPackages change → (path : List ℕ) → is_some (find (is_claim_of_path path) (claims_after change)) ≡ is_listed_after_change (file_change_of change) path
 claimed_after change h path = ap (λ cs. is_some (find (is_claim_of_path path) cs)) h.after ∙ claimed_is (file_change_of change) path
 
 is_one : {X : Type 0} (xs : List X) (i : Option ℕ) (o : Option X) → ((k : ℕ) → i ≡ Some k → k < length xs) → option_and_then (slice_get xs) i ≡ o → is_some i ≡ is_some o
@@ -107,7 +107,7 @@ not_some i true e = ap not (sym e)
 not_some i false e = ap not (sym e)
 
 pub free_there : (change : ClaimChange) → HasClaimsOfPackages change → (beside : List ℕ) (b : Bool) (i : Option ℕ) → is_some i ≡ not b → IfSome i (λ k. k < length change.after.now)
-    → option_and_then (slice_get (claims_after change)) i ≡ find (is_claim_of_path beside) (claims_after change) → b ≡ not (is_claimed (file_change_of change) beside)
+    → option_and_then (slice_get (claims_after change)) i ≡ find (is_claim_of_path beside) (claims_after change) → b ≡ not (is_listed_after_change (file_change_of change) beside)
 free_there change h beside b i e w f =
     not_some i b e ∙ ap not (found_or_not change.after.now beside i w f ∙ claimed_after change h beside)
 
@@ -116,7 +116,7 @@ short_and n a b l e = e ∙ sym (ap (λ t. t && b) (le-leb n 1024 l))
 
 -- whether a package lists the path after the change
 pub claimed_there : (change : ClaimChange) → HasClaimsOfPackages change → (path : List ℕ) (b : Bool) (i : Option ℕ) → is_some i ≡ b → IfSome i (λ k. k < length change.after.now)
-    → option_and_then (slice_get (claims_after change)) i ≡ find (is_claim_of_path path) (claims_after change) → is_claimed (file_change_of change) path ≡ b
+    → option_and_then (slice_get (claims_after change)) i ≡ find (is_claim_of_path path) (claims_after change) → is_listed_after_change (file_change_of change) path ≡ b
 claimed_there change h path b i e w f = sym (found_or_not change.after.now path i w f ∙ claimed_after change h path) ∙ e
 
 pub left_by : (claimed beside : Bool) → claimed ≡ true → false ≡ (not claimed && not beside)

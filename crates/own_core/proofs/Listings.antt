@@ -22,7 +22,7 @@ use Rattle.path_claim_lists.proofs.path_claims.Runs.{filter_ext}
 use Rattle.path_claim_lists.proofs.path_claims.Whole.{from_sorted}
 use Rattle.path_claim_lists.proofs.Lists.{found_ext, found_filtered, found_first, found_is, first_of}
 use Rattle.change_files.specs.file_owners.Owners.{claim_of_listing, claims_from, claims_in, owner_of_path}
-use Rattle.change_files.specs.FileChange.{FileChange, added_owner_listing, if_member_added, is_claimed, old_entry, old_listings, owner_listing}
+use Rattle.change_files.specs.FileChange.{FileChange, added_owner_listing, if_member_added, is_listed_after_change, old_entry, old_listings, owner_listing}
 use Rattle.own_core.specs.ClaimEntries.{AreClaimsOf, HasFileAt, IsClaimOf, claim_entry, is_added_at, is_added_if_any, listed_file_at, folders_if_any, is_of_added_owner}
 
 -- ---- each listing stands where it says
@@ -157,8 +157,8 @@ any_found p (x ∷ xs) = go (p x) (any_found p xs)
     go false h = h
 
 -- whether a package after the change lists a path
-pub claimed_is : (change : FileChange) (path : List ℕ) → is_some (find (is_claim_of_path path) (sorted_by claim_cmp (claims_in change.members))) ≡ is_claimed change path
-unfolding is_claimed
+pub claimed_is : (change : FileChange) (path : List ℕ) → is_some (find (is_claim_of_path path) (sorted_by claim_cmp (claims_in change.members))) ≡ is_listed_after_change change path
+unfolding is_listed_after_change
 claimed_is change path =
     ap is_some (same_found (claims_in change.members) path)
     ∙ (some_together (find (λ l. bytes_eq l.path path) (member_listings change.members)) (find (is_claim_of_path path) (claims_in change.members)) (path_together change.members path)

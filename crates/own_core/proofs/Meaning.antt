@@ -14,7 +14,7 @@ use Rattle.path_claim_lists.proofs.Lists.{found_passes}
 use Rattle.change_files.specs.file_owners.Owners.{claims_in}
 use Rattle.change_files.specs.Fate as Fates
 use Rattle.change_files.specs.Fate.{fate_with_file_found, fate_of, goes_aside, goes_in, gives_way, is_protected_path}
-use Rattle.change_files.specs.FileChange.{FileChange, added_owner_listing, if_member_added, is_claimed, old_entry, old_listings, owner_listing, was_listed}
+use Rattle.change_files.specs.FileChange.{FileChange, added_owner_listing, if_member_added, is_listed_after_change, old_entry, old_listings, owner_listing, was_listed}
 use Rattle.change_files.specs.FilesAfter.{if_written_as_apk_new, if_written_in_place, is_modified_from_entry, is_modified_file_kept, is_no_longer_listed, is_removed, is_written, apk_new_listing_at, is_modified_config_to_keep, path_of_apk_new_name, listing_written_under_name, listing_written_in_place}
 use Rattle.std.specs.Option.{option_or}
 use Rattle.change_files.specs.NamesAfter.{added_paths}
@@ -181,11 +181,11 @@ no_claims (l ∷ ls) q h = go (bytes_eq l.path q) (no_claims ls q) h
     go false rest h = rest h
 
 pub left_is : (change : FileChange) (files : Files) (q : List ℕ) (b : Bool) → b ≡ is_some (option_and_then (apk_new_listing_at change files) (path_of_apk_new_name q))
-    → (not (is_claimed change q) && not (is_written change files q)) ≡ (not (is_claimed change q) && not b)
+    → (not (is_listed_after_change change q) && not (is_written change files q)) ≡ (not (is_listed_after_change change q) && not b)
 unfolding listing_written_under_name
-left_is change files q b e = go (is_claimed change q) refl
+left_is change files q b e = go (is_listed_after_change change q) refl
   where
-    go : (c : Bool) → is_claimed change q ≡ c → (not c && not (is_some (option_or (listing_written_in_place change files q) (option_and_then (apk_new_listing_at change files) (path_of_apk_new_name q))))) ≡ (not c && not b)
+    go : (c : Bool) → is_listed_after_change change q ≡ c → (not c && not (is_some (option_or (listing_written_in_place change files q) (option_and_then (apk_new_listing_at change files) (path_of_apk_new_name q))))) ≡ (not c && not b)
     go true h = refl
     go false h =
         ap (λ o. not (is_some (option_or (option_and_then (λ l. if_written_in_place l (fate_of change files l)) o) (option_and_then (apk_new_listing_at change files) (path_of_apk_new_name q))))) (no_owner change q h)
@@ -211,7 +211,7 @@ module _ (change : FileChange) (files : Files) (before : List PathClaim) (up : N
       ap is_some (found_kept (λ c. are_equal_flags stays (is_file_kept change c (files c.path))) left_over (kept_rises (λ c. is_path_left_over change asides c.path) before up) q)
       ∙ (ap (λ o. is_some (keep_if (λ c. are_equal_flags stays (is_file_kept change c (files c.path))) o)) (found_kept (λ c. is_path_left_over change asides c.path) before up q)
       ∙ (go (find (is_claim_of_path q) before) refl
-      ∙ (λ j. (is_some (entries_are q j) && (not (is_claimed change q) && not (is_written change files q))) && are_equal_flags stays (is_modified_config_to_keep change q (files q) (entries_are q j)))))
+      ∙ (λ j. (is_some (entries_are q j) && (not (is_listed_after_change change q) && not (is_written change files q))) && are_equal_flags stays (is_modified_config_to_keep change q (files q) (entries_are q j)))))
     where
       by_tests : (a s : Bool) (c : PathClaim) → is_some (keep_if (λ c. are_equal_flags stays (is_file_kept change c (files c.path))) (cond a (Some c) None)) ≡ (a && are_equal_flags stays (is_file_kept change c (files c.path)))
       by_tests true s c = some_cond (are_equal_flags stays (is_file_kept change c (files c.path))) c
@@ -222,14 +222,14 @@ module _ (change : FileChange) (files : Files) (before : List PathClaim) (up : N
       by_tests false s c = refl
 
       go : (o : Option PathClaim) → find (is_claim_of_path q) before ≡ o → is_some (keep_if (λ c. are_equal_flags stays (is_file_kept change c (files c.path))) (keep_if (λ c. is_path_left_over change asides c.path) o))
-          ≡ ((is_some (option_map (claim_entry (members_of_kept change.old)) o) && (not (is_claimed change q) && not (is_written change files q))) && are_equal_flags stays (is_modified_config_to_keep change q (files q) (option_map (claim_entry (members_of_kept change.old)) o)))
+          ≡ ((is_some (option_map (claim_entry (members_of_kept change.old)) o) && (not (is_listed_after_change change q) && not (is_written change files q))) && are_equal_flags stays (is_modified_config_to_keep change q (files q) (option_map (claim_entry (members_of_kept change.old)) o)))
       go None e = refl
       go (Some c) e =
           let is : c.path ≡ q = (bytes_decides c.path q).0 (found_passes (is_claim_of_path q) before c e) in
           by_tests (is_path_left_over change asides c.path) true c
           ∙ (λ j. left c is j && are_equal_flags stays (is_protected_path (is j) && (not change.purge && is_modified_from_entry (claim_entry (members_of_kept change.old) c) (files (is j)))))
         where
-          left : (c : PathClaim) (is : c.path ≡ q) → is_path_left_over change asides c.path ≡ (not (is_claimed change q) && not (is_written change files q))
+          left : (c : PathClaim) (is : c.path ≡ q) → is_path_left_over change asides c.path ≡ (not (is_listed_after_change change q) && not (is_written change files q))
           left c is = ap (is_path_left_over change asides) is ∙ sym (left_is change files q (is_apk_new_name_of asides q) (beside q))
 
   old_path : (q : List ℕ) → is_no_longer_listed change files q ≡ true → Names.IsIn q (old_paths change)

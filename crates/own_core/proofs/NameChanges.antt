@@ -9,7 +9,7 @@ use Rattle.base_core.specs.Files.{Files}
 use Rattle.base_core.specs.Tree.{TreeState}
 use Rattle.adb_view.specs.Plain.{Plain}
 use Rattle.base_core.specs.ByteOrder.{bytes_cmp}
-use Rattle.base_core.specs.Sorted.{sorted_by, with_element}
+use Rattle.base_core.specs.Sorted.{sorted_by, with_element_inserted}
 use Rattle.base_core.proofs.Sorting.{Each}
 use Rattle.base_core.proofs.Booleans.{or_swap}
 use Rattle.base_core.proofs.AtName.{either_way}
@@ -46,11 +46,11 @@ any_both p (x ∷ xs) ys = go (p x) (any_both p xs ys)
     go true h = refl
     go false h = h
 
-any_with : {X : Type 0} (cmp : X → X → Ordering) (p : X → Bool) (x : X) (ys : List X) → list_any p (with_element cmp x ys) ≡ (p x || list_any p ys)
+any_with : {X : Type 0} (cmp : X → X → Ordering) (p : X → Bool) (x : X) (ys : List X) → list_any p (with_element_inserted cmp x ys) ≡ (p x || list_any p ys)
 any_with cmp p x [] = refl
 any_with cmp p x (y ∷ ys) = go (is_gt (cmp x y)) (any_with cmp p x ys)
   where
-    go : (b : Bool) → list_any p (with_element cmp x ys) ≡ (p x || list_any p ys) → list_any p (if b then y ∷ with_element cmp x ys else x ∷ y ∷ ys) ≡ (p x || (p y || list_any p ys))
+    go : (b : Bool) → list_any p (with_element_inserted cmp x ys) ≡ (p x || list_any p ys) → list_any p (if b then y ∷ with_element_inserted cmp x ys else x ∷ y ∷ ys) ≡ (p x || (p y || list_any p ys))
     go true h = ap (λ r. p y || r) h ∙ or_swap (p y) (p x) (list_any p ys)
     go false h = refl
 

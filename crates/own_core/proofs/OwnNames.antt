@@ -11,8 +11,8 @@ use Rattle.base_core.specs.Tree.{TreeState}
 use Rattle.base_core.proofs.Rising as Names
 use Rattle.change_files.specs.db_core.Members.{Listing, member_listings, member_of_kept}
 use Rattle.change_files.specs.file_guard.AsListed.{is_as_listed}
-use Rattle.change_files.specs.Fate.{agrees_with_old_entry, apk_new_name, fate_of_protected_file, fate_with_file_found, fate_of, gives_way, goes_aside, goes_in, is_as_old_entry_lists, is_protected_path}
-use Rattle.change_files.specs.FileChange.{FileChange, is_claimed, old_entry, old_listings}
+use Rattle.change_files.specs.Fate.{agrees_with_old_entry, apk_new_name, fate_if_user_modified_file, fate_with_file_found, fate_of, gives_way, goes_aside, goes_in, is_as_old_entry_lists, is_protected_path}
+use Rattle.change_files.specs.FileChange.{FileChange, is_listed_after_change, old_entry, old_listings}
 use Rattle.change_files.specs.FilesAfter.{is_removed, is_written, apk_new_listing_at, listing_written_under_name}
 use Rattle.change_files.specs.PlanLists.{FileWrite, file_writes_of, first_reserved_path, removals_of}
 use Rattle.change_files.specs.Touched.{IsPlannedWrite}
@@ -60,12 +60,12 @@ pub aside_free : (change : FileChange) (path : List ℕ) (entry : Plain) (found 
 aside_free change path entry None e = absurd (cc)
 aside_free change path entry (Some bytes) e = by_tests (not (is_protected_path path) || (is_as_listed entry bytes || is_as_old_entry_lists (old_entry change path) bytes)) e
   where
-    by_tests : (b : Bool) → (if b then goes_in else fate_of_protected_file change path entry) ≡ goes_aside → is_apk_new_name_free change path ≡ true
+    by_tests : (b : Bool) → (if b then goes_in else fate_if_user_modified_file change path entry) ≡ goes_aside → is_apk_new_name_free change path ≡ true
     by_tests true e = absurd (cc)
     by_tests false e = by_room (not (agrees_with_old_entry (old_entry change path) entry)) (is_apk_new_name_free change path) e
 
 pub is_short : (change : FileChange) (path : List ℕ) → is_apk_new_name_free change path ≡ true → length (apk_new_name path) ≤ 1024
-is_short change path room = leb-true (length (apk_new_name path)) 1024 (and_parts (nat_le (length (apk_new_name path)) 1024) (not (is_claimed change (apk_new_name path))) room).0
+is_short change path room = leb-true (length (apk_new_name path)) 1024 (and_parts (nat_le (length (apk_new_name path)) 1024) (not (is_listed_after_change change (apk_new_name path))) room).0
 
 named_beside : (change : FileChange) (files : Files) (l : Listing) → IsName l.path → apk_new_listing_at change files l.path ≡ Some l → IsName (apk_new_name l.path)
 unfolding fate_of

@@ -11,7 +11,7 @@ use Rattle.base_core.specs.declared.tree.TreeFault.{TreeFault}
 use Rattle.base_core.proofs.Rising as Names
 use Rattle.root_names.proofs.RootNamesAreNames.{database_named, world_named}
 use Rattle.base_core.specs.ByteOrder.{bytes_cmp}
-use Rattle.base_core.specs.Sorted.{sorted_by, with_element}
+use Rattle.base_core.specs.Sorted.{sorted_by, with_element_inserted}
 use Rattle.base_core.proofs.Sorting.{Each, sorted_up}
 use Rattle.base_core.proofs.Orderings.{names_total}
 use Rattle.change_files.specs.db_core.Members.{Member, member_listings, members_of_kept}
@@ -49,11 +49,11 @@ use Rattle.own_core.proofs.WritesMeaning.{each_finds_itself}
 pub sorted_list : (xs ys : List (List ℕ)) → xs ≡ sorted_by bytes_cmp ys → IsSorted bytes_cmp xs
 sorted_list xs ys e = subst (IsSorted bytes_cmp) (sym e) (sorted_up bytes_cmp names_total ys)
 
-name_with : (x : List ℕ) (ys : List (List ℕ)) → IsName x → Each IsName ys → Each IsName (with_element bytes_cmp x ys)
+name_with : (x : List ℕ) (ys : List (List ℕ)) → IsName x → Each IsName ys → Each IsName (with_element_inserted bytes_cmp x ys)
 name_with x [] n h = (n, tt)
 name_with x (y ∷ ys) n h = go (is_gt (bytes_cmp x y)) (name_with x ys n h.1)
   where
-    go : (b : Bool) → Each IsName (with_element bytes_cmp x ys) → Each IsName (if b then y ∷ with_element bytes_cmp x ys else x ∷ y ∷ ys)
+    go : (b : Bool) → Each IsName (with_element_inserted bytes_cmp x ys) → Each IsName (if b then y ∷ with_element_inserted bytes_cmp x ys else x ∷ y ∷ ys)
     go true rest = (h.0, rest)
     go false rest = (n, h)
 

@@ -22,7 +22,7 @@ use Rattle.path_claim_lists.specs.path_clashes.declared.clash.Clash.{Clash}
 use Rattle.path_claim_lists.specs.Once.{HasFirstClaimOfEachPath}
 use Rattle.path_claim_lists.proofs.Firsts.{found_in, paths}
 use Rattle.path_claim_lists.proofs.Lists.{found_passes, found_some}
-use Rattle.change_files.specs.FileChange.{is_claimed}
+use Rattle.change_files.specs.FileChange.{is_listed_after_change}
 use Rattle.change_files.specs.NamesAfter.{name_change}
 use Rattle.own_core.specs.ClaimEntries.{AreClaimsOf, is_of_added_owner}
 use Rattle.own_core.specs.Fates.{claim_fate}
@@ -70,7 +70,7 @@ not_both b is off = true≢false (sym off ∙ ap not is)
 
 -- a path of a file that comes is listed after the change, and one that is left over is not
 listed_after : (change : ClaimChange) → HasClaimsOfPackages change → (coming : List PathClaim) → HasFirstClaimOfEachPath (filter (is_of_added_owner (members_of change.members.now)) (claims_after change)) coming
-    → (q : List ℕ) → Names.IsIn q (paths coming) → is_claimed (file_change_of change) q ≡ true
+    → (q : List ℕ) → Names.IsIn q (paths coming) → is_listed_after_change (file_change_of change) q ≡ true
 listed_after change claims coming firsts q here =
     let one = found_in coming q here in
     let all = sym (firsts.each q) ∙ one.1 in
@@ -79,10 +79,10 @@ listed_after change claims coming firsts q here =
     let some = found_some (is_claim_of_path q) (claims_after change) at.0 one.0 at.1 (found_passes (is_claim_of_path q) coming one.0 one.1) in
     sym (claimed_after change claims q) ∙ ap is_some some.1
 
-left_unlisted : (change : ClaimChange) (asides : List PathClaim) (q : List ℕ) → Names.IsIn q (paths (left_over_claims_of change asides)) → not (is_claimed (file_change_of change) q) ≡ true
+left_unlisted : (change : ClaimChange) (asides : List PathClaim) (q : List ℕ) → Names.IsIn q (paths (left_over_claims_of change asides)) → not (is_listed_after_change (file_change_of change) q) ≡ true
 left_unlisted change asides q here =
     let (c, is, left) = left_passes (λ c. is_path_left_over (file_change_of change) asides c.path) (claims_before change) q here in
-    ap (λ path. not (is_claimed (file_change_of change) path)) (sym is) ∙ (and_parts (not (is_claimed (file_change_of change) c.path)) (not (is_apk_new_name_of asides c.path)) left).0
+    ap (λ path. not (is_listed_after_change (file_change_of change) path)) (sym is) ∙ (and_parts (not (is_listed_after_change (file_change_of change) c.path)) (not (is_apk_new_name_of asides c.path)) left).0
 
 -- ---- the plan
 
@@ -92,7 +92,7 @@ module _ (change : ClaimChange) (claims : HasClaimsOfPackages change) (coming : 
   over_files = files_found (claim_fate (file_change_of change)) (is_file_kept (file_change_of change)) h coming (left_over_claims_of change (apk_new_claims_of parts)) are.fates are.stays
       (Names.rises_from_pairs (paths coming) firsts.rising)
       (filtered_rises (λ c. is_path_left_over (file_change_of change) (apk_new_claims_of parts) c.path) (claims_before change) (Names.rises_from_pairs (paths (claims_before change)) claims.before.rising))
-      (λ q here there. not_both (is_claimed (file_change_of change) q) (listed_after change claims coming firsts q here) (left_unlisted change (apk_new_claims_of parts) q there))
+      (λ q here there. not_both (is_listed_after_change (file_change_of change) q) (listed_after change claims coming firsts q here) (left_unlisted change (apk_new_claims_of parts) q there))
       are.fates_found are.stays_found
 
   no_clash_over : (h : List TreeState) (files : Files) → IfObservable h (λ v. files ≡ files_of v) → (found : Option Clash) → found ≡ None

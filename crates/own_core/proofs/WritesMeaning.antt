@@ -9,7 +9,7 @@ use Rattle.std.proofs.lemmas.Cmp.{nat_list_cmp_total, on_total}
 use Rattle.base_core.specs.Files.{Files}
 use Rattle.base_core.proofs.Rising as Names
 use Rattle.base_core.specs.ByteOrder.{bytes_cmp}
-use Rattle.base_core.specs.Sorted.{sorted_by, with_element}
+use Rattle.base_core.specs.Sorted.{sorted_by, with_element_inserted}
 use Rattle.base_core.proofs.Sorting as Sorting
 use Rattle.base_core.proofs.Sorting.{Each, sort_seen, sorted_up, stable}
 use Rattle.change_files.specs.db_core.Members.{Listing}
@@ -21,7 +21,7 @@ use Rattle.change_files.specs.file_owners.Owners.{claims_in}
 use Rattle.change_files.specs.Fate as Fates
 use Rattle.change_files.specs.Fate.{agrees_with_old_entry, apk_new_name, fate_with_file_found, fate_of, goes_aside, goes_in, gives_way, is_as_old_entry_lists, is_protected_path}
 use Rattle.change_files.specs.file_guard.AsListed.{is_as_listed}
-use Rattle.change_files.specs.FileChange.{FileChange, added_owner_listing, is_claimed, old_entry}
+use Rattle.change_files.specs.FileChange.{FileChange, added_owner_listing, is_listed_after_change, old_entry}
 use Rattle.change_files.specs.FilesAfter.{if_written_as_apk_new, if_written_in_place, apk_new_listing_at, path_of_apk_new_name, listing_written_under_name, listing_written_in_place}
 use Rattle.std.specs.Option.{option_or}
 use Rattle.base_core.proofs.Orderings.{is_less}
@@ -44,11 +44,11 @@ abbrev pub Distinct : List (List ℕ) → Type 0
 Distinct [] = Unit {0}
 Distinct (x ∷ xs) = (Names.IsIn x xs → ⊥) × Distinct xs
 
-distinct_with : (x : List ℕ) (ys : List (List ℕ)) → (Names.IsIn x ys → ⊥) → Distinct ys → Distinct (with_element bytes_cmp x ys)
+distinct_with : (x : List ℕ) (ys : List (List ℕ)) → (Names.IsIn x ys → ⊥) → Distinct ys → Distinct (with_element_inserted bytes_cmp x ys)
 distinct_with x [] n d = (λ here. here, tt)
 distinct_with x (y ∷ ys) n d = go (is_gt (bytes_cmp x y)) (distinct_with x ys (λ here. n (inr here)) d.1)
   where
-    go : (b : Bool) → Distinct (with_element bytes_cmp x ys) → Distinct (if b then y ∷ with_element bytes_cmp x ys else x ∷ y ∷ ys)
+    go : (b : Bool) → Distinct (with_element_inserted bytes_cmp x ys) → Distinct (if b then y ∷ with_element_inserted bytes_cmp x ys else x ∷ y ∷ ys)
     go true rest = (λ here. elim (from_with y x ys here) [ inl is ↦ n (inl (sym is)) | inr old ↦ d.0 old ], rest)
     go false rest = (n, d)
 
@@ -81,11 +81,11 @@ names_sorted ws = sort_seen (λ w. w.name) bytes_cmp nat_list_cmp_total ws (sort
 
 -- ---- each element of a sorted list
 
-each_with : (P : FileWrite → Type 0) (x : FileWrite) (ys : List FileWrite) → P x → Each P ys → Each P (with_element write_cmp x ys)
+each_with : (P : FileWrite → Type 0) (x : FileWrite) (ys : List FileWrite) → P x → Each P ys → Each P (with_element_inserted write_cmp x ys)
 each_with P x [] px h = (px, tt)
 each_with P x (y ∷ ys) px h = go (is_gt (write_cmp x y)) (each_with P x ys px h.1)
   where
-    go : (b : Bool) → Each P (with_element write_cmp x ys) → Each P (if b then y ∷ with_element write_cmp x ys else x ∷ y ∷ ys)
+    go : (b : Bool) → Each P (with_element_inserted write_cmp x ys) → Each P (if b then y ∷ with_element_inserted write_cmp x ys else x ∷ y ∷ ys)
     go true rest = (h.0, rest)
     go false rest = (px, h)
 
@@ -160,7 +160,7 @@ both_apart (x ∷ xs) ys d e n = (λ here. elim (in_both x xs ys here) [ inl a �
 
 -- over any tree: claimed paths and names beside that are not
 pub writes_rise : (change : FileChange) (ins asides : List PathClaim) → Names.Rises (paths ins) → Names.Rises (paths asides)
-    → ((q : List ℕ) → Names.IsIn q (paths ins) → is_claimed change q ≡ true) → ((q : List ℕ) → Names.IsIn q (paths asides) → is_claimed change (apk_new_name q) ≡ false)
+    → ((q : List ℕ) → Names.IsIn q (paths ins) → is_listed_after_change change q ≡ true) → ((q : List ℕ) → Names.IsIn q (paths asides) → is_listed_after_change change (apk_new_name q) ≡ false)
     → Names.Rises (write_names (sorted_by write_cmp (map claim_write ins ++ map apk_new_write asides)))
 writes_rise change ins asides a b claimed free =
     subst Names.Rises (sym (names_sorted (map claim_write ins ++ map apk_new_write asides)))
@@ -171,7 +171,7 @@ writes_rise change ins asides a b claimed free =
     apart : (q : List ℕ) → Names.IsIn q (paths ins) → Names.IsIn q (map apk_new_name (paths asides)) → ⊥
     apart q here there =
         let f = in_aside q (paths asides) there in
-        true≢false (sym (claimed q here) ∙ (ap (is_claimed change) f.1 ∙ free f.0 f.2))
+        true≢false (sym (claimed q here) ∙ (ap (is_listed_after_change change) f.1 ∙ free f.0 f.2))
 
 -- ---- over the files of the tree
 
@@ -224,7 +224,7 @@ is_aside gives_way h = absurd (true≢false (sym h))
 is_aside goes_aside h = refl
 
 -- a file goes aside only if nobody lists the name beside
-pub free_beside : (change : FileChange) (files : Files) (c : PathClaim) → are_equal_fates goes_aside (claim_fate change c (files c.path)) ≡ true → is_claimed change (apk_new_name c.path) ≡ false
+pub free_beside : (change : FileChange) (files : Files) (c : PathClaim) → are_equal_fates goes_aside (claim_fate change c (files c.path)) ≡ true → is_listed_after_change change (apk_new_name c.path) ≡ false
 free_beside change files c h = by_file (files c.path) h
   where
     third : (a b d : Bool) → are_equal_fates goes_aside (if a && (b && not d) then goes_aside else gives_way) ≡ true → d ≡ false
@@ -237,11 +237,11 @@ free_beside change files c h = by_file (files c.path) h
     by_test true a b d h = absurd (true≢false (sym h))
     by_test false a b d h = third a b d h
 
-    by_file : (o : Option (List ℕ)) → are_equal_fates goes_aside (fate_with_file_found change c.path (claim_entry change.members c) o) ≡ true → is_claimed change (apk_new_name c.path) ≡ false
+    by_file : (o : Option (List ℕ)) → are_equal_fates goes_aside (fate_with_file_found change c.path (claim_entry change.members c) o) ≡ true → is_listed_after_change change (apk_new_name c.path) ≡ false
     by_file None h = absurd (true≢false (sym h))
     by_file (Some bytes) h =
         by_test (not (is_protected_path c.path) || (is_as_listed (claim_entry change.members c) bytes || is_as_old_entry_lists (old_entry change c.path) bytes))
-        (not (agrees_with_old_entry (old_entry change c.path) (claim_entry change.members c))) (nat_le (length (apk_new_name c.path)) 1024) (is_claimed change (apk_new_name c.path)) h
+        (not (agrees_with_old_entry (old_entry change c.path) (claim_entry change.members c))) (nat_le (length (apk_new_name c.path)) 1024) (is_listed_after_change change (apk_new_name c.path)) h
 
 module _ (change : FileChange) (files : Files) (coming : List PathClaim) (up : Names.Rises (paths coming))
     (each : (q : List ℕ) → find (is_claim_of_path q) coming ≡ find (is_claim_of_path q) (filter (is_of_added_owner change.members) (sorted_by claim_cmp (claims_in change.members)))) where
@@ -294,8 +294,8 @@ module _ (change : FileChange) (files : Files) (coming : List PathClaim) (up : N
       (each_written (λ c. (find (is_claim_of_path c.path) coming ≡ Some c) × (are_equal_fates goes_aside (claim_fate change c (files c.path)) ≡ true)) (λ w. as_written w.name ≡ Some w) apk_new_write aside_as_written asides
       (each_passing (λ c. find (is_claim_of_path c.path) coming ≡ Some c) (λ c. are_equal_fates goes_aside (claim_fate change c (files c.path))) coming (each_finds_itself coming up)))
 
-  claimed_in : (q : List ℕ) → Names.IsIn q (paths ins) → is_claimed change q ≡ true
-  claimed_in q here = go (is_claimed change q) refl
+  claimed_in : (q : List ℕ) → Names.IsIn q (paths ins) → is_listed_after_change change q ≡ true
+  claimed_in q here = go (is_listed_after_change change q) refl
     where
       comes : is_some (added_owner_listing change q) ≡ true
       comes = by_owner (added_owner_listing change q) (in_is change files coming up each q ∙ is_there ins q here)
@@ -304,16 +304,16 @@ module _ (change : FileChange) (files : Files) (coming : List PathClaim) (up : N
           by_owner None h = h
           by_owner (Some l) h = refl
 
-      go : (b : Bool) → is_claimed change q ≡ b → b ≡ true
+      go : (b : Bool) → is_listed_after_change change q ≡ b → b ≡ true
       go true e = refl
       go false e = absurd (true≢false (sym comes ∙ ap is_some (no_owner change q e)))
 
-  free_in : (q : List ℕ) → Names.IsIn q (paths asides) → is_claimed change (apk_new_name q) ≡ false
+  free_in : (q : List ℕ) → Names.IsIn q (paths asides) → is_listed_after_change change (apk_new_name q) ≡ false
   free_in q here =
       let f = found_in asides q here in
       let t = found_is (is_claim_of_path q) (λ c. (find (is_claim_of_path c.path) coming ≡ Some c) × (are_equal_fates goes_aside (claim_fate change c (files c.path)) ≡ true)) asides f.0
       (each_passing (λ c. find (is_claim_of_path c.path) coming ≡ Some c) (λ c. are_equal_fates goes_aside (claim_fate change c (files c.path))) coming (each_finds_itself coming up)) f.1 in
-      ap (λ p. is_claimed change (apk_new_name p)) (sym ((bytes_decides f.0.path q).0 t.1)) ∙ free_beside change files f.0 t.0.1
+      ap (λ p. is_listed_after_change change (apk_new_name p)) (sym ((bytes_decides f.0.path q).0 t.1)) ∙ free_beside change files f.0 t.0.1
 
   in_write_names : (q : List ℕ) → Names.IsIn q (paths ins) ⊎ Names.IsIn q (map apk_new_name (paths asides)) → Names.IsIn q (write_names (sorted_by write_cmp all_writes))
   in_write_names q h =

@@ -8,7 +8,7 @@ use Rattle.change_files.specs.file_guard.Listed.{DescribesEntry}
 use Rattle.change_files.specs.file_guard.declared.compare.ListedFile.{ListedFile}
 use Rattle.change_files.specs.Fate as Fates
 use Rattle.change_files.specs.Fate.{apk_new_name, fate_with_file_found, gives_way, goes_aside, goes_in, most_name_bytes}
-use Rattle.change_files.specs.FileChange.{FileChange, is_claimed}
+use Rattle.change_files.specs.FileChange.{FileChange, is_listed_after_change}
 use Rattle.own_core.specs.ClaimEntries.{claim_entry}
 use Rattle.own_core.specs.declared.fate.AddedFileFate.{AddedFileFate}
 use Rattle.own_core.specs.declared.fate.AddedFileFate.TheVariants.{GivesWay, GoesAside, GoesIn}
@@ -28,7 +28,8 @@ claim_fate change c found = fate_with_file_found change c.path (claim_entry chan
 -- enough for a name
 abbrev pub is_apk_new_name_free : FileChange → List ℕ → Bool
 is_apk_new_name_free change path =
-    nat_le (length (apk_new_name path)) most_name_bytes && not (is_claimed change (apk_new_name path))
+    nat_le (length (apk_new_name path)) most_name_bytes
+    && not (is_listed_after_change change (apk_new_name path))
 
 -- a `ListedFile` describes the entry, or there is neither
 abbrev pub DescribesEntryIfAny : Option ListedFile → Option Plain → Type 0

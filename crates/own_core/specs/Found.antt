@@ -21,8 +21,10 @@ abbrev pub AreAnswersByFiles :
 AreAnswersByFiles said history [] [] = Unit {0}
 AreAnswersByFiles said history [] (y ∷ ys) = ⊥
 AreAnswersByFiles said history (c ∷ cs) [] = ⊥
-AreAnswersByFiles said history (c ∷ cs) (y ∷ ys) = IsByFile said history c y × AreAnswersByFiles said history cs ys
+AreAnswersByFiles said history (c ∷ cs) (y ∷ ys) =
+    IsByFile said history c y × AreAnswersByFiles said history cs ys
 
 -- what `said` says of some claims, given known files
-abbrev pub results_for_claims : {Y : Type 0} → (PathClaim → Option (List ℕ) → Y) → Files → List PathClaim → List Y
+abbrev pub results_for_claims : {Y : Type 0} → (PathClaim → Option (List ℕ) → Y) → Files → List PathClaim
+    → List Y
 results_for_claims said files cs = map (λ c. said c (files c.path)) cs

@@ -6,7 +6,7 @@ use Rattle.std.specs.List.{find}
 use Rattle.change_files.specs.db_core.Members.{members_of_kept}
 use Rattle.path_claim_lists.specs.path_claims.Claims.{PathClaim, is_claim_of_path}
 use Rattle.change_files.specs.Fate.{is_protected_path}
-use Rattle.change_files.specs.FileChange.{FileChange, is_claimed}
+use Rattle.change_files.specs.FileChange.{FileChange, is_listed_after_change}
 use Rattle.change_files.specs.FilesAfter.{is_modified_from_entry, path_of_apk_new_name}
 use Rattle.own_core.specs.ClaimEntries.{claim_entry}
 
@@ -18,7 +18,8 @@ is_apk_new_name_of asides name =
 -- whether a path is left over: no package lists it any more, and nothing is laid beside another
 -- file there
 abbrev pub is_path_left_over : FileChange → List PathClaim → List ℕ → Bool
-is_path_left_over change asides path = not (is_claimed change path) && not (is_apk_new_name_of asides path)
+is_path_left_over change asides path =
+    not (is_listed_after_change change path) && not (is_apk_new_name_of asides path)
 
 -- whether the file of a claim of a package before the change is kept: it is configuration, the user
 -- changed it, and there is no `--purge`; `found` is the file under its path

@@ -45,7 +45,8 @@ pub record ArePlanLists (change : FileChange) (files : Files) (plan : FilePlan) 
 
 -- the lists of a plan are those of the change over some files, and over some no name is a folder of
 -- another; if the tree's files are observable, both are these
-pub record IsPlanOverSomeFiles (change : FileChange) (history : List TreeState) (plan : FilePlan) : Type 0 where
+pub record IsPlanOverSomeFiles (change : FileChange) (history : List TreeState)
+    (plan : FilePlan) : Type 0 where
   pub files : Files
   pub told : IfObservable history (λ v. files ≡ files_of v)
   pub lists : ArePlanLists change files plan

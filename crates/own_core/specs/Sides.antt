@@ -28,7 +28,8 @@ claims_after c = map claim_seen c.after.now
 
 -- the claims of a change are those of its packages: before the change one for each path, after it all
 pub record HasClaimsOfPackages (c : ClaimChange) : Type 0 where
-  pub before : HasFirstClaimOfEachPath (sorted_by claim_cmp (claims_in (members_of_kept (packages_of c.db.now))))
+  pub before : HasFirstClaimOfEachPath
+      (sorted_by claim_cmp (claims_in (members_of_kept (packages_of c.db.now))))
       (claims_before c)
   pub after : claims_after c ≡ sorted_by claim_cmp (claims_in (members_of c.members.now))
   pub old_files : AreClaimsOf (members_of_kept (packages_of c.db.now)) (claims_before c)

@@ -6,7 +6,7 @@ ghost use Rattle.std.specs.Prelude.{◌≡◌, ◌↔◌, ◌∷◌, ◌++◌, [
 ghost use Rattle.path_claim_lists.specs.adb_fields.JoinedPath.{joined_path};
 ghost use Rattle.adb_view.specs.Plain.{Plain};
 ghost use Rattle.base_core.specs.Read.{OnlyReads};
-ghost use Rattle.change_files.specs.Fate.{agrees_with_old_entry, fate_of_protected_file, is_protected_path};
+ghost use Rattle.change_files.specs.Fate.{agrees_with_old_entry, fate_if_user_modified_file, is_protected_path};
 ghost use Rattle.change_files.specs.FileChange.{old_entry};
 ghost use Rattle.change_files.specs.db_core.Seen.{members_of};
 ghost use Rattle.change_files.specs.file_guard.Listed.{DescribesEntry};
@@ -42,7 +42,8 @@ fn listed_so_far<'o>(
     path: &FilePath<'_>,
 ) -> Option<ListedFile<'o>>
     requires { HasClaimsOfPackages change.now }
-    ensures { DescribesEntryIfAny result (old_entry (file_change_of change.now) (joined_path path.now)) }
+    ensures { DescribesEntryIfAny result (old_entry (file_change_of change.now)
+        (joined_path path.now)) }
 {
     match find_claim(change.before, path) {
         Some(i) => Some(listed_before(change.db, &change.before[i], PhantomData)),
@@ -57,7 +58,8 @@ fn is_apk_new_name_free(
     name: &Name,
 ) -> Result<bool, AllocError>
     requires { HasClaimsOfPackages change.now }
-    ensures { IfOk result (λ free. free ≡ is_apk_new_name_free (file_change_of change.now) name.now) }
+    ensures { IfOk result (λ free. free
+        ≡ is_apk_new_name_free (file_change_of change.now) name.now) }
 {
     let bytes = aside_bytes(alloc, name.as_bytes())?;
     if bytes.len() > LONGEST_NAME {
@@ -85,7 +87,7 @@ fn agrees_with_old_entry(new: &ListedFile<'_>, old: &Option<ListedFile<'_>>) -> 
 /// What is done with an added file if the user changed the one under its path. It is left out if it
 /// does not differ from the installed version, or cannot be laid beside; otherwise it is laid
 /// beside.
-fn fate_of_protected_file(
+fn fate_if_user_modified_file(
     alloc: Global,
     change: &ClaimChange<'_, '_, '_>,
     name: &Name,
@@ -95,7 +97,7 @@ fn fate_of_protected_file(
     requires claims { HasClaimsOfPackages change.now }
     requires old { DescribesEntryIfAny old.now (old_entry (file_change_of change.now) name.now) }
     ensures { IfOk result (λ fate. (entry : Plain) → DescribesEntry new.now entry
-        → fate_seen fate ≡ fate_of_protected_file (file_change_of change.now) name.now entry) }
+        → fate_seen fate ≡ fate_if_user_modified_file (file_change_of change.now) name.now entry) }
 {
     if agrees_with_old_entry(new, old) || !is_apk_new_name_free(alloc, change, name)? {
         return Ok(AddedFileFate::GivesWay);
@@ -136,7 +138,7 @@ fn guarded_fate<T: Tree>(
     let found = compare_file(tree, &name, Some(new), old)?;
     // The user changed the file: its bytes are kept.
     if is_modified_from_entry(found) {
-        let fate = fate_of_protected_file(alloc, change, &name, &new, &old)?;
+        let fate = fate_if_user_modified_file(alloc, change, &name, &new, &old)?;
         return Ok(fate);
     }
     Ok(AddedFileFate::GoesIn)

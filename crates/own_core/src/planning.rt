@@ -118,7 +118,8 @@ fn clash_of<T: Tree>(
         (option_map clash_seen found))) }
     // Over any tree, even one whose files are not observable, the answer may be the first clash.
     ensures may { IfOk result (λ found.
-        IsFirstClashOverSomeFiles (name_change_of_parts change.now parts.now) (option_map clash_seen found)) }
+        IsFirstClashOverSomeFiles (name_change_of_parts change.now parts.now)
+        (option_map clash_seen found)) }
     ensures tree { OnlyReads TreeFault.Disk (T.history tree.old) (T.history tree.new)
         (T.counts tree.old) (T.counts tree.new) result }
 {
@@ -232,7 +233,8 @@ fn plan_of_claims<T: Tree>(
     requires unreserved { first_reserved_path (members_of change.now.members.now) ≡ None }
     requires named { All (λ l. IsName l.path)
         (member_listings (members_of change.now.members.now)) }
-    ensures plan { IfOk result (IsPlanOverSomeFiles (file_change_of change.now) (T.history tree.old)) }
+    ensures plan { IfOk result (IsPlanOverSomeFiles (file_change_of change.now)
+        (T.history tree.old)) }
     ensures lists { IfOk result (IsPlanForMembersAlone (members_of change.now.members.now)) }
     ensures refusal { IfErr result (λ fault. IfObservable (T.history tree.old) (λ v.
         IsRefusalOverFiles (file_change_of change.now) (files_of v) fault)) }

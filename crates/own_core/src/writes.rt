@@ -62,7 +62,8 @@ impl Writes {
 /// Adds a write of the file of a claim, under a name.
 fn add_write(writes: &mut Vec<Write>, name: Name, claim: &Claim<'_>) -> Result<(), AllocError>
     ensures { OnOk result (map write_seen writes.new.items
-        ≡ map write_seen writes.old.items ++ write_of_claim_under name (claim_seen claim.now) ∷ []) }
+        ≡ map write_seen writes.old.items
+        ++ write_of_claim_under name (claim_seen claim.now) ∷ []) }
 {
     writes.push(Write {
         name,
@@ -123,7 +124,8 @@ pub(crate) fn writes_of(
     requires ins { HaveValidPaths (map claim_seen ins.now) }
     requires asides { CanHaveApkNewNames (map claim_seen asides.now) }
     ensures { IfOk result (λ writes. writes_in writes ≡ sorted_by write_cmp
-        (map claim_write (map claim_seen ins.now) ++ map apk_new_write (map claim_seen asides.now))) }
+        (map claim_write (map claim_seen ins.now)
+        ++ map apk_new_write (map claim_seen asides.now))) }
 {
     let mut writes = Vec::new(alloc);
     add_in(alloc, &mut writes, ins)?;

@@ -9,7 +9,7 @@ use Rattle.std.proofs.lemmas.List.{drop_all}
 use Rattle.indexmap.specs.IndexMap.{insert_entry}
 use Rattle.base_core.proofs.AtName.{either_way}
 use Rattle.solve_core.specs.candidate_core.Candidates.{Candidate}
-use Rattle.package_changes.specs.Changes.{is_selected_named}
+use Rattle.package_changes.specs.Changes.{is_candidate_named}
 use Rattle.package_changes.specs.SelectedNames.{names_and_places, place_paired_with_name}
 use Rattle.package_changes.proofs.Lists.{left_at}
 
@@ -60,11 +60,11 @@ pub not_there : (o : Option ℕ) (test : Candidate → Bool) (c : Option Candida
 not_there o test c place e = subst (λ z. o ≡ option_or o (if option_map_or test z false then Some place else None)) e (or_none o)
 
 -- the candidate at a place
-pub one_there : (new old : Option ℕ) (name own : List ℕ) (d : Candidate) (c : Option Candidate) (place : ℕ) → Some d ≡ c → own ≡ d.name → new ≡ option_or old (if bytes_eq own name then Some place else None) → new ≡ option_or old (if option_map_or (is_selected_named name) c false then Some place else None)
+pub one_there : (new old : Option ℕ) (name own : List ℕ) (d : Candidate) (c : Option Candidate) (place : ℕ) → Some d ≡ c → own ≡ d.name → new ≡ option_or old (if bytes_eq own name then Some place else None) → new ≡ option_or old (if option_map_or (is_candidate_named name) c false then Some place else None)
 one_there new old name own d c place e n is =
     is
     ∙ (ap (λ z. option_or old (if bytes_eq z name then Some place else None)) n
-    ∙ ap (λ z. option_or old (if option_map_or (is_selected_named name) z false then Some place else None)) e)
+    ∙ ap (λ z. option_or old (if option_map_or (is_candidate_named name) z false then Some place else None)) e)
 
 -- ---- the first of a list
 

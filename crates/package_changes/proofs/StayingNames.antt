@@ -7,7 +7,7 @@ use Rattle.adb_view.specs.Plain.{Plain}
 use Rattle.solve_core.specs.candidate_core.Candidates.{Candidate}
 use Rattle.solve_core.specs.candidate_core.Rank.{SealedPool, candidate_at}
 use Rattle.report_core.specs.Reports.{report_line, still_needed_text}
-use Rattle.package_changes.specs.Changes.{is_selected_named}
+use Rattle.package_changes.specs.Changes.{is_candidate_named}
 use Rattle.package_changes.specs.Placed.{candidates_at, selected_place}
 use Rattle.package_changes.specs.Report.{names_needing_candidate, still_needed_lines_of_name, was_installed}
 use Rattle.package_changes.specs.SelectedNames.{place_paired_with_name}
@@ -25,8 +25,8 @@ none_passes {X} p (x ∷ xs) e = go (p x) e (none_passes p xs)
 no_line : (pool : SealedPool) (trace : List ℕ) (name : List ℕ) → selected_place pool trace name ≡ None → still_needed_lines_of_name (candidates_at pool trace) name ≡ []
 no_line pool trace name none =
     ap (flat_map (λ (c : Candidate). report_line (still_needed_text name (names_needing_candidate (candidates_at pool trace) c))))
-    (none_passes (is_selected_named name) (candidates_at pool trace)
-    (sym (found_at_place pool (is_selected_named name) trace) ∙ ap (option_and_then (candidate_at pool)) none))
+    (none_passes (is_candidate_named name) (candidates_at pool trace)
+    (sym (found_at_place pool (is_candidate_named name) trace) ∙ ap (option_and_then (candidate_at pool)) none))
 
 -- names that no selected candidate has add nothing
 pub only_selected_stay : (before : List Plain) (pool : SealedPool) (trace : List ℕ) (table : List (List ℕ × ℕ)) → ((name : List ℕ) → place_paired_with_name name table ≡ selected_place pool trace name) → (names : List (Bor (List ℕ)))

@@ -4,12 +4,12 @@ use Rattle.std.specs.Prelude.{codes}
 use Rattle.adb_view.specs.Plain.{Plain, blob, more, none, obj}
 use Rattle.change_files.specs.PlanLists.{sorted_distinct_names}
 use Rattle.dep_core.specs.Dependency.{Dependency, dependency_from_parts}
-use Rattle.solve_core.specs.candidate_core.Candidates.{Candidate, candidate_by}
+use Rattle.solve_core.specs.candidate_core.Candidates.{Candidate, candidate_from_parts}
 use Rattle.package_changes.specs.Changes.{change_of_name, changes_of}
 use Rattle.package_changes.specs.Report.{still_needed_lines}
 use Rattle.report_core.specs.Reports.{Install, Purge, Reinstall, Replace, Upgrade}
 use Rattle.version_core.specs.Order.{is_version, tokens, version_cmp}
-use Rattle.version_core.specs.Token.{component_lexeme, next_lexeme, number_lexeme}
+use Rattle.version_core.specs.Token.{later_component_lexeme, next_lexeme, number_lexeme}
 
 abbrev info_of : List ℕ → List ℕ → Plain
 info_of name version = obj (more (blob name) (more (blob version) none))
@@ -19,7 +19,7 @@ package_of name version = obj (more (info_of name version) none)
 
 abbrev candidate_of : Option ℕ → List ℕ → List ℕ → List Dependency → Candidate
 candidate_of repository name version depends =
-    candidate_by (info_of name version) name (Some version) [] depends [] [] 0 repository None true
+    candidate_from_parts (info_of name version) name (Some version) [] depends [] [] 0 repository None true
 
 abbrev needs : List ℕ → Dependency
 needs name = dependency_from_parts name None 1 false None
@@ -65,9 +65,9 @@ b_comes_again = refl
 
 -- the same version with no id is another package
 b_is_replaced : changes_of (record { before = package_of (codes "b") (codes "1") ∷ []; selected = candidate_of (Some 1) (codes "b") (codes "1") [] ∷ []; again = [] }) ≡ Replace (codes "b") (codes "1") (codes "1") ∷ []
-unfolding changes_of change_of_name sorted_distinct_names is_version version_cmp tokens next_lexeme number_lexeme component_lexeme
+unfolding changes_of change_of_name sorted_distinct_names is_version version_cmp tokens next_lexeme number_lexeme later_component_lexeme
 b_is_replaced = refl
 
 b_is_upgraded : changes_of (record { before = package_of (codes "b") (codes "1.9") ∷ []; selected = candidate_of (Some 1) (codes "b") (codes "1.10") [] ∷ []; again = [] }) ≡ Upgrade (codes "b") (codes "1.9") (codes "1.10") ∷ []
-unfolding changes_of change_of_name sorted_distinct_names is_version version_cmp tokens next_lexeme number_lexeme component_lexeme
+unfolding changes_of change_of_name sorted_distinct_names is_version version_cmp tokens next_lexeme number_lexeme later_component_lexeme
 b_is_upgraded = refl

@@ -11,7 +11,7 @@ use Rattle.adb_view.specs.FieldIndexes.{INFO_VERSION}
 use Rattle.adb_view.specs.Values.{entry_in, text_in}
 use Rattle.change_files.specs.adb_fields.Repeated.{package_name}
 use Rattle.change_files.specs.db_core.Packages.{installed_id, is_package_named}
-use Rattle.change_files.specs.file_owners.Replaces.{version_text}
+use Rattle.change_files.specs.file_owners.Replaces.{package_version_text}
 use Rattle.change_files.specs.PlanLists.{sorted_distinct_names}
 use Rattle.solve_core.specs.candidate_core.Candidates.{Candidate, is_same_id, version_of_text}
 use Rattle.std.specs.Option.{option_cmp}
@@ -26,22 +26,23 @@ pub record Replacement : Type 0 where
   pub again : List (List ℕ)
 
 -- the text of a candidate's version, as the index or the database has it
-abbrev pub selected_version : Candidate → List ℕ
-selected_version c = text_in (entry_in c.info INFO_VERSION)
+abbrev pub candidate_version_text : Candidate → List ℕ
+candidate_version_text c = text_in (entry_in c.info INFO_VERSION)
 
 -- whether the candidate has the name; what it provides does not count
-abbrev pub is_selected_named : List ℕ → Candidate → Bool
-is_selected_named name c = bytes_eq c.name name
+abbrev pub is_candidate_named : List ℕ → Candidate → Bool
+is_candidate_named name c = bytes_eq c.name name
 
 -- whether a candidate is an installed package with this version and this id: it is of no
 -- repository, or has the same text and the same id
-abbrev pub is_installed_as : List ℕ → List ℕ → Candidate → Bool
-is_installed_as version id c =
-    not (is_some c.repository) || (bytes_eq version (selected_version c) && is_same_id id c.id)
+abbrev pub is_installed_with_version_and_id : List ℕ → List ℕ → Candidate → Bool
+is_installed_with_version_and_id version id c =
+    not (is_some c.repository) || (bytes_eq version (candidate_version_text c) && is_same_id id c.id)
 
 -- whether a candidate is this very package of the database, so that the package is kept as it is
 abbrev pub is_candidate_this_package : Plain → Candidate → Bool
-is_candidate_this_package pkg c = is_installed_as (version_text pkg) (installed_id pkg) c
+is_candidate_this_package pkg c =
+    is_installed_with_version_and_id (package_version_text pkg) (installed_id pkg) c
 
 -- the change of a package from one version to another, by their order
 abbrev pub version_change : List ℕ → List ℕ → List ℕ → Ordering → Change
@@ -58,15 +59,15 @@ version_text_cmp old new = option_cmp version_cmp (version_of_text old) (version
 -- is to be installed again
 abbrev pub change_unless_same : List ℕ → Plain → Candidate → Bool → Bool → Option Change
 change_unless_same name pkg c is_same is_again =
-    if not is_same then Some (version_change name (version_text pkg) (selected_version c)
-    (version_text_cmp (version_text pkg) (selected_version c)))
-    else if is_again then Some (Reinstall name (selected_version c)) else None
+    if not is_same then Some (version_change name (package_version_text pkg) (candidate_version_text c)
+    (version_text_cmp (package_version_text pkg) (candidate_version_text c)))
+    else if is_again then Some (Reinstall name (candidate_version_text c)) else None
 
 -- the change of a name, given the package before and the selected candidate, if there are any
 abbrev pub change_between : Bool → List ℕ → Option Plain → Option Candidate → Option Change
 change_between is_again name None None = None
-change_between is_again name None (Some c) = Some (Install name (selected_version c))
-change_between is_again name (Some pkg) None = Some (Purge name (version_text pkg))
+change_between is_again name None (Some c) = Some (Install name (candidate_version_text c))
+change_between is_again name (Some pkg) None = Some (Purge name (package_version_text pkg))
 change_between is_again name (Some pkg) (Some c) =
     change_unless_same name pkg c (is_candidate_this_package pkg c) is_again
 
@@ -74,7 +75,7 @@ change_between is_again name (Some pkg) (Some c) =
 unfoldable pub change_of_name : Replacement → List ℕ → Option Change
 change_of_name r name =
     change_between (list_any (bytes_eq name) r.again) name
-    (find (is_package_named name) r.before) (find (is_selected_named name) r.selected)
+    (find (is_package_named name) r.before) (find (is_candidate_named name) r.selected)
 
 -- the names of the packages before and of the selected ones, in byte order, each once
 abbrev pub names_before_and_selected : Replacement → List (List ℕ)

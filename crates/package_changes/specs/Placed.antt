@@ -7,7 +7,7 @@ use Rattle.change_files.specs.db_core.Packages.{is_package_named}
 use Rattle.solve_core.specs.candidate_core.Candidates.{Candidate}
 use Rattle.solve_core.specs.candidate_core.Rank.{SealedPool, candidate_at, candidate_at_passes}
 use Rattle.report_core.specs.Reports.{Change}
-use Rattle.package_changes.specs.Changes.{Replacement, change_between, is_selected_named, names_before_and_selected}
+use Rattle.package_changes.specs.Changes.{Replacement, change_between, is_candidate_named, names_before_and_selected}
 
 -- a replacement, by places: the packages before, the candidates, the places of the selected ones among
 -- them, and the names that are to be installed again
@@ -28,7 +28,7 @@ replacement_of p =
 
 -- the place among the candidates of the selected one with this name, if one has it
 abbrev pub selected_place : SealedPool → List ℕ → List ℕ → Option ℕ
-selected_place pool trace name = find (candidate_at_passes pool (is_selected_named name)) trace
+selected_place pool trace name = find (candidate_at_passes pool (is_candidate_named name)) trace
 
 -- the change of a package (`change`); its place among the packages before, counted from 0, if it was
 -- there (`old`); and the place of its candidate, if one is selected (`new`)
@@ -45,7 +45,7 @@ placed_change_with before pool again name old new =
     (change_between (list_any (bytes_eq name) again) name (option_and_then (slice_get before) old)
     (option_and_then (candidate_at pool) new))
 
--- the change of the package of this name, with its places on both sides; none if the package is kept
+-- the change of the package of this name, with its place in the database and its candidate's; none if it is kept
 unfoldable pub placed_change_of : PlacedReplacement → List ℕ → Option PlacedChange
 placed_change_of p name =
     placed_change_with p.before p.pool p.again name
@@ -55,10 +55,10 @@ placed_change_of p name =
 unfoldable pub placed_changes_of : PlacedReplacement → List PlacedChange
 placed_changes_of p = filter_map (placed_change_of p) (names_before_and_selected (replacement_of p))
 
--- ---- each name on both sides
+-- ---- each name of a package before or of a selected candidate
 
 -- a name of a package before or of a selected candidate; the change of the package, if it changes; and
--- its two places, as above
+-- its two places, as in *PlacedChange*
 pub record PlacedName : Type 0 where
   pub name : List ℕ
   pub change : Option Change
@@ -76,13 +76,13 @@ placed_name_with before pool again name old new = record {
   new = new;
 }
 
--- what happens to the package of this name, with its places on both sides, even if it is kept
+-- the change of the package of this name, if it changes, with its place in the database and among candidates
 unfoldable pub placed_name_of : PlacedReplacement → List ℕ → PlacedName
 placed_name_of p name =
     placed_name_with p.before p.pool p.again name
     (position_from (is_package_named name) 0 p.before) (selected_place p.pool p.trace name)
 
--- the names on both sides with their changes, in byte order
+-- each name of a package before or of a selected candidate, with its change, in byte order of the names
 unfoldable pub placed_names_of : PlacedReplacement → List PlacedName
 placed_names_of p = map (placed_name_of p) (names_before_and_selected (replacement_of p))
 

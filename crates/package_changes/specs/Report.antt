@@ -9,12 +9,12 @@ use Rattle.change_files.specs.PlanLists.{sorted_distinct_names}
 use Rattle.change_files.specs.db_core.Packages.{is_package_named}
 use Rattle.dep_core.specs.Dependency.{Dependency}
 use Rattle.solve_core.specs.candidate_core.Candidates.{Candidate, meets_dependency}
-use Rattle.report_core.specs.Reports.{change_lines, report_line, still_needed_text, sum_text}
-use Rattle.package_changes.specs.Changes.{Replacement, changes_of, is_selected_named}
+use Rattle.report_core.specs.Reports.{change_lines, report_line, still_needed_text, bytes_and_package_count_text}
+use Rattle.package_changes.specs.Changes.{Replacement, changes_of, is_candidate_named}
 
 -- the bytes that a candidate takes when it is installed, by its installed size
-abbrev pub candidate_size : Candidate → ℕ
-candidate_size c = int_in (entry_in c.info INFO_INSTALLED_SIZE)
+abbrev pub candidate_installed_size : Candidate → ℕ
+candidate_installed_size c = int_in (entry_in c.info INFO_INSTALLED_SIZE)
 
 -- ---- kept packages that were to be removed
 
@@ -23,20 +23,21 @@ abbrev pub needs_candidate : Candidate → Candidate → Bool
 needs_candidate c needed =
     list_any (λ (d : Dependency). not d.conflict && meets_dependency d needed) c.depends
 
--- whether another candidate needs the first one
+-- whether `c` is another candidate than `needed`, and needs it
 abbrev pub is_other_candidate_needing : Candidate → Candidate → Bool
 is_other_candidate_needing needed c = not (bytes_eq c.name needed.name) && needs_candidate c needed
 
--- the names of the other selected candidates that need one, in byte order
+-- the names of the other selected candidates that need the candidate `needed`, in byte order
 abbrev pub names_needing_candidate : List Candidate → Candidate → List (List ℕ)
 names_needing_candidate selected needed =
-    sorted_distinct_names (map (λ (c : Candidate). c.name) (filter (is_other_candidate_needing needed) selected))
+    sorted_distinct_names (map (λ (c : Candidate). c.name)
+    (filter (is_other_candidate_needing needed) selected))
 
 -- a line for each selected package of this name, of which there is one at most
 abbrev pub still_needed_lines_of_name : List Candidate → List ℕ → List ℕ
 still_needed_lines_of_name selected name =
     flat_map (λ (c : Candidate). report_line (still_needed_text name (names_needing_candidate selected c)))
-    (filter (is_selected_named name) selected)
+    (filter (is_candidate_named name) selected)
 
 -- whether a package before has the name
 abbrev pub was_installed : List Plain → List ℕ → Bool
@@ -46,14 +47,16 @@ was_installed before name = list_any (is_package_named name) before
 -- that was not installed has no line.
 abbrev pub still_needed_lines : List Plain → List Candidate → List (List ℕ) → List ℕ
 still_needed_lines before selected to_remove =
-    flat_map (still_needed_lines_of_name selected) (filter (was_installed before) (sorted_distinct_names to_remove))
+    flat_map (still_needed_lines_of_name selected)
+    (filter (was_installed before) (sorted_distinct_names to_remove))
 
 -- ---- the report
 
 -- the last line of a simulated report: how many bytes and packages there are after the change, by the
 -- sizes of the candidates
 abbrev pub selected_sum_line : List Candidate → List ℕ
-selected_sum_line selected = report_line (sum_text (sum_by candidate_size selected) (length selected))
+selected_sum_line selected =
+    report_line (bytes_and_package_count_text (sum_by candidate_installed_size selected) (length selected))
 
 -- the whole report of a simulated change: the change of each package, the kept ones of the names that
 -- were to be removed, and the sum

@@ -15,7 +15,8 @@ names_and_places entries = map (λ (e : Bor (List ℕ) × ℕ). (e.0.now, e.1)) 
 -- the place beside a name in the table, if the name is there
 abbrev pub place_paired_with_name : List ℕ → List (List ℕ × ℕ) → Option ℕ
 place_paired_with_name name [] = None
-place_paired_with_name name (e ∷ es) = if bytes_eq e.0 name then Some e.1 else place_paired_with_name name es
+place_paired_with_name name (e ∷ es) =
+    if bytes_eq e.0 name then Some e.1 else place_paired_with_name name es
 
 -- what happens to the package of a name, if the selected candidates have these names and places
 abbrev pub placed_name_at :

@@ -4,9 +4,9 @@
 //! "A change of what is installed".
 ghost use Rattle.change_files.specs.adb_schema.Views.{package_value};
 ghost use Rattle.change_files.specs.db_core.Seen.{packages_of};
-ghost use Rattle.change_files.specs.file_owners.Replaces.{version_text};
+ghost use Rattle.change_files.specs.file_owners.Replaces.{package_version_text};
 ghost use Rattle.change_files.specs.db_core.Packages.{installed_id};
-ghost use Rattle.package_changes.specs.Changes.{change_between, is_installed_as, selected_version, version_change, version_text_cmp};
+ghost use Rattle.package_changes.specs.Changes.{change_between, is_installed_with_version_and_id, candidate_version_text, version_change, version_text_cmp};
 ghost use Rattle.package_changes.specs.Seen.{change_seen};
 ghost use Rattle.solve_core.specs.candidate_core.Values.{candidate_value};
 ghost use Rattle.report_core.specs.Reports as Texts;
@@ -73,7 +73,7 @@ impl<'a> OldPackage<'a> {
     /// checker: it does not know the parts of a view that is made and lent here unless the
     /// signature names the view.
     pub(crate) fn of(pkg: &PackageView<'a>, _mark: PhantomData<PackageView<'a>>) -> OldPackage<'a>
-        ensures version { result.version.now ≡ version_text (package_value pkg.now) }
+        ensures version { result.version.now ≡ package_version_text (package_value pkg.now) }
         ensures id { result.id.now ≡ installed_id (package_value pkg.now) }
     {
         let info = pkg.info();
@@ -87,7 +87,7 @@ impl<'a> OldPackage<'a> {
 /// The change of a candidate whose name no package of the database has.
 pub(crate) fn install<'a>(name: &'a [u8], new: &Candidate<'a>) -> Change<'a>
     ensures { change_seen result
-        ≡ Texts.Install name.entry.now (selected_version (candidate_value new.now)) }
+        ≡ Texts.Install name.entry.now (candidate_version_text (candidate_value new.now)) }
 {
     Change::Install(name, new.info.version())
 }
@@ -141,7 +141,8 @@ pub(crate) fn replace<'a>(
 /// the version and the same id.
 fn is_candidate_this_package(old: &OldPackage<'_>, new: &Candidate<'_>) -> bool
     ensures { result
-        ≡ is_installed_as old.now.version.now old.now.id.now (candidate_value new.now) }
+        ≡ is_installed_with_version_and_id old.now.version.now old.now.id.now
+        (candidate_value new.now) }
 {
     // A candidate of no repository is the installed package itself.
     if new.repo.is_none() {

@@ -33,7 +33,8 @@ impl<'a> Changes<'a> {
     ) -> Result<Changes<'a>, AllocError>
         // The change of each package, by the rule.
         ensures changes { IfOk result (λ changes. map (λ c. c.change) (changes_seen changes)
-            ≡ changes_of (replacement_of (placed_replacement_from_parts db.now pool.now trace.now again.now))) }
+            ≡ changes_of (replacement_of
+            (placed_replacement_from_parts db.now pool.now trace.now again.now))) }
         // The same with the places of each package on both sides.
         ensures places { IfOk result (λ changes. changes_seen changes
             ≡ placed_changes_of (placed_replacement_from_parts db.now pool.now trace.now again.now)) }

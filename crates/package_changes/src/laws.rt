@@ -2,7 +2,7 @@
 //! No document has a rule for this: the law joins *Placed*, which knows packages by their places,
 //! to *Changes*, which knows them by their names.
 ghost use Rattle.change_files.specs.db_core.Packages.{is_package_named};
-ghost use Rattle.package_changes.specs.Changes.{change_of_name, is_selected_named};
+ghost use Rattle.package_changes.specs.Changes.{change_of_name, is_candidate_named};
 ghost use Rattle.package_changes.specs.Placed.{PlacedReplacement, candidates_at, new_candidate, old_package, placed_name_of, replacement_of};
 ghost use Rattle.std.specs.List.{find};
 ghost use Rattle.std.specs.Prelude.{◌≡◌, ℕ, List};
@@ -10,7 +10,7 @@ ghost use Rattle.std.specs.Prelude.{◌≡◌, ℕ, List};
 /// The places of a name lead to the first package before that has the name, and to the first
 /// selected candidate.
 pub fn places_lead_to_packages_and_candidates()
-    // A name that is placed is the name.
+    // The record of a name has this name.
     ensures name { (p : PlacedReplacement) (name : List ℕ) → (placed_name_of p name).name ≡ name }
     // Its package's change is what *Changes* says.
     ensures change { (p : PlacedReplacement) (name : List ℕ)
@@ -21,5 +21,5 @@ pub fn places_lead_to_packages_and_candidates()
     // Its place among the candidates leads to the first selected one of that name.
     ensures new { (p : PlacedReplacement) (name : List ℕ)
         → new_candidate p.pool (placed_name_of p name)
-        ≡ find (is_selected_named name) (candidates_at p.pool p.trace) }
+        ≡ find (is_candidate_named name) (candidates_at p.pool p.trace) }
 {}

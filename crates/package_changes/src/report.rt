@@ -3,10 +3,10 @@
 //! `fix`".
 ghost use Rattle.package_changes.specs.Changes.{changes_of};
 ghost use Rattle.package_changes.specs.Placed.{candidates_at, replacement_of};
-ghost use Rattle.package_changes.specs.Report.{candidate_size, selected_sum_line, simulated_report};
+ghost use Rattle.package_changes.specs.Report.{candidate_installed_size, selected_sum_line, simulated_report};
 ghost use Rattle.package_changes.specs.Seen.{change_seen, changes_seen, placed_replacement_from_parts};
 ghost use Rattle.solve_core.specs.candidate_core.Rank.{candidate_at};
-ghost use Rattle.report_core.specs.Reports.{change_lines, change_text, name_with_version_change, name_with_version_in_brackets, numbered_change, report_line, sum_text};
+ghost use Rattle.report_core.specs.Reports.{change_lines, change_text, name_with_version_change, name_with_version_in_brackets, numbered_change, report_line, bytes_and_package_count_text};
 ghost use Rattle.std.specs.Fmt.{decimal};
 ghost use Rattle.std.specs.Option.{option_map_or};
 ghost use Rattle.std.specs.Prelude.{◌≡◌, ◌+◌, ◌≤◌, ◌++◌, ℕ, List, codes, length, map, sum_by, IfOk, OnOk};
@@ -34,7 +34,8 @@ pub fn simulated_report(
 ) -> Result<Report, AllocError>
     ensures { IfOk result (λ report. (again : List (List ℕ))
         → map (λ c. c.change) (changes_seen changes.now)
-        ≡ changes_of (replacement_of (placed_replacement_from_parts db.now pool.now trace.now again))
+        ≡ changes_of (replacement_of
+        (placed_replacement_from_parts db.now pool.now trace.now again))
         → report ≡ simulated_report
         (replacement_of (placed_replacement_from_parts db.now pool.now trace.now again)) to_remove.now) }
 {
@@ -156,7 +157,8 @@ fn push_selected_sum(
 
 /// Adds the last line of a report: how many bytes and packages are installed.
 pub fn push_sum_line(report: &mut Report, bytes: u128, count: u128) -> Result<(), AllocError>
-    ensures { OnOk result (report.new ≡ report.old ++ report_line (sum_text bytes count)) }
+    ensures { OnOk result (report.new ≡ report.old
+        ++ report_line (bytes_and_package_count_text bytes count)) }
 {
     push_sum(report, bytes, count)?;
     report.push(b"\n")?;
@@ -165,7 +167,7 @@ pub fn push_sum_line(report: &mut Report, bytes: u128, count: u128) -> Result<()
 
 /// Adds the text of the last line, without its line end.
 fn push_sum(report: &mut Report, bytes: u128, count: u128) -> Result<(), AllocError>
-    ensures { OnOk result (report.new ≡ report.old ++ sum_text bytes count) }
+    ensures { OnOk result (report.new ≡ report.old ++ bytes_and_package_count_text bytes count) }
 {
     report.push(b"OK: ")?;
     report.number(bytes)?;
@@ -178,7 +180,7 @@ fn push_sum(report: &mut Report, bytes: u128, count: u128) -> Result<(), AllocEr
 /// The bytes that the selected candidates take when they are installed. A u128 can hold the sum of
 /// any number of them.
 fn selected_size(pool: &Sealed<'_>, trace: &Trace) -> u128
-    ensures { result ≡ sum_by candidate_size (candidates_at pool.now trace.now) }
+    ensures { result ≡ sum_by candidate_installed_size (candidates_at pool.now trace.now) }
 {
     let mut sum: u128 = 0;
     for i in 0..trace.len() {
@@ -189,7 +191,7 @@ fn selected_size(pool: &Sealed<'_>, trace: &Trace) -> u128
 
 /// The bytes that the candidate at a place takes when it is installed, if there is one.
 fn size_at(pool: &Sealed<'_>, id: CandId) -> u64
-    ensures { result ≡ option_map_or candidate_size (candidate_at pool.now id) 0 }
+    ensures { result ≡ option_map_or candidate_installed_size (candidate_at pool.now id) 0 }
 {
     match candidate_at(pool, id) {
         None => 0,

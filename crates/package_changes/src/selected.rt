@@ -2,7 +2,7 @@
 //! No document has a rule for this: the table serves `src/placed.rt`, so that each name is searched
 //! once. `docs/selection.md`, "What satisfies world", 3, says that a selection has at most one
 //! candidate of a name.
-ghost use Rattle.package_changes.specs.Changes.{is_selected_named};
+ghost use Rattle.package_changes.specs.Changes.{is_candidate_named};
 ghost use Rattle.package_changes.specs.Placed.{selected_place};
 ghost use Rattle.package_changes.specs.SelectedNames.{place_paired_with_name};
 ghost use Rattle.std.specs.Option.{option_or};
@@ -81,7 +81,7 @@ impl<'a> SelectedNames<'a> {
     fn add(&mut self, pool: &Sealed<'a>, id: CandId) -> Result<(), AllocError>
         ensures { OnOk result ((name : List ℕ) → place_paired_with_name name self.new
             ≡ option_or (place_paired_with_name name self.old)
-            (if candidate_at_passes pool.now (is_selected_named name) id then Some id else None)) }
+            (if candidate_at_passes pool.now (is_candidate_named name) id then Some id else None)) }
     {
         match pool.at(id) {
             None => Ok(()),

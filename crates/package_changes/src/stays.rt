@@ -2,7 +2,7 @@
 //! `docs/commands.md`, "`add` and `del`", what is reported: `NAME stays`.
 ghost use Rattle.change_files.specs.PlanLists.{sorted_distinct_names};
 ghost use Rattle.change_files.specs.db_core.Seen.{packages_of};
-ghost use Rattle.package_changes.specs.Changes.{is_selected_named};
+ghost use Rattle.package_changes.specs.Changes.{is_candidate_named};
 ghost use Rattle.package_changes.specs.Placed.{candidates_at};
 ghost use Rattle.package_changes.specs.SelectedNames.{place_paired_with_name};
 ghost use Rattle.package_changes.specs.Report.{is_other_candidate_needing, names_needing_candidate, still_needed_lines_of_name, still_needed_lines, was_installed};
@@ -132,7 +132,7 @@ fn push_line_of(
     ensures { OnOk result (report.new ≡ report.old
         ++ flat_map (λ (c : Candidate). report_line (still_needed_text name.now
         (names_needing_candidate (candidates_at pool.now trace.now) c)))
-        (filter (is_selected_named name.now) (option_to_list (candidate_at pool.now id)))) }
+        (filter (is_candidate_named name.now) (option_to_list (candidate_at pool.now id)))) }
 {
     match pool.at(id) {
         None => Ok(()),
@@ -153,7 +153,7 @@ fn push_line_if_named(
     name: &[u8],
 ) -> Result<(), AllocError>
     ensures { OnOk result (report.new ≡ report.old
-        ++ (if is_selected_named name.now details.now then report_line (still_needed_text name.now
+        ++ (if is_candidate_named name.now details.now then report_line (still_needed_text name.now
         (names_needing_candidate (candidates_at pool.now trace.now) details.now)) else [])) }
 {
     if details.name() != name {
@@ -205,7 +205,8 @@ fn push_name_if_it_needs<'a>(
 ) -> Result<(), AllocError>
     ensures { OnOk result (map (λ n. n.now) names.new.items ≡ map (λ n. n.now) names.old.items
         ++ map (λ (c : Candidate). c.name)
-        (filter (is_other_candidate_needing needed.now) (option_to_list (candidate_at pool.now id)))) }
+        (filter (is_other_candidate_needing needed.now) (option_to_list
+        (candidate_at pool.now id)))) }
 {
     match pool.at(id) {
         None => Ok(()),
@@ -235,7 +236,7 @@ fn push_name_if<'a>(
     Ok(())
 }
 
-/// Whether a candidate is another one and needs the first.
+/// Whether `details` are of another candidate than `needed`, which needs it.
 fn is_other_candidate_needing(needed: &Details<'_>, details: &Details<'_>) -> bool
     ensures { result ≡ is_other_candidate_needing needed.now details.now }
 {

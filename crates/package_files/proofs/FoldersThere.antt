@@ -11,7 +11,7 @@ use Rattle.std.proofs.lemmas.List.Concat.{flat_map-append}
 use Rattle.std.proofs.lemmas.Option.{get_or_from_slice_get, slice_get_within}
 use Rattle.std.proofs.lemmas.Slice.Eq.{bytes_eq-Decides}
 use borrow.Author.Tests.{eq-eqb}
-use Rattle.package_files.specs.Folders.{all_folders_above, prefixes_before_slashes, folder_of, folders_above, is_slash, path_below, prefixes_with_first_byte, with_folder_inserted, with_folders_inserted}
+use Rattle.package_files.specs.Folders.{all_folders_above, prefixes_before_slashes, folder_of, folders_above, is_slash, path_relative_to, prefixes_with_first_byte, with_folder_inserted, with_folders_inserted}
 use Rattle.package_files.specs.BorrowedNames.{IsIndexOf}
 use Rattle.package_files.proofs.FolderLemmas.{all_placed_append, cmp, placed_as, turned}
 use Rattle.package_files.proofs.PlaceLemmas.{Tri, tri}
@@ -163,33 +163,33 @@ found_there folders folder (Some at) h e =
     (at, h.0, get_or_default folders at folder [] h.0 ∙ sym same)
 
 abbrev names_upto : List ℕ → List (List ℕ) → ℕ → List (List ℕ)
-names_upto dir names i = all_folders_above (map (path_below dir) (take i names))
+names_upto dir names i = all_folders_above (map (path_relative_to dir) (take i names))
 
 next_names : (dir : List ℕ) (names : List (List ℕ)) (i : ℕ) (name : List ℕ) → slice_get names i ≡ Some name
-    → names_upto dir names (i + 1) ≡ with_folders_inserted (names_upto dir names i) (folders_above (path_below dir name))
+    → names_upto dir names (i + 1) ≡ with_folders_inserted (names_upto dir names i) (folders_above (path_relative_to dir name))
 next_names dir names i name at =
-    let paths = map (path_below dir) (take i names) in
-    let more : map (path_below dir) (take (i + 1) names) ≡ paths ++ path_below dir name ∷ [] =
-    map_more (path_below dir) names i [] (slice_get_within names i name at)
-    ∙ ap (λ n. paths ++ path_below dir n ∷ []) (get_or_from_slice_get names i name [] at) in
+    let paths = map (path_relative_to dir) (take i names) in
+    let more : map (path_relative_to dir) (take (i + 1) names) ≡ paths ++ path_relative_to dir name ∷ [] =
+    map_more (path_relative_to dir) names i [] (slice_get_within names i name at)
+    ∙ ap (λ n. paths ++ path_relative_to dir n ∷ []) (get_or_from_slice_get names i name [] at) in
     ap all_folders_above more
-    ∙ ap (with_folders_inserted []) (flat_map-append folders_above paths (path_below dir name ∷ []))
-    ∙ all_placed_append [] (flat_map folders_above paths) (folders_above (path_below dir name) ++ [])
-    ∙ ap (with_folders_inserted (all_folders_above paths)) (append-nil (folders_above (path_below dir name)))
+    ∙ ap (with_folders_inserted []) (flat_map-append folders_above paths (path_relative_to dir name ∷ []))
+    ∙ all_placed_append [] (flat_map folders_above paths) (folders_above (path_relative_to dir name) ++ [])
+    ∙ ap (with_folders_inserted (all_folders_above paths)) (append-nil (folders_above (path_relative_to dir name)))
 
-pub added_next : (dir : List ℕ) (names before later : List (List ℕ)) (i : ℕ) (name path : List ℕ) → slice_get names i ≡ Some name → path ≡ path_below dir name
+pub added_next : (dir : List ℕ) (names before later : List (List ℕ)) (i : ℕ) (name path : List ℕ) → slice_get names i ≡ Some name → path ≡ path_relative_to dir name
     → before ≡ names_upto dir names i → later ≡ with_folders_inserted before (folders_above path) → later ≡ names_upto dir names (i + 1)
 added_next dir names before later i name path at is so_far added =
     added ∙ ap (λ l. with_folders_inserted l (folders_above path)) so_far
     ∙ ap (λ p. with_folders_inserted (names_upto dir names i) (folders_above p)) is ∙ sym (next_names dir names i name at)
 
-pub kept_next : (dir : List ℕ) (names before later : List (List ℕ)) (i : ℕ) (name path folder : List ℕ) (o : Option ℕ) → slice_get names i ≡ Some name → path ≡ path_below dir name
+pub kept_next : (dir : List ℕ) (names before later : List (List ℕ)) (i : ℕ) (name path folder : List ℕ) (o : Option ℕ) → slice_get names i ≡ Some name → path ≡ path_relative_to dir name
     → before ≡ names_upto dir names i → folder ≡ folder_of path → IsIndexOf folder before o → is_some o ≡ true → later ≡ before → later ≡ names_upto dir names (i + 1)
 kept_next dir names before later i name path folder o at is so_far own index some same =
-    let paths = map (path_below dir) (take i names) in
+    let paths = map (path_relative_to dir) (take i names) in
     let found : Contains before folder = found_there before folder o index some in
     let in_names : Contains (all_folders_above paths) folder = subst (λ l. Contains l folder) so_far found in
-    let of_path : Contains (all_folders_above paths) (folder_of (path_below dir name)) = subst (Contains (all_folders_above paths)) (own ∙ ap folder_of is) in_names in
+    let of_path : Contains (all_folders_above paths) (folder_of (path_relative_to dir name)) = subst (Contains (all_folders_above paths)) (own ∙ ap folder_of is) in_names in
     same ∙ so_far
-    ∙ sym (folders_kept (all_folders_above paths) (folders_above (path_below dir name)) (rising paths) (λ z t. all_over_there paths (path_below dir name) z of_path t))
+    ∙ sym (folders_kept (all_folders_above paths) (folders_above (path_relative_to dir name)) (rising paths) (λ z t. all_over_there paths (path_relative_to dir name) z of_path t))
     ∙ sym (next_names dir names i name at)

@@ -9,7 +9,7 @@ use Rattle.package_files.specs.declared.file.File.{File}
 use Rattle.package_files.specs.declared.file.Folder.{Folder}
 use Rattle.package_files.specs.Blocks.{contents_block, contents_blocks}
 use Rattle.package_files.specs.Package.{Source, SourceFolder, contents_of_file, contents_of_files, contents_of_folders, kind_of_file}
-use Rattle.package_files.specs.Folders.{last_part_of, folder_listing_of, all_folders_above, names_in_folder, path_below, folder_listings_of, FolderListing}
+use Rattle.package_files.specs.Folders.{last_part_of, folder_listing_of, all_folders_above, names_in_folder, path_relative_to, folder_listings_of, FolderListing}
 use Rattle.package_files.specs.Packed.{IsFileFrom, AreFilesFrom, IsPackedFile, ArePackedFiles, IsFolderFrom, AreFoldersFrom, IsPackedFolder, ArePackedFolders}
 use Rattle.package_files.specs.BorrowedNames.{listings_of, names_borrowed}
 use Rattle.package_files.specs.Runs.{AgreesOrIsFault, IsExplainedBySomeReads}
@@ -263,7 +263,7 @@ listed_with dir names (f ∷ fs) (v ∷ vs) e =
     let rest : map names_borrowed vs ≡ map (names_in_folder dir names) fs = cc in
     λ j. let l : FolderListing = record { name = f; files = here j } in l ∷ listed_with dir names fs vs rest j
 
-pub listed_folders : (dir : List ℕ) (names folders : List (List ℕ)) (files given : List (Vec (Bor (List ℕ)) Global)) → folders ≡ all_folders_above (map (path_below dir) names)
+pub listed_folders : (dir : List ℕ) (names folders : List (List ℕ)) (files given : List (Vec (Bor (List ℕ)) Global)) → folders ≡ all_folders_above (map (path_relative_to dir) names)
     → map names_borrowed files ≡ map (names_in_folder dir names) folders → given ≡ files → listings_of folders given ≡ folder_listings_of dir names
 unfolding folder_listings_of
 listed_folders dir names folders files given e f same =

@@ -14,7 +14,7 @@ use Rattle.std.specs.declared.cmp.Ordering.{Ordering}
 use Rattle.std.specs.declared.cmp.Ordering.TheVariants.{Less, Greater}
 use Rattle.std.proofs.lemmas.Option.{get_or_from_slice_get, slice_get_within}
 use Rattle.base_core.proofs.AtName.{own_name}
-use Rattle.package_files.specs.Folders.{folder_of, path_below, names_in_folder}
+use Rattle.package_files.specs.Folders.{folder_of, path_relative_to, names_in_folder}
 use Rattle.package_files.specs.BorrowedNames.{IsIndexOf}
 use Rattle.package_files.proofs.FolderLemmas.{cmp, turned, against, searchable}
 
@@ -89,7 +89,7 @@ place_in ds xs x r e sorted bound there =
 -- ---- one more file
 
 abbrev of_folder : List ℕ → List ℕ → List ℕ → Bool
-of_folder dir name folder = bytes_eq (folder_of (path_below dir name)) folder
+of_folder dir name folder = bytes_eq (folder_of (path_relative_to dir name)) folder
 
 abbrev if_there : Bool → List ℕ → List (List ℕ)
 if_there b name = if b then name ∷ [] else []
@@ -159,7 +159,7 @@ pub kept_lists : {V : Type 0} (shown : V → List (List ℕ)) (old new : List �
 kept_lists shown old new vs folders name e h = same_lists shown old new vs folders e (λ k lt. h k lt ∙ append-nil (old (get_or folders k [])))
 
 abbrev Place : List ℕ → List (List ℕ) → List ℕ → Option ℕ → Type 0
-Place dir folders name o = IsIndexOf (folder_of (path_below dir name)) folders o
+Place dir folders name o = IsIndexOf (folder_of (path_relative_to dir name)) folders o
 
 pub place_grows : (dir : List ℕ) (names folders : List (List ℕ)) (i at : ℕ) (name : List ℕ) → slice_get names i ≡ Some name → Place dir folders name (Some at)
     → (k : ℕ) → k < length folders → names_in_folder dir (take (i + 1) names) (get_or folders k []) ≡ names_in_folder dir (take i names) (get_or folders k []) ++ if_there (k == at) name

@@ -7,7 +7,7 @@ use Rattle.std.proofs.Math.Seq.{take-append_seam}
 use Rattle.std.proofs.lemmas.List.{length-append, length-drop, take-append-drop}
 use Rattle.std.proofs.lemmas.List.Concat.{flat_map-cons}
 use Rattle.base_core.specs.Calls.{IfObservable}
-use Rattle.base_core.specs.Read.{HasReadAfter}
+use Rattle.base_core.specs.Read.{AppendsReadBytes}
 use Rattle.base_core.specs.Tree.{TreeState, files_of}
 use Rattle.base_core.proofs.ReadAfter.{whole_read}
 use Rattle.adb_block.specs.Piece.{padding_of}
@@ -34,14 +34,14 @@ read_placed mid later read at is behind = ap (drop at) behind ∙ drop_at mid re
 -- a file's size, and then so many of its bytes behind others, are the file
 pub file_placed : (told seen : List TreeState) (name : List ℕ) (size : Option ℕ) (n at : ℕ) (mid later : List ℕ)
     → IfObservable told (λ v. size ≡ option_map length (files_of v name)) → size ≡ Some n → seen ≡ told → at ≡ length mid
-    → HasReadAfter seen name 0 n mid later → IfObservable told (λ v. Some (drop at later) ≡ files_of v name)
+    → AppendsReadBytes seen name 0 n mid later → IfObservable told (λ v. Some (drop at later) ≡ files_of v name)
 file_placed told seen name size n at mid later sized some same is h =
     subst (λ (bytes : List ℕ). IfObservable told (λ v. Some bytes ≡ files_of v name)) (sym (read_placed mid later h.read at is h.behind))
     (whole_read told seen name size n mid later sized some same h)
 
 -- the front of a block stays in front of what is read behind it
 pub front_placed : (seen : List TreeState) (name : List ℕ) (folder file n at : ℕ) (before mid later : List ℕ)
-    → mid ≡ before ++ contents_front folder file n → at ≡ length mid → HasReadAfter seen name 0 n mid later → HasBlockFront folder file before later at
+    → mid ≡ before ++ contents_front folder file n → at ≡ length mid → AppendsReadBytes seen name 0 n mid later → HasBlockFront folder file before later at
 front_placed seen name folder file n at before mid later begun is h =
     let all : length later ≡ length mid + length h.read = ap length h.behind ∙ length-append mid h.read in
     let rest : n ≡ length later - at = omega (arith, h.long) in

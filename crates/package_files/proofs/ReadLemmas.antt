@@ -3,7 +3,7 @@ use Rattle.std.proofs.Common.{◌≡◌, ℕ, ◌+◌, ◌<◌, ◌≤◌, Bool,
 use borrow.Author.Tests.{lt-ltb, le-ltb}
 use Rattle.base_core.specs.Calls.{IfObservable}
 use Rattle.base_core.specs.Tree.{TreeState, files_of}
-use Rattle.package_files.specs.Sources.{and_then, each_from}
+use Rattle.package_files.specs.Sources.{and_then, results_from_read}
 use Rattle.make_info.specs.Reads.{Reads}
 use Rattle.package_files.specs.Runs.{AgreesOrIsFault, AreReadsOfTree, IsExplainedBySomeReads}
 use Rattle.base_core.specs.declared.tree.TreeFault.{TreeFault}
@@ -53,11 +53,11 @@ module _ {X Y : Type 0} (count : X → ℕ) where
   RestsOnOwn of = (f g : Reads) (n : ℕ) (x : X) → ((m : ℕ) (name : List ℕ) → n ≤ m → m < n + count x → f m name ≡ g m name) → of f n x ≡ of g n x
 
   pub each_rests : (of : Reads → ℕ → X → Result Y MakeFault) → RestsOnOwn of → (f g : Reads) (n : ℕ) (xs : List X)
-      → ((m : ℕ) (name : List ℕ) → n ≤ m → m < n + total count xs → f m name ≡ g m name) → each_from count (of f) n xs ≡ each_from count (of g) n xs
+      → ((m : ℕ) (name : List ℕ) → n ≤ m → m < n + total count xs → f m name ≡ g m name) → results_from_read count (of f) n xs ≡ results_from_read count (of g) n xs
   each_rests of own f g n [] h = refl
   each_rests of own f g n (x ∷ xs) h =
       let here : of f n x ≡ of g n x = own f g n x (λ m name lo hi. h m name lo (omega arith)) in
-      let rest : each_from count (of f) (n + count x) xs ≡ each_from count (of g) (n + count x) xs = each_rests of own f g (n + count x) xs (λ m name lo hi. h m name (omega arith) (omega arith)) in
+      let rest : results_from_read count (of f) (n + count x) xs ≡ results_from_read count (of g) (n + count x) xs = each_rests of own f g (n + count x) xs (λ m name lo hi. h m name (omega arith) (omega arith)) in
       λ i. and_then (here i) (λ y. and_then (rest i) (λ ys. Ok (y ∷ ys)))
 
 module _ {Y : Type 0} where
@@ -74,30 +74,30 @@ module _ {Y : Type 0} where
   stops_by (Err x) e f ys fault i h = absurd (cc)
 
 module _ {X Y : Type 0} (count : X → ℕ) (of : ℕ → X → Result Y MakeFault) where
-  pub each_more : (n m : ℕ) (xs : List X) (x : X) (ys : List Y) (y : Y) → m ≡ n + total count xs → each_from count of n xs ≡ Ok ys → of m x ≡ Ok y
-      → each_from count of n (xs ++ x ∷ []) ≡ Ok (ys ++ y ∷ [])
+  pub each_more : (n m : ℕ) (xs : List X) (x : X) (ys : List Y) (y : Y) → m ≡ n + total count xs → results_from_read count of n xs ≡ Ok ys → of m x ≡ Ok y
+      → results_from_read count of n (xs ++ x ∷ []) ≡ Ok (ys ++ y ∷ [])
   each_more n m [] x ys y e so_far here =
       let same : m ≡ n = omega arith in
       let none : ys ≡ [] = cc in
       ap (λ r. and_then r (λ z. Ok (z ∷ []))) (ap (λ k. of k x) (sym same) ∙ here) ∙ ap (λ l. Ok (l ++ y ∷ [])) (sym none)
   each_more n m (z ∷ zs) x ys y e so_far here =
-      more_by (of n z) (each_from count of (n + count z) zs) (each_from count of (n + count z) (zs ++ x ∷ [])) ys y so_far
+      more_by (of n z) (results_from_read count of (n + count z) zs) (results_from_read count of (n + count z) (zs ++ x ∷ [])) ys y so_far
       (λ l g. each_more (n + count z) m zs x l y (omega arith) g here)
 
-  pub each_stops : (n m : ℕ) (xs : List X) (x : X) (rest : List X) (ys : List Y) (fault : MakeFault) → m ≡ n + total count xs → each_from count of n xs ≡ Ok ys → of m x ≡ Err fault
-      → each_from count of n (xs ++ x ∷ rest) ≡ Err fault
+  pub each_stops : (n m : ℕ) (xs : List X) (x : X) (rest : List X) (ys : List Y) (fault : MakeFault) → m ≡ n + total count xs → results_from_read count of n xs ≡ Ok ys → of m x ≡ Err fault
+      → results_from_read count of n (xs ++ x ∷ rest) ≡ Err fault
   each_stops n m [] x rest ys fault e so_far here =
       let same : m ≡ n = omega arith in
-      ap (λ r. and_then r (λ z. and_then (each_from count of (n + count x) rest) (λ l. Ok (z ∷ l)))) (ap (λ k. of k x) (sym same) ∙ here)
+      ap (λ r. and_then r (λ z. and_then (results_from_read count of (n + count x) rest) (λ l. Ok (z ∷ l)))) (ap (λ k. of k x) (sym same) ∙ here)
   each_stops n m (z ∷ zs) x rest ys fault e so_far here =
-      stops_by (of n z) (each_from count of (n + count z) zs) (each_from count of (n + count z) (zs ++ x ∷ rest)) ys fault so_far
+      stops_by (of n z) (results_from_read count of (n + count z) zs) (results_from_read count of (n + count z) (zs ++ x ∷ rest)) ys fault so_far
       (λ l g. each_stops (n + count z) m zs x rest l fault (omega arith) g here)
 
 -- ---- a loop over a list
 
 -- what came of the elements so far
 abbrev pub IsSoFar : {X Y : Type 0} → List TreeState → (X → ℕ) → (Reads → ℕ → X → Result Y MakeFault) → List X → (List Y → Type 0) → Type 0
-IsSoFar {X} {Y} told count of xs R = (n : ℕ) → IsExplainedBySomeReads told (λ read. (ys : List Y) × (each_from count (of read) n xs ≡ Ok ys) × R ys)
+IsSoFar {X} {Y} told count of xs R = (n : ℕ) → IsExplainedBySomeReads told (λ read. (ys : List Y) × (results_from_read count (of read) n xs ≡ Ok ys) × R ys)
 
 -- the answer at the next one
 abbrev pub IsNext : {X Y A : Type 0} → List TreeState → (Reads → ℕ → X → Result Y MakeFault) → X → (A → Y → Type 0) → Result A MakeFault → Type 0
@@ -110,7 +110,7 @@ module _ {X Y : Type 0} (told : List TreeState) (count : X → ℕ) (of : Reads 
   abbrev Next : {A : Type 0} → X → (A → Y → Type 0) → Result A MakeFault → Type 0
   Next x S r = IsNext told of x S r
 
-  pub kept_reads : (n : ℕ) (xs : List X) (f g : Reads) → each_from count (of (joined (n + total count xs) f g)) n xs ≡ each_from count (of f) n xs
+  pub kept_reads : (n : ℕ) (xs : List X) (f g : Reads) → results_from_read count (of (joined (n + total count xs) f g)) n xs ≡ results_from_read count (of f) n xs
   kept_reads n xs f g = each_rests count of own (joined (n + total count xs) f g) f n xs (λ m name lo hi. joined_below (n + total count xs) f g m name hi)
 
   next_reads : (k : ℕ) (x : X) (f g : Reads) → of (joined k f g) k x ≡ of g k x
@@ -137,7 +137,7 @@ module _ {X Y : Type 0} (told : List TreeState) (count : X → ℕ) (of : Reads 
 
   -- a fault of the next one is that of all
   pub so_far_stops : {A B : Type 0} (xs : List X) (x : X) (rest : List X) (R : List Y → Type 0) (S : A → Y → Type 0) (T : B → List Y → Type 0) (fault : MakeFault)
-      → SoFar xs R → Next x S (Err fault) → (n : ℕ) → IsExplainedBySomeReads told (λ read. AgreesOrIsFault T (Err fault) (each_from count (of read) n (xs ++ x ∷ rest)))
+      → SoFar xs R → Next x S (Err fault) → (n : ℕ) → IsExplainedBySomeReads told (λ read. AgreesOrIsFault T (Err fault) (results_from_read count (of read) n (xs ++ x ∷ rest)))
   so_far_stops {A} {B} xs x rest R S T fault before next n =
       let k : ℕ = n + total count xs in
       let p = before n in

@@ -25,5 +25,7 @@ contents_front folder file size =
 -- `before` is followed by the front of the block of a file with these positions, and by the bytes of
 -- the file from the offset `at` on
 pub record HasBlockFront (folder file : ℕ) (before later : List ℕ) (at : ℕ) : Type 0 where
+  -- the offset is within the bytes
   pub within : at ≤ length later
+  -- the bytes before the offset are `before` and the front of the block
   pub front : take at later ≡ before ++ contents_front folder file (length later - at)

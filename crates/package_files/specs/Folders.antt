@@ -19,8 +19,8 @@ folder_of path = before_last is_slash path
 abbrev pub last_part_of : List ℕ → List ℕ
 last_part_of path = after_last is_slash path
 
--- the texts before each slash of a text, given its first byte and the texts before the slashes after
--- that: nothing, if the byte is a slash; and each later one begins with the byte
+-- the prefixes before each slash of the text that begins with `b`. `folders` are the prefixes
+-- before each slash of the rest of the text. If `b` is a slash, the first prefix is empty
 abbrev pub prefixes_with_first_byte : ℕ → List (List ℕ) → List (List ℕ)
 prefixes_with_first_byte b folders =
     if is_slash b then [] ∷ map (λ folder. b ∷ folder) folders
@@ -37,51 +37,51 @@ folders_above path = [] ∷ prefixes_before_slashes path
 
 -- ---- names in byte order, each once
 
--- inserts a name into names in rising byte order, given its order to the first of them (`x`): it is put
--- before the first greater one, and a name that is there is not inserted again. `further` are the
--- others with the name inserted
-abbrev pub with_folder_by :
+-- inserts a name into the sorted list `x ∷ xs`, given how the name compares with `x`. A name that
+-- is already in the list is not inserted again. `further` is the list `xs` with the name inserted
+abbrev pub with_folder_inserted_by_order :
     Ordering → List ℕ → List ℕ → List (List ℕ) → List (List ℕ) → List (List ℕ)
-with_folder_by Less name x xs further = name ∷ x ∷ xs
-with_folder_by Equal name x xs further = x ∷ xs
-with_folder_by Greater name x xs further = x ∷ further
+with_folder_inserted_by_order Less name x xs further = name ∷ x ∷ xs
+with_folder_inserted_by_order Equal name x xs further = x ∷ xs
+with_folder_inserted_by_order Greater name x xs further = x ∷ further
 
--- names that rise in byte order, with one more among them
+-- a sorted list of names with this name inserted, unless the list has it already
 abbrev pub with_folder_inserted : List ℕ → List (List ℕ) → List (List ℕ)
 with_folder_inserted name [] = name ∷ []
 with_folder_inserted name (x ∷ xs) =
-    with_folder_by (slice_cmp nat_cmp name x) name x xs (with_folder_inserted name xs)
+    with_folder_inserted_by_order (slice_cmp nat_cmp name x) name x xs (with_folder_inserted name xs)
 
--- names that rise in byte order, with others put among them, one by one
+-- a sorted list of names with the names of another list inserted, one by one
 abbrev pub with_folders_inserted : List (List ℕ) → List (List ℕ) → List (List ℕ)
 with_folders_inserted so_far [] = so_far
 with_folders_inserted so_far (name ∷ names) = with_folders_inserted (with_folder_inserted name so_far) names
 
 -- the names of a list, put into byte order one by one, each once
-abbrev pub sorted_names : List (List ℕ) → List (List ℕ)
-sorted_names names = with_folders_inserted [] names
+abbrev pub sorted_names_without_repeats : List (List ℕ) → List (List ℕ)
+sorted_names_without_repeats names = with_folders_inserted [] names
 
 -- ---- the folders of a package
 
--- a folder by its name in the package, and the names in the tree of its files
+-- a folder of a package: its name in the package, and the names in the tree of its files
 pub record FolderListing : Type 0 where
   pub name : List ℕ
   pub files : List (List ℕ)
 
--- the path of a name in the tree below a folder: the name without the folder and without the slash
-abbrev pub path_below : List ℕ → List ℕ → List ℕ
-path_below folder name = drop (length folder + 1) name
+-- the path, relative to a folder, of a name below it: the name without the folder and the slash
+-- after it
+abbrev pub path_relative_to : List ℕ → List ℕ → List ℕ
+path_relative_to folder name = drop (length folder + 1) name
 
 -- the names of a package's folders, given the paths of its files: the root and each folder that
 -- contains a path at any depth, in byte order; no folder if there is no path
 abbrev pub all_folders_above : List (List ℕ) → List (List ℕ)
-all_folders_above paths = sorted_names (flat_map folders_above paths)
+all_folders_above paths = sorted_names_without_repeats (flat_map folders_above paths)
 
--- the names listed below `dir` of the tree whose paths are in a folder of the package, in the listed
--- order
+-- those of the names listed below `dir` of the tree whose path relative to `dir` is directly in
+-- this folder of the package; their order is kept
 abbrev pub names_in_folder : List ℕ → List (List ℕ) → List ℕ → List (List ℕ)
 names_in_folder dir names folder =
-    filter (λ name. bytes_eq (folder_of (path_below dir name)) folder) names
+    filter (λ name. bytes_eq (folder_of (path_relative_to dir name)) folder) names
 
 -- a folder of the package, with the names of its files
 abbrev pub folder_listing_of : List ℕ → List (List ℕ) → List ℕ → FolderListing
@@ -89,4 +89,5 @@ folder_listing_of dir names folder = record { name = folder; files = names_in_fo
 
 -- the folders of a package, by the names that are listed below a folder of the tree
 unfoldable pub folder_listings_of : List ℕ → List (List ℕ) → List FolderListing
-folder_listings_of dir names = map (folder_listing_of dir names) (all_folders_above (map (path_below dir) names))
+folder_listings_of dir names =
+    map (folder_listing_of dir names) (all_folders_above (map (path_relative_to dir) names))

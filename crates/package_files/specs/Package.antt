@@ -5,7 +5,7 @@
 use Rattle.std.specs.Prelude.{ℕ, ◌+◌, ◌*◌, ◌^◌, ◌==◌, nat_lt, Bool, not, ◌&&◌, if◌then◌else◌, List, [], ◌∷◌, ◌++◌, length, take, drop, map, codes, bytes_eq, sum_by, Option}
 use Rattle.std.specs.Str.{is_utf8}
 use Rattle.sha2.specs.Sha256.{sha256}
-use Rattle.adb_view.specs.Plain.{Plain, Plains, null, int, none, more, blob_or_null, arr_value, obj_value}
+use Rattle.adb_view.specs.Plain.{Plain, Plains, null, int, none, more, blob_or_null, array_or_null, trimmed_object_or_null}
 use Rattle.adb_sound.specs.pkg_core.Contents.{Contents}
 use Rattle.command_core.specs.Values.{script_types}
 use Rattle.make_info.specs.Values.{number_value, plains_of_list, size_value}
@@ -43,8 +43,8 @@ is_link_file bytes =
     bytes_eq (take (length link_mark) bytes) link_mark && not (length bytes == length link_mark)
     && is_utf8 (link_text bytes)
 
--- what the bytes of a file are: a symbolic link with its target, which is the kind 0xa000,
--- little-endian, and the text; or a regular file with its size and its SHA-256
+-- the kind of a file with these bytes. A symbolic link has its target: the kind 0xa000 as two
+-- little-endian bytes, and the text. A regular file has its size and its SHA-256
 unfoldable pub kind_of_file : List ℕ → FileKind
 kind_of_file bytes =
     if is_link_file bytes then Link (0 ∷ 160 ∷ link_text bytes)
@@ -68,7 +68,7 @@ target_of_kind (Regular size hash) = []
 -- the access list that `mkpkg` gives: this mode, and `root` as user and group
 abbrev pub access_value : ℕ → Plain
 access_value mode =
-    obj_value
+    trimmed_object_or_null
     (more (int mode) (more (blob_or_null (codes "root")) (more (blob_or_null (codes "root")) none)))
 
 -- the mode that `mkpkg` gives a file: octal 644, by its digits (all may read, and root may write);
@@ -88,9 +88,9 @@ file_fields name kind =
     (more null (more (blob_or_null (hash_of_kind kind))
     (more (blob_or_null (target_of_kind kind)) none)))))
 
--- the entry of a file, given what it is
+-- the entry of a file, given its name and its kind
 abbrev pub value_of_kind : List ℕ → FileKind → Plain
-value_of_kind name kind = obj_value (file_fields name kind)
+value_of_kind name kind = trimmed_object_or_null (file_fields name kind)
 
 -- the entry of a file, given its bytes
 abbrev pub value_of_file : Source → Plain
@@ -100,11 +100,11 @@ value_of_file file = value_of_kind file.name (kind_of_file file.bytes)
 abbrev pub folder_fields : List ℕ → List Plain → Plains
 folder_fields name files =
     more (blob_or_null name) (more (access_value FOLDER_MODE)
-    (more (arr_value (plains_of_list files)) none))
+    (more (array_or_null (plains_of_list files)) none))
 
 -- the entry of a folder, with the entries of its files
 abbrev pub folder_with : List ℕ → List Plain → Plain
-folder_with name files = obj_value (folder_fields name files)
+folder_with name files = trimmed_object_or_null (folder_fields name files)
 
 -- the entry of a folder, by the bytes of its files
 abbrev pub value_of_folder : SourceFolder → Plain
@@ -121,33 +121,34 @@ installed_size folders = sum_by size_of_folder folders
 
 -- ---- scripts
 
--- the bytes of the script for a field, if there is one
-abbrev pub script_in : List Script → List ℕ → List ℕ
-script_in [] field = []
-script_in (script ∷ scripts) field =
-    if bytes_eq script.field field then script.bytes else script_in scripts field
+-- the bytes of the script of the type `field`; empty if there is none
+abbrev pub script_bytes_of_field : List Script → List ℕ → List ℕ
+script_bytes_of_field [] field = []
+script_bytes_of_field (script ∷ scripts) field =
+    if bytes_eq script.field field then script.bytes else script_bytes_of_field scripts field
 
 -- the fields of a package's scripts, in the order of their table; a type without script is Null
 abbrev pub script_fields : List Script → Plains
 script_fields scripts =
-    plains_of_list (map (λ field. blob_or_null (script_in scripts field)) script_types)
+    plains_of_list (map (λ field. blob_or_null (script_bytes_of_field scripts field)) script_types)
 
 -- the scripts of a package as an object; Null if the package has no script at all
 abbrev pub value_of_scripts : List Script → Plain
-value_of_scripts scripts = obj_value (script_fields scripts)
+value_of_scripts scripts = trimmed_object_or_null (script_fields scripts)
 
 -- ---- the package
 
 -- the fields of a package: information, paths, scripts, triggers and the optional priority in replacing
 abbrev pub package_fields : Plain → List Plain → List Script → List (List ℕ) → Option ℕ → Plains
 package_fields info paths scripts triggers priority =
-    more info (more (arr_value (plains_of_list paths)) (more (value_of_scripts scripts)
-    (more (arr_value (plains_of_list (map blob_or_null triggers))) (more (number_value priority) none))))
+    more info (more (array_or_null (plains_of_list paths)) (more (value_of_scripts scripts)
+    (more (array_or_null (plains_of_list (map blob_or_null triggers)))
+    (more (number_value priority) none))))
 
 -- the value of a package, by its parts
 abbrev pub package_with : Plain → List Plain → List Script → List (List ℕ) → Option ℕ → Plain
 package_with info paths scripts triggers priority =
-    obj_value (package_fields info paths scripts triggers priority)
+    trimmed_object_or_null (package_fields info paths scripts triggers priority)
 
 -- the value of a package, given what was read
 abbrev pub value_of_package :
@@ -163,20 +164,22 @@ value_of_package info folders scripts triggers priority =
 abbrev pub has_contents : FileKind → Bool
 has_contents kind = nat_lt 0 (size_of_kind kind)
 
--- the contents of the file at these positions, of its folder and of itself in that, if it has a block
+-- the contents of the file with this position in its folder, and with this position of its folder;
+-- no element if the file has no block
 abbrev pub contents_of_file : ℕ → ℕ → List ℕ → List Contents
 contents_of_file folder i bytes =
     if has_contents (kind_of_file bytes) then
     record { folder = folder; file = i; bytes = bytes } ∷ [] else []
 
--- the contents of the files of a folder, from the one with this position on
+-- the contents of the files of the folder with this position; the first of the files has the
+-- position `i`
 abbrev pub contents_of_files : ℕ → ℕ → List Source → List Contents
 contents_of_files folder i [] = []
 contents_of_files folder i (file ∷ files) =
     contents_of_file folder i file.bytes ++ contents_of_files folder (i + 1) files
 
--- the contents of the files of folders, from the one with this position on, in the order of their
--- blocks
+-- the contents of the files of folders, in the order of their blocks; the first of the folders has
+-- the position `i`
 abbrev pub contents_of_folders : ℕ → List SourceFolder → List Contents
 contents_of_folders i [] = []
 contents_of_folders i (folder ∷ folders) =

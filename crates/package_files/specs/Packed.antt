@@ -26,7 +26,8 @@ files_size files = sum_by (λ (file : File). size_of_kind file.kind) files
 abbrev pub installed_size_of_folders : List Folder → ℕ
 installed_size_of_folders folders = sum_by (λ (folder : Folder). files_size folder.files.items) folders
 
--- a packed file is that of a file that was read: it has the name, and is what the bytes say
+-- a packed file is the packed form of a source file: it has its name, and the kind that its bytes
+-- say
 pub record IsFileFrom (file : File) (source : Source) : Type 0 where
   pub name : file.name.now ≡ source.name
   pub kind : file.kind ≡ kind_of_file source.bytes
@@ -39,8 +40,8 @@ AreFilesFrom (file ∷ files) [] = ⊥
 AreFilesFrom (file ∷ files) (source ∷ sources) =
     IsFileFrom file source × AreFilesFrom files sources
 
--- a folder that was packed is that of a folder that was read: it has the name, and its files are
--- what their bytes say
+-- a packed folder is the packed form of a source folder: it has its name, and the packed forms of
+-- its files
 pub record IsFolderFrom (folder : Folder) (source : SourceFolder) : Type 0 where
   pub name : folder.name.now ≡ source.name
   pub files : AreFilesFrom folder.files.items source.files
@@ -59,27 +60,35 @@ AreFoldersFrom (folder ∷ folders) (source ∷ sources) =
 -- follows those before
 pub record IsPackedFile (folder at : ℕ) (before later : List ℕ) (file : File) (source : Source) :
     Type 0 where
+  -- the packed file is that of the source file
   pub is : IsFileFrom file source
+  -- its block of contents was appended to the blocks
   pub blocks : later ≡ before ++ contents_blocks (contents_of_file folder at source.bytes)
 
 -- the files of a folder were packed, from the first on: they are what their bytes say, and their blocks
 -- follow those before
 pub record ArePackedFiles (folder : ℕ) (before later : List ℕ) (files : Vec File Global)
     (sources : List Source) : Type 0 where
+  -- the packed files are those of the source files
   pub are : AreFilesFrom files.items sources
+  -- their blocks of contents were appended to the blocks
   pub blocks : later ≡ before ++ contents_blocks (contents_of_files folder 1 sources)
 
 -- a folder was packed, with its position among the folders, counted from 1, and the blocks of its files
 -- follow those before
 pub record IsPackedFolder (folder : ℕ) (before later : List ℕ) (packed : Folder)
     (source : SourceFolder) : Type 0 where
+  -- the packed folder is that of the source folder
   pub is : IsFolderFrom packed source
+  -- the blocks of its files were appended to the blocks
   pub blocks : later ≡ before ++ contents_blocks (contents_of_files folder 1 source.files)
 
 -- folders were packed, counted from 1, and `written` has the blocks of their files
 pub record ArePackedFolders (written : List ℕ) (folders : Vec Folder Global)
     (sources : List SourceFolder) : Type 0 where
+  -- the packed folders are those of the source folders
   pub are : AreFoldersFrom folders.items sources
+  -- `written` has the blocks of their files
   pub blocks : written ≡ contents_blocks (contents_of_folders 1 sources)
 
 -- A packing is made of the folders that were read. Its folders have their names and files, and its

@@ -13,10 +13,13 @@ abbrev pub AreReadsOfTree : List TreeState → Reads → Type 0
 AreReadsOfTree history read =
     IfObservable history (λ v. (n : ℕ) (name : List ℕ) → read n name ≡ files_of v name)
 
--- this holds of some reads, which are the tree's if it is observable: they explain what was found
+-- `P` holds of some reads; if the history of the tree is observable, these are reads of the tree
 pub record IsExplainedBySomeReads (history : List TreeState) (P : Reads → Type 0) : Type 0 where
+  -- the reads
   pub read : Reads
+  -- if the history is observable, they are reads of the tree
   pub observed : AreReadsOfTree history read
+  -- the property P holds of them
   pub is : P read
 
 -- a result denotes the wanted value, or is the wanted fault; an I/O error of the tree and out of memory

@@ -13,19 +13,20 @@ use Rattle.make_info.specs.declared.fault.MakeFault.TheVariants.{FileMissing}
 use Rattle.package_files.specs.Folders.{last_part_of, FolderListing, folder_listings_of}
 use Rattle.package_files.specs.Package.{Source, SourceFolder, Script}
 
--- the result of a read for the argument at a place: its bytes, or that the file is missing
+-- the result of a read: its bytes, or, if there is no file, the error that names the argument at
+-- this place of the command line
 abbrev pub found_bytes_or_missing : ℕ → Option (List ℕ) → Result (List ℕ) MakeFault
 found_bytes_or_missing place None = Err (FileMissing place)
 found_bytes_or_missing place (Some bytes) = Ok bytes
 
--- the results of `of` for each element of a list, one after the other, or the first fault; an element
--- makes `count` reads, and `of` gets the number of its first
-abbrev pub each_from :
+-- the results of `of` for the elements of a list, or the first error. `of` gets the number of the
+-- first read of its element, and `count` says how many reads the element needs
+abbrev pub results_from_read :
     {X Y : Type 0} → (X → ℕ) → (ℕ → X → Result Y MakeFault) → ℕ → List X → Result (List Y) MakeFault
-each_from count of n [] = Ok []
-each_from count of n (x ∷ xs) =
+results_from_read count of n [] = Ok []
+results_from_read count of n (x ∷ xs) =
     and_then (of n x)
-    (λ y. and_then (each_from count of (n + count x) xs) (λ ys. Ok (y ∷ ys)))
+    (λ y. and_then (results_from_read count of (n + count x) xs) (λ ys. Ok (y ∷ ys)))
 
 -- ---- the values of options
 
@@ -33,14 +34,14 @@ each_from count of n (x ∷ xs) =
 abbrev pub values_of_letter : ℕ → List OptionValue → List OptionValue
 values_of_letter letter values = filter (λ (v : OptionValue). v.letter == letter) values
 
--- the texts of some values of an option: each is TYPE:FILE, or a pattern
+-- the texts of some values of an option, such as TYPE:FILE or a pattern
 abbrev pub texts_of : List OptionValue → List (List ℕ)
 texts_of values = map (λ (v : OptionValue). v.text) values
 
 -- the names are names below the folder that the first of some values gives, if there is one
-abbrev pub AreNamesBelowFirst : List OptionValue → List (List ℕ) → Type 0
-AreNamesBelowFirst [] names = Unit {0}
-AreNamesBelowFirst (folder ∷ others) names = AreNamesBelow (without_dot_slash folder.text) names
+abbrev pub AreNamesBelowFirstFolder : List OptionValue → List (List ℕ) → Type 0
+AreNamesBelowFirstFolder [] names = Unit {0}
+AreNamesBelowFirstFolder (folder ∷ others) names = AreNamesBelow (without_dot_slash folder.text) names
 
 -- ---- scripts
 
@@ -57,35 +58,37 @@ script_at read n v =
 -- the scripts of some values of `-s`, from the read of number `n` on, or the fault of the first
 -- whose file is absent
 abbrev pub scripts_from : Reads → ℕ → List OptionValue → Result (List Script) MakeFault
-scripts_from read n values = each_from (λ v. 1) (script_at read) n values
+scripts_from read n values = results_from_read (λ v. 1) (script_at read) n values
 
 -- ---- files
 
--- the file that was read under a name in the tree
+-- the source file with these bytes, given its name in the tree, of which it keeps the last part
 abbrev pub source_of_read : List ℕ → List ℕ → Source
 source_of_read name bytes = record { name = last_part_of name; bytes = bytes }
 
--- the file under a name in the tree by the read of number `n`; the argument at a place lists the name
+-- the source file under this name in the tree, by the read with the number `n`; if it is absent,
+-- the argument at `place` is reported
 abbrev pub source_file_read_at : ℕ → Reads → ℕ → List ℕ → Result Source MakeFault
 source_file_read_at place read n name =
     and_then (found_bytes_or_missing place (read n name)) (λ bytes. Ok (source_of_read name bytes))
 
--- the files under names in the tree, each with a read of its own; `place` is that of `-F`, at which a
--- file that is gone is reported
+-- the source files under these names in the tree, by one read each; if one is absent, the argument
+-- `-F` at `place` is reported
 abbrev pub sources_from : ℕ → Reads → ℕ → List (List ℕ) → Result (List Source) MakeFault
-sources_from place read n names = each_from (λ name. 1) (source_file_read_at place read) n names
+sources_from place read n names = results_from_read (λ name. 1) (source_file_read_at place read) n names
 
--- a folder with its files, the first of which is the read of number `n`
+-- the source folder with all its files; the read of the first file has the number `n`
 abbrev pub source_folder_read_at : ℕ → Reads → ℕ → FolderListing → Result SourceFolder MakeFault
 source_folder_read_at place read n folder =
     and_then (sources_from place read n folder.files)
     (λ files. Ok (record { name = folder.name; files = files }))
 
--- folders with their files, one read after another
+-- the source folders with all their files; the read of the first file has the number `n`
 abbrev pub source_folders_from :
     ℕ → Reads → ℕ → List FolderListing → Result (List SourceFolder) MakeFault
 source_folders_from place read n folders =
-    each_from (λ (folder : FolderListing). length folder.files) (source_folder_read_at place read) n folders
+    results_from_read (λ (folder : FolderListing). length folder.files)
+    (source_folder_read_at place read) n folders
 
 -- the folders of a package, given the names that are listed below the folder of the first value of
 -- `-F`; no folders if it is not given

@@ -36,7 +36,7 @@ pub struct Folder<'a> {
 pub struct File<'a> {
     /// The name of the file in its folder.
     pub name: &'a [u8],
-    /// What the file is.
+    /// The kind of the file: a link or a regular file.
     pub kind: FileKind,
 }
 
@@ -50,8 +50,8 @@ pub enum FileKind {
 }
 
 impl FileKind {
-    /// What the bytes of a file are: a link, if they are its mark and a text that is not empty;
-    /// otherwise a regular file.
+    /// The kind of a file with these bytes: a link if they are the mark of a link and a text that
+    /// is not empty; otherwise a regular file.
     #[tactic(auto, unfolding(crate::specs::Package::kind_of_file))]
     pub(crate) fn of(alloc: Global, bytes: &[u8]) -> Result<FileKind, AllocError>
         ensures { IfOk result (λ kind. kind ≡ kind_of_file bytes.now) }

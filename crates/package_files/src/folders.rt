@@ -3,7 +3,7 @@
 //! the root and each folder that holds a file at any depth, in byte order".
 ghost use Rattle.std.specs.Prelude.{◌≡◌, ◌<◌, ◌≤◌, ◌+◌, ◌-◌, not, [], length, drop, map, replicate, slice_get, OnOk, IfOk};
 ghost use Rattle.std.specs.List.{suffix_len};
-ghost use Rattle.package_files.specs.Folders.{is_slash, folder_of, last_part_of, folders_above, with_folders_inserted, with_folder_inserted, path_below, all_folders_above, names_in_folder};
+ghost use Rattle.package_files.specs.Folders.{is_slash, folder_of, last_part_of, folders_above, with_folders_inserted, with_folder_inserted, path_relative_to, all_folders_above, names_in_folder};
 ghost use Rattle.package_files.specs.BorrowedNames.{IsIndexOf, names_borrowed};
 
 use base_core::{Name, Names};
@@ -97,11 +97,11 @@ pub(crate) fn all_folders_above<'a>(
     names: &'a Names,
 ) -> Result<FolderNames<'a>, AllocError>
     ensures { IfOk result
-        (λ folders. folders ≡ all_folders_above (map (path_below dir.now) names.now)) }
+        (λ folders. folders ≡ all_folders_above (map (path_relative_to dir.now) names.now)) }
 {
     let mut folders = FolderNames::new(alloc);
     for i in 0..names.len() {
-        let path = path_below(dir.len(), names.get(i).as_bytes());
+        let path = path_relative_to(dir.len(), names.get(i).as_bytes());
         // If the folder is known, so are all above it.
         if folders.index_of(folder_of(path)).is_none() {
             folders.add_over(path)?;
@@ -123,7 +123,7 @@ pub(crate) fn names_in_folders<'a>(
     let mut files = empty_lists(alloc, folders.len())?;
     for i in 0..names.len() {
         let name = names.get(i);
-        let folder = folder_of(path_below(dir.len(), name.as_bytes()));
+        let folder = folder_of(path_relative_to(dir.len(), name.as_bytes()));
         if let Some(at) = folders.index_of(folder) {
             files[at].push(name)?;
         }
@@ -172,7 +172,7 @@ fn part_start(path: &[u8]) -> usize
 
 /// The path of a name below a folder, whose own name has this many bytes: without the folder and
 /// the slash after it.
-pub(crate) fn path_below(folder: usize, name: &[u8]) -> &[u8]
+pub(crate) fn path_relative_to(folder: usize, name: &[u8]) -> &[u8]
     ensures { result.now ≡ drop (folder + 1) name.now }
 {
     match name.get(folder..) {

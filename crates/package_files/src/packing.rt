@@ -42,10 +42,10 @@ fn reserve_room(bytes: &mut Vec<u8>, more: usize) -> Result<(), AllocError>
     Ok(())
 }
 
-/// Appends the front of the block with the contents of a file: its header, and the positions of its
-/// folder and of itself in it, which count from 1. Room for the whole block is reserved first.
-/// A position of more than 32 bits is cut: a package with so many files exceeds the limits of a
-/// payload.
+/// Appends the first bytes of the block with the contents of a file: its header, and the positions
+/// of its folder and of itself in it, which count from 1. Room for the whole block is reserved
+/// first. A position of more than 32 bits is cut: a package with so many files exceeds the limits
+/// of a payload.
 fn begin_block(blocks: &mut Vec<u8>, position: (u64, u64), size: u64) -> Result<(), AllocError>
     ensures { OnOk result (blocks.new.items
         ≡ blocks.old.items ++ contents_front position.0 position.1 size) }
@@ -272,8 +272,9 @@ fn read_listed<T: Tree>(
     }
 }
 
-/// Reads the file under a name into its block: after the front of a block, which is appended.
-/// Returns the offset at which the bytes begin, or None exactly if the file is absent.
+/// Reads the file under a name into its block: appends the header and the positions, and then the
+/// bytes of the file. Returns the offset at which the bytes begin, or None exactly if the file is
+/// absent.
 fn read_in_block<T: Tree>(
     tree: &mut T,
     position: (u64, u64),

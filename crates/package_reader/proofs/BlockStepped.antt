@@ -4,16 +4,16 @@ use Rattle.std.specs.Prelude.{IfSome, OnOk}
 use Rattle.std.proofs.lemmas.List.{drop-drop, drop-take}
 use Rattle.base_core.specs.declared.Cause.{Cause}
 use Rattle.base_core.specs.declared.Cause.TheVariants.{BlockOrder}
-use Rattle.adb_block.specs.Framing.{HeadFields, block, failed, head_of, kind_of_number, next_step, step_at_end, step_by_head, step_by_order, step_by_size}
+use Rattle.adb_block.specs.Framing.{HeadFields, block, failed, block_head_fields, kind_of_number, next_step, step_at_end, step_by_head, step_by_order, step_by_size}
 use Rattle.adb_block.specs.Frames.{IsFrameOrEndOfStep, framed_piece, raw_size}
-use Rattle.adb_block.specs.Piece.{Piece, may_be_next_kind, least_payload, padding_of}
+use Rattle.adb_block.specs.Piece.{Piece, may_be_next_kind, least_payload_len, padding_of}
 use Rattle.adb_block.specs.Reading.{block_stream_from}
 use Rattle.adb_block.specs.declared.block.BlockKind.{BlockKind}
 use Rattle.adb_block.specs.declared.block.BlockKind.TheVariants as Kinds
 use Rattle.adb_block.proofs.Runs.{reading_more}
 use Rattle.adb_block.specs.declared.block.Frame.{Frame}
 use Rattle.pkg_core.specs.Contents.{contents_bytes}
-use Rattle.pkg_core.specs.Contents.{Expected}
+use Rattle.pkg_core.specs.Contents.{ExpectedFile}
 use Rattle.pkg_core.specs.Opened.{expected_of, files_left_in_walk}
 use Rattle.pkg_core.specs.declared.walk.Walk.{Walk}
 use Rattle.pkg_core.specs.Pieces.{no_piece, pieces_read_from_blocks}

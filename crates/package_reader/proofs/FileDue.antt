@@ -8,9 +8,9 @@ use Rattle.base_core.specs.declared.cause.Cause.{Cause}
 use Rattle.base_core.proofs.Booleans.{both_second}
 use Rattle.adb_view.specs.Plain.{Plain}
 use Rattle.pkg_core.specs.adb_fields.Repeated.{files_in, folders_in}
-use Rattle.pkg_core.specs.adb_schema.Texts.{is_with_contents}
+use Rattle.pkg_core.specs.adb_schema.Texts.{is_file_with_contents}
 use Rattle.adb_view.specs.Values.{entry_in, int_in, text_in}
-use Rattle.pkg_core.specs.Contents.{Expected, expected_at, expected_contents, expected_files, expected_folders, hash_fault}
+use Rattle.pkg_core.specs.Contents.{ExpectedFile, expected_at, expected_files_of_package, expected_files_of_folder, expected_files_of_folders, hash_fault}
 use Rattle.pkg_core.specs.Opened.{expected_file_at, expected_of, is_expected_at}
 use Rattle.pkg_core.specs.declared.walk.Wanted.{Wanted}
 use Rattle.pkg_core.specs.Pieces.{PiecesRead, no_piece, pieces_of_one_file, refusal, piece_count_before_last}
@@ -19,44 +19,44 @@ use Rattle.pkg_core.specs.declared.file.FileCheck.{FileCheck}
 
 -- ---- a file with contents has a size above 0
 
-abbrev HaveSizes : List Expected → Type 0
+abbrev HaveSizes : List ExpectedFile → Type 0
 HaveSizes [] = Unit {0}
 HaveSizes (e ∷ es) = (0 < e.size) × HaveSizes es
 
-more_sizes : (es others : List Expected) → HaveSizes es → HaveSizes others → HaveSizes (es ++ others)
+more_sizes : (es others : List ExpectedFile) → HaveSizes es → HaveSizes others → HaveSizes (es ++ others)
 more_sizes [] others a b = b
 more_sizes (e ∷ es) others a b = (a.0, more_sizes es others a.1 b)
 
 file_sizes : (folder i : ℕ) (file : Plain) → HaveSizes (expected_at folder i file)
-file_sizes folder i file = by (is_with_contents file) refl
+file_sizes folder i file = by (is_file_with_contents file) refl
   where
-    by : (b : Bool) → is_with_contents file ≡ b → HaveSizes (cond b (record { folder = folder; file = i; size = int_in (entry_in file 2); hash = text_in (entry_in file 4) } ∷ []) [])
+    by : (b : Bool) → is_file_with_contents file ≡ b → HaveSizes (cond b (record { folder = folder; file = i; size = int_in (entry_in file 2); hash = text_in (entry_in file 4) } ∷ []) [])
     by true is = (ltb-true 0 (int_in (entry_in file 2)) (both_second (length (text_in (entry_in file 5)) == 0) (nat_lt 0 (int_in (entry_in file 2))) is), tt)
     by false is = tt
 
-files_sizes : (folder i : ℕ) (files : List Plain) → HaveSizes (expected_files folder i files)
+files_sizes : (folder i : ℕ) (files : List Plain) → HaveSizes (expected_files_of_folder folder i files)
 files_sizes folder i [] = tt
-files_sizes folder i (file ∷ files) = more_sizes (expected_at folder i file) (expected_files folder (i + 1) files) (file_sizes folder i file) (files_sizes folder (i + 1) files)
+files_sizes folder i (file ∷ files) = more_sizes (expected_at folder i file) (expected_files_of_folder folder (i + 1) files) (file_sizes folder i file) (files_sizes folder (i + 1) files)
 
-folders_sizes : (i : ℕ) (folders : List Plain) → HaveSizes (expected_folders i folders)
+folders_sizes : (i : ℕ) (folders : List Plain) → HaveSizes (expected_files_of_folders i folders)
 folders_sizes i [] = tt
-folders_sizes i (folder ∷ folders) = more_sizes (expected_files i 1 (files_in folder)) (expected_folders (i + 1) folders) (files_sizes i 1 (files_in folder)) (folders_sizes (i + 1) folders)
+folders_sizes i (folder ∷ folders) = more_sizes (expected_files_of_folder i 1 (files_in folder)) (expected_files_of_folders (i + 1) folders) (files_sizes i 1 (files_in folder)) (folders_sizes (i + 1) folders)
 
-found_size : (folder file : ℕ) (es : List Expected) (e : Expected) → HaveSizes es → expected_file_at folder file es ≡ Some e → 0 < e.size
+found_size : (folder file : ℕ) (es : List ExpectedFile) (e : ExpectedFile) → HaveSizes es → expected_file_at folder file es ≡ Some e → 0 < e.size
 found_size folder file [] e sizes is = (cc)
 found_size folder file (d ∷ es) e sizes is = by (is_expected_at folder file d) is (found_size folder file es e sizes.1)
   where
     by : (b : Bool) → cond b (Some d) (find (is_expected_at folder file) es) ≡ Some e → (expected_file_at folder file es ≡ Some e → 0 < e.size) → 0 < e.size
-    by true h others = subst (λ (x : Expected). 0 < x.size) (let s : Some d ≡ Some e = h in let t : d ≡ e = (cc) in t) sizes.0
+    by true h others = subst (λ (x : ExpectedFile). 0 < x.size) (let s : Some d ≡ Some e = h in let t : d ≡ e = (cc) in t) sizes.0
     by false h others = others h
 
-pub wanted_size : (value : Plain) (folder file : ℕ) (found : Option Wanted) (w : Wanted) → option_map expected_of found ≡ expected_file_at folder file (expected_contents value) → found ≡ Some w → 0 < w.size
+pub wanted_size : (value : Plain) (folder file : ℕ) (found : Option Wanted) (w : Wanted) → option_map expected_of found ≡ expected_file_at folder file (expected_files_of_package value) → found ≡ Some w → 0 < w.size
 wanted_size value folder file found w is some =
-    found_size folder file (expected_contents value) (expected_of w) (folders_sizes 1 (folders_in value)) (sym is ∙ ap (option_map expected_of) some)
+    found_size folder file (expected_files_of_package value) (expected_of w) (folders_sizes 1 (folders_in value)) (sym is ∙ ap (option_map expected_of) some)
 
 -- ---- a piece that is refused is the last
 
-refused_none_left : (n : ℕ) (e : Expected) (digest : Option Cause) (bytes : List ℕ) (further : PiecesRead) (c : Cause) → pieces_of_one_file n e digest bytes further ≡ refusal c → (n ≡ 0) × (digest ≡ Some c)
+refused_none_left : (n : ℕ) (e : ExpectedFile) (digest : Option Cause) (bytes : List ℕ) (further : PiecesRead) (c : Cause) → pieces_of_one_file n e digest bytes further ≡ refusal c → (n ≡ 0) × (digest ≡ Some c)
 refused_none_left zero e None bytes further c is = absurd (cc)
 refused_none_left zero e (Some d) bytes further c is = (refl, (let s : refusal d ≡ refusal c = is in cc))
 refused_none_left (suc n) e digest bytes further c is = absurd (cc)

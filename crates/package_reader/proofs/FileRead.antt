@@ -5,7 +5,7 @@ use Rattle.std.proofs.lemmas.List.{drop-drop, length-append}
 use Rattle.base_core.specs.Calls.{IfObservable}
 use Rattle.base_core.specs.Tree.{TreeState, files_of}
 use Rattle.base_core.specs.declared.cause.Cause.{Cause}
-use Rattle.pkg_core.specs.Contents.{Expected, hash_fault}
+use Rattle.pkg_core.specs.Contents.{ExpectedFile, hash_fault}
 use Rattle.pkg_core.specs.Opened.{expected_of}
 use Rattle.pkg_core.specs.declared.walk.Wanted.{Wanted}
 use Rattle.pkg_core.specs.Seen.{AreBytesRead, HasBytesAtOffset}
@@ -46,7 +46,7 @@ as_open o pkg left is = record {
   come = ap (λ (xs : List ℕ). pieces_in o.file is.so_far xs no_piece) is.come;
 }
 
-never_refused : (n : ℕ) (e : Expected) (bytes : List ℕ) (further : PiecesRead) (c : Cause) → pieces_of_one_file n e None bytes further ≡ refusal c → ⊥
+never_refused : (n : ℕ) (e : ExpectedFile) (bytes : List ℕ) (further : PiecesRead) (c : Cause) → pieces_of_one_file n e None bytes further ≡ refusal c → ⊥
 never_refused zero e bytes further c is = (cc)
 never_refused (suc n) e bytes further c is = (cc)
 

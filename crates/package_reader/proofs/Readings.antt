@@ -8,7 +8,7 @@ use Rattle.base_core.specs.Tree.{TreeState}
 use Rattle.pkg_core.specs.Seen.{AreBytesRead, HasBytesAtOffset, IsSeenIn, ReadsFile}
 use Rattle.adb_block.specs.Reading.{block_stream_from}
 use Rattle.adb_block.specs.declared.block.BlockKind.{BlockKind}
-use Rattle.pkg_core.specs.Contents.{Expected}
+use Rattle.pkg_core.specs.Contents.{ExpectedFile}
 use Rattle.pkg_core.specs.Pieces.{PiecesRead, piece, pieces_read_from_blocks, refusal}
 use Rattle.pkg_core.specs.Taking.{file_bytes_left, next_piece_len}
 use Rattle.pkg_core.specs.declared.file.Part.{Part}
@@ -25,7 +25,7 @@ use Rattle.package_reader.specs.declared.reader.PieceReader.{PieceReader}
 use Rattle.package_reader.proofs.FilesFound.{seen_up_to}
 
 -- the schema of a file plays no part after its first block
-pub any_schema : (es : List Expected) (schema at : ℕ) (last : Option BlockKind) (pkg : List ℕ) → pieces_read_from_blocks es (block_stream_from (record { schema = schema; last = last; at = at; left = drop at pkg })) ≡ pieces_read_from_blocks es (block_stream_from (record { schema = 0; last = last; at = at; left = drop at pkg }))
+pub any_schema : (es : List ExpectedFile) (schema at : ℕ) (last : Option BlockKind) (pkg : List ℕ) → pieces_read_from_blocks es (block_stream_from (record { schema = schema; last = last; at = at; left = drop at pkg })) ≡ pieces_read_from_blocks es (block_stream_from (record { schema = 0; last = last; at = at; left = drop at pkg }))
 unfolding block_stream_from
 any_schema es schema at last pkg = refl
 

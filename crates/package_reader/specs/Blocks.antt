@@ -17,13 +17,13 @@ use Rattle.package_reader.specs.declared.block.BlockStep.TheVariants.{End, Passe
 use Rattle.package_reader.specs.declared.piece.PieceFault.{PieceFault}
 use Rattle.package_reader.specs.declared.piece.PieceFault.TheVariants.{Bad, Disk}
 
--- how many bytes of a block precede its payload
+-- how many bytes of a block precede its payload: those of its header
 abbrev pub head_size : Option Frame → ℕ
 head_size None = 0
 head_size (Some frame) = frame.head_len
 
--- these bytes of a block's payload were read: the positions, which are its first bytes, if it has as
--- many, else no more than it has
+-- the bytes `seen` of a block's payload were read. They are its first eight bytes, the positions, if
+-- it has as many; else they are no more than it has
 abbrev pub SeesPositions : Option Frame → List ℕ → List ℕ → Type 0
 SeesPositions None positions seen = seen ≡ []
 SeesPositions (Some frame) positions seen =

@@ -2,7 +2,7 @@
 -- blocks", the paragraph of pieces. Serves the contracts of `FilePieces`.
 use Rattle.std.specs.Prelude.{◌≡◌, ◌<◌, ℕ, ◌+◌, ◌⊎◌, Bool, true, false, List, [], ◌++◌, length, Option, Some, None, option_map, Result, Ok, Err}
 use Rattle.base_core.specs.declared.cause.Cause.{Cause}
-use Rattle.pkg_core.specs.Contents.{Expected, hash_fault}
+use Rattle.pkg_core.specs.Contents.{ExpectedFile, hash_fault}
 use Rattle.pkg_core.specs.Opened.{expected_of}
 use Rattle.pkg_core.specs.Taking.{HasTaken, file_bytes_left}
 use Rattle.package_reader.specs.Opened.{AreUnreadBytes}
@@ -32,7 +32,7 @@ bytes_left_of file = bytes_left_in file.opened
 
 -- the positions, the size and the digest that the package lists for the file; None if it has no
 -- contents
-abbrev pub expected_file_of : FilePieces → Option Expected
+abbrev pub expected_file_of : FilePieces → Option ExpectedFile
 expected_file_of file = option_map expected_of file.due
 
 -- the fault of the test that failed in the reading of a file, if one did
@@ -60,25 +60,26 @@ ReturnsNextBytes AreUnreadBytesThen left bytes (Err Disk) = Unit {0}
 -- ---- the tests of the bytes, whatever the tree has
 
 -- of a file without contents there are no bytes; of any other, the bytes have the expected size and digest
-abbrev pub AreAsExpected : Option Expected → List ℕ → Type 0
+abbrev pub AreAsExpected : Option ExpectedFile → List ℕ → Type 0
 AreAsExpected None bytes = bytes ≡ []
 AreAsExpected (Some e) bytes = (length bytes ≡ e.size) × (hash_fault e.hash bytes ≡ None)
 
 -- the bytes have the expected size, and another digest
-abbrev pub HaveOtherDigest : Option Expected → List ℕ → Cause → Type 0
+abbrev pub HaveOtherDigest : Option ExpectedFile → List ℕ → Cause → Type 0
 HaveOtherDigest None bytes c = ⊥
 HaveOtherDigest (Some e) bytes c = (length bytes ≡ e.size) × (hash_fault e.hash bytes ≡ Some c)
 
 -- exactly these bytes were returned, by the state of a reader: more are to be read, or the bytes are as
 -- expected; after a failed test nothing is promised
-abbrev pub HaveBeenReturnedInState : Option Cause → Option OpenFile → Option Expected → List ℕ → Type 0
+abbrev pub HaveBeenReturnedInState : Option Cause → Option OpenFile → Option ExpectedFile → List ℕ → Type 0
 HaveBeenReturnedInState (Some c) opened due bytes = Unit {0}
 HaveBeenReturnedInState None None due bytes = AreAsExpected due bytes
 HaveBeenReturnedInState None (Some o) due bytes = HasTaken o.file bytes
 
 -- exactly these bytes of the file were returned so far
 abbrev pub HaveBeenReturned : FilePieces → List ℕ → Type 0
-HaveBeenReturned file bytes = HaveBeenReturnedInState (remembered_fault file) file.opened (expected_file_of file)
+HaveBeenReturned file bytes =
+    HaveBeenReturnedInState (remembered_fault file) file.opened (expected_file_of file)
     bytes
 
 -- The result of a call after these bytes (`so_far`) were returned. Without an error, no test has
@@ -88,7 +89,8 @@ abbrev pub IsTestedReturn : FilePieces → List ℕ → List ℕ → Result Bool
 IsTestedReturn old so_far bytes (Ok true) new =
     (remembered_fault new ≡ None) × HaveBeenReturned new (so_far ++ bytes)
 IsTestedReturn old so_far bytes (Ok false) new =
-    (remembered_fault new ≡ None) × AreAsExpected (expected_file_of old) so_far × HaveBeenReturned new so_far
+    (remembered_fault new ≡ None) × AreAsExpected (expected_file_of old) so_far
+    × HaveBeenReturned new so_far
 IsTestedReturn old so_far bytes (Err (Bad c)) new =
     (remembered_fault old ≡ Some c) ⊎ HaveOtherDigest (expected_file_of old) (so_far ++ bytes) c
 IsTestedReturn old so_far bytes (Err Disk) new = Unit {0}

@@ -4,7 +4,7 @@
 use Rattle.std.specs.Prelude.{◌≡◌, ℕ, ◌+◌, ◌-◌, nat_lt, if◌then◌else◌, true, false, List, [], ◌++◌, length, take, drop, Option, Some, None, Result, Ok, Err}
 use Rattle.base_core.specs.declared.cause.Cause.{Cause}
 use Rattle.base_core.specs.declared.cause.Cause.TheVariants.{DataOrder, DataSize}
-use Rattle.pkg_core.specs.Contents.{Expected, hash_fault}
+use Rattle.pkg_core.specs.Contents.{ExpectedFile, hash_fault}
 use Rattle.pkg_core.specs.Opened.{expected_of}
 use Rattle.pkg_core.specs.Pieces.{PiecesRead, part_of, piece, refusal}
 use Rattle.pkg_core.specs.Taking.{HasTaken, file_bytes_left, pieces_in}
@@ -21,17 +21,25 @@ unread_bytes o pkg = take (file_bytes_left o.file) (drop o.at pkg)
 -- are those of its unread bytes, and then further ones
 pub record IsOpenFile (o : OpenFile) (so_far pkg : List ℕ)
     (further pieces : PiecesRead) : Type 0 where
+  -- these bytes were taken
   pub taken : HasTaken o.file so_far
+  -- with the unread bytes they have the size of the file
   pub long : length (so_far ++ unread_bytes o pkg) ≡ o.file.wanted.size
+  -- the pieces to be read are those of the unread bytes, and then the further ones
   pub come : pieces ≡ pieces_in o.file so_far (unread_bytes o pkg) further
 
 -- the bytes `left` are the unread ones of an open file, and with those returned before they have its
 -- size and its digest
 pub record AreLeftOf (o : OpenFile) (pkg left : List ℕ) : Type 0 where
+  -- the bytes that were returned before
   pub so_far : List ℕ
+  -- these bytes were taken
   pub taken : HasTaken o.file so_far
+  -- together they have the size of the file
   pub long : length (so_far ++ left) ≡ o.file.wanted.size
+  -- the bytes `left` are the unread ones
   pub come : left ≡ unread_bytes o pkg
+  -- together they have the digest of the file
   pub good : hash_fault o.file.wanted.hash.now (so_far ++ left) ≡ None
 
 -- the bytes `left` are the unread ones of the open file; if none is open there are none
@@ -82,7 +90,7 @@ open_file_end (Some o) = o.at + file_bytes_left o.file
 
 -- why an expected file cannot be at an offset of a package of this length: no offset is given, which is
 -- reported with (0, 0), or fewer bytes are left than its size; None if it can
-abbrev pub place_fault : Option Expected → Option ℕ → ℕ → Option Cause
+abbrev pub place_fault : Option ExpectedFile → Option ℕ → ℕ → Option Cause
 place_fault None at len = None
 place_fault (Some e) None len = Some (DataOrder (e.folder, e.file) (0, 0))
 place_fault (Some e) (Some at) len =

@@ -3,7 +3,7 @@
 -- paragraph above it. Serves the contracts of `PieceReader`.
 use Rattle.std.specs.Prelude.{◌≡◌, ℕ, ◌+◌, ◌-◌, if◌then◌else◌, List, [], ◌∷◌, is_none, Option, Some, None, IfSome, Result, Ok, Err}
 use Rattle.base_core.specs.declared.cause.Cause.{Cause}
-use Rattle.pkg_core.specs.Contents.{Expected}
+use Rattle.pkg_core.specs.Contents.{ExpectedFile}
 use Rattle.pkg_core.specs.Opened.{expected_of, files_left_in_walk}
 use Rattle.pkg_core.specs.declared.walk.Walk.{Walk}
 use Rattle.pkg_core.specs.Pieces.{PiecesRead, no_piece, part_of, piece, refusal}
@@ -38,19 +38,20 @@ next_read_offset place (Some o) = o.at
 abbrev pub offset_of : PieceReader → ℕ
 offset_of reader = next_read_offset reader.place reader.opened
 
--- the expected files: those whose last piece is still to be read
-abbrev pub files_to_read_in : BlockPlace → Option OpenFile → List Expected
+-- the files whose last piece is still to be read: the open file, and those that the walk has left
+abbrev pub files_to_read_in : BlockPlace → Option OpenFile → List ExpectedFile
 files_to_read_in place None = files_left_in_walk place.walk
 files_to_read_in place (Some o) = expected_of o.file.wanted ∷ files_left_in_walk place.walk
 
--- the expected files, by what is left of a reader: none after the last block, or after a failed test
-abbrev pub files_to_read_in_state : Due → BlockPlace → Option OpenFile → List Expected
+-- the files whose last piece is still to be read by a reader in this state: none after the last block,
+-- or after a failed test
+abbrev pub files_to_read_in_state : Due → BlockPlace → Option OpenFile → List ExpectedFile
 files_to_read_in_state Files place opened = files_to_read_in place opened
 files_to_read_in_state Nothing place opened = []
 files_to_read_in_state (Refused c) place opened = []
 
 -- the files of a reader whose last piece is still to be read
-abbrev pub files_to_read : PieceReader → List Expected
+abbrev pub files_to_read : PieceReader → List ExpectedFile
 files_to_read reader = files_to_read_in_state reader.due reader.place reader.opened
 
 -- a reader can continue: no test failed, and the last block was not passed
@@ -69,8 +70,8 @@ ArePiecesFrom place None pkg pieces = pieces ≡ pieces_at place pkg
 ArePiecesFrom place (Some o) pkg pieces =
     (so_far : List ℕ) × IsOpenFile o so_far pkg (pieces_at place pkg) pieces
 
--- these pieces are left, by what is left of a reader: none after the last block, only the fault after a
--- failed test
+-- these pieces are still to be read by a reader in this state: none after the last block, only the
+-- fault after a failed test
 abbrev pub AreUnreadPieces : Due → BlockPlace → Option OpenFile → List ℕ → PiecesRead → Type 0
 AreUnreadPieces Files place opened pkg pieces = ArePiecesFrom place opened pkg pieces
 AreUnreadPieces Nothing place opened pkg pieces = pieces ≡ no_piece
@@ -94,24 +95,32 @@ ReturnsNextPiece AreUnreadBytes before bytes (Err (Bad c)) = (before ≡ refusal
 ReturnsNextPiece AreUnreadBytes before bytes (Err Disk) = Unit {0}
 
 -- the piece is one of the first expected file, which is expected until its last piece was read
-pub record IsOfFirstExpected (before : List Expected) (part : Part)
-    (after : List Expected) : Type 0 where
-  pub first : Expected
-  pub others : List Expected
+pub record IsOfFirstExpected (before : List ExpectedFile) (part : Part)
+    (after : List ExpectedFile) : Type 0 where
+  -- the first expected file
+  pub first : ExpectedFile
+  -- the other expected files
+  pub others : List ExpectedFile
+  -- these were expected before
   pub due : before ≡ first ∷ others
+  -- the piece is a part of the first one
   pub of_first : part ≡ part_of first part.last
+  -- the first one is still expected unless this was its last piece
   pub left : after ≡ (if part.last then others else first ∷ others)
 
 -- the expected files before and after a call: the pieces are in the order of the files, and at the end
 -- no file is expected
-abbrev pub IsReturnedInOrder : List Expected → Option Part → List Expected → Type 0
+abbrev pub IsReturnedInOrder : List ExpectedFile → Option Part → List ExpectedFile → Type 0
 IsReturnedInOrder before None after = before ≡ []
 IsReturnedInOrder before (Some part) after = IsOfFirstExpected before part after
 
 -- after a piece a reader can continue, and the file is open unless the piece is its last one
 pub record CanContinueAfter (part : Part) (old new : PieceReader) : Type 0 where
+  -- the reader could continue before
   pub before : CanContinue old
+  -- the reader can continue after the piece
   pub after : CanContinue new
+  -- no file is open exactly after a last piece
   pub open_file : is_none new.opened ≡ part.last
 
 -- a failed test is remembered by the reader of a package
@@ -142,7 +151,9 @@ HasPieceAt old pkg bytes (Some part) new = HasBytesAtOffset pkg (start_of_file n
 -- a piece of this length was returned of the open file, whose offset is unchanged; after the last piece
 -- none is open, and 0 bytes of it count as returned
 pub record KeepsFileStart (part : Part) (len : ℕ) (old new : PieceReader) : Type 0 where
+  -- if a file was open, its offset is unchanged
   pub same : IfSome old.opened (λ o. start_of_file new ≡ start_of_file old)
+  -- the bytes returned of the open file grow by the piece; 0 after the last piece
   pub handed : returned_len new ≡ (if part.last then 0 else returned_len old + len)
 
 -- ---- inside
@@ -176,7 +187,9 @@ IsFileOpened old pkg before (Err Disk) new = Unit {0}
 -- an open file begins at `start`: its unread bytes follow those that were returned, and if it was open
 -- before, it began there too
 pub record IsStartOf (old : PieceReader) (o : OpenFile) (start : ℕ) : Type 0 where
+  -- the next byte follows the bytes that were returned
   pub located : o.at ≡ start + returned_len old
+  -- if the file was open before, it began there too
   pub same : IfSome old.opened (λ o. start ≡ start_of_file old)
 
 -- the result of reading the next piece, as *ReturnsNextPiece*, without a promise after a failed test
@@ -190,7 +203,7 @@ IsPieceRead new pkg before bytes (Err Disk) = Unit {0}
 
 -- the expected files before a file was opened: this file, and those that the walk has left; none if
 -- none was opened
-abbrev pub OpensFirstOrNoneExpected : List Expected → Option OpenFile → BlockPlace → Type 0
+abbrev pub OpensFirstOrNoneExpected : List ExpectedFile → Option OpenFile → BlockPlace → Type 0
 OpensFirstOrNoneExpected before None place = before ≡ []
 OpensFirstOrNoneExpected before (Some o) place =
     before ≡ expected_of o.file.wanted ∷ files_left_in_walk place.walk

@@ -60,6 +60,7 @@ pub(crate) fn next_block<'a, T: Tree>(
         → IsNextBlock place.old file result place.new) }
     ensures len { place.new.len ≡ place.old.len }
     ensures within { place.new.at ≤ place.new.len }
+    // The walk advances over an opened file; at the end no file is expected.
     ensures walk { IfOk result (λ step. IsWalkAfterBlock place.old.walk step place.new.walk) }
     ensures further { IfOk result (λ step. IsAtLaterPlace place.old step place.new) }
     // The tree is unchanged. `Disk` is returned only if the tree failed, and no call is a misuse if
@@ -101,10 +102,13 @@ pub(crate) fn read_block<T: Tree>(
     place: &BlockPlace<'_>,
 ) -> Result<BlockRead, PieceFault>
     requires { place.now.at ≤ place.now.len }
+    // The block ends within the file.
     ensures fits { IfOk result (λ read. IfSome read.framing (λ frame.
         (0 < frame.head_len) × (raw_size frame ≤ place.now.len - place.now.at))) }
+    // The end of the block is below 2^64.
     ensures small { IfOk result (λ read. IfSome read.framing (λ frame.
         place.now.at + raw_size frame < 2 ^ 64)) }
+    // For each file of this length that has the bytes that were read.
     ensures block { (seen : List ℕ)
         × IsSeenIn (T.history tree.old) name.now place.now.len place.now.at seen
         × IfOk result (λ read. AreSeenWithinPositions read.framing (length seen))
@@ -132,9 +136,11 @@ fn read_positions<T: Tree>(
     framing: Option<Frame>,
 ) -> Result<[u8; POSITIONS_LEN], PieceFault>
     requires { IfSome framing (λ frame. at + raw_size frame < 2 ^ 64) }
+    // The bytes that were read are the positions, if the payload has as many bytes.
     ensures seen { IfOk result (λ positions. (seen : List ℕ) × SeesPositions framing positions seen
         × ((file_len : ℕ)
         → AreBytesRead (T.history tree.old) name.now file_len (at + head_size framing) seen)) }
+    // The only error is that the tree failed.
     ensures disk { IfErr result (λ fault. fault ≡ DiskFault) }
     // The tree is unchanged. `Disk` is returned only if the tree failed, and no call is a misuse if
     // the file still has its length.
@@ -159,6 +165,7 @@ pub(crate) fn next_file<'a, T: Tree>(
     place: &mut BlockPlace<'a>,
 ) -> Result<Option<OpenFile<'a>>, PieceFault>
     requires { place.old.at ≤ place.old.len }
+    // For each package of this length that has the bytes that were read.
     ensures file { (seen : List ℕ)
         × IsSeenIn (T.history tree.old) name.now place.old.len place.old.at seen
         × IfOk result (λ found. IfSome found (λ next.
@@ -167,7 +174,9 @@ pub(crate) fn next_file<'a, T: Tree>(
         → IsFileFound place.old pkg result place.new) }
     ensures len { place.new.len ≡ place.old.len }
     ensures within { place.new.at ≤ place.new.len }
+    // The walk advances over the file that was found; without one no file is expected.
     ensures walk { IfOk result (λ found. FindsNextFile place.old.walk found place.new.walk) }
+    // The next file ends no later than the new place.
     ensures room { IfOk result (λ found. IfSome found (λ next.
         next.at + file_bytes_left next.file ≤ place.new.at)) }
     // The tree is unchanged. `Disk` is returned only if the tree failed, and no call is a misuse if

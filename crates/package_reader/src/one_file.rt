@@ -37,7 +37,7 @@ impl<'a> FilePieces<'a> {
     ghost use Rattle.std.specs.Prelude.{◌≡◌, ◌<◌, [], ℕ, List, None, Some, length, IfErr, IfOk, IfSome, Err};
     ghost use Rattle.base_core.specs.Calls.{IfObservable};
     ghost use Rattle.base_core.specs.Tree.{files_of};
-    ghost use Rattle.pkg_core.specs.Contents.{Expected, expected_contents, hash_fault};
+    ghost use Rattle.pkg_core.specs.Contents.{ExpectedFile, expected_files_of_package, hash_fault};
     ghost use Rattle.pkg_core.specs.Opened.{expected_file_at, expected_of};
     ghost use Rattle.pkg_core.specs.Seen.{HasBytesAtOffset, ReadsFile};
     ghost use Rattle.pkg_core.specs.Values.{value_of_contents};
@@ -60,14 +60,19 @@ impl<'a> FilePieces<'a> {
         ensures len { package_len_of_file result ≡ len }
         // The size and the digest that are compared are those that the values list for the file.
         ensures due { expected_file_of result ≡ expected_file_at folder file
-            (expected_contents (value_of_contents contents.entry)) }
+            (expected_files_of_package (value_of_contents contents.entry)) }
+        // No bytes were returned yet.
         ensures begun { HaveBeenReturned result [] }
+        // If the file cannot be at this offset of the package, this is remembered as its fault.
         ensures fault { remembered_fault result ≡ place_fault (expected_file_of result) at len }
-        ensures reading { (pkg bytes : List ℕ) (e : Expected) (start : ℕ) → length pkg ≡ len
+        // If the package has there bytes of the expected size and digest, they are to be read.
+        ensures reading { (pkg bytes : List ℕ) (e : ExpectedFile) (start : ℕ) → length pkg ≡ len
             → at ≡ Some start → expected_file_at folder file
-            (expected_contents (value_of_contents contents.entry)) ≡ Some e
-            → HasBytesAtOffset pkg start bytes → length bytes ≡ e.size → hash_fault e.hash bytes ≡ None
+            (expected_files_of_package (value_of_contents contents.entry)) ≡ Some e
+            → HasBytesAtOffset pkg start bytes → length bytes ≡ e.size → hash_fault e.hash bytes
+            ≡ None
             → HasUnreadBytes result pkg bytes }
+        // If the package lists no contents for the file, no bytes are to be read.
         ensures empty { (pkg : List ℕ) → expected_file_of result ≡ None
             → HasUnreadBytes result pkg [] }
     {
@@ -98,8 +103,11 @@ impl<'a> FilePieces<'a> {
         ensures name { package_name_of_file result ≡ name.entry.now }
         ensures len { package_len_of_file result ≡ len }
         ensures due { expected_file_of result ≡ Some (expected_of wanted.entry) }
+        // No bytes were returned yet.
         ensures begun { HaveBeenReturned result [] }
+        // If the file cannot be at this offset of the package, this is remembered as its fault.
         ensures fault { remembered_fault result ≡ place_fault (expected_file_of result) at len }
+        // If the package has there bytes of the expected size and digest, they are to be read.
         ensures reading { (pkg bytes : List ℕ) (start : ℕ) → length pkg ≡ len → at ≡ Some start
             → HasBytesAtOffset pkg start bytes → length bytes ≡ wanted.entry.size
             → hash_fault wanted.entry.hash.now bytes ≡ None → HasUnreadBytes result pkg bytes }
@@ -150,10 +158,12 @@ impl<'a> FilePieces<'a> {
         ensures tested { (so_far : List ℕ) → HaveBeenReturned self.old so_far
             → IsTestedReturn self.old so_far piece.new result self.new }
         ensures due { expected_file_of self.new ≡ expected_file_of self.old }
+        // The bytes of the piece are subtracted from those that are left.
         ensures left { IfOk result (HasFewerLeft self.old (length piece.new) self.new) }
         ensures refused { IfErr result (λ fault. RemembersFileFault fault self.new) }
         // Each later call returns a test that failed.
         ensures again { IfSome (remembered_fault self.old) (λ cause. result ≡ Err (Bad cause)) }
+        // The name and the length of the package are unchanged.
         ensures name { package_name_of_file self.new ≡ package_name_of_file self.old }
         ensures len { package_len_of_file self.new ≡ package_len_of_file self.old }
         // The tree is unchanged. `Disk` is returned only if the tree failed, and no call is a
@@ -185,10 +195,13 @@ impl<'a> FilePieces<'a> {
             → files_of v (package_name_of_file self.old) ≡ Some pkg
             → HasUnreadBytes self.old pkg left
             → ReturnsNextBytes (HasUnreadBytes self.new pkg) left piece.new result) }
+        // The last piece and the end are returned only if all bytes pass the tests.
         ensures tested { (so_far : List ℕ) → HaveBeenReturned self.old so_far
             → IsTestedReturn self.old so_far piece.new result self.new }
         ensures due { expected_file_of self.new ≡ expected_file_of self.old }
+        // The bytes of the piece are subtracted from those that are left.
         ensures left { IfOk result (HasFewerLeft self.old (length piece.new) self.new) }
+        // The name and the length of the package are unchanged.
         ensures name { package_name_of_file self.new ≡ package_name_of_file self.old }
         ensures len { package_len_of_file self.new ≡ package_len_of_file self.old }
         // The tree is unchanged. `Disk` is returned only if the tree failed, and no call is a

@@ -43,6 +43,7 @@ impl<'a> OpenFile<'a> {
     ) -> Result<(Part, Option<OpenFile<'a>>), PieceFault>
         // Offsets have 64 bits.
         requires { self.at + file_bytes_left self.file < 2 ^ 64 }
+        // The bytes of the piece were read at the offset of the next byte.
         ensures seen { IsNotDiskResult result → (file_len : ℕ)
             → AreBytesRead (T.history tree.old) name.now file_len self.entry.at piece.new }
         // For each file that has the bytes that were seen.
@@ -51,17 +52,21 @@ impl<'a> OpenFile<'a> {
             → self.entry.at + file_bytes_left self.entry.file ≤ length file
             → IsOpenFile self.entry so_far file further before
             → IsResultOfNextPiece so_far file piece.new further before result }
+        // The piece has the length of the next piece, unless the tree failed.
         ensures len { IsNotDiskResult result → length piece.new ≡ next_piece_len self.entry.file }
         ensures part { IfOk result (IsPieceOf self.entry (length piece.new)) }
         // Only the last piece ends the file, and after it all bytes together have its size and its
         // digest.
         ensures more { IfOk result (λ read. IfSome read.1 (λ further.
             0 < file_bytes_left further.file)) }
+        // The last piece has all bytes that were left.
         ensures all { IfOk result (λ read. IfNone read.1
             (length piece.new ≡ file_bytes_left self.entry.file)) }
+        // All bytes together are tested with the last piece.
         ensures digest { (so_far : List ℕ) → HasTaken self.entry.file so_far
             → 0 < file_bytes_left self.entry.file
             → AreTestedSoFar self.entry (so_far ++ piece.new) result }
+        // The rest of the file ends where the file ended before.
         ensures room { IfOk result (λ read. IfSome read.1 (λ further.
             further.at + file_bytes_left further.file
             ≡ self.entry.at + file_bytes_left self.entry.file)) }
@@ -95,10 +100,13 @@ pub(crate) fn open_at<'a>(
 ) -> Result<OpenFile<'a>, Cause>
     requires { 0 < wanted.size }
     ensures fault { result_err result ≡ place_fault (Some (expected_of wanted.entry)) at len }
+    // The file ends within the package.
     ensures within { IfOk result (λ o. o.at + file_bytes_left o.file ≤ len) }
     ensures wanted { IfOk result (λ o. o.file.wanted ≡ wanted.entry) }
+    // No bytes were taken yet, and some are left.
     ensures taken { IfOk result (λ o. HasTaken o.file []) }
     ensures more { IfOk result (λ o. 0 < file_bytes_left o.file) }
+    // If the package has there bytes of the expected size and digest, they are to be read.
     ensures left { (pkg bytes : List ℕ) (start : ℕ) → length pkg ≡ len → at ≡ Some start
         → HasBytesAtOffset pkg start bytes → length bytes ≡ wanted.entry.size
         → hash_fault wanted.entry.hash.now bytes ≡ None

@@ -62,7 +62,9 @@ impl Piece {
     ) -> Result<(), PieceFault>
         requires { len ≤ PIECE_LEN }
         ensures len { OnOk result (length self.new ≡ len) }
+        // The only error is that the tree failed.
         ensures disk { IfErr result (λ fault. fault ≡ DiskFault) }
+        // The bytes of the piece are those that were read.
         ensures seen { OnOk result ((file_len : ℕ)
             → AreBytesRead (T.history tree.old) name.now file_len at self.new) }
         // The tree is unchanged. `Disk` is returned only if the tree failed, and no call is a

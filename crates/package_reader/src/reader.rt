@@ -5,7 +5,7 @@ ghost use Rattle.std.specs.Option.{ForSome};
 ghost use Rattle.std.specs.Prelude.{◌≤◌, ◌≡◌, List};
 ghost use Rattle.package_reader.specs.Opened.{open_file_end};
 ghost use Rattle.adb_block.specs.Reading.{Reading};
-ghost use Rattle.pkg_core.specs.Contents.{Expected, contents_fault};
+ghost use Rattle.pkg_core.specs.Contents.{ExpectedFile, contents_fault};
 ghost use Rattle.pkg_core.specs.Pieces.{pieces_read_from_blocks, refusal_of_pieces};
 
 use crate::block::next_file;
@@ -15,7 +15,7 @@ use adb_block::BlockKind;
 use base_core::{Cause, Name, Tree};
 use pkg_core::{BlockPlace, Contents, Front, Part, Walk};
 
-/// What is left of a reader.
+/// What a reader still has to read.
 #[derive(Clone, Copy)]
 pub(crate) enum Due {
     /// The pieces of the files that are left.
@@ -34,7 +34,7 @@ pub(crate) enum Due {
 pub struct PieceReader<'a> {
     /// The name of the package.
     pub(crate) name: &'a Name,
-    /// The position of the reader in the blocks: after the one of the open file.
+    /// The position of the reader in the blocks: after the block of the open file.
     pub(crate) place: BlockPlace<'a>,
     /// The file of which some pieces, but not all, were read.
     pub(crate) opened: Option<OpenFile<'a>>,
@@ -50,7 +50,7 @@ pub struct PieceReader<'a> {
 impl<'a> PieceReader<'a> {
     ghost use Rattle.std.specs.Prelude.{◌≡◌, ◌≤◌, ◌+◌, ℕ, List, None, false, is_none, length, IfErr, IfOk, IfSome};
     ghost use Rattle.adb_block.specs.Reading.{block_stream_from};
-    ghost use Rattle.pkg_core.specs.Contents.{expected_contents};
+    ghost use Rattle.pkg_core.specs.Contents.{expected_files_of_package};
     ghost use Rattle.pkg_core.specs.Opened.{files_left_in_walk};
     ghost use Rattle.pkg_core.specs.Pieces.{PiecesRead, pieces_read_from_blocks};
     ghost use Rattle.pkg_core.specs.Taking.{file_bytes_left};
@@ -66,13 +66,16 @@ impl<'a> PieceReader<'a> {
     pub fn new(front: &Front, contents: &Contents<'a>, name: &'a Name) -> PieceReader<'a>
         ensures name { name_in_tree result ≡ name.entry.now }
         ensures len { package_len result ≡ front_file_len front.now }
+        // The first read is after the first block.
         ensures offset { offset_of result ≡ front_end front.now }
+        // Each file with contents is still to be read.
         ensures files { files_to_read result
-            ≡ expected_contents (value_of_contents contents.entry.now) }
+            ≡ expected_files_of_package (value_of_contents contents.entry.now) }
         ensures start { IsBetweenFiles result }
         // The pieces to read are those of the blocks after the front.
         ensures pieces { (pkg : List ℕ) → IsReading result pkg
-            (pieces_read_from_blocks (expected_contents (value_of_contents contents.entry.now))
+            (pieces_read_from_blocks (expected_files_of_package
+            (value_of_contents contents.entry.now))
             (block_stream_from (position_after_front front.now pkg))) }
     {
         let place = BlockPlace {
@@ -97,6 +100,8 @@ impl<'a> PieceReader<'a> {
             place,
             opened: None,
             start: 0,
+            /// What is still to be read: files, nothing after the last block, or nothing after a
+            /// failed test.
             due: Due::Files,
         }
     }
@@ -138,6 +143,7 @@ impl<'a> PieceReader<'a> {
         // continue.
         ensures order { IfOk result (λ found.
             IsReturnedInOrder (files_to_read self.old) found (files_to_read self.new)) }
+        // After a piece the reader can continue.
         ensures goes_on { IfOk result (λ found. IfSome found (λ part.
             CanContinueAfter part self.old self.new)) }
         // A piece that is not the last one is completely before the next read.
@@ -149,6 +155,7 @@ impl<'a> PieceReader<'a> {
             KeepsFileStart part (length piece.new) self.old self.new)) }
         // A failed test is remembered, and each later call returns it.
         ensures refused { IfErr result (λ fault. RemembersFault fault self.new) }
+        // The name and the length of the package are unchanged.
         ensures name { name_in_tree self.new ≡ name_in_tree self.old }
         ensures len { package_len self.new ≡ package_len self.old }
         // The tree is unchanged. `Disk` is returned only if the tree failed, and no call is a
@@ -172,6 +179,7 @@ impl<'a> PieceReader<'a> {
         piece: &mut Piece,
     ) -> Result<Option<Part>, PieceFault>
         requires { CanContinue self.old }
+        // For each package of this length that has the bytes that were read.
         ensures piece { (seen : List ℕ)
             × IsSeenIn (T.history tree.old) (name_in_tree self.old) (package_len self.old)
             (offset_of self.old) seen
@@ -182,15 +190,20 @@ impl<'a> PieceReader<'a> {
             → (before : PiecesRead) → IsReading self.old pkg before
             → ReturnsNextPiece (IsReading self.new pkg) before piece.new result
             × IfOk result (λ found. HasPieceAt self.old pkg piece.new found self.new)) }
+        // The pieces are in the order of the files in the package.
         ensures order { IfOk result (λ found.
             IsReturnedInOrder (files_to_read self.old) found (files_to_read self.new)) }
+        // After a piece the reader can continue.
         ensures goes_on { IfOk result (λ found. IfSome found (λ part.
             CanContinueAfter part self.old self.new)) }
+        // A piece that is not the last one is completely before the next read.
         ensures bytes { IfOk result (λ found. IfSome found (λ part. part.last ≡ false
             → offset_of self.old + length piece.new ≤ offset_of self.new)) }
+        // The offset at which the file begins is unchanged while the file is open.
         ensures start { IfOk result (λ found. IfSome found (λ part.
             KeepsFileStart part (length piece.new) self.old self.new)) }
         ensures refused { IfErr result (λ fault. RemembersFault fault self.new) }
+        // The name and the length of the package are unchanged.
         ensures name { name_in_tree self.new ≡ name_in_tree self.old }
         ensures len { package_len self.new ≡ package_len self.old }
         // The tree is unchanged. `Disk` is returned only if the tree failed, and no call is a
@@ -220,6 +233,7 @@ impl<'a> PieceReader<'a> {
         tree: &mut T,
         piece: &mut Piece,
     ) -> Result<Option<Part>, PieceFault>
+        // For each package of this length that has the bytes that were read.
         ensures piece { (seen : List ℕ)
             × IsSeenIn (T.history tree.old) (name_in_tree self.old) (package_len self.old)
             (offset_of self.old) seen
@@ -230,16 +244,22 @@ impl<'a> PieceReader<'a> {
             → (before : PiecesRead) → ArePiecesFrom self.old.place self.old.opened pkg before
             → IsPieceRead self.new pkg before piece.new result
             × IfOk result (λ found. HasPieceAt self.old pkg piece.new found self.new)) }
+        // The pieces are in the order of the files in the package.
         ensures order { IfOk result (λ found. IsReturnedInOrder
             (files_to_read_in self.old.place self.old.opened) found (files_to_read_in
             self.new.place self.new.opened)) }
+        // A piece that is not the last one is completely before the next read.
         ensures bytes { IfOk result (λ found. IfSome found (λ part. part.last ≡ false
             → offset_of self.old + length piece.new ≤ offset_of self.new)) }
+        // The offset at which the file begins is unchanged while the file is open.
         ensures start { IfOk result (λ found. IfSome found (λ part.
             KeepsFileStart part (length piece.new) self.old self.new)) }
+        // The state of the reader is unchanged.
         ensures due { self.new.due ≡ self.old.due }
+        // No file is open exactly after a last piece.
         ensures open { IfOk result (λ found. IfSome found (λ part.
             is_none self.new.opened ≡ part.last)) }
+        // The name and the length of the package are unchanged.
         ensures name { name_in_tree self.new ≡ name_in_tree self.old }
         ensures len { package_len self.new ≡ package_len self.old }
         // The tree is unchanged. `Disk` is returned only if the tree failed, and no call is a
@@ -260,6 +280,7 @@ impl<'a> PieceReader<'a> {
 
     /// The file that is open, or the next one; None after the last block.
     fn open_next<T: Tree>(&mut self, tree: &mut T) -> Result<Option<OpenFile<'a>>, PieceFault>
+        // For each package of this length that has the bytes that were read.
         ensures file { (seen : List ℕ)
             × IsSeenIn (T.history tree.old) (name_in_tree self.old) (package_len self.old)
             (offset_of self.old) seen
@@ -269,14 +290,20 @@ impl<'a> PieceReader<'a> {
             → HasBytesAtOffset pkg (offset_of self.old) seen
             → (before : PiecesRead) → ArePiecesFrom self.old.place self.old.opened pkg before
             → IsFileOpened self.old pkg before result self.new) }
+        // The file is the first expected one; without a file none is expected.
         ensures opens { IfOk result (λ found.
-            OpensFirstOrNoneExpected (files_to_read_in self.old.place self.old.opened) found self.new.place) }
+            OpensFirstOrNoneExpected
+            (files_to_read_in self.old.place self.old.opened) found self.new.place) }
+        // The file ends no later than the next block begins.
         ensures room { IfOk result (λ found. IfSome found (λ file.
             file.at + file_bytes_left file.file ≤ self.new.place.at)) }
+        // The file begins at the offset that the reader remembers.
         ensures start { IfOk result (λ found. IfSome found (λ file.
             IsStartOf self.old file self.new.start)) }
         ensures opened { self.new.opened ≡ None }
+        // The state of the reader is unchanged.
         ensures due { self.new.due ≡ self.old.due }
+        // The name and the length of the package are unchanged.
         ensures name { name_in_tree self.new ≡ name_in_tree self.old }
         ensures len { package_len self.new ≡ package_len self.old }
         // The tree is unchanged. `Disk` is returned only if the tree failed, and no call is a
@@ -299,6 +326,6 @@ impl<'a> PieceReader<'a> {
 /// The first failed test of the pieces is that of the blocks: the one for which `verify` of
 /// `pkg_core` refuses the package in memory.
 pub fn the_pieces_are_refused_for_the_first_fault_of_the_blocks()
-    ensures { (expected : List Expected) (r : Reading)
+    ensures { (expected : List ExpectedFile) (r : Reading)
         → refusal_of_pieces (pieces_read_from_blocks expected r) ≡ contents_fault expected r }
 {}

@@ -6,9 +6,9 @@ use Rattle.std.specs.List.Sorted.{IsPartitionPoint, IsPartitionedBy}
 use Rattle.std.proofs.lemmas.Bool.{and_from, cases_eq, cases_lt, eq-eqb, eqb-true, false_from_ne_true, lt-ltb, ltb-true, or_right, and_parts, or_cases, or_left}
 use Rattle.adb_view.specs.Plain.{Plain}
 use Rattle.package_reader.specs.adb_fields.Repeated.{files_in, folders_in}
-use Rattle.package_reader.specs.adb_schema.Texts.{is_with_contents}
+use Rattle.package_reader.specs.adb_schema.Texts.{is_file_with_contents}
 use Rattle.adb_view.specs.Values.{entry_in, int_in, text_in}
-use Rattle.package_reader.specs.pkg_core.Contents.{Contents, Expected, expected_at, expected_contents, expected_files, expected_folders}
+use Rattle.package_reader.specs.pkg_core.Contents.{Contents, ExpectedFile, expected_at, expected_files_of_package, expected_files_of_folder, expected_files_of_folders}
 use Rattle.package_reader.specs.pkg_core.GoodContents.{AreContentsOf, IsContentsOf}
 use Rattle.package_verifier.specs.Places.{AreAtPlaces, AreInFileOrder, ArePlacedAfter, IsBeforeFile, is_before_file, is_place_of, offset_of_file}
 use Rattle.package_verifier.specs.declared.places.FilePlace.{FilePlace}
@@ -130,60 +130,60 @@ other_file folder file place other = false_from_ne_true (is_place_of folder file
 
 -- ---- the files of a package are in this order
 
-abbrev AreExpectedAfter : ℕ → ℕ → List Expected → Type 0
+abbrev AreExpectedAfter : ℕ → ℕ → List ExpectedFile → Type 0
 AreExpectedAfter folder file [] = Unit {0}
 AreExpectedAfter folder file (e ∷ es) = IsBeforeFile folder file e.folder e.file × AreExpectedAfter folder file es
 
-abbrev pub AreExpectedInOrder : List Expected → Type 0
+abbrev pub AreExpectedInOrder : List ExpectedFile → Type 0
 AreExpectedInOrder [] = Unit {0}
 AreExpectedInOrder (e ∷ es) = AreExpectedAfter e.folder e.file es × AreExpectedInOrder es
 
-after_joined : (a b : ℕ) (xs ys : List Expected) → AreExpectedAfter a b xs → AreExpectedAfter a b ys → AreExpectedAfter a b (xs ++ ys)
+after_joined : (a b : ℕ) (xs ys : List ExpectedFile) → AreExpectedAfter a b xs → AreExpectedAfter a b ys → AreExpectedAfter a b (xs ++ ys)
 after_joined a b [] ys first second = second
 after_joined a b (x ∷ xs) ys first second = (first.0, after_joined a b xs ys first.1 second)
 
-abbrev expected_file : ℕ → ℕ → Plain → Expected
+abbrev expected_file : ℕ → ℕ → Plain → ExpectedFile
 expected_file folder i f = record { folder = folder; file = i; size = int_in (entry_in f 2); hash = text_in (entry_in f 4) }
 
-one_after : (x : Bool) (a b : ℕ) (e : Expected) → IsBeforeFile a b e.folder e.file → AreExpectedAfter a b (if x then e ∷ [] else [])
+one_after : (x : Bool) (a b : ℕ) (e : ExpectedFile) → IsBeforeFile a b e.folder e.file → AreExpectedAfter a b (if x then e ∷ [] else [])
 one_after true a b e before = (before, tt)
 one_after false a b e before = tt
 
-files_after_first_block : (a b folder i : ℕ) (files : List Plain) → ((j : ℕ) → i ≤ j → IsBeforeFile a b folder j) → AreExpectedAfter a b (expected_files folder i files)
+files_after_first_block : (a b folder i : ℕ) (files : List Plain) → ((j : ℕ) → i ≤ j → IsBeforeFile a b folder j) → AreExpectedAfter a b (expected_files_of_folder folder i files)
 files_after_first_block a b folder i [] before = tt
 files_after_first_block a b folder i (f ∷ fs) before =
-    after_joined a b (expected_at folder i f) (expected_files folder (i + 1) fs) (one_after (is_with_contents f) a b (expected_file folder i f) (before i (omega arith)))
+    after_joined a b (expected_at folder i f) (expected_files_of_folder folder (i + 1) fs) (one_after (is_file_with_contents f) a b (expected_file folder i f) (before i (omega arith)))
     (files_after_first_block a b folder (i + 1) fs (λ j le. before j (omega (arith, le))))
 
-folders_behind : (a b i : ℕ) (folders : List Plain) → a < i → AreExpectedAfter a b (expected_folders i folders)
+folders_behind : (a b i : ℕ) (folders : List Plain) → a < i → AreExpectedAfter a b (expected_files_of_folders i folders)
 folders_behind a b i [] less = tt
 folders_behind a b i (d ∷ ds) less =
-    after_joined a b (expected_files i 1 (files_in d)) (expected_folders (i + 1) ds) (files_after_first_block a b i 1 (files_in d) (λ j le. inl less))
+    after_joined a b (expected_files_of_folder i 1 (files_in d)) (expected_files_of_folders (i + 1) ds) (files_after_first_block a b i 1 (files_in d) (λ j le. inl less))
     (folders_behind a b (i + 1) ds (omega (arith, less)))
 
-one_in_order : (x : Bool) (e : Expected) (rest : List Expected) → AreExpectedAfter e.folder e.file rest → AreExpectedInOrder rest → AreExpectedInOrder ((if x then e ∷ [] else []) ++ rest)
+one_in_order : (x : Bool) (e : ExpectedFile) (rest : List ExpectedFile) → AreExpectedAfter e.folder e.file rest → AreExpectedInOrder rest → AreExpectedInOrder ((if x then e ∷ [] else []) ++ rest)
 one_in_order true e rest behind order = (behind, order)
 one_in_order false e rest behind order = order
 
-files_in_order : (folder i : ℕ) (files : List Plain) (rest : List Expected) → ((j : ℕ) → AreExpectedAfter folder j rest) → AreExpectedInOrder rest → AreExpectedInOrder (expected_files folder i files ++ rest)
+files_in_order : (folder i : ℕ) (files : List Plain) (rest : List ExpectedFile) → ((j : ℕ) → AreExpectedAfter folder j rest) → AreExpectedInOrder rest → AreExpectedInOrder (expected_files_of_folder folder i files ++ rest)
 files_in_order folder i [] rest behind order = order
 files_in_order folder i (f ∷ fs) rest behind order =
-    let others : List Expected = expected_files folder (i + 1) fs in
+    let others : List ExpectedFile = expected_files_of_folder folder (i + 1) fs in
     subst AreExpectedInOrder (sym (append_assoc (expected_at folder i f) others rest))
-    (one_in_order (is_with_contents f) (expected_file folder i f) (others ++ rest)
+    (one_in_order (is_file_with_contents f) (expected_file folder i f) (others ++ rest)
     (after_joined folder i others rest (files_after_first_block folder i folder (i + 1) fs (λ j le. inr (refl, omega (arith, le)))) (behind i))
     (files_in_order folder (i + 1) fs rest behind order))
 
-folders_in_order : (i : ℕ) (folders : List Plain) → AreExpectedInOrder (expected_folders i folders)
+folders_in_order : (i : ℕ) (folders : List Plain) → AreExpectedInOrder (expected_files_of_folders i folders)
 folders_in_order i [] = tt
-folders_in_order i (d ∷ ds) = files_in_order i 1 (files_in d) (expected_folders (i + 1) ds) (λ j. folders_behind i j (i + 1) ds (omega arith)) (folders_in_order (i + 1) ds)
+folders_in_order i (d ∷ ds) = files_in_order i 1 (files_in d) (expected_files_of_folders (i + 1) ds) (λ j. folders_behind i j (i + 1) ds (omega arith)) (folders_in_order (i + 1) ds)
 
-pub expected_in_order : (v : Plain) → AreExpectedInOrder (expected_contents v)
+pub expected_in_order : (v : Plain) → AreExpectedInOrder (expected_files_of_package v)
 expected_in_order v = folders_in_order 1 (folders_in v)
 
 -- ---- and so are their places
 
-placed_after : (pkg : List ℕ) (a b : ℕ) (ps : List FilePlace) (cs : List Contents) (es : List Expected) → AreAtPlaces pkg ps cs → AreContentsOf es cs → AreExpectedAfter a b es → ArePlacedAfter a b ps
+placed_after : (pkg : List ℕ) (a b : ℕ) (ps : List FilePlace) (cs : List Contents) (es : List ExpectedFile) → AreAtPlaces pkg ps cs → AreContentsOf es cs → AreExpectedAfter a b es → ArePlacedAfter a b ps
 placed_after pkg a b [] cs es at are behind = tt
 placed_after pkg a b (p ∷ ps) [] es at are behind = absurd at
 placed_after pkg a b (p ∷ ps) (c ∷ cs) [] at are behind = absurd are
@@ -192,7 +192,7 @@ placed_after pkg a b (p ∷ ps) (c ∷ cs) (e ∷ es) at are behind = (
   placed_after pkg a b ps cs es at.1 are.1 behind.1,
 )
 
-pub placed_in_order : (pkg : List ℕ) (ps : List FilePlace) (cs : List Contents) (es : List Expected) → AreAtPlaces pkg ps cs → AreContentsOf es cs → AreExpectedInOrder es → AreInFileOrder ps
+pub placed_in_order : (pkg : List ℕ) (ps : List FilePlace) (cs : List Contents) (es : List ExpectedFile) → AreAtPlaces pkg ps cs → AreContentsOf es cs → AreExpectedInOrder es → AreInFileOrder ps
 placed_in_order pkg [] cs es at are order = tt
 placed_in_order pkg (p ∷ ps) [] es at are order = absurd at
 placed_in_order pkg (p ∷ ps) (c ∷ cs) [] at are order = absurd are

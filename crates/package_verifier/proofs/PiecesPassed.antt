@@ -8,7 +8,7 @@ use Rattle.base_core.specs.Faults.{Counts}
 use Rattle.base_core.specs.Tree.{TreeState}
 use Rattle.base_core.specs.declared.tree.TreeFault.{TreeFault}
 use Rattle.base_core.specs.declared.tree.TreeFault.TheVariants.{Disk as DiskFault}
-use Rattle.package_reader.specs.pkg_core.Contents.{Contents, Expected, FilesRead, contents_in, fault_of_files_read, given, no_more}
+use Rattle.package_reader.specs.pkg_core.Contents.{Contents, ExpectedFile, FilesRead, contents_in, fault_of_files_read, given, no_more}
 use Rattle.package_reader.specs.pkg_core.Seen.{HasBytesAtOffset, IsSeenIn, IsFileOfLength, ReadsFile}
 use Rattle.package_reader.proofs.pkg_core.SeenBytes.{file_with, has_rest, take_more, has_both}
 use Rattle.package_reader.specs.pkg_core.Pieces.{PiecesRead, files_from_piece, files_joined_from_pieces, no_piece, piece, refusal, refusal_of_pieces}
@@ -281,14 +281,14 @@ fewer_files p q len x y more = omega (arith, more)
 fewer_bytes : (p len x y : ℕ) → y < x → x ≤ len → p + (len - x) < p + (len - y)
 fewer_bytes p len x y less within = omega (arith, less, within)
 
-nearer_by : (last : Bool) (len x y : ℕ) (before after : List Expected) (first : Expected) (others : List Expected) → before ≡ first ∷ others → after ≡ (if last then others else first ∷ others) → (last ≡ false → y < x) → x ≤ len
+nearer_by : (last : Bool) (len x y : ℕ) (before after : List ExpectedFile) (first : ExpectedFile) (others : List ExpectedFile) → before ≡ first ∷ others → after ≡ (if last then others else first ∷ others) → (last ≡ false → y < x) → x ≤ len
     → length after * (len + 1) + (len - x) < length before * (len + 1) + (len - y)
 nearer_by true len x y before after first others due left less within =
     fewer_files (length after * (len + 1)) (length before * (len + 1)) len x y
-    (ap (λ (es : List Expected). length es * (len + 1)) due
-    ∙ (suc-mul (length others) (len + 1) ∙ ap (λ (es : List Expected). length es * (len + 1) + (len + 1)) (sym left)))
+    (ap (λ (es : List ExpectedFile). length es * (len + 1)) due
+    ∙ (suc-mul (length others) (len + 1) ∙ ap (λ (es : List ExpectedFile). length es * (len + 1) + (len + 1)) (sym left)))
 nearer_by false len x y before after first others due left less within =
-    subst (λ (es : List Expected). length after * (len + 1) + (len - x) < length es * (len + 1) + (len - y)) (left ∙ sym due)
+    subst (λ (es : List ExpectedFile). length after * (len + 1) + (len - x) < length es * (len + 1) + (len - y)) (left ∙ sym due)
     (fewer_bytes (length after * (len + 1)) len x y (less refl) within)
 
 pub nearer : (h later : List TreeState) (name : List ℕ) (len : ℕ) (begun now new : PieceReader) (places : List FilePlace) (bytes : List ℕ) (part : Part) → later ≡ h → name_in_tree now ≡ name → package_len now ≡ len → package_len new ≡ package_len now → IsPassedTo h name len begun now places → IsReadBy later now bytes (Ok (Some part)) new

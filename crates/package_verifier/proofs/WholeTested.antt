@@ -17,9 +17,9 @@ use Rattle.adb_view.specs.Plain.{Plain}
 use Rattle.adb_view.specs.declared.tables.Which.TheVariants.{Package}
 use Rattle.package_reader.specs.adb_schema.Soundness.{blocks_fault, file_fault_after_header, payload_fault, payload_in, root_value}
 use Rattle.package_reader.specs.adb_schema.declared.read.TheConstants.{PACKAGE_WORD}
-use Rattle.package_reader.specs.pkg_core.Contents.{FilesRead, contents_in, expected_contents, fault_of_files_read, files_read_from_blocks}
+use Rattle.package_reader.specs.pkg_core.Contents.{FilesRead, contents_in, expected_files_of_package, fault_of_files_read, files_read_from_blocks}
 use Rattle.package_reader.specs.pkg_core.Refusals.{IsFaultOf}
-use Rattle.package_reader.specs.pkg_core.Whole.{fault_of_further_blocks, container_fault, container_fault_after_header, files_after_first_block, files_after_header, files_in_file, package_fault, container_fault_of_table}
+use Rattle.package_reader.specs.pkg_core.Whole.{fault_of_further_blocks, container_fault, container_fault_after_header, files_after_first_block, files_after_header, files_read_from_package, package_fault, container_fault_of_table}
 use Rattle.package_reader.specs.pkg_core.declared.pack.PackageFault.{PackageFault}
 use Rattle.package_reader.specs.pkg_core.declared.pack.PackageFault.TheVariants as PackageFaults
 use Rattle.package_reader.proofs.pkg_core.Steps.{package_steps, values_first}
@@ -44,20 +44,20 @@ use Rattle.package_verifier.specs.declared.test.PackageTest.TheVariants as Says
 
 -- ---- by the front
 
-package_by_front : (pkg : List ℕ) (front : Front) → IsFrontOf PACKAGE_WORD pkg front → package_fault pkg ≡ option_or (payload_fault Package (front_payload front)) (fault_of_files_read (files_in_file pkg))
-package_by_front pkg front is = package_steps pkg ∙ ap (λ (o : Option Cause). option_or o (fault_of_files_read (files_in_file pkg))) (values_alike pkg front is)
+package_by_front : (pkg : List ℕ) (front : Front) → IsFrontOf PACKAGE_WORD pkg front → package_fault pkg ≡ option_or (payload_fault Package (front_payload front)) (fault_of_files_read (files_read_from_package pkg))
+package_by_front pkg front is = package_steps pkg ∙ ap (λ (o : Option Cause). option_or o (fault_of_files_read (files_read_from_package pkg))) (values_alike pkg front is)
 
-files_by_front : (pkg : List ℕ) (front : Front) → IsFrontOf PACKAGE_WORD pkg front → files_in_file pkg ≡ files_read_from_blocks (expected_contents (root_value Package (front_payload front))) (block_stream_from (position_after_front front pkg))
-unfolding files_in_file
+files_by_front : (pkg : List ℕ) (front : Front) → IsFrontOf PACKAGE_WORD pkg front → files_read_from_package pkg ≡ files_read_from_blocks (expected_files_of_package (root_value Package (front_payload front))) (block_stream_from (position_after_front front pkg))
+unfolding files_read_from_package
 files_by_front pkg front is = ap (files_after_header pkg) is.header ∙ ap files_after_first_block is.blocks
 
-whole_by_files : (pkg : List ℕ) (front : Front) (files : FilesRead) (test : FilesTest) → IsFrontOf PACKAGE_WORD pkg front → payload_fault Package (front_payload front) ≡ None → files_in_file pkg ≡ files → AreFilesTested files pkg test → IsWholeTested pkg test
+whole_by_files : (pkg : List ℕ) (front : Front) (files : FilesRead) (test : FilesTest) → IsFrontOf PACKAGE_WORD pkg front → payload_fault Package (front_payload front) ≡ None → files_read_from_package pkg ≡ files → AreFilesTested files pkg test → IsWholeTested pkg test
 whole_by_files pkg front files (Tests.Sound places) is sound same tested = (
-  package_by_front pkg front is ∙ (ap (λ (o : Option Cause). option_or o (fault_of_files_read (files_in_file pkg))) sound ∙ (ap fault_of_files_read same ∙ tested.0)),
+  package_by_front pkg front is ∙ (ap (λ (o : Option Cause). option_or o (fault_of_files_read (files_read_from_package pkg))) sound ∙ (ap fault_of_files_read same ∙ tested.0)),
   subst (λ (f : FilesRead). AreAtPlaces pkg places.items (contents_in f)) (sym same) tested.1,
 )
 whole_by_files pkg front files (Tests.Bad c) is sound same tested =
-    package_by_front pkg front is ∙ (ap (λ (o : Option Cause). option_or o (fault_of_files_read (files_in_file pkg))) sound ∙ (ap fault_of_files_read same ∙ tested))
+    package_by_front pkg front is ∙ (ap (λ (o : Option Cause). option_or o (fault_of_files_read (files_read_from_package pkg))) sound ∙ (ap fault_of_files_read same ∙ tested))
 
 -- the tests of each package with this front, by the bytes that were seen after it
 abbrev pub IsWholeTold : List TreeState → List ℕ → Front → FilesTest → Type 0
@@ -72,18 +72,18 @@ whole_by_values h name front cause first why same is within of =
       nothing_seen h name (front_file_len front) (front_end front) within,
       λ pkg front_of has.
           package_by_front pkg front front_of
-          ∙ ap (λ (o : Option Cause). option_or o (fault_of_files_read (files_in_file pkg))) (bad ∙ ap (λ (c : Cause). Some c) (sym same)),
+          ∙ ap (λ (o : Option Cause). option_or o (fault_of_files_read (files_read_from_package pkg))) (bad ∙ ap (λ (c : Cause). Some c) (sym same)),
     )
 
 pub whole_by_contents : (h : List TreeState) (name : List ℕ) (front : Front) (value : Plain) (result : Result FilesTest TreeFault) → payload_fault Package (front_payload front) ≡ None → value ≡ root_value Package (front_payload front)
-    → IfOk result (λ test. (seen : List ℕ) × IsSeenIn h name (front_file_len front) (front_end front) seen × ((pkg : List ℕ) → length pkg ≡ front_file_len front → HasBytesAtOffset pkg (front_end front) seen → AreFilesTested (files_read_from_blocks (expected_contents value) (block_stream_from (position_after_front front pkg))) pkg test))
+    → IfOk result (λ test. (seen : List ℕ) × IsSeenIn h name (front_file_len front) (front_end front) seen × ((pkg : List ℕ) → length pkg ≡ front_file_len front → HasBytesAtOffset pkg (front_end front) seen → AreFilesTested (files_read_from_blocks (expected_files_of_package value) (block_stream_from (position_after_front front pkg))) pkg test))
     → IfOk result (IsWholeTold h name front)
 whole_by_contents h name front value (Err fault) sound is told = tt
 whole_by_contents h name front value (Ok test) sound is (seen, is_seen, each) = (
   seen,
   is_seen,
   λ pkg of has.
-      whole_by_files pkg front _ test of sound (files_by_front pkg front of ∙ ap (λ (v : Plain). files_read_from_blocks (expected_contents v) (block_stream_from (position_after_front front pkg))) (sym is)) (each pkg of.long has),
+      whole_by_files pkg front _ test of sound (files_by_front pkg front of ∙ ap (λ (v : Plain). files_read_from_blocks (expected_files_of_package v) (block_stream_from (position_after_front front pkg))) (sym is)) (each pkg of.long has),
 )
 
 -- ---- of some file, the one under the name where the tree tells it

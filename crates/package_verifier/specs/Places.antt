@@ -6,7 +6,7 @@ use Rattle.package_reader.specs.adb_schema.Soundness.{payload_fault}
 use Rattle.adb_view.specs.declared.tables.Which.TheVariants.{Package}
 use Rattle.package_reader.specs.pkg_core.declared.file.Part.{Part}
 use Rattle.package_reader.specs.pkg_core.Contents.{Contents, FilesRead, contents_in, fault_of_files_read}
-use Rattle.package_reader.specs.pkg_core.Whole.{files_in_file, package_fault}
+use Rattle.package_reader.specs.pkg_core.Whole.{files_read_from_package, package_fault}
 use Rattle.package_reader.specs.pkg_core.Front.{front_payload}
 use Rattle.package_reader.specs.pkg_core.Seen.{HasBytesAtOffset}
 use Rattle.package_reader.specs.pkg_core.declared.front.Front.{Front}
@@ -16,10 +16,14 @@ use Rattle.package_verifier.specs.declared.places.FilePlace.{FilePlace}
 
 -- ---- of the bytes of a package
 
--- the contents are those of the file of this place, and are there in a package of these bytes
+-- the contents are those of the file with the positions of this place, and begin at its offset in a
+-- package of these bytes
 pub record IsAtPlace (pkg : List ℕ) (place : FilePlace) (contents : Contents) : Type 0 where
+  -- the position of the folder
   pub folder : place.folder ≡ contents.folder
+  -- the position of the file in the folder
   pub file : place.file ≡ contents.file
+  -- the bytes are in the package at the offset of the place
   pub located : HasBytesAtOffset pkg place.at contents.bytes
 
 -- there is a place for each file with contents, in order, and no other
@@ -43,10 +47,10 @@ AreFilesTested files pkg (Bad c) = fault_of_files_read files ≡ Some c
 -- place, or the first failed test
 abbrev pub IsWholeTested : List ℕ → FilesTest → Type 0
 IsWholeTested pkg (Sound places) =
-    (package_fault pkg ≡ None) × AreAtPlaces pkg places.items (contents_in (files_in_file pkg))
+    (package_fault pkg ≡ None) × AreAtPlaces pkg places.items (contents_in (files_read_from_package pkg))
 IsWholeTested pkg (Bad c) = package_fault pkg ≡ Some c
 
--- if no test fails, none of the values after a front does
+-- if no test failed, no test of the values in the payload of the front fails
 abbrev pub HasSoundPayload : Front → FilesTest → Type 0
 HasSoundPayload front (Sound places) = payload_fault Package (front_payload front) ≡ None
 HasSoundPayload front (Bad c) = Unit {0}

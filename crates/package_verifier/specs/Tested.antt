@@ -6,7 +6,7 @@ use Rattle.adb_view.specs.Plain.{Plain}
 use Rattle.package_reader.specs.adb_schema.Soundness.{payload_in, root_value}
 use Rattle.adb_view.specs.declared.tables.Which.TheVariants.{Package}
 use Rattle.package_reader.specs.pkg_core.Contents.{contents_in}
-use Rattle.package_reader.specs.pkg_core.Whole.{files_in_file, package_fault, package_id}
+use Rattle.package_reader.specs.pkg_core.Whole.{files_read_from_package, package_fault, package_id}
 use Rattle.package_reader.specs.pkg_core.Front.{front_file_len, front_payload}
 use Rattle.package_verifier.specs.Places.{AreAtPlaces}
 use Rattle.package_verifier.specs.declared.package.TestedPackage.{TestedPackage}
@@ -39,14 +39,20 @@ tested_id pkg = sha256 (tested_payload pkg)
 
 -- a tested package is that of this file, read under this name: no test of the file as a package fails
 pub record IsTestedOf (name file : List ℕ) (pkg : TestedPackage) : Type 0 where
+  -- it was read under this name
   pub named : tested_name pkg ≡ name
+  -- no test of the file fails
   pub sound : package_fault file ≡ None
+  -- it has the value of the file
   pub value : tested_value pkg ≡ root_value Package (payload_in file)
+  -- it has the id of the file
   pub id : tested_id pkg ≡ package_id file
   -- needed to read its files again
   pub long : tested_len pkg ≡ length file
+  -- it has the bytes of the value of the file
   pub payload : tested_payload pkg ≡ payload_in file
-  pub places : AreAtPlaces file pkg.places.items (contents_in (files_in_file file))
+  -- it has the place of the contents of each file
+  pub places : AreAtPlaces file pkg.places.items (contents_in (files_read_from_package file))
 
 -- the result of `read_package` for a file under this name, or for none
 abbrev pub IsPackageReadResult : List ℕ → Option (List ℕ) → PackageRead → Type 0

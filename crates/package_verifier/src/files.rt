@@ -5,7 +5,7 @@ ghost use Rattle.std.specs.Prelude.{◌≡◌, ℕ, List, Some, length, IfOk};
 ghost use Rattle.adb_block.specs.Reading.{block_stream_from};
 ghost use Rattle.base_core.specs.declared.tree.TreeFault.TheVariants.{Disk as DiskFault};
 ghost use Rattle.package_verifier.specs.Places.{AreFilesTested};
-ghost use Rattle.package_reader.specs.pkg_core.Contents.{expected_contents, files_read_from_blocks};
+ghost use Rattle.package_reader.specs.pkg_core.Contents.{expected_files_of_package, files_read_from_blocks};
 ghost use Rattle.package_reader.specs.pkg_core.Front.{position_after_front, front_end, front_file_len};
 ghost use Rattle.package_reader.specs.pkg_core.Seen.{HasBytesAtOffset, IsSeenIn, ReadsFile};
 ghost use Rattle.package_reader.specs.pkg_core.Values.{value_of_contents};
@@ -43,7 +43,7 @@ pub(crate) fn read_files<T: Tree>(
         seen
         × ((pkg : List ℕ) → length pkg ≡ front_file_len front.now
         → HasBytesAtOffset pkg (front_end front.now) seen → AreFilesTested (files_read_from_blocks
-        (expected_contents (value_of_contents contents.now))
+        (expected_files_of_package (value_of_contents contents.now))
         (block_stream_from (position_after_front front.now pkg))) pkg test)) }
     // The tree is unchanged. `Disk` is returned only if the tree failed, and no call is a misuse if
     // the file still has its length.

@@ -29,9 +29,9 @@ impl TestedPackage {
     ghost use Rattle.std.specs.Prelude.{◌≡◌, [], ℕ, List};
     ghost use Rattle.package_verifier.specs.Tested.{IsTestedOf, tested_id, tested_len, tested_name, tested_payload, tested_value};
     ghost use Rattle.package_reader.specs.FileReading.{HasUnreadBytes, HaveBeenReturned, expected_file_of, package_len_of_file, package_name_of_file};
-    ghost use Rattle.package_reader.specs.pkg_core.Contents.{bytes_of_file, contents_in, expected_contents};
+    ghost use Rattle.package_reader.specs.pkg_core.Contents.{bytes_of_file, contents_in, expected_files_of_package};
     ghost use Rattle.package_reader.specs.pkg_core.Opened.{expected_file_at};
-    ghost use Rattle.package_reader.specs.pkg_core.Whole.{files_in_file};
+    ghost use Rattle.package_reader.specs.pkg_core.Whole.{files_read_from_package};
     ghost use Rattle.package_reader.specs.pkg_core.Values.{payload_of_contents, value_of_contents};
     ghost use Rattle.sha2.specs.Sha256.{sha256};
 
@@ -59,10 +59,10 @@ impl TestedPackage {
         // Whatever the tree has, its bytes are compared with the size and the digest that the
         // package's value lists for it.
         ensures due { expected_file_of result ≡ expected_file_at folder file
-            (expected_contents (tested_value self.now)) }
+            (expected_files_of_package (tested_value self.now)) }
         ensures begun { HaveBeenReturned result [] }
         ensures reading { (name pkg : List ℕ) → IsTestedOf name pkg self.now → HasUnreadBytes
-            result pkg (bytes_of_file folder file (contents_in (files_in_file pkg))) }
+            result pkg (bytes_of_file folder file (contents_in (files_read_from_package pkg))) }
     {
         let len = self.front.file_len();
         let at = offset_of(&self.places, folder, file);

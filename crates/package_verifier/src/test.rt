@@ -67,7 +67,8 @@ fn test_of(read: &PackageRead) -> PackageTest
 
 /// The result of the tests with this first failed test.
 fn test_by(cause: Cause) -> PackageTest
-    ensures { (file : List ℕ) → package_fault file ≡ Some cause → IsPackageTestResult (Some file) result }
+    ensures { (file : List ℕ) → package_fault file ≡ Some cause
+        → IsPackageTestResult (Some file) result }
 {
     match cause {
         Cause::WrongSchema { .. } => PackageTest::OtherSchema,

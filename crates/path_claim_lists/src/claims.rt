@@ -112,7 +112,8 @@ pub fn one_of_each_path<'a>(
 ) -> Result<Vec<Claim<'a>>, AllocError>
     requires { IsSorted claim_cmp (map claim_seen claims.now) }
     ensures { IfOk result
-        (λ firsts. HasFirstClaimOfEachPath (map claim_seen claims.now) (map claim_seen firsts.items)) }
+        (λ firsts. HasFirstClaimOfEachPath (map claim_seen claims.now)
+        (map claim_seen firsts.items)) }
 {
     // Most paths have one claim. A list that grows would leave smaller copies of itself in memory.
     let mut firsts = Vec::with_capacity(alloc, claims.len())?;

@@ -6,7 +6,7 @@ use Rattle.std.specs.declared.cmp.Ordering.{Ordering}
 use Rattle.std.specs.List.{filter, find}
 use Rattle.std.specs.List.Sorted.{IsSorted, ties}
 use Rattle.base_core.specs.ByteOrder.{bytes_cmp}
-use Rattle.base_core.specs.Sorted.{sorted_by, with_element}
+use Rattle.base_core.specs.Sorted.{sorted_by, with_element_inserted}
 use Rattle.base_core.proofs.Sorting.{sort_seen, sorted_up, stable, stable_in_order}
 use Rattle.base_core.proofs.Orderings.{names_total}
 use Rattle.path_claims.specs.Claims.{AreNumberedByPlace, ContestedPath, PathClaim, claim_cmp, claimants, contested_path_at, first_contested_path, is_owning_member, is_claim_of_path, is_claim_of_owner, owner_among}
@@ -20,34 +20,34 @@ use Rattle.path_claims.proofs.Runs.{filter_ext}
 -- ---- the elements stay
 
 module _ {X : Type 0} (cmp : X → X → Ordering) where
-  new_in : (x : X) (ys : List X) → (k : ℕ) × (slice_get (with_element cmp x ys) k ≡ Some x)
+  new_in : (x : X) (ys : List X) → (k : ℕ) × (slice_get (with_element_inserted cmp x ys) k ≡ Some x)
   new_in x [] = (zero, refl)
   new_in x (y ∷ ys) = go (is_gt (cmp x y)) (new_in x ys)
     where
-      go : (b : Bool) → (k : ℕ) × (slice_get (with_element cmp x ys) k ≡ Some x) → (k : ℕ) × (slice_get (if b then y ∷ with_element cmp x ys else x ∷ y ∷ ys) k ≡ Some x)
+      go : (b : Bool) → (k : ℕ) × (slice_get (with_element_inserted cmp x ys) k ≡ Some x) → (k : ℕ) × (slice_get (if b then y ∷ with_element_inserted cmp x ys else x ∷ y ∷ ys) k ≡ Some x)
       go true h = (suc h.0, h.1)
       go false h = (zero, refl)
 
-  old_in : (x : X) (ys : List X) (z : X) (i : ℕ) → slice_get ys i ≡ Some z → (k : ℕ) × (slice_get (with_element cmp x ys) k ≡ Some z)
+  old_in : (x : X) (ys : List X) (z : X) (i : ℕ) → slice_get ys i ≡ Some z → (k : ℕ) × (slice_get (with_element_inserted cmp x ys) k ≡ Some z)
   old_in x [] z i g = absurd (no_some z g)
   old_in x (y ∷ ys) z zero g = go (is_gt (cmp x y))
     where
-      go : (b : Bool) → (k : ℕ) × (slice_get (if b then y ∷ with_element cmp x ys else x ∷ y ∷ ys) k ≡ Some z)
+      go : (b : Bool) → (k : ℕ) × (slice_get (if b then y ∷ with_element_inserted cmp x ys else x ∷ y ∷ ys) k ≡ Some z)
       go true = (zero, g)
       go false = (suc zero, g)
   old_in x (y ∷ ys) z (suc i) g = go (is_gt (cmp x y)) (old_in x ys z i g)
     where
-      go : (b : Bool) → (k : ℕ) × (slice_get (with_element cmp x ys) k ≡ Some z) → (k : ℕ) × (slice_get (if b then y ∷ with_element cmp x ys else x ∷ y ∷ ys) k ≡ Some z)
+      go : (b : Bool) → (k : ℕ) × (slice_get (with_element_inserted cmp x ys) k ≡ Some z) → (k : ℕ) × (slice_get (if b then y ∷ with_element_inserted cmp x ys else x ∷ y ∷ ys) k ≡ Some z)
       go true h = (suc h.0, h.1)
       go false h = (suc (suc i), g)
 
   pub in_sorted : (xs : List X) (z : X) (i : ℕ) → slice_get xs i ≡ Some z → (k : ℕ) × (slice_get (sorted_by cmp xs) k ≡ Some z)
   in_sorted [] z i g = absurd (no_some z g)
-  in_sorted (x ∷ xs) z zero g = subst (λ v. (k : ℕ) × (slice_get (with_element cmp x (sorted_by cmp xs)) k ≡ Some v)) (ap (value_or x) g) (new_in x (sorted_by cmp xs))
+  in_sorted (x ∷ xs) z zero g = subst (λ v. (k : ℕ) × (slice_get (with_element_inserted cmp x (sorted_by cmp xs)) k ≡ Some v)) (ap (value_or x) g) (new_in x (sorted_by cmp xs))
   in_sorted (x ∷ xs) z (suc i) g = let h = in_sorted xs z i g in old_in x (sorted_by cmp xs) z h.0 h.1
 
   -- back to the list: the new element, or one of the others
-  back_from : (x : X) (ys : List X) (z : X) (k : ℕ) → slice_get (with_element cmp x ys) k ≡ Some z → (xs : List X) → ((i : ℕ) → slice_get ys i ≡ Some z → (m : ℕ) × (slice_get xs m ≡ Some z)) → (m : ℕ) × (slice_get (x ∷ xs) m ≡ Some z)
+  back_from : (x : X) (ys : List X) (z : X) (k : ℕ) → slice_get (with_element_inserted cmp x ys) k ≡ Some z → (xs : List X) → ((i : ℕ) → slice_get ys i ≡ Some z → (m : ℕ) × (slice_get xs m ≡ Some z)) → (m : ℕ) × (slice_get (x ∷ xs) m ≡ Some z)
   back_from x [] z zero g xs f = (zero, g)
   back_from x [] z (suc k) g xs f = absurd (no_some z g)
   back_from x (y ∷ ys) z k g xs f = go (is_gt (cmp x y)) k (λ n h. back_from x ys z n h xs (λ i e. f (suc i) e)) g
@@ -55,7 +55,7 @@ module _ {X : Type 0} (cmp : X → X → Ordering) where
       later : (m : ℕ) × (slice_get xs m ≡ Some z) → (m : ℕ) × (slice_get (x ∷ xs) m ≡ Some z)
       later h = (suc h.0, h.1)
 
-      go : (b : Bool) (k : ℕ) → ((n : ℕ) → slice_get (with_element cmp x ys) n ≡ Some z → (m : ℕ) × (slice_get (x ∷ xs) m ≡ Some z)) → slice_get (if b then y ∷ with_element cmp x ys else x ∷ y ∷ ys) k ≡ Some z → (m : ℕ) × (slice_get (x ∷ xs) m ≡ Some z)
+      go : (b : Bool) (k : ℕ) → ((n : ℕ) → slice_get (with_element_inserted cmp x ys) n ≡ Some z → (m : ℕ) × (slice_get (x ∷ xs) m ≡ Some z)) → slice_get (if b then y ∷ with_element_inserted cmp x ys else x ∷ y ∷ ys) k ≡ Some z → (m : ℕ) × (slice_get (x ∷ xs) m ≡ Some z)
       go true zero r h = later (f zero h)
       go true (suc k) r h = r k h
       go false zero r h = (zero, h)
@@ -65,11 +65,11 @@ module _ {X : Type 0} (cmp : X → X → Ordering) where
   from_sorted [] z k g = absurd (no_some z g)
   from_sorted (x ∷ xs) z k g = back_from x (sorted_by cmp xs) z k g xs (λ i h. from_sorted xs z i h)
 
-  len_with : (x : X) (ys : List X) → length (with_element cmp x ys) ≡ suc (length ys)
+  len_with : (x : X) (ys : List X) → length (with_element_inserted cmp x ys) ≡ suc (length ys)
   len_with x [] = refl
   len_with x (y ∷ ys) = go (is_gt (cmp x y)) (len_with x ys)
     where
-      go : (b : Bool) → length (with_element cmp x ys) ≡ suc (length ys) → length (if b then y ∷ with_element cmp x ys else x ∷ y ∷ ys) ≡ suc (suc (length ys))
+      go : (b : Bool) → length (with_element_inserted cmp x ys) ≡ suc (length ys) → length (if b then y ∷ with_element_inserted cmp x ys else x ∷ y ∷ ys) ≡ suc (suc (length ys))
       go true h = ap suc h
       go false h = refl
 

@@ -5,6 +5,7 @@ use Rattle.adb_fields.specs.JoinedPath.{joined_path}
 use Rattle.path_claims.specs.Claims.{ContestedPath}
 use Rattle.path_claims.specs.declared.owner.Contested.{Contested}
 
--- a contested path as contracts see it: as one text, with its rivals
+-- the contested path that a `Contested` of the program represents: its folder and its name are
+-- joined
 abbrev pub contested_seen : Contested → ContestedPath
 contested_seen c = record { path = joined_path c.path; rivals = c.rivals }

@@ -3,7 +3,9 @@
 -- *winner* is found with few questions.
 use Rattle.std.specs.Prelude.{ℕ, Bool, if◌then◌else◌, List, [], ◌∷◌}
 
--- the member that is left over, from c on: each member that the current one does not beat replaces it
+-- the member that is left over after a pass over the members, which begins with the member `c`:
+-- each member that the current one does not beat replaces it
 abbrev pub last_unbeaten_member : (ℕ → ℕ → Bool) → ℕ → List ℕ → ℕ
 last_unbeaten_member beats c [] = c
-last_unbeaten_member beats c (y ∷ ys) = if beats c y then last_unbeaten_member beats c ys else last_unbeaten_member beats y ys
+last_unbeaten_member beats c (y ∷ ys) =
+    if beats c y then last_unbeaten_member beats c ys else last_unbeaten_member beats y ys

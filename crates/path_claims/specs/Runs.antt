@@ -4,7 +4,7 @@
 use Rattle.std.specs.Prelude.{ℕ, zero, suc, Bool, true, not, List, [], ◌∷◌, Option, Some, None, cond, slice_get, bytes_eq}
 use Rattle.path_claims.specs.Claims.{PathClaim}
 
--- the first elements of a list that pass, up to the first that does not
+-- the longest prefix of a list whose elements all pass the test `p`
 abbrev pub passing_prefix : {X : Type 0} → (X → Bool) → List X → List X
 passing_prefix p [] = []
 passing_prefix p (x ∷ xs) = cond (p x) (x ∷ passing_prefix p xs) []

@@ -38,7 +38,8 @@ pub fn sort_claims(claims: &mut Vec<Claim<'_>>) -> Result<(), AllocError>
     Ok(())
 }
 
-/// Whether the claim at a place has another path than the one before it; the first claim has.
+/// Whether the claim at a place, counted from 0, is the first one of its path: it is the first
+/// claim, or has another path than the claim before it.
 pub fn begins_path(claims: &[Claim<'_>], i: usize) -> bool
     requires { i < length claims.now }
     ensures { result ≡ is_first_of_path (map claim_seen claims.now) i }

@@ -31,7 +31,8 @@ pub struct Rivals {
 /// The only one of the members that claim a path that can beat all others: each member that the
 /// current one does not beat replaces it.
 fn last_unbeaten_member<C: Contest>(contest: &C, first: u32, claims: &[Claim<'_>]) -> u32
-    ensures { result ≡ last_unbeaten_member (C.beats contest.now) first (map (λ c. c.member) claims.now) }
+    ensures { result ≡ last_unbeaten_member (C.beats contest.now) first (map
+        (λ c. c.member) claims.now) }
 {
     let mut left = first;
     for claim in claims {
@@ -88,7 +89,8 @@ pub(crate) fn first_with_unbeaten_rival<C: Contest>(
     contest: &C,
     claims: &[Claim<'_>],
 ) -> Option<Rivals>
-    ensures { result ≡ first_with_unbeaten_rival (C.beats contest.now) (map (λ c. c.member) claims.now) }
+    ensures { result ≡ first_with_unbeaten_rival (C.beats contest.now) (map
+        (λ c. c.member) claims.now) }
 {
     if claims.is_empty() {
         return None;

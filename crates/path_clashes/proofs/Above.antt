@@ -7,8 +7,8 @@ use Rattle.std.specs.Cmp.Lexicographic.{bytes_decides}
 use Rattle.base_core.specs.Files.{Files, IsFolderOf}
 use Rattle.base_core.specs.ByteOrder.{precedes}
 use Rattle.base_core.proofs.Folders.{folder_at, at_folder}
-use Rattle.path_clashes.specs.Clash.{NameChange, is_name_after}
-use Rattle.path_clashes.specs.NearName.{IsFolderFound, name_if_holds}
+use Rattle.path_clashes.specs.Clash.{NameChange, is_present_after_change}
+use Rattle.path_clashes.specs.NearName.{IsShortestFolderOrNone, name_if_holds}
 use Rattle.path_clashes.proofs.PairOrder.{precedes_front}
 
 -- ---- a folder is the name up to a slash
@@ -59,9 +59,9 @@ nothing_above folder above = omega (arith, (at_folder folder [] above).0)
 
 abbrev pub IsNoneUpto : NameChange → Files → List ℕ → ℕ → ℕ → Type 0
 IsNoneUpto change files name len i =
-    (other : List ℕ) → IsFolderOf other name → len ≤ length other → length other < i → is_name_after change files other ≡ true → ⊥
+    (other : List ℕ) → IsFolderOf other name → len ≤ length other → length other < i → is_present_after_change change files other ≡ true → ⊥
 
-pub found_at_slash : (change : NameChange) (files : Files) (name : List ℕ) (len i : ℕ) → len ≤ i → i < length name → get_or name i 0 ≡ 47 → is_name_after change files (take i name) ≡ true → IsNoneUpto change files name len i → IsFolderFound change files name len (Some (take i name))
+pub found_at_slash : (change : NameChange) (files : Files) (name : List ℕ) (len i : ℕ) → len ≤ i → i < length name → get_or name i 0 ≡ 47 → is_present_after_change change files (take i name) ≡ true → IsNoneUpto change files name len i → IsShortestFolderOrNone change files name len (Some (take i name))
 found_at_slash change files name len i long within slash there none = record {
   above = folder_at name i within slash;
   long = let is : length (take i name) ≡ i = length-take-le i name (omega arith) in omega (arith, is, long);
@@ -72,9 +72,9 @@ found_at_slash change files name len i long within slash there none = record {
 
 -- the same, as the code tells it
 pub found_told : (change : NameChange) (files : Files) (name : List ℕ) (len i : ℕ) (found : Option (List ℕ)) (folder : List ℕ) → len ≤ i → i < length name → get_or name i 0 ≡ 47 → found ≡ Some folder
-    → IsNoneUpto change files name len i → found ≡ name_if_holds (is_name_after change files (take i name)) (take i name) → IsFolderFound change files name len (Some folder)
-found_told change files name len i found folder long within slash is none told = by (is_name_after change files (take i name)) refl (sym is ∙ told)
+    → IsNoneUpto change files name len i → found ≡ name_if_holds (is_present_after_change change files (take i name)) (take i name) → IsShortestFolderOrNone change files name len (Some folder)
+found_told change files name len i found folder long within slash is none told = by (is_present_after_change change files (take i name)) refl (sym is ∙ told)
   where
-    by : (b : Bool) → is_name_after change files (take i name) ≡ b → Some folder ≡ name_if_holds b (take i name) → IsFolderFound change files name len (Some folder)
-    by true after e = let same : take i name ≡ folder = cc in subst (λ (l : List ℕ). IsFolderFound change files name len (Some l)) same (found_at_slash change files name len i long within slash after none)
+    by : (b : Bool) → is_present_after_change change files (take i name) ≡ b → Some folder ≡ name_if_holds b (take i name) → IsShortestFolderOrNone change files name len (Some folder)
+    by true after e = let same : take i name ≡ folder = cc in subst (λ (l : List ℕ). IsShortestFolderOrNone change files name len (Some l)) same (found_at_slash change files name len i long within slash after none)
     by false off e = absurd (cc)

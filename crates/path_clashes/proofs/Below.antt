@@ -11,7 +11,7 @@ use Rattle.base_core.specs.Listed.{IsListOf}
 use Rattle.base_core.specs.Tree.{File, TreeState, bytes_of_file_number, files_of}
 use Rattle.base_core.specs.ByteOrder.{bytes_cmp, precedes}
 use Rattle.base_core.proofs.Orderings.{precedes_one_way}
-use Rattle.path_clashes.specs.NearName.{IsNameFound, is_name_present}
+use Rattle.path_clashes.specs.NearName.{IsFirstNameBelowOrNone, is_name_present}
 use Rattle.path_clashes.proofs.PairOrder.{precedes_itself}
 
 -- ---- what `find` finds
@@ -83,12 +83,12 @@ module _ (does_release : List ℕ → Bool) (v : TreeState) (folder : List ℕ) 
       let parts = and_parts (is_some (files_of v other)) (not (does_release other)) present_files in
       ((list.each other).1 (is_present v.files (v.names other) parts.0, below), parts.1)
 
-  pub none_listed : find stays names ≡ None → IsNameFound does_release (files_of v) folder None
+  pub none_listed : find stays names ≡ None → IsFirstNameBelowOrNone does_release (files_of v) folder None
   none_listed none other below present_files =
       let at = listed other below present_files in
       true≢false (sym at.1 ∙ (ap stays (sym at.0.2) ∙ find-None stays names none at.0.0 other at.0.1))
 
-  pub first_listed : (name : List ℕ) → find stays names ≡ Some name → IsNameFound does_release (files_of v) folder (Some name)
+  pub first_listed : (name : List ℕ) → find stays names ≡ Some name → IsFirstNameBelowOrNone does_release (files_of v) folder (Some name)
   first_listed name is = record { below = entry.1; present_files = and_from (is_some (files_of v name)) (not (does_release name)) (there v.files (v.names name) entry.0) f.passes; first = first }
     where
       f : IsFirstPassing stays names name
@@ -110,6 +110,6 @@ module _ (does_release : List ℕ → Bool) (v : TreeState) (folder : List ℕ) 
               at_name : (d : List ℕ) → get_or names f.at d ≡ name
               at_name d = get_or_default names f.at d name f.within ∙ f.here
 
-  pub found_listed : (found : Option (List ℕ)) → found ≡ find stays names → IsNameFound does_release (files_of v) folder found
+  pub found_listed : (found : Option (List ℕ)) → found ≡ find stays names → IsFirstNameBelowOrNone does_release (files_of v) folder found
   found_listed None is = none_listed (sym is)
   found_listed (Some name) is = first_listed name (sym is)

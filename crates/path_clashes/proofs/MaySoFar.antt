@@ -12,7 +12,7 @@ use Rattle.base_core.specs.Name.{IsName}
 use Rattle.base_core.specs.ByteOrder.{bytes_cmp, precedes}
 use Rattle.path_clashes.specs.Clash.{NameChange, NamePair, precedes_pair}
 use Rattle.path_clashes.specs.FirstClash.{IsFirstClashOverSomeFiles}
-use Rattle.path_clashes.specs.NearName.{IsFreshClash, MayBeClashNear, earlier_pair}
+use Rattle.path_clashes.specs.NearName.{IsNewClashOverSomeFiles, MayBeClashNear, earlier_pair}
 use Rattle.path_clashes.proofs.Between.{between_names}
 use Rattle.path_clashes.proofs.Paths.{place_of}
 use Rattle.path_clashes.proofs.SoFar.{IsNoneEarlier, in_all, name_before, none_of_more, none_of_none}
@@ -65,7 +65,7 @@ module _ (change : NameChange) (names : List (List ℕ)) where
         more : (k : ℕ) → suc i ≤ k → (suc i < k) ⊎ (suc i ≡ k)
         more k upto = ⊎_elim (λ less. inl less) (λ same. inr (omega arith)) (cases_lt (suc i) k)
 
-    below_folder : (i : ℕ) (name : List ℕ) (pair : NamePair) → i < length names → ((d : List ℕ) → get_or names i d ≡ name) → IsFreshClash change (name_before names i) name pair → IsFirstBelowFolder change pair
+    below_folder : (i : ℕ) (name : List ℕ) (pair : NamePair) → i < length names → ((d : List ℕ) → get_or names i d ≡ name) → IsNewClashOverSomeFiles change (name_before names i) name pair → IsFirstBelowFolder change pair
     below_folder i name pair within here f = record {
       files = f.files;
       is = f.is;
@@ -75,7 +75,7 @@ module _ (change : NameChange) (names : List (List ℕ)) where
           f.fresh;
     }
 
-    first_below : (i : ℕ) (name : List ℕ) (found : Option NamePair) → i < length names → ((d : List ℕ) → get_or names i d ≡ name) → IfSome found (IsFreshClash change (name_before names i) name) → IfSome found (IsFirstBelowFolder change)
+    first_below : (i : ℕ) (name : List ℕ) (found : Option NamePair) → i < length names → ((d : List ℕ) → get_or names i d ≡ name) → IfSome found (IsNewClashOverSomeFiles change (name_before names i) name) → IfSome found (IsFirstBelowFolder change)
     first_below i name None within here f = tt
     first_below i name (Some pair) within here f = below_folder i name pair within here f
 

@@ -3,19 +3,19 @@ use Rattle.std.proofs.Common.{◌≡◌, ◌⊎◌, ⊎_elim, inl, inr, ℕ, ◌
 use Rattle.std.specs.Prelude.{not, ◌&&◌, is_some}
 use Rattle.std.proofs.lemmas.Bool.{cases_lt, or_left, or_right}
 use Rattle.base_core.specs.Files.{Files, IsFolderOf}
-use Rattle.path_clashes.specs.Clash.{IsClash, NameChange, is_name_after}
-use Rattle.path_clashes.specs.NearName.{IsClashNear, IsFolderFound, IsNameFound, is_name_present}
+use Rattle.path_clashes.specs.Clash.{IsClash, NameChange, is_present_after_change}
+use Rattle.path_clashes.specs.NearName.{IsClashNear, IsShortestFolderOrNone, IsFirstNameBelowOrNone, is_name_present}
 use Rattle.path_clashes.proofs.Above.{longer_folder, name_behind, not_same, shared_folder}
 use Rattle.path_clashes.proofs.PairOrder.{other_path, same_other, same_path}
 
 module _ (change : NameChange) (files : Files) where
-  pub counts_is_after : (name : List ℕ) → change.counts_as_written name ≡ true → is_name_after change files name ≡ true
+  pub counts_is_after : (name : List ℕ) → change.counts_as_written name ≡ true → is_present_after_change change files name ≡ true
   counts_is_after name counts = or_right (is_some (files name) && not (change.does_release name)) (change.counts_as_written name) counts
 
-  standing_is_after : (name : List ℕ) → is_name_present change.does_release files name ≡ true → is_name_after change files name ≡ true
+  standing_is_after : (name : List ℕ) → is_name_present change.does_release files name ≡ true → is_present_after_change change files name ≡ true
   standing_is_after name present_files = or_left (is_name_present change.does_release files name) (change.counts_as_written name) present_files
 
-  pub clash_above : (folder name : List ℕ) → IsFolderOf folder name → is_name_after change files folder ≡ true → change.counts_as_written name ≡ true → IsClash change files (record { path = folder; other = name })
+  pub clash_above : (folder name : List ℕ) → IsFolderOf folder name → is_present_after_change change files folder ≡ true → change.counts_as_written name ≡ true → IsClash change files (record { path = folder; other = name })
   clash_above folder name above after counts = record {
     folder = above;
     path_after = after;
@@ -37,21 +37,21 @@ module _ (change : NameChange) (files : Files) where
     by_len folder above long =
         ⊎_elim (λ short. inl (shared_folder before name folder len within same above short)) (λ upto. inr (long upto)) (cases_lt (length folder) len)
 
-    pub near_above : (folder : List ℕ) → change.counts_as_written name ≡ true → IsFolderFound change files name len (Some folder) → IsClashNear change files before name (Some (record { path = folder; other = name }))
+    pub near_above : (folder : List ℕ) → change.counts_as_written name ≡ true → IsShortestFolderOrNone change files name len (Some folder) → IsClashNear change files before name (Some (record { path = folder; other = name }))
     near_above folder counts found = record {
       is_one = clash_above folder name found.above found.after counts;
       above = λ other above. by_len other above (λ long clash. same_other other folder name (longer_folder folder other name found.above above (found.shortest other above long clash.path_after)));
       below = λ other present_files. inr (λ clash. other_path name folder other name (name_behind folder name found.above) (not_same folder name found.above));
     }
 
-    pub near_below : (other : List ℕ) → change.counts_as_written name ≡ true → IsFolderFound change files name len None → IsNameFound change.does_release files name (Some other) → IsClashNear change files before name (Some (record { path = name; other = other }))
+    pub near_below : (other : List ℕ) → change.counts_as_written name ≡ true → IsShortestFolderOrNone change files name len None → IsFirstNameBelowOrNone change.does_release files name (Some other) → IsClashNear change files before name (Some (record { path = name; other = other }))
     near_below other counts none found = record {
       is_one = clash_below name other found.below found.present_files counts;
       above = λ folder above. by_len folder above (λ long clash. absurd (none folder above long clash.path_after));
       below = λ name' present_files. inr (λ clash. same_path name name' other (found.first name' clash.folder present_files));
     }
 
-    pub near_nothing : IsFolderFound change files name len None → IsNameFound change.does_release files name None → IsClashNear change files before name None
+    pub near_nothing : IsShortestFolderOrNone change files name len None → IsFirstNameBelowOrNone change.does_release files name None → IsClashNear change files before name None
     near_nothing none nothing = record {
       is_one = tt;
       above = λ folder above. by_len folder above (λ long clash. absurd (none folder above long clash.path_after));
@@ -59,18 +59,18 @@ module _ (change : NameChange) (files : Files) where
     }
 
     -- the same, as the code tells it
-    pub above_told : (folder other : List ℕ) (found : Option (List ℕ)) → found ≡ Some folder → other ≡ name → change.counts_as_written name ≡ true → IsFolderFound change files name len found
+    pub above_told : (folder other : List ℕ) (found : Option (List ℕ)) → found ≡ Some folder → other ≡ name → change.counts_as_written name ≡ true → IsShortestFolderOrNone change files name len found
         → IsClashNear change files before name (Some (record { path = folder; other = other }))
     above_told folder other found is named counts at =
-        subst (λ (l : List ℕ). IsClashNear change files before name (Some (record { path = folder; other = l }))) (sym named) (near_above folder counts (subst (IsFolderFound change files name len) is at))
+        subst (λ (l : List ℕ). IsClashNear change files before name (Some (record { path = folder; other = l }))) (sym named) (near_above folder counts (subst (IsShortestFolderOrNone change files name len) is at))
 
     pub below_told : (path other : List ℕ) (above found : Option (List ℕ)) → above ≡ None → found ≡ Some other → path ≡ name → change.counts_as_written name ≡ true
-        → IsFolderFound change files name len above → IsNameFound change.does_release files path found → IsClashNear change files before name (Some (record { path = path; other = other }))
+        → IsShortestFolderOrNone change files name len above → IsFirstNameBelowOrNone change.does_release files path found → IsClashNear change files before name (Some (record { path = path; other = other }))
     below_told path other above found none is named counts over under =
         subst (λ (l : List ℕ). IsClashNear change files before name (Some (record { path = l; other = other }))) (sym named)
-        (near_below other counts (subst (IsFolderFound change files name len) none over) (subst (IsNameFound change.does_release files name) is (subst (λ (l : List ℕ). IsNameFound change.does_release files l found) named under)))
+        (near_below other counts (subst (IsShortestFolderOrNone change files name len) none over) (subst (IsFirstNameBelowOrNone change.does_release files name) is (subst (λ (l : List ℕ). IsFirstNameBelowOrNone change.does_release files l found) named under)))
 
     pub nothing_told : (path : List ℕ) (above found : Option (List ℕ)) → above ≡ None → found ≡ None → path ≡ name
-        → IsFolderFound change files name len above → IsNameFound change.does_release files path found → IsClashNear change files before name None
+        → IsShortestFolderOrNone change files name len above → IsFirstNameBelowOrNone change.does_release files path found → IsClashNear change files before name None
     nothing_told path above found none is named over under =
-        near_nothing (subst (IsFolderFound change files name len) none over) (subst (IsNameFound change.does_release files name) is (subst (λ (l : List ℕ). IsNameFound change.does_release files l found) named under))
+        near_nothing (subst (IsShortestFolderOrNone change files name len) none over) (subst (IsFirstNameBelowOrNone change.does_release files name) is (subst (λ (l : List ℕ). IsFirstNameBelowOrNone change.does_release files l found) named under))

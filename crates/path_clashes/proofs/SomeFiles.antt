@@ -6,7 +6,7 @@ use Rattle.std.specs.Cmp.Lexicographic.{bytes_decides}
 use Rattle.std.proofs.lemmas.Bool.{and_from, and_parts, cases_Bool, cases_order, or_cases, or_left, or_right}
 use Rattle.base_core.specs.Files.{Files, IsFolderOf, no_names}
 use Rattle.base_core.specs.ByteOrder.{precedes}
-use Rattle.path_clashes.specs.Clash.{IsClash, IsFirstClash, NameChange, NamePair, is_name_after, precedes_pair}
+use Rattle.path_clashes.specs.Clash.{IsClash, IsFirstClash, NameChange, NamePair, is_present_after_change, precedes_pair}
 use Rattle.path_clashes.proofs.Above.{name_behind, not_same}
 use Rattle.path_clashes.proofs.Between.{folder_first, folder_trans, same_folder, shorter_folder}
 use Rattle.path_clashes.proofs.NearClash.{counts_is_after}
@@ -38,13 +38,13 @@ module _ (change : NameChange) (pair : NamePair) (may : IsFirstBelowFolder chang
       by true either some = ⊎_elim (λ same. inl ((bytes_decides q pair.path).0 same)) (λ same. inr ((bytes_decides q pair.other).0 same)) (or_cases (bytes_eq q pair.path) (bytes_eq q pair.other) either)
       by false neither some = absurd (cc)
 
-  after_still : (q : List ℕ) → (q ≡ pair.path) ⊎ (q ≡ pair.other) → is_name_after change may.files q ≡ true → is_name_after change (files_of_pair pair) q ≡ true
+  after_still : (q : List ℕ) → (q ≡ pair.path) ⊎ (q ≡ pair.other) → is_present_after_change change may.files q ≡ true → is_present_after_change change (files_of_pair pair) q ≡ true
   after_still q either after =
       ⊎_elim (λ present_files. or_left (is_some (files_of_pair pair q) && not (change.does_release q)) (change.counts_as_written q)
       (and_from (is_some (files_of_pair pair q)) (not (change.does_release q)) (there q either) (and_parts (is_some (may.files q)) (not (change.does_release q)) present_files).1))
       (λ counts. counts_is_after change (files_of_pair pair) q counts) (or_cases (is_some (may.files q) && not (change.does_release q)) (change.counts_as_written q) after)
 
-  unwritten : (q : List ℕ) → is_name_after change (files_of_pair pair) q ≡ true → change.counts_as_written q ≡ false → (q ≡ pair.path) ⊎ (q ≡ pair.other)
+  unwritten : (q : List ℕ) → is_present_after_change change (files_of_pair pair) q ≡ true → change.counts_as_written q ≡ false → (q ≡ pair.path) ⊎ (q ≡ pair.other)
   unwritten q after off =
       ⊎_elim (λ present_files. one_of_two q (and_parts (is_some (files_of_pair pair q)) (not (change.does_release q)) present_files).0) (λ counts. absurd (true≢false (sym counts ∙ off)))
       (or_cases (is_some (files_of_pair pair q) && not (change.does_release q)) (change.counts_as_written q) after)

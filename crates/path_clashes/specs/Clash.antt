@@ -10,8 +10,8 @@ pub record NameChange : Type 0 where
   pub does_release : List ℕ → Bool
 
 -- whether a name is present after the change: a file is under it and is kept, or it counts as written
-abbrev pub is_name_after : NameChange → Files → List ℕ → Bool
-is_name_after change files name =
+abbrev pub is_present_after_change : NameChange → Files → List ℕ → Bool
+is_present_after_change change files name =
     (is_some (files name) && not (change.does_release name)) || change.counts_as_written name
 
 -- two names, of which the first would be a folder of the second
@@ -22,9 +22,13 @@ pub record NamePair : Type 0 where
 -- a clash: the first name is a folder of the second, both are present after the change, and at least
 -- one of them counts as written
 pub record IsClash (change : NameChange) (files : Files) (pair : NamePair) : Type 0 where
+  -- the first name is a folder of the second
   pub folder : IsFolderOf pair.path pair.other
-  pub path_after : is_name_after change files pair.path ≡ true
-  pub other_after : is_name_after change files pair.other ≡ true
+  -- the first name is present after the change
+  pub path_after : is_present_after_change change files pair.path ≡ true
+  -- the second name is present after the change
+  pub other_after : is_present_after_change change files pair.other ≡ true
+  -- at least one of the names counts as written
   pub written : (change.counts_as_written pair.path || change.counts_as_written pair.other) ≡ true
 
 -- the order of pairs: by the first name, and at equal ones by the second
@@ -34,7 +38,9 @@ precedes_pair a b =
 
 -- the first clash: no clash is before it
 pub record IsFirstClash (change : NameChange) (files : Files) (pair : NamePair) : Type 0 where
+  -- the pair is a clash
   pub is_one : IsClash change files pair
+  -- no clash is before it
   pub first : (other : NamePair) → IsClash change files other → precedes_pair other pair ≡ true → ⊥
 
 -- no pair of names clashes

@@ -3,6 +3,6 @@
 use Rattle.path_clashes.specs.Clash.{NamePair}
 use Rattle.path_clashes.specs.declared.clash.Clash.{Clash}
 
--- a clash as contracts see it: both names as texts
+-- the two names of a `Clash` of the program, as a pair
 abbrev pub clash_seen : Clash → NamePair
 clash_seen clash = record { path = clash.path; other = clash.other }

@@ -5,12 +5,13 @@ use Rattle.std.specs.Prelude.{Option, Some, None}
 use Rattle.base_core.specs.Files.{Files}
 use Rattle.path_clashes.specs.Clash.{HasNoClash, IsFirstClash, NameChange, NamePair}
 
--- over these files the first clash is found, or there is none and none is found
+-- the result of a search for the first clash over these files: the first clash, or None if there is
+-- none
 abbrev pub IsFirstClashOrNone : NameChange → Files → Option NamePair → Type 0
 IsFirstClashOrNone change files None = HasNoClash change files
 IsFirstClashOrNone change files (Some pair) = IsFirstClash change files pair
 
--- the first clash over some files is found; or none is found, and over some files there is none: so the
--- written names alone make none
+-- over some files the result is that of a search for the first clash. If the result is None, the
+-- written names alone make no clash
 abbrev pub IsFirstClashOverSomeFiles : NameChange → Option NamePair → Type 0
 IsFirstClashOverSomeFiles change found = (files : Files) × IsFirstClashOrNone change files found

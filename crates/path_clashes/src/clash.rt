@@ -11,7 +11,7 @@ ghost use Rattle.base_core.specs.Name.{IsName};
 ghost use Rattle.base_core.specs.Read.{OnlyReads};
 ghost use Rattle.base_core.specs.Tree.{files_of};
 ghost use Rattle.base_core.specs.ByteOrder.{bytes_cmp};
-ghost use Rattle.path_clashes.specs.Clash.{precedes_pair, HasNoClash, NameChange, NamePair, is_name_after};
+ghost use Rattle.path_clashes.specs.Clash.{precedes_pair, HasNoClash, NameChange, NamePair, is_present_after_change};
 ghost use Rattle.path_clashes.specs.ClashSeen.{clash_seen};
 ghost use Rattle.path_clashes.specs.FirstClash.{IsFirstClashOrNone, IsFirstClashOverSomeFiles};
 ghost use Rattle.path_clashes.specs.NearName.{IsClashNear, MayBeClashNear, earlier_pair};
@@ -41,7 +41,7 @@ fn comes_before(one: &Clash, other: &Clash) -> bool
     by_path.then(by_other).is_lt()
 }
 
-/// The first of two clashes, if there are two; otherwise the one that there is.
+/// The first of two optional clashes; if one is absent, the other one.
 fn first_of(one: Option<Clash>, other: Option<Clash>) -> Option<Clash>
     ensures { option_map clash_seen result
         ≡ earlier_pair (option_map clash_seen one) (option_map clash_seen other) }
@@ -81,7 +81,8 @@ fn common_len(one: &[u8], other: &[u8]) -> usize
     ensures one { result ≤ length one.now }
     ensures other { result ≤ length other.now }
     ensures same { take result one.now ≡ take result other.now }
-    // A folder above both is shorter than that, since both have the `/` after it.
+    // A folder above both texts is shorter than their common prefix, since both have the `/` after
+    // it.
     ensures folders { (folder : List ℕ) → IsFolderOf folder one.now
         → IsFolderOf folder other.now → length folder < result }
 {
@@ -151,12 +152,14 @@ pub fn first_clash<T: Tree, G: IsReleased>(
     requires names { All IsName (map joined_path written.now) }
     // If the tree's files are observable.
     ensures first { IfOk result (λ found. IfObservable (T.history tree.old) (λ v.
-        IsFirstClashOrNone (name_change_of_paths written.now (G.does_release let_go.now)) (files_of v)
+        IsFirstClashOrNone (name_change_of_paths written.now (G.does_release let_go.now))
+        (files_of v)
         (option_map clash_seen found))) }
     // Over any tree, even one whose files are not observable: it is the first clash over some
     // files, or there is none over some.
     ensures may { IfOk result (λ found. IsFirstClashOverSomeFiles
-        (name_change_of_paths written.now (G.does_release let_go.now)) (option_map clash_seen found)) }
+        (name_change_of_paths written.now (G.does_release let_go.now))
+        (option_map clash_seen found)) }
     ensures tree { OnlyReads TreeFault.Disk (T.history tree.old) (T.history tree.new)
         (T.counts tree.old) (T.counts tree.new) result }
 {
@@ -186,19 +189,20 @@ pub trait IsReleased {
 pub fn files_without_a_clash_have_no_file_as_folder()
     ensures files { (change : NameChange) (files after : Files) → HasNoFileAsFolder files
         → HasNoClash change files
-        → ((name : List ℕ) → IsSome (after name) → is_name_after change files name ≡ true)
+        → ((name : List ℕ) → IsSome (after name) → is_present_after_change change files name ≡ true)
         → HasNoFileAsFolder after }
     ensures names { (change : NameChange) (files : Files) (after : NameMap)
         → HasNoFileAsFolder files
         → HasNoClash change files
-        → ((name : List ℕ) → IsSome (after name) → is_name_after change files name ≡ true)
+        → ((name : List ℕ) → IsSome (after name) → is_present_after_change change files name ≡ true)
         → HasNoFileAsFolder after }
 {}
 
 /// A change has one first clash, or none: so the refusal is a function of the change and the files.
 pub fn a_change_has_one_first_clash()
     ensures { (change : NameChange) (files : Files) (one other : Option NamePair)
-        → IsFirstClashOrNone change files one → IsFirstClashOrNone change files other → one ≡ other }
+        → IsFirstClashOrNone change files one → IsFirstClashOrNone change files other → one
+        ≡ other }
 {}
 
 /// Changes that agree on each name have the same first clash: so names may be given as lists or by

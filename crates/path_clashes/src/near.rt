@@ -11,8 +11,8 @@ ghost use Rattle.base_core.specs.Name.{IsName};
 ghost use Rattle.base_core.specs.Read.{OnlyReads};
 ghost use Rattle.base_core.specs.Tree.{files_of};
 ghost use Rattle.base_core.specs.ByteOrder.{bytes_cmp};
-ghost use Rattle.path_clashes.specs.Clash.{is_name_after};
-ghost use Rattle.path_clashes.specs.NearName.{IsFolderFound, IsNameFound, files_with_only_name, is_name_present, name_if_holds};
+ghost use Rattle.path_clashes.specs.Clash.{is_present_after_change};
+ghost use Rattle.path_clashes.specs.NearName.{IsShortestFolderOrNone, IsFirstNameBelowOrNone, files_with_only_name, is_name_present, name_if_holds};
 ghost use Rattle.path_clashes.specs.WrittenPaths.{name_change_of_paths, is_one_of_paths};
 
 use crate::clash::IsReleased;
@@ -62,10 +62,12 @@ fn folder_after<T: Tree, G: IsReleased>(
     requires sorted { IsSorted bytes_cmp (map joined_path written.now) }
     requires names { All IsName (map joined_path written.now) }
     ensures found { IfOk result (λ found. IfObservable (T.history tree.old) (λ v.
-        found ≡ name_if_holds (is_name_after (name_change_of_paths written.now (G.does_release let_go.now))
+        found ≡ name_if_holds (is_present_after_change (name_change_of_paths written.now
+        (G.does_release let_go.now))
         (files_of v) folder.now) folder.now)) }
     ensures may { IfOk result (λ found.
-        found ≡ name_if_holds (is_name_after (name_change_of_paths written.now (G.does_release let_go.now))
+        found ≡ name_if_holds (is_present_after_change (name_change_of_paths written.now
+        (G.does_release let_go.now))
         (files_with_only_name found) folder.now) folder.now) }
     ensures tree { OnlyReads TreeFault.Disk (T.history tree.old) (T.history tree.new)
         (T.counts tree.old) (T.counts tree.new) result }
@@ -92,10 +94,12 @@ pub(crate) fn first_folder<T: Tree, G: IsReleased>(
     requires sorted { IsSorted bytes_cmp (map joined_path written.now) }
     requires names { All IsName (map joined_path written.now) }
     ensures found { IfOk result (λ found. IfObservable (T.history tree.old) (λ v.
-        IsFolderFound (name_change_of_paths written.now (G.does_release let_go.now)) (files_of v)
+        IsShortestFolderOrNone (name_change_of_paths written.now (G.does_release let_go.now))
+        (files_of v)
         name.now len found)) }
     ensures may { IfOk result (λ found.
-        IsFolderFound (name_change_of_paths written.now (G.does_release let_go.now)) (files_with_only_name found)
+        IsShortestFolderOrNone (name_change_of_paths written.now (G.does_release let_go.now))
+        (files_with_only_name found)
         name.now len found) }
     ensures tree { OnlyReads TreeFault.Disk (T.history tree.old) (T.history tree.new)
         (T.counts tree.old) (T.counts tree.new) result }
@@ -136,9 +140,10 @@ pub(crate) fn first_below<T: Tree, G: IsReleased>(
     folder: &Name,
 ) -> Result<Option<Name>, TreeFault>
     ensures found { IfOk result (λ found. IfObservable (T.history tree.old) (λ v.
-        IsNameFound (G.does_release let_go.now) (files_of v) folder.now found)) }
+        IsFirstNameBelowOrNone (G.does_release let_go.now) (files_of v) folder.now found)) }
     ensures may { IfOk result (λ found.
-        IsNameFound (G.does_release let_go.now) (files_with_only_name found) folder.now found) }
+        IsFirstNameBelowOrNone (G.does_release let_go.now)
+        (files_with_only_name found) folder.now found) }
     ensures tree { OnlyReads TreeFault.Disk (T.history tree.old) (T.history tree.new)
         (T.counts tree.old) (T.counts tree.new) result }
 {

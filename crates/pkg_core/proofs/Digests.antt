@@ -16,13 +16,13 @@ use Rattle.adb_view.specs.Plain.{Plain, null, Plains, none, more, Shape, hash, a
 use Rattle.adb_schema.specs.adb_fields.Repeated.{list_of, files_in}
 use Rattle.adb_schema.specs.Rules.{is_digest_length, is_digest_length_or_none}
 use Rattle.adb_view.specs.Schema.{shape_of, shapes_of, table}
-use Rattle.adb_schema.specs.Texts.{Surroundings, Leaf, text_leaf, keeps_rule, leaves, field_leaves, each_leaf, surroundings_of_fields, surroundings_of_root, leaves_of, text_fault, text_rule, is_with_contents, needs_hash}
+use Rattle.adb_schema.specs.Texts.{Surroundings, Leaf, text_leaf, keeps_rule, leaves, field_leaves, leaves_of_all_values, surroundings_of_fields, surroundings_of_root, leaves_of, text_fault, is_allowed_text_of_field, is_file_with_contents, needs_file_hash}
 use Rattle.adb_schema.specs.FirstBad.{IsFirstBadLeafIfAny}
 use Rattle.adb_view.specs.Values.{nth, entries_in, entry_in, int_in, text_in}
 use Rattle.adb_view.specs.declared.tables.Which.{Which}
 use Rattle.adb_view.specs.declared.tables.Kind.TheVariants.{Obj}
 use Rattle.adb_view.specs.declared.tables.Which.TheVariants as Tables
-use Rattle.pkg_core.specs.Contents.{Contents, Expected, digest_fault, expected_at, expected_contents, expected_files, expected_folders, hash_fault}
+use Rattle.pkg_core.specs.Contents.{Contents, ExpectedFile, digest_fault, expected_at, expected_files_of_package, expected_files_of_folder, expected_files_of_folders, hash_fault}
 use Rattle.pkg_core.specs.GoodContents.{AreContentsOf, MatchEachExpected, HaveValidDigestLengths, IsDigestOf}
 
 -- ---- if nothing is told, each text and number keeps its rule
@@ -67,55 +67,55 @@ field_keeps (field name t fs) (suc i) place around (more v vs) s e h =
 leaf_keeps : (leaf : Leaf) → Keep (leaf ∷ []) → keeps_rule leaf ≡ true
 leaf_keeps leaf h = (and_parts (keeps_rule leaf) true h).0
 
-is_needed : (root : Which) (has_contents : Bool) (n : ℕ) → root ≡ Tables.Package → has_contents ≡ true → (if needs_hash root has_contents then is_digest_length n else is_digest_length_or_none n) ≡ true → is_digest_length n ≡ true
+is_needed : (root : Which) (has_contents : Bool) (n : ℕ) → root ≡ Tables.Package → has_contents ≡ true → (if needs_file_hash root has_contents then is_digest_length n else is_digest_length_or_none n) ≡ true → is_digest_length n ≡ true
 is_needed root has_contents n e c h =
-    let needed : needs_hash root has_contents ≡ true = ap (λ r. needs_hash r has_contents) e ∙ c in
+    let needed : needs_file_hash root has_contents ≡ true = ap (λ r. needs_file_hash r has_contents) e ∙ c in
     subst (λ b. (if b then is_digest_length n else is_digest_length_or_none n) ≡ true) needed h
 
-file_has : (place : ℕ) (around : Surroundings) (f : Plain) → around.root ≡ Tables.Package → is_with_contents f ≡ true → Keep (leaves (shape_of (Obj Tables.File)) place around f) → is_digest_length (length (text_in (entry_in f 4))) ≡ true
-unfolding shape_of leaves text_rule
+file_has : (place : ℕ) (around : Surroundings) (f : Plain) → around.root ≡ Tables.Package → is_file_with_contents f ≡ true → Keep (leaves (shape_of (Obj Tables.File)) place around f) → is_digest_length (length (text_in (entry_in f 4))) ≡ true
+unfolding shape_of leaves is_allowed_text_of_field
 file_has place around f root c h =
     let leaf = field_keeps (shapes_of (table Tables.File)) 4 401 (surroundings_of_fields 4 around f) (entries_in f) hash refl h in
-    is_needed around.root (is_with_contents f) (length (text_in (entry_in f 4))) root c (leaf_keeps (text_leaf 405 (surroundings_of_fields 4 around f) (text_in (entry_in f 4))) leaf)
+    is_needed around.root (is_file_with_contents f) (length (text_in (entry_in f 4))) root c (leaf_keeps (text_leaf 405 (surroundings_of_fields 4 around f) (text_in (entry_in f 4))) leaf)
 
 -- ---- the digests of all
 
-more_digests : (es fs : List Expected) → HaveValidDigestLengths es → HaveValidDigestLengths fs → HaveValidDigestLengths (es ++ fs)
+more_digests : (es fs : List ExpectedFile) → HaveValidDigestLengths es → HaveValidDigestLengths fs → HaveValidDigestLengths (es ++ fs)
 more_digests [] fs a b = b
 more_digests (e ∷ es) fs a b = (a.0, more_digests es fs a.1 b)
 
 file_digests : (d i place : ℕ) (around : Surroundings) (f : Plain) → around.root ≡ Tables.Package → Keep (leaves (shape_of (Obj Tables.File)) place around f) → HaveValidDigestLengths (expected_at d i f)
-file_digests d i place around f root h = by_contents (is_with_contents f) refl
+file_digests d i place around f root h = by_contents (is_file_with_contents f) refl
   where
-    by_contents : (b : Bool) → is_with_contents f ≡ b → HaveValidDigestLengths (if b then record { folder = d; file = i; size = int_in (entry_in f 2); hash = text_in (entry_in f 4) } ∷ [] else [])
+    by_contents : (b : Bool) → is_file_with_contents f ≡ b → HaveValidDigestLengths (if b then record { folder = d; file = i; size = int_in (entry_in f 2); hash = text_in (entry_in f 4) } ∷ [] else [])
     by_contents true c = (file_has place around f root c h, tt)
     by_contents false c = tt
 
-files_digests : (d i place : ℕ) (around : Surroundings) (vs : Plains) → around.root ≡ Tables.Package → Keep (each_leaf (leaves (shape_of (Obj Tables.File)) place around) vs) → HaveValidDigestLengths (expected_files d i (list_of vs))
+files_digests : (d i place : ℕ) (around : Surroundings) (vs : Plains) → around.root ≡ Tables.Package → Keep (leaves_of_all_values (leaves (shape_of (Obj Tables.File)) place around) vs) → HaveValidDigestLengths (expected_files_of_folder d i (list_of vs))
 files_digests d i place around none root h = tt
 files_digests d i place around (more f vs) root h =
-    let parts = parts_keep (leaves (shape_of (Obj Tables.File)) place around f) (each_leaf (leaves (shape_of (Obj Tables.File)) place around) vs) h in
-    more_digests (expected_at d i f) (expected_files d (i + 1) (list_of vs)) (file_digests d i place around f root parts.0) (files_digests d (i + 1) place around vs root parts.1)
+    let parts = parts_keep (leaves (shape_of (Obj Tables.File)) place around f) (leaves_of_all_values (leaves (shape_of (Obj Tables.File)) place around) vs) h in
+    more_digests (expected_at d i f) (expected_files_of_folder d (i + 1) (list_of vs)) (file_digests d i place around f root parts.0) (files_digests d (i + 1) place around vs root parts.1)
 
-folder_digests : (d place : ℕ) (around : Surroundings) (folder : Plain) → around.root ≡ Tables.Package → Keep (leaves (shape_of (Obj Tables.Dir)) place around folder) → HaveValidDigestLengths (expected_files d 1 (files_in folder))
+folder_digests : (d place : ℕ) (around : Surroundings) (folder : Plain) → around.root ≡ Tables.Package → Keep (leaves (shape_of (Obj Tables.Dir)) place around folder) → HaveValidDigestLengths (expected_files_of_folder d 1 (files_in folder))
 unfolding shape_of leaves
 folder_digests d place around folder root h =
     let files = field_keeps (shapes_of (table Tables.Dir)) 2 501 (surroundings_of_fields 5 around folder) (entries_in folder) (array (shape_of (Obj Tables.File))) refl h in
     files_digests d 1 503 (surroundings_of_fields 5 around folder) (entries_in (entry_in folder 2)) root files
 
-folders_digests : (i place : ℕ) (around : Surroundings) (vs : Plains) → around.root ≡ Tables.Package → Keep (each_leaf (leaves (shape_of (Obj Tables.Dir)) place around) vs) → HaveValidDigestLengths (expected_folders i (list_of vs))
+folders_digests : (i place : ℕ) (around : Surroundings) (vs : Plains) → around.root ≡ Tables.Package → Keep (leaves_of_all_values (leaves (shape_of (Obj Tables.Dir)) place around) vs) → HaveValidDigestLengths (expected_files_of_folders i (list_of vs))
 folders_digests i place around none root h = tt
 folders_digests i place around (more d vs) root h =
-    let parts = parts_keep (leaves (shape_of (Obj Tables.Dir)) place around d) (each_leaf (leaves (shape_of (Obj Tables.Dir)) place around) vs) h in
-    more_digests (expected_files i 1 (files_in d)) (expected_folders (i + 1) (list_of vs)) (folder_digests i place around d root parts.0) (folders_digests (i + 1) place around vs root parts.1)
+    let parts = parts_keep (leaves (shape_of (Obj Tables.Dir)) place around d) (leaves_of_all_values (leaves (shape_of (Obj Tables.Dir)) place around) vs) h in
+    more_digests (expected_files_of_folder i 1 (files_in d)) (expected_files_of_folders (i + 1) (list_of vs)) (folder_digests i place around d root parts.0) (folders_digests (i + 1) place around vs root parts.1)
 
-texts_keep : (v : Plain) → Keep (leaves_of Tables.Package v) → HaveValidDigestLengths (expected_contents v)
+texts_keep : (v : Plain) → Keep (leaves_of Tables.Package v) → HaveValidDigestLengths (expected_files_of_package v)
 unfolding shape_of leaves
 texts_keep v h =
     let folders = field_keeps (shapes_of (table Tables.Package)) 1 701 (surroundings_of_fields 7 (surroundings_of_root Tables.Package) v) (entries_in v) (array (shape_of (Obj Tables.Dir))) refl h in
     folders_digests 1 702 (surroundings_of_fields 7 (surroundings_of_root Tables.Package) v) (entries_in (entry_in v 1)) refl folders
 
-pub texts_give_digests : HasFirstValue → (v : Plain) → text_fault Tables.Package v ≡ None → HaveValidDigestLengths (expected_contents v)
+pub texts_give_digests : HasFirstValue → (v : Plain) → text_fault Tables.Package v ≡ None → HaveValidDigestLengths (expected_files_of_package v)
 texts_give_digests told v h = texts_keep v (none_told (leaves_of Tables.Package v) (text_fault Tables.Package v) (told Tables.Package v) h)
 
 -- ---- what a good digest says
@@ -144,7 +144,7 @@ digest_is wanted bytes h e =
       ]
     ]
 
-pub true_contents : (es : List Expected) (all : List Contents) → HaveValidDigestLengths es → AreContentsOf es all → MatchEachExpected es all
+pub true_contents : (es : List ExpectedFile) (all : List Contents) → HaveValidDigestLengths es → AreContentsOf es all → MatchEachExpected es all
 true_contents [] [] d h = tt
 true_contents [] (c ∷ cs) d h = h
 true_contents (e ∷ es) [] d h = h

@@ -13,7 +13,7 @@ use Rattle.adb_block.specs.Reading.{more, block_stream_from}
 use Rattle.adb_block.specs.ReaderPosition.{first_block_position}
 use Rattle.adb_block.specs.declared.block.BlockKind.{BlockKind}
 use Rattle.adb_block.specs.declared.block.BlockKind.TheVariants.{Adb, Signature, Contents}
-use Rattle.adb_view.specs.Head.{head_fault}
+use Rattle.adb_view.specs.Head.{payload_head_fault}
 use Rattle.pkg_core.specs.Front.{position_after_first_block, front_block_fault, front_fault, front_fault_after_header}
 use Rattle.pkg_core.specs.Seen.{HasBytesAtOffset}
 use Rattle.adb_block.specs.declared.block.Frame.{Frame}
@@ -44,7 +44,7 @@ first_blocks file payload framed padding at step order room pad len has at_is sc
     ∙ (ap (more (framed_piece framed (drop 8 file)) 8) (reading_cut (first_block_position schema file) framed.kind (raw_size framed) (padding_of (raw_size framed)) room)
     ∙ (λ k. more (record { kind = kind k; payload = here k }) 8 (block_stream_from (record { schema = schema; last = Some (kind k); at = end_is k; left = left_is k }))))
 
-pub first_head_bad : (file payload : List ℕ) (at : ℕ) (c : Cause) → ((schema : ℕ) → block_stream_from (first_block_position schema file) ≡ more (record { kind = Adb; payload = payload }) 8 (block_stream_from (position_after_first_block schema at file))) → head_fault payload ≡ Some c → (schema : ℕ) → front_block_fault (block_stream_from (first_block_position schema file)) ≡ Some c
+pub first_head_bad : (file payload : List ℕ) (at : ℕ) (c : Cause) → ((schema : ℕ) → block_stream_from (first_block_position schema file) ≡ more (record { kind = Adb; payload = payload }) 8 (block_stream_from (position_after_first_block schema at file))) → payload_head_fault payload ≡ Some c → (schema : ℕ) → front_block_fault (block_stream_from (first_block_position schema file)) ≡ Some c
 first_head_bad file payload at c blocks bad schema = ap front_block_fault (blocks schema) ∙ bad
 
 -- ---- the whole front

@@ -7,38 +7,38 @@ use Rattle.adb_block.specs.Reading.{Reading, done, fault, more}
 use Rattle.adb_block.specs.declared.block.BlockKind.{BlockKind}
 use Rattle.adb_block.specs.declared.block.BlockKind.TheVariants as Kinds
 use Rattle.adb_schema.specs.Soundness.{contents_positions}
-use Rattle.pkg_core.specs.Contents.{Expected, FilesRead, contents_bytes, files_at_block, files_read_from_blocks, given, has_positions_of, hash_fault, unless_fault}
-use Rattle.pkg_core.specs.Pieces.{PiecesRead, files_joined_from_pieces, pieces_at_block, pieces_read_from_blocks, pieces_of_one_file, unless_refusal, piece_count_before_last}
+use Rattle.pkg_core.specs.Contents.{ExpectedFile, FilesRead, contents_bytes, files_at_block, files_read_from_blocks, given, has_positions_of, hash_fault, files_unless_fault}
+use Rattle.pkg_core.specs.Pieces.{PiecesRead, files_joined_from_pieces, pieces_at_block, pieces_read_from_blocks, pieces_of_one_file, pieces_unless_fault, piece_count_before_last}
 
 -- ---- one file
 
-joined_bytes : (n : ℕ) (e : Expected) (digest : Option Cause) (bytes so_far : List ℕ) (further : PiecesRead) → files_joined_from_pieces (pieces_of_one_file n e digest bytes further) so_far ≡ unless_fault digest (given (record { folder = e.folder; file = e.file; bytes = so_far ++ bytes }) (files_joined_from_pieces further []))
+joined_bytes : (n : ℕ) (e : ExpectedFile) (digest : Option Cause) (bytes so_far : List ℕ) (further : PiecesRead) → files_joined_from_pieces (pieces_of_one_file n e digest bytes further) so_far ≡ files_unless_fault digest (given (record { folder = e.folder; file = e.file; bytes = so_far ++ bytes }) (files_joined_from_pieces further []))
 joined_bytes zero e None bytes so_far further = refl
 joined_bytes zero e (Some c) bytes so_far further = refl
 joined_bytes (suc n) e digest bytes so_far further =
     let whole : (so_far ++ take 65536 bytes) ++ drop 65536 bytes ≡ so_far ++ bytes = append_assoc so_far (take 65536 bytes) (drop 65536 bytes) ∙ ap (λ (xs : List ℕ). so_far ++ xs) (take-append-drop 65536 bytes) in
     joined_bytes n e digest (drop 65536 bytes) (so_far ++ take 65536 bytes) further
-    ∙ ap (λ (xs : List ℕ). unless_fault digest (given (record { folder = e.folder; file = e.file; bytes = xs }) (files_joined_from_pieces further []))) whole
+    ∙ ap (λ (xs : List ℕ). files_unless_fault digest (given (record { folder = e.folder; file = e.file; bytes = xs }) (files_joined_from_pieces further []))) whole
 
-joined_file : (a b : Bool) (c d : Cause) (n : ℕ) (e : Expected) (digest : Option Cause) (bytes : List ℕ) (further : PiecesRead) (files : FilesRead) → files_joined_from_pieces further [] ≡ files
-    → files_joined_from_pieces (unless_refusal (if a then Some c else if b then Some d else None) (pieces_of_one_file n e digest bytes further)) []
-    ≡ unless_fault (if a then Some c else if b then Some d else digest) (given (record { folder = e.folder; file = e.file; bytes = bytes }) files)
+joined_file : (a b : Bool) (c d : Cause) (n : ℕ) (e : ExpectedFile) (digest : Option Cause) (bytes : List ℕ) (further : PiecesRead) (files : FilesRead) → files_joined_from_pieces further [] ≡ files
+    → files_joined_from_pieces (pieces_unless_fault (if a then Some c else if b then Some d else None) (pieces_of_one_file n e digest bytes further)) []
+    ≡ files_unless_fault (if a then Some c else if b then Some d else digest) (given (record { folder = e.folder; file = e.file; bytes = bytes }) files)
 joined_file true b c d n e digest bytes further files same = refl
 joined_file false true c d n e digest bytes further files same = refl
 joined_file false false c d n e digest bytes further files same =
     joined_bytes n e digest bytes [] further
-    ∙ ap (λ (f : FilesRead). unless_fault digest (given (record { folder = e.folder; file = e.file; bytes = bytes }) f)) same
+    ∙ ap (λ (f : FilesRead). files_unless_fault digest (given (record { folder = e.folder; file = e.file; bytes = bytes }) f)) same
 
 -- ---- one block
 
-joined_contents : (few : Bool) (payload : List ℕ) (at : ℕ) (further : List Expected → PiecesRead) (files : List Expected → FilesRead) → ((left : List Expected) → files_joined_from_pieces (further left) [] ≡ files left) → (es : List Expected) → nat_lt (length payload) 8 ≡ few
+joined_contents : (few : Bool) (payload : List ℕ) (at : ℕ) (further : List ExpectedFile → PiecesRead) (files : List ExpectedFile → FilesRead) → ((left : List ExpectedFile) → files_joined_from_pieces (further left) [] ≡ files left) → (es : List ExpectedFile) → nat_lt (length payload) 8 ≡ few
     → files_joined_from_pieces (pieces_at_block Kinds.Contents payload at further es) [] ≡ files_at_block Kinds.Contents payload at files es
 joined_contents true payload at further files same es e = rw e refl
 joined_contents false payload at further files same [] e = rw e refl
 joined_contents false payload at further files same (f ∷ es) e =
     rw e (joined_file (not (has_positions_of payload f)) (not (length (contents_bytes payload) == f.size)) (DataOrder (f.folder, f.file) (contents_positions payload)) (DataSize f.size (length (contents_bytes payload))) (piece_count_before_last (length (contents_bytes payload))) f (hash_fault f.hash (contents_bytes payload)) (contents_bytes payload) (further es) (files es) (same es))
 
-joined_block : (kind : BlockKind) (payload : List ℕ) (at : ℕ) (further : List Expected → PiecesRead) (files : List Expected → FilesRead) → ((left : List Expected) → files_joined_from_pieces (further left) [] ≡ files left) → (es : List Expected)
+joined_block : (kind : BlockKind) (payload : List ℕ) (at : ℕ) (further : List ExpectedFile → PiecesRead) (files : List ExpectedFile → FilesRead) → ((left : List ExpectedFile) → files_joined_from_pieces (further left) [] ≡ files left) → (es : List ExpectedFile)
     → files_joined_from_pieces (pieces_at_block kind payload at further es) [] ≡ files_at_block kind payload at files es
 joined_block Kinds.Adb payload at further files same es = same es
 joined_block Kinds.Signature payload at further files same es = same es
@@ -46,12 +46,12 @@ joined_block Kinds.Contents payload at further files same es = joined_contents (
 
 -- ---- all of them
 
-nothing_left : (es : List Expected) → files_joined_from_pieces (pieces_read_from_blocks es done) [] ≡ files_read_from_blocks es done
+nothing_left : (es : List ExpectedFile) → files_joined_from_pieces (pieces_read_from_blocks es done) [] ≡ files_read_from_blocks es done
 unfolding pieces_read_from_blocks files_read_from_blocks
 nothing_left [] = refl
 nothing_left (e ∷ es) = refl
 
-pub joined : (es : List Expected) (r : Reading) → files_joined_from_pieces (pieces_read_from_blocks es r) [] ≡ files_read_from_blocks es r
+pub joined : (es : List ExpectedFile) (r : Reading) → files_joined_from_pieces (pieces_read_from_blocks es r) [] ≡ files_read_from_blocks es r
 unfolding pieces_read_from_blocks files_read_from_blocks
 joined es done = nothing_left es
 joined es (fault c) = refl

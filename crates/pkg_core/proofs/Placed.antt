@@ -11,9 +11,9 @@ use Rattle.adb_block.specs.Reading.{more, block_stream_from}
 use Rattle.adb_block.specs.declared.block.BlockKind.{BlockKind}
 use Rattle.adb_block.specs.declared.block.BlockKind.TheVariants as Kinds
 use Rattle.adb_block.specs.declared.block.Frame.{Frame}
-use Rattle.pkg_core.specs.Contents.{Expected, missing_contents_fault}
+use Rattle.pkg_core.specs.Contents.{ExpectedFile, missing_contents_fault}
 use Rattle.pkg_core.specs.Opened.{files_left_in_walk}
-use Rattle.pkg_core.specs.Pieces.{PiecesRead, no_piece, refusal, pieces_at_block, pieces_read_from_blocks, pieces_of_payload, unless_refusal}
+use Rattle.pkg_core.specs.Pieces.{PiecesRead, no_piece, refusal, pieces_at_block, pieces_read_from_blocks, pieces_of_payload, pieces_unless_fault}
 use Rattle.pkg_core.specs.Places.{payload_at, pieces_at, place_after, reader_at_place, block_step_at, whole_size}
 use Rattle.pkg_core.specs.declared.place.BlockPlace.{BlockPlace}
 use Rattle.adb_block.proofs.Runs.{reading_ended, reading_more}
@@ -21,10 +21,10 @@ use Rattle.pkg_core.proofs.BlockRuns.{reading_cut}
 
 -- ---- no block
 
-at_end : (place : BlockPlace) (file : List ℕ) (d : Option Cause) → block_step_at place file ≡ ended → d ≡ missing_contents_fault (files_left_in_walk place.walk) → pieces_at place file ≡ unless_refusal d no_piece
+at_end : (place : BlockPlace) (file : List ℕ) (d : Option Cause) → block_step_at place file ≡ ended → d ≡ missing_contents_fault (files_left_in_walk place.walk) → pieces_at place file ≡ pieces_unless_fault d no_piece
 unfolding pieces_read_from_blocks
 at_end place file d step same =
-    ap (pieces_read_from_blocks (files_left_in_walk place.walk)) (reading_ended (reader_at_place place file) step) ∙ ap (λ (c : Option Cause). unless_refusal c no_piece) (sym same)
+    ap (pieces_read_from_blocks (files_left_in_walk place.walk)) (reading_ended (reader_at_place place file) step) ∙ ap (λ (c : Option Cause). pieces_unless_fault c no_piece) (sym same)
 
 pub end_good : (place : BlockPlace) (file : List ℕ) → block_step_at place file ≡ ended → None ≡ missing_contents_fault (files_left_in_walk place.walk) → pieces_at place file ≡ no_piece
 end_good place file step same = at_end place file None step same
@@ -34,7 +34,7 @@ end_bad place file c step same = at_end place file (Some c) step same
 
 -- ---- a block
 
-abbrev pub further : BlockPlace → Frame → List ℕ → List Expected → PiecesRead
+abbrev pub further : BlockPlace → Frame → List ℕ → List ExpectedFile → PiecesRead
 further place frame file es = pieces_read_from_blocks es (block_stream_from (reader_at_place (place_after place frame) file))
 
 behind_block : (place : BlockPlace) (frame : Frame) (file : List ℕ) → length file ≡ place.len → raw_size frame ≤ place.len - place.at → block_step_at place file ≡ block (framed_piece frame (drop place.at file)) (raw_size frame + padding_of (raw_size frame))
@@ -54,7 +54,7 @@ at_block : (place : BlockPlace) (frame : Frame) (file : List ℕ) → length fil
 unfolding pieces_read_from_blocks
 at_block place frame file long fits step = ap (pieces_read_from_blocks (files_left_in_walk place.walk)) (behind_block place frame file long fits step)
 
-no_contents : (kind : BlockKind) (payload : List ℕ) (at : ℕ) (f : List Expected → PiecesRead) (es : List Expected) → kind ≢ Kinds.Contents → pieces_at_block kind payload at f es ≡ f es
+no_contents : (kind : BlockKind) (payload : List ℕ) (at : ℕ) (f : List ExpectedFile → PiecesRead) (es : List ExpectedFile) → kind ≢ Kinds.Contents → pieces_at_block kind payload at f es ≡ f es
 no_contents Kinds.Adb payload at f es other = refl
 no_contents Kinds.Signature payload at f es other = refl
 no_contents Kinds.Contents payload at f es other = absurd (other refl)
@@ -75,7 +75,7 @@ payload_len place frame file long fits =
     let c = length-drop place.at file in
     omega (arith, a, b, c, long, fits)
 
-contents_of_expected : (few : Bool) (payload : List ℕ) (at : ℕ) (f : List Expected → PiecesRead) (es : List Expected) → nat_lt (length payload) 8 ≡ few → pieces_at_block Kinds.Contents payload at f es ≡ (if few then refusal (Truncated at) else pieces_of_payload payload f es)
+contents_of_expected : (few : Bool) (payload : List ℕ) (at : ℕ) (f : List ExpectedFile → PiecesRead) (es : List ExpectedFile) → nat_lt (length payload) 8 ≡ few → pieces_at_block Kinds.Contents payload at f es ≡ (if few then refusal (Truncated at) else pieces_of_payload payload f es)
 contents_of_expected few payload at f es e = rw e refl
 
 at_contents : (place : BlockPlace) (frame : Frame) (file : List ℕ) (few : Bool) → length file ≡ place.len → raw_size frame ≤ place.len - place.at → block_step_at place file ≡ block (framed_piece frame (drop place.at file)) (raw_size frame + padding_of (raw_size frame)) → frame.kind ≡ Kinds.Contents → nat_lt (length (payload_at frame place file)) 8 ≡ few

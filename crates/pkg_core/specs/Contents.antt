@@ -18,22 +18,27 @@ use Rattle.adb_view.specs.FieldIndexes.{FILE_HASHES, FILE_SIZE}
 use Rattle.adb_view.specs.Values.{entry_in, int_in, text_in}
 use Rattle.adb_schema.specs.adb_fields.Repeated.{folders_in, files_in}
 use Rattle.adb_schema.specs.Soundness.{contents_positions}
-use Rattle.adb_schema.specs.Texts.{is_with_contents}
+use Rattle.adb_schema.specs.Texts.{is_file_with_contents}
 
 -- ---- the expected files
 
--- a file whose contents are expected: the positions of its folder and of itself in it, which count from
--- 1, its size, and its digest
-pub record Expected : Type 0 where
+-- a file whose contents are expected: the positions of its folder and of the file in it, its size, and
+-- its digest
+pub record ExpectedFile : Type 0 where
+  -- the position of its folder in the package, counted from 1
   pub folder : ℕ
+  -- its position in the folder, counted from 1
   pub file : ℕ
+  -- its size in bytes
   pub size : ℕ
+  -- its digest
   pub hash : List ℕ
 
--- the file at a position of a folder, if it has contents: it has no target and its size is above 0
-abbrev pub expected_at : ℕ → ℕ → Plain → List Expected
+-- the file `file` at the position `i` of a folder, if the file has contents: it has no target, and its
+-- size is above 0
+abbrev pub expected_at : ℕ → ℕ → Plain → List ExpectedFile
 expected_at folder i file =
-    if is_with_contents file
+    if is_file_with_contents file
     then record {
       folder = folder;
       file = i;
@@ -42,26 +47,26 @@ expected_at folder i file =
     } ∷ []
     else []
 
--- those files of a folder that have contents, the first of the files at position i
-abbrev pub expected_files : ℕ → ℕ → List Plain → List Expected
-expected_files folder i [] = []
-expected_files folder i (file ∷ files) =
-    expected_at folder i file ++ expected_files folder (i + 1) files
+-- the files of a folder that have contents; the first of these files has the position i in the folder
+abbrev pub expected_files_of_folder : ℕ → ℕ → List Plain → List ExpectedFile
+expected_files_of_folder folder i [] = []
+expected_files_of_folder folder i (file ∷ files) =
+    expected_at folder i file ++ expected_files_of_folder folder (i + 1) files
 
--- those files of several folders that have contents, the first of the folders at position i
-abbrev pub expected_folders : ℕ → List Plain → List Expected
-expected_folders i [] = []
-expected_folders i (folder ∷ folders) =
-    expected_files i 1 (files_in folder) ++ expected_folders (i + 1) folders
+-- the files of several folders that have contents; the first of these folders has the position i
+abbrev pub expected_files_of_folders : ℕ → List Plain → List ExpectedFile
+expected_files_of_folders i [] = []
+expected_files_of_folders i (folder ∷ folders) =
+    expected_files_of_folder i 1 (files_in folder) ++ expected_files_of_folders (i + 1) folders
 
 -- the files of a package that have contents, folder by folder; positions count from 1
-abbrev pub expected_contents : Plain → List Expected
-expected_contents pkg = expected_folders 1 (folders_in pkg)
+abbrev pub expected_files_of_package : Plain → List ExpectedFile
+expected_files_of_package pkg = expected_files_of_folders 1 (folders_in pkg)
 
 -- ---- one block of contents
 
--- the length of the positions in front of a file's bytes in its contents: those of its folder and of
--- itself, four bytes each
+-- how many bytes the two positions have at the front of a block of contents: the position of the
+-- folder and that of the file, four bytes each
 abbrev pub POSITIONS_LEN : ℕ
 POSITIONS_LEN = 8
 
@@ -69,7 +74,8 @@ POSITIONS_LEN = 8
 abbrev pub contents_bytes : List ℕ → List ℕ
 contents_bytes payload = drop POSITIONS_LEN payload
 
--- the fault if the digest by some function is not the wanted one; None if the two are equal
+-- the fault if the wanted digest is not the one that was computed (`found`); None if they are equal.
+-- `as_digest` adds the name of the function
 abbrev pub digest_fault : (List ℕ → Digest) → List ℕ → List ℕ → Option Cause
 digest_fault as_digest wanted found =
     if bytes_eq wanted found then None else Some (HashDiffers (as_digest wanted) (as_digest found))
@@ -84,43 +90,49 @@ hash_fault hash bytes =
     else if length hash == 64 then digest_fault Sha512 hash (sha512 bytes)
     else None
 
--- whether contents begin with the positions of the expected file
-abbrev pub has_positions_of : List ℕ → Expected → Bool
+-- whether a block of contents with this payload has the positions of the expected file
+abbrev pub has_positions_of : List ℕ → ExpectedFile → Bool
 has_positions_of payload e =
     ((contents_positions payload).0 == e.folder) && ((contents_positions payload).1 == e.file)
 
--- the first failed test of contents against an expected file: the positions, then the size, then the
--- digest
-abbrev pub expected_fault : List ℕ → Expected → Option Cause
-expected_fault payload e =
-    if not (has_positions_of payload e) then Some (DataOrder (e.folder, e.file) (contents_positions payload))
+-- the first failed test of a block of contents against an expected file: first the positions are
+-- compared, then the size, then the digest
+abbrev pub contents_fault_for_expected_file : List ℕ → ExpectedFile → Option Cause
+contents_fault_for_expected_file payload e =
+    if not (has_positions_of payload e) then Some
+    (DataOrder (e.folder, e.file) (contents_positions payload))
     else if not (length (contents_bytes payload) == e.size)
     then Some (DataSize e.size (length (contents_bytes payload)))
     else hash_fault e.hash (contents_bytes payload)
 
 -- the first failed test of contents against the next expected file; if none is expected, any contents
 -- are out of order, and (0, 0) was expected
-abbrev pub next_contents_fault : List ℕ → List Expected → Option Cause
+abbrev pub next_contents_fault : List ℕ → List ExpectedFile → Option Cause
 next_contents_fault payload [] = Some (DataOrder (0, 0) (contents_positions payload))
-next_contents_fault payload (e ∷ es) = expected_fault payload e
+next_contents_fault payload (e ∷ es) = contents_fault_for_expected_file payload e
 
 -- the first failed test of a block of contents at an offset: it has the bytes of the positions, and its
 -- contents are those of the next expected file
-abbrev pub contents_block_fault : List ℕ → ℕ → List Expected → Option Cause
+abbrev pub contents_block_fault : List ℕ → ℕ → List ExpectedFile → Option Cause
 contents_block_fault payload at es =
     if nat_lt (length payload) POSITIONS_LEN then Some (Truncated at) else next_contents_fault payload es
 
--- the fault at the end of the blocks if a file is left: (0, 0) was found in the place of its contents
-abbrev pub missing_contents_fault : List Expected → Option Cause
+-- the fault at the end of the blocks, if a file is still expected: its positions were expected, and
+-- (0, 0) was found
+abbrev pub missing_contents_fault : List ExpectedFile → Option Cause
 missing_contents_fault [] = None
 missing_contents_fault (e ∷ es) = Some (DataOrder (e.folder, e.file) (0, 0))
 
--- ---- all of them
+-- ---- all blocks
 
--- the contents of a file, with the positions of its folder and of itself in it, counted from 1
+-- the contents of a file, with the position of its folder in the package and its position in the
+-- folder, both counted from 1
 pub record Contents : Type 0 where
+  -- the position of the file's folder in the package, counted from 1
   pub folder : ℕ
+  -- the position of the file in the folder, counted from 1
   pub file : ℕ
+  -- the bytes of the file
   pub bytes : List ℕ
 
 -- the files with their contents in order, up to the last or to the first failed test
@@ -129,30 +141,31 @@ pub data FilesRead : Type 0 where
   refused : Cause → FilesRead
   given : Contents → FilesRead → FilesRead
 
--- the files, unless a test failed; then its fault in their place
-abbrev pub unless_fault : Option Cause → FilesRead → FilesRead
-unless_fault None files = files
-unless_fault (Some c) files = refused c
+-- these files, unless a test failed: then its fault is in place of them
+abbrev pub files_unless_fault : Option Cause → FilesRead → FilesRead
+files_unless_fault None files = files
+files_unless_fault (Some c) files = refused c
 
 -- the contents of an expected file: the bytes after its positions
-abbrev pub contents_of_expected : List ℕ → Expected → Contents
+abbrev pub contents_of_expected : List ℕ → ExpectedFile → Contents
 contents_of_expected payload e = record { folder = e.folder; file = e.file; bytes = contents_bytes payload }
 
--- the contents of the file that is expected next, and the further ones
-abbrev pub with_contents_of_next : List ℕ → (List Expected → FilesRead) → List Expected → FilesRead
+-- the contents of the next expected file, from a block with this payload, and the files after it
+-- (`further`)
+abbrev pub with_contents_of_next : List ℕ → (List ExpectedFile → FilesRead) → List ExpectedFile → FilesRead
 with_contents_of_next payload further [] = no_more
 with_contents_of_next payload further (e ∷ es) = given (contents_of_expected payload e) (further es)
 
 -- the files from a block on, with `further` for those after it; a block without contents is skipped
 abbrev pub files_at_block :
-    BlockKind → List ℕ → ℕ → (List Expected → FilesRead) → List Expected → FilesRead
+    BlockKind → List ℕ → ℕ → (List ExpectedFile → FilesRead) → List ExpectedFile → FilesRead
 files_at_block Kinds.Contents payload at further es =
-    unless_fault (contents_block_fault payload at es) (with_contents_of_next payload further es)
+    files_unless_fault (contents_block_fault payload at es) (with_contents_of_next payload further es)
 files_at_block kind payload at further es = further es
 
--- the files of the blocks, against those that are expected
-unfoldable pub files_read_from_blocks : List Expected → Reading → FilesRead
-files_read_from_blocks es done = unless_fault (missing_contents_fault es) no_more
+-- the files that are read from the blocks, each tested against the next expected file
+unfoldable pub files_read_from_blocks : List ExpectedFile → Reading → FilesRead
+files_read_from_blocks es done = files_unless_fault (missing_contents_fault es) no_more
 files_read_from_blocks es (fault c) = refused c
 files_read_from_blocks es (more b at r) =
     files_at_block b.kind b.payload at (λ left. files_read_from_blocks left r) es
@@ -170,7 +183,7 @@ contents_in (refused c) = []
 contents_in (given contents files) = contents ∷ contents_in files
 
 -- the first failed test of the blocks after a package's values, block by block
-abbrev pub contents_fault : List Expected → Reading → Option Cause
+abbrev pub contents_fault : List ExpectedFile → Reading → Option Cause
 contents_fault es r = fault_of_files_read (files_read_from_blocks es r)
 
 -- ---- the bytes of one file

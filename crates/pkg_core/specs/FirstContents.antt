@@ -9,13 +9,13 @@ use Rattle.adb_block.specs.AllBlocks.{blocks_of_stream}
 use Rattle.adb_block.specs.Reading.{Reading, done, fault, more}
 use Rattle.adb_block.specs.declared.block.BlockKind.{BlockKind}
 use Rattle.adb_block.specs.declared.block.BlockKind.TheVariants as Kinds
-use Rattle.pkg_core.specs.Contents.{Expected, contents_block_fault, missing_contents_fault}
+use Rattle.pkg_core.specs.Contents.{ExpectedFile, contents_block_fault, missing_contents_fault}
 
 -- a block's payload and its offset
 abbrev pub PlacedPayload : Type 0
 PlacedPayload = List ℕ × ℕ
 
--- the blocks, and this one before them if it is contents
+-- some blocks, with this block in front of them if it is a block of contents
 abbrev pub with_block_if_contents : BlockKind → PlacedPayload → List PlacedPayload → List PlacedPayload
 with_block_if_contents Kinds.Contents block blocks = block ∷ blocks
 with_block_if_contents kind block blocks = blocks
@@ -26,19 +26,19 @@ blocks_of_contents done = []
 blocks_of_contents (fault c) = []
 blocks_of_contents (more b at r) = with_block_if_contents b.kind (b.payload, at) (blocks_of_contents r)
 
--- a test by its block: the block against the files that are still expected; or, if no block is left,
--- the framing after the last one and then that no file is left
-abbrev pub contents_test_fault : Option Cause → List Expected → Option PlacedPayload → Option Cause
+-- the fault of one test. A block is tested against the files that are still expected. If no block is
+-- left, first the framing is tested, then that no file is left
+abbrev pub contents_test_fault : Option Cause → List ExpectedFile → Option PlacedPayload → Option Cause
 contents_test_fault framing es (Some block) = contents_block_fault block.0 block.1 es
 contents_test_fault framing es None = option_or framing (missing_contents_fault es)
 
 -- the k-th test, counted from 0: block k against the files from k on
-abbrev pub contents_test_fault_at : List Expected → Reading → ℕ → Option Cause
+abbrev pub contents_test_fault_at : List ExpectedFile → Reading → ℕ → Option Cause
 contents_test_fault_at es r k =
     contents_test_fault (result_err (blocks_of_stream r)) (drop k es) (slice_get (blocks_of_contents r) k)
 
 -- one of the tests has this fault, and none before it has one
-pub record IsFirstContentsFault (es : List Expected) (r : Reading) (c : Cause) : Type 0 where
+pub record IsFirstContentsFault (es : List ExpectedFile) (r : Reading) (c : Cause) : Type 0 where
   pub k : ℕ
   pub reached : k ≤ length (blocks_of_contents r)
   pub fault : contents_test_fault_at es r k ≡ Some c

@@ -8,7 +8,7 @@ use Rattle.adb_block.specs.Header.{header_of}
 use Rattle.adb_block.specs.Reading.{Reading, done, fault, more, block_stream_from}
 use Rattle.adb_block.specs.ReaderPosition.{ReaderPosition, first_block_position}
 use Rattle.adb_block.specs.declared.block.BlockKind.TheVariants.{Adb}
-use Rattle.adb_view.specs.Head.{head_fault}
+use Rattle.adb_view.specs.Head.{payload_head_fault}
 use Rattle.pkg_core.specs.declared.front.Front.{Front}
 use Rattle.pkg_core.specs.declared.front.FrontFault.{FrontFault}
 use Rattle.pkg_core.specs.declared.front.FrontFault.TheVariants.{Bad, Disk, Memory}
@@ -19,16 +19,17 @@ use Rattle.pkg_core.specs.declared.front.FrontFault.TheVariants.{Bad, Disk, Memo
 abbrev pub front_block_fault : Reading → Option Cause
 front_block_fault done = None
 front_block_fault (fault c) = Some c
-front_block_fault (more b at r) = head_fault b.payload
+front_block_fault (more b at r) = payload_head_fault b.payload
 
--- the first failed test of a file's front, by its header, which must have this schema
+-- the first failed test of the front of a file with this result for its header; the file must have
+-- this schema
 abbrev pub front_fault_after_header : ℕ → List ℕ → Result ℕ Cause → Option Cause
 front_fault_after_header schema file (Err c) = Some c
 front_fault_after_header schema file (Ok found) =
     if schema == found then front_block_fault (block_stream_from (first_block_position found file))
     else Some (WrongSchema found)
 
--- the first failed test of a file's front
+-- the first failed test of the front of a file, which must have this schema
 unfoldable pub front_fault : ℕ → List ℕ → Option Cause
 front_fault schema file = front_fault_after_header schema file (header_of file)
 
@@ -64,7 +65,7 @@ pub record IsFrontOf (schema : ℕ) (file : List ℕ) (front : Front) : Type 0 w
   pub blocks : block_stream_from (first_block_position schema file)
       ≡ more (record { kind = Adb; payload = front_payload front }) 8
       (block_stream_from (position_after_front front file))
-  pub head : head_fault (front_payload front) ≡ None
+  pub head : payload_head_fault (front_payload front) ≡ None
 
 -- the result of reading a front, for a file or for none; an I/O error of the tree and running out of
 -- memory say nothing about it
@@ -80,7 +81,7 @@ IsFrontRead schema (Some file) (Err (Bad c)) = front_fault schema file ≡ Some 
 IsFrontRead schema (Some file) (Err Disk) = Unit {0}
 IsFrontRead schema (Some file) (Err Memory) = Unit {0}
 
--- ---- part by part
+-- ---- the front of a file that exists
 
 -- the position of a reader of blocks after the first block of a file, which ends at this offset
 abbrev pub position_after_first_block : ℕ → ℕ → List ℕ → ReaderPosition

@@ -6,17 +6,21 @@ use Rattle.sha1.specs.Sha1.{sha1}
 use Rattle.sha2.specs.Sha256.{sha256}
 use Rattle.sha2.specs.Sha512.{sha512}
 use Rattle.adb_schema.specs.Rules.{is_digest_length}
-use Rattle.pkg_core.specs.Contents.{Contents, Expected, hash_fault}
+use Rattle.pkg_core.specs.Contents.{Contents, ExpectedFile, hash_fault}
 
 -- the contents are those of the file that is expected: its positions, its size and its digest
-pub record IsContentsOf (e : Expected) (contents : Contents) : Type 0 where
+pub record IsContentsOf (e : ExpectedFile) (contents : Contents) : Type 0 where
+  -- the position of its folder
   pub folder : contents.folder ≡ e.folder
+  -- its position in the folder
   pub file : contents.file ≡ e.file
+  -- its size
   pub size : length contents.bytes ≡ e.size
+  -- its digest: the comparison has no fault
   pub hash : hash_fault e.hash contents.bytes ≡ None
 
 -- there are contents for each expected file, in order, and no others
-abbrev pub AreContentsOf : List Expected → List Contents → Type 0
+abbrev pub AreContentsOf : List ExpectedFile → List Contents → Type 0
 AreContentsOf [] [] = Unit {0}
 AreContentsOf [] (contents ∷ others) = ⊥
 AreContentsOf (e ∷ es) [] = ⊥
@@ -29,21 +33,25 @@ abbrev pub IsDigestOf : List ℕ → List ℕ → Type 0
 IsDigestOf hash bytes = (hash ≡ sha1 bytes) ⊎ ((hash ≡ sha256 bytes) ⊎ (hash ≡ sha512 bytes))
 
 -- the contents are those of the file's entry
-pub record MatchesExpected (e : Expected) (contents : Contents) : Type 0 where
+pub record MatchesExpected (e : ExpectedFile) (contents : Contents) : Type 0 where
+  -- the position of its folder
   pub folder : contents.folder ≡ e.folder
+  -- its position in the folder
   pub file : contents.file ≡ e.file
+  -- its size
   pub size : length contents.bytes ≡ e.size
+  -- its digest, by SHA-1, SHA-256 or SHA-512
   pub digest : IsDigestOf e.hash contents.bytes
 
 -- there are contents for each expected file, in order and no others, and each are those of the file's
 -- entry
-abbrev pub MatchEachExpected : List Expected → List Contents → Type 0
+abbrev pub MatchEachExpected : List ExpectedFile → List Contents → Type 0
 MatchEachExpected [] [] = Unit {0}
 MatchEachExpected [] (contents ∷ others) = ⊥
 MatchEachExpected (e ∷ es) [] = ⊥
 MatchEachExpected (e ∷ es) (contents ∷ others) = MatchesExpected e contents × MatchEachExpected es others
 
 -- the digest of each expected file has the length of one of the three functions
-abbrev pub HaveValidDigestLengths : List Expected → Type 0
+abbrev pub HaveValidDigestLengths : List ExpectedFile → Type 0
 HaveValidDigestLengths [] = Unit {0}
 HaveValidDigestLengths (e ∷ es) = (is_digest_length (length e.hash) ≡ true) × HaveValidDigestLengths es

@@ -10,7 +10,7 @@ use Rattle.adb_view.specs.Values.{entries_in}
 use Rattle.adb_schema.specs.Checked.{checked_value}
 use Rattle.adb_schema.specs.adb_fields.ListValue.{list_value}
 use Rattle.adb_schema.specs.adb_fields.Repeated.{list_of, files_in}
-use Rattle.pkg_core.specs.Contents.{Expected, Contents, FilesRead, no_more, refused, given, expected_files, expected_folders, files_read_from_blocks, contents_of_expected, contents_block_fault}
+use Rattle.pkg_core.specs.Contents.{ExpectedFile, Contents, FilesRead, no_more, refused, given, expected_files_of_folder, expected_files_of_folders, files_read_from_blocks, contents_of_expected, contents_block_fault}
 use Rattle.pkg_core.specs.declared.pack.Package.{Package}
 use Rattle.pkg_core.specs.declared.walk.Walk.{Walk}
 use Rattle.pkg_core.specs.declared.walk.Wanted.{Wanted}
@@ -31,41 +31,43 @@ IsNextFile before (Err c) after = (before ≡ refused c) × (after ≡ refused c
 -- ---- the walk over the files
 
 -- the file that is wanted next
-abbrev pub expected_of : Wanted → Expected
+abbrev pub expected_of : Wanted → ExpectedFile
 expected_of w = record { folder = w.folder; file = w.file; size = w.size; hash = w.hash.now }
 
--- the files with contents that are left of folders, the first of which has position i, after the first
--- j files of that folder
-abbrev pub files_left_from : ℕ → ℕ → List Plain → List Expected
+-- the files with contents that are left in some folders: the first of these folders has the position
+-- i, and its first j files are passed
+abbrev pub files_left_from : ℕ → ℕ → List Plain → List ExpectedFile
 files_left_from i j [] = []
 files_left_from i j (folder ∷ folders) =
-    expected_files i (j + 1) (drop j (files_in folder)) ++ expected_folders (i + 1) folders
+    expected_files_of_folder i (j + 1) (drop j (files_in folder))
+    ++ expected_files_of_folders (i + 1) folders
 
 -- the files with contents that a walk has still before it
-abbrev pub files_left_in_walk : Walk → List Expected
+abbrev pub files_left_in_walk : Walk → List ExpectedFile
 files_left_in_walk walk =
     files_left_from (walk.folder + 1) walk.file
     (drop walk.folder (list_of (entries_in (list_value walk.folders))))
 
 -- the walk takes the first of the files before it and has the others after it, or returns None if there
 -- is none
-abbrev pub TakesFirstExpected : List Expected → Option Wanted → List Expected → Type 0
+abbrev pub TakesFirstExpected : List ExpectedFile → Option Wanted → List ExpectedFile → Type 0
 TakesFirstExpected before None after = (before ≡ []) × (after ≡ [])
 TakesFirstExpected before (Some w) after = before ≡ expected_of w ∷ after
 
 -- ---- one file
 
 -- whether a file is the one at these positions
-abbrev pub is_expected_at : ℕ → ℕ → Expected → Bool
+abbrev pub is_expected_at : ℕ → ℕ → ExpectedFile → Bool
 is_expected_at folder file e = (e.folder == folder) && (e.file == file)
 
 -- the file with these positions among files that have contents, if it is there
-abbrev pub expected_file_at : ℕ → ℕ → List Expected → Option Expected
+abbrev pub expected_file_at : ℕ → ℕ → List ExpectedFile → Option ExpectedFile
 expected_file_at folder file es = find (is_expected_at folder file) es
 
 -- ---- the blocks with it
 
--- the files of a package that are still to be read, ignoring an earlier error
+-- the files that are still to be read from the blocks of a package, whether or not a test failed
+-- before
 abbrev pub files_left : Rest → FilesRead
 files_left rest = files_read_from_blocks (files_left_in_walk rest.walk) (block_stream_from rest.blocks)
 
@@ -81,13 +83,15 @@ ReadsNext before (Ok (Some f)) after = before ≡ given (contents_view f) after
 ReadsNext before (Err c) after = before ≡ refused c
 
 -- the contents in a payload are those of the first expected file, and the others are left
-abbrev pub ReturnsContentsOfFirst : List ℕ → FileContents → List Expected → List Expected → Type 0
+abbrev pub ReturnsContentsOfFirst : List ℕ → FileContents → List ExpectedFile → List ExpectedFile → Type 0
 ReturnsContentsOfFirst payload f [] after = ⊥
-ReturnsContentsOfFirst payload f (e ∷ es) after = (contents_view f ≡ contents_of_expected payload e) × (es ≡ after)
+ReturnsContentsOfFirst payload f (e ∷ es) after =
+    (contents_view f ≡ contents_of_expected payload e) × (es ≡ after)
 
 -- the result of the walk for a block of contents at an offset: those of the next file, if no test
 -- fails, or the first failed test
-abbrev pub ReturnsNextContents : List ℕ → ℕ → List Expected → Result FileContents Cause → List Expected
+abbrev pub ReturnsNextContents : List ℕ → ℕ → List ExpectedFile → Result FileContents Cause
+    → List ExpectedFile
     → Type 0
 ReturnsNextContents payload at before (Ok f) after =
     (contents_block_fault payload at before ≡ None) × ReturnsContentsOfFirst payload f before after

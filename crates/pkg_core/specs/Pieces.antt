@@ -8,7 +8,7 @@ use Rattle.adb_block.specs.Reading.{Reading, done, fault, more}
 use Rattle.adb_block.specs.declared.block.BlockKind.{BlockKind}
 use Rattle.adb_block.specs.declared.block.BlockKind.TheVariants as Kinds
 use Rattle.adb_schema.specs.Soundness.{contents_positions}
-use Rattle.pkg_core.specs.Contents.{Expected, FilesRead, POSITIONS_LEN, no_more, refused, given, contents_bytes, has_positions_of, hash_fault, missing_contents_fault}
+use Rattle.pkg_core.specs.Contents.{ExpectedFile, FilesRead, POSITIONS_LEN, no_more, refused, given, contents_bytes, has_positions_of, hash_fault, missing_contents_fault}
 use Rattle.pkg_core.specs.declared.file.Part.{Part}
 use Rattle.pkg_core.specs.declared.file.TheConstants.{PIECE_LEN}
 
@@ -21,18 +21,18 @@ pub data PiecesRead : Type 0 where
 -- ---- one file
 
 -- the part that a piece is: of this expected file, and whether it is the file's last piece
-abbrev pub part_of : Expected → Bool → Part
+abbrev pub part_of : ExpectedFile → Bool → Part
 part_of e last = record { path = e.folder; file = e.file; last = last }
 
--- the last piece of a file, and then further ones; if the digest of all bytes is wrong, the fault is in
--- its place
-abbrev pub last_piece : Expected → Option Cause → List ℕ → PiecesRead → PiecesRead
+-- the last piece of a file, and then further ones. If the digest of all bytes of the file is wrong
+-- (`Some c`), its fault is in their place
+abbrev pub last_piece : ExpectedFile → Option Cause → List ℕ → PiecesRead → PiecesRead
 last_piece e None bytes further = piece (part_of e true) bytes further
 last_piece e (Some c) bytes further = refusal c
 
 -- the pieces of a file's bytes: this many whole ones, then the last one, and then further pieces of
 -- other files
-abbrev pub pieces_of_one_file : ℕ → Expected → Option Cause → List ℕ → PiecesRead → PiecesRead
+abbrev pub pieces_of_one_file : ℕ → ExpectedFile → Option Cause → List ℕ → PiecesRead → PiecesRead
 pieces_of_one_file zero e digest bytes further = last_piece e digest bytes further
 pieces_of_one_file (suc n) e digest bytes further =
     piece (part_of e false) (take PIECE_LEN bytes)
@@ -44,36 +44,38 @@ abbrev pub piece_count_before_last : ℕ → ℕ
 piece_count_before_last len = (len - 1) / PIECE_LEN
 
 -- the pieces of all bytes of a file, and then further ones
-abbrev pub pieces_of_bytes : Expected → List ℕ → PiecesRead → PiecesRead
+abbrev pub pieces_of_bytes : ExpectedFile → List ℕ → PiecesRead → PiecesRead
 pieces_of_bytes e bytes further =
     pieces_of_one_file (piece_count_before_last (length bytes)) e (hash_fault e.hash bytes) bytes further
 
 -- ---- one block
 
--- the first failed test before a file's first piece: the positions, then the size
-abbrev pub position_or_size_fault : List ℕ → Expected → Option Cause
+-- the first failed test of a block of contents before its first piece: first the positions are
+-- compared, then the size
+abbrev pub position_or_size_fault : List ℕ → ExpectedFile → Option Cause
 position_or_size_fault payload e =
-    if not (has_positions_of payload e) then Some (DataOrder (e.folder, e.file) (contents_positions payload))
+    if not (has_positions_of payload e) then Some
+    (DataOrder (e.folder, e.file) (contents_positions payload))
     else if not (length (contents_bytes payload) == e.size)
     then Some (DataSize e.size (length (contents_bytes payload)))
     else None
 
 -- the pieces, unless a test failed; then its fault in their place
-abbrev pub unless_refusal : Option Cause → PiecesRead → PiecesRead
-unless_refusal None pieces = pieces
-unless_refusal (Some c) pieces = refusal c
+abbrev pub pieces_unless_fault : Option Cause → PiecesRead → PiecesRead
+pieces_unless_fault None pieces = pieces
+pieces_unless_fault (Some c) pieces = refusal c
 
 -- the pieces of a payload of contents against the next expected file, and then further ones; if none is
 -- expected any contents are out of order, and (0, 0) was expected
-abbrev pub pieces_of_payload : List ℕ → (List Expected → PiecesRead) → List Expected → PiecesRead
+abbrev pub pieces_of_payload : List ℕ → (List ExpectedFile → PiecesRead) → List ExpectedFile → PiecesRead
 pieces_of_payload payload further [] = refusal (DataOrder (0, 0) (contents_positions payload))
 pieces_of_payload payload further (e ∷ es) =
-    unless_refusal (position_or_size_fault payload e)
+    pieces_unless_fault (position_or_size_fault payload e)
     (pieces_of_bytes e (contents_bytes payload) (further es))
 
 -- the pieces from a block at an offset on, with `further` for those after it; a block without contents
 -- is skipped, and one of contents has the bytes of the positions
-abbrev pub pieces_at_block : BlockKind → List ℕ → ℕ → (List Expected → PiecesRead) → List Expected
+abbrev pub pieces_at_block : BlockKind → List ℕ → ℕ → (List ExpectedFile → PiecesRead) → List ExpectedFile
     → PiecesRead
 pieces_at_block Kinds.Contents payload at further es =
     if nat_lt (length payload) POSITIONS_LEN then refusal (Truncated at)
@@ -83,8 +85,8 @@ pieces_at_block kind payload at further es = further es
 -- ---- all of them
 
 -- the pieces of the blocks, against the files that are expected
-unfoldable pub pieces_read_from_blocks : List Expected → Reading → PiecesRead
-pieces_read_from_blocks es done = unless_refusal (missing_contents_fault es) no_piece
+unfoldable pub pieces_read_from_blocks : List ExpectedFile → Reading → PiecesRead
+pieces_read_from_blocks es done = pieces_unless_fault (missing_contents_fault es) no_piece
 pieces_read_from_blocks es (fault c) = refusal c
 pieces_read_from_blocks es (more b at r) =
     pieces_at_block b.kind b.payload at (λ left. pieces_read_from_blocks left r) es

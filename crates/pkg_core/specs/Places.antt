@@ -19,7 +19,7 @@ use Rattle.pkg_core.specs.declared.place.BlockPlace.{BlockPlace}
 use Rattle.pkg_core.specs.declared.place.Step.{Step}
 use Rattle.pkg_core.specs.declared.place.Step.TheVariants.{End, Passed, Opened}
 
--- ---- of a file
+-- ---- a place in a file
 
 -- the position of a reader of blocks at a place of this file; its schema does not matter there, so it
 -- is 0
@@ -78,7 +78,8 @@ OpensOnlyContents frame (Opened f) = frame.kind ≡ Kinds.Contents
 abbrev pub IsWalkAfterStep : Walk → Step → Walk → Type 0
 IsWalkAfterStep before End after = (files_left_in_walk before ≡ []) × (files_left_in_walk after ≡ [])
 IsWalkAfterStep before Passed after = after ≡ before
-IsWalkAfterStep before (Opened f) after = files_left_in_walk before ≡ expected_of f.wanted ∷ files_left_in_walk after
+IsWalkAfterStep before (Opened f) after =
+    files_left_in_walk before ≡ expected_of f.wanted ∷ files_left_in_walk after
 
 -- the result of a step at a place of this file: no block is left; a block was passed; the contents of a
 -- file begin, and the pieces after them are those from the new position; or the first failed test

@@ -3,7 +3,7 @@
 -- were read is stated in `docs/formats.md`, "The other blocks", the paragraph of a front.
 use Rattle.std.specs.Prelude.{◌≡◌, ◌≤◌, ℕ, ◌+◌, List, length, take, drop, Some, IfSome, Result, OnOk, IfErr, IsErrOf}
 use Rattle.base_core.specs.Calls.{IfObservable}
-use Rattle.base_core.specs.Faults.{Counts, CountsOnlyRise, HasCause, IsNoFault}
+use Rattle.base_core.specs.Faults.{Counts, CountsOnlyRise, IsFaultCountedWithCause, CountsNoNewFault}
 use Rattle.base_core.specs.Tree.{TreeState, files_of}
 use Rattle.base_core.specs.declared.tree.Disk.{Disk}
 
@@ -21,13 +21,18 @@ AreBytesRead history name len at bytes =
 -- a read saw these bytes, and they are within a file of this length
 pub record IsSeenIn (history : List TreeState) (name : List ℕ) (len at : ℕ)
     (bytes : List ℕ) : Type 0 where
+  -- a read saw these bytes at the offset
   pub seen : AreBytesRead history name len at bytes
+  -- they end within the length
   pub within : at + length bytes ≤ len
 
 -- the file under this name exists and has this length
 pub record IsFileOfLength (name : List ℕ) (len : ℕ) (v : TreeState) : Type 0 where
+  -- the bytes of the file
   pub file : List ℕ
+  -- the tree has them under the name
   pub present : files_of v name ≡ Some file
+  -- they have this length
   pub long : length file ≡ len
 
 -- the fault of a failed call of a tree, which has one value only
@@ -43,8 +48,10 @@ pub record ReadsFile {A E : Type 0} (name : List ℕ) (len : ℕ) (disk_fault : 
   -- no count falls
   pub goes_on : CountsOnlyRise before now
   -- it reports a failure of the tree only if there was one
-  pub disk : IsErrOf result disk_fault → HasCause before now
-  -- a result that is no failure of the tree raised neither the count of faults nor that of wants
-  pub kept : OnOk result (IsNoFault before now)
-  pub others : IfErr result (λ fault. (fault ≡ disk_fault → ⊥) → IsNoFault before now)
+  pub disk : IsErrOf result disk_fault → IsFaultCountedWithCause before now
+  -- a result that is no failure of the tree raised neither the count of faults nor that of memory faults
+  pub kept : OnOk result (CountsNoNewFault before now)
+  -- an error that is no failure of the tree raised neither of these counts
+  pub others : IfErr result (λ fault. (fault ≡ disk_fault → ⊥) → CountsNoNewFault before now)
+  -- it is no misuse if the file has this length
   pub proper : IfObservable old (λ v. IsFileOfLength name len v → now.misuses ≡ before.misuses)

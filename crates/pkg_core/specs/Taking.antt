@@ -18,9 +18,11 @@ file_bytes_left f = f.wanted.size - f.done
 abbrev pub next_piece_len : FileCheck → ℕ
 next_piece_len f = min (file_bytes_left f) PIECE_LEN
 
--- exactly these bytes of a file were taken
+-- exactly these bytes of a file (`so_far`) were taken
 pub record HasTaken (f : FileCheck) (so_far : List ℕ) : Type 0 where
+  -- the hasher has taken these bytes
   pub hashed : HasHashedMessage f.hasher f.wanted.hash.now so_far
+  -- as many bytes are counted as taken
   pub long : length so_far ≡ f.done
 
 -- these bytes of a file with this digest were taken; if none are left (None) they have the digest

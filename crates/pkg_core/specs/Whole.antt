@@ -8,11 +8,11 @@ use Rattle.adb_block.specs.Header.{header_of}
 use Rattle.adb_block.specs.ReaderPosition.{first_block_position}
 use Rattle.adb_block.specs.Reading.{Reading, done, fault, more, block_stream_from}
 use Rattle.adb_view.specs.Plain.{Plain}
-use Rattle.adb_schema.specs.Soundness.{file_fault_with_rest_test, fault_after_first_block, payload_in, root_value}
+use Rattle.adb_schema.specs.Soundness.{file_fault_with_rest_test, further_blocks_fault_unless_package, payload_in, root_value}
 use Rattle.adb_view.specs.declared.tables.Which.{Which}
 use Rattle.adb_view.specs.declared.tables.Which.TheVariants.{Package, Index, Idb, Intent}
 use Rattle.adb_schema.specs.declared.read.TheConstants.{PACKAGE_WORD, INDEX_WORD, IDB_WORD, INTENT_WORD}
-use Rattle.pkg_core.specs.Contents.{Contents, FilesRead, no_more, refused, files_read_from_blocks, contents_in, contents_fault, expected_contents}
+use Rattle.pkg_core.specs.Contents.{Contents, FilesRead, no_more, refused, files_read_from_blocks, contents_in, contents_fault, expected_files_of_package}
 
 -- ---- a container of any schema
 
@@ -26,24 +26,26 @@ table_of_schema schema =
     else None
 
 -- the first failed test of the blocks after the first: for a package the contents of its files, for
--- another container that it has no contents
+-- another container that no block has contents
 abbrev pub fault_of_further_blocks : Which → Plain → Reading → Option Cause
-fault_of_further_blocks Package value r = contents_fault (expected_contents value) r
-fault_of_further_blocks which value r = fault_after_first_block which r
+fault_of_further_blocks Package value r = contents_fault (expected_files_of_package value) r
+fault_of_further_blocks which value r = further_blocks_fault_unless_package which r
 
 -- the first failed test of a file that is to be a container with this table at its root
 unfoldable pub container_fault_of_table : Which → List ℕ → Option Cause
 container_fault_of_table which file = file_fault_with_rest_test (fault_of_further_blocks which) which file
 
--- the first failed test of a file of this schema, which has to be one of the four
+-- the first failed test of a file with this schema, whose table is None if the schema is none of the
+-- four
 abbrev pub container_fault_after_schema : List ℕ → ℕ → Option Which → Option Cause
 container_fault_after_schema file schema None = Some (WrongSchema schema)
 container_fault_after_schema file schema (Some which) = container_fault_of_table which file
 
--- the first failed test of a file, by its header
+-- the first failed test of a file with this result for its header
 abbrev pub container_fault_after_header : List ℕ → Result ℕ Cause → Option Cause
 container_fault_after_header file (Err c) = Some c
-container_fault_after_header file (Ok schema) = container_fault_after_schema file schema (table_of_schema schema)
+container_fault_after_header file (Ok schema) =
+    container_fault_after_schema file schema (table_of_schema schema)
 
 -- the first failed test of a file as a container of one of the four schemas
 unfoldable pub container_fault : List ℕ → Option Cause
@@ -59,25 +61,29 @@ package_fault file = container_fault_of_table Package file
 abbrev pub package_id : List ℕ → List ℕ
 package_id file = sha256 (payload_in file)
 
--- the files of a package's blocks: the value of the first block has the expected files, and the blocks
--- after it their contents
+-- the files that are read from the blocks of a package. The value of the first block lists the
+-- expected files; the blocks after it have their contents
 abbrev pub files_after_first_block : Reading → FilesRead
 files_after_first_block done = no_more
 files_after_first_block (fault c) = refused c
-files_after_first_block (more b at r) = files_read_from_blocks (expected_contents (root_value Package b.payload)) r
+files_after_first_block (more b at r) =
+    files_read_from_blocks (expected_files_of_package (root_value Package b.payload)) r
 
--- the files of a package, by its header
+-- the files that are read from a package with this result for its header
 abbrev pub files_after_header : List ℕ → Result ℕ Cause → FilesRead
-files_after_header file (Ok schema) = files_after_first_block (block_stream_from (first_block_position schema file))
+files_after_header file (Ok schema) =
+    files_after_first_block (block_stream_from (first_block_position schema file))
 files_after_header file (Err c) = refused c
 
--- the files of a package with their contents
-unfoldable pub files_in_file : List ℕ → FilesRead
-files_in_file file = files_after_header file (header_of file)
+-- the files that are read from the file of a package, with their contents
+unfoldable pub files_read_from_package : List ℕ → FilesRead
+files_read_from_package file = files_after_header file (header_of file)
 
 -- the value of a package, with the contents of its files
 pub record PackageWithContents : Type 0 where
+  -- the plain value of the package
   pub value : Plain
+  -- the contents of its files, in order
   pub contents : List Contents
 
 -- the contents of a package's file: its value, and the contents of its files
@@ -85,5 +91,5 @@ abbrev pub package_with_contents : List ℕ → PackageWithContents
 package_with_contents file =
     record {
       value = root_value Package (payload_in file);
-      contents = contents_in (files_in_file file);
+      contents = contents_in (files_read_from_package file);
     }

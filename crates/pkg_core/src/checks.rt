@@ -5,9 +5,9 @@
 ghost use Rattle.std.specs.Prelude.{◌≡◌, ◌≢◌, None, IfOk, IfErr, IfSome, IsTrue, is_some, length, ℕ, List, Some};
 ghost use Rattle.std.specs.Option.{option_or};
 ghost use Rattle.std.specs.Result.{result_err};
-ghost use Rattle.pkg_core.specs.Contents.{fault_of_files_read, digest_fault, hash_fault, contents_fault, contents_in, expected_contents, files_read_from_blocks, Expected};
+ghost use Rattle.pkg_core.specs.Contents.{fault_of_files_read, digest_fault, hash_fault, contents_fault, contents_in, expected_files_of_package, files_read_from_blocks, ExpectedFile};
 ghost use Rattle.pkg_core.specs.Opened.{opened_files};
-ghost use Rattle.pkg_core.specs.Whole.{container_fault, package_fault, table_of_schema, container_fault_of_table, files_in_file, package_with_contents};
+ghost use Rattle.pkg_core.specs.Whole.{container_fault, package_fault, table_of_schema, container_fault_of_table, files_read_from_package, package_with_contents};
 ghost use Rattle.pkg_core.specs.Refusals.{IsFaultOf};
 ghost use Rattle.sha1.specs.Sha1.{sha1};
 ghost use Rattle.sha2.specs.Sha256.{sha256};
@@ -16,7 +16,7 @@ ghost use Rattle.adb_view.specs.declared.tables.Which.TheVariants as Tables;
 ghost use Rattle.base_core.specs.declared.cause.Digest.TheVariants as Digests;
 ghost use Rattle.base_core.specs.declared.cause.Cause.{Cause};
 ghost use Rattle.adb_block.specs.Reading.{Reading};
-ghost use Rattle.adb_schema.specs.Soundness.{first_fault, schema_word};
+ghost use Rattle.adb_schema.specs.Soundness.{container_fault_except_contents, schema_word};
 ghost use Rattle.pkg_core.specs.FirstContents.{IsFirstContentsFault};
 ghost use Rattle.pkg_core.specs.GoodContents.{AreContentsOf, MatchEachExpected};
 
@@ -68,7 +68,8 @@ pub fn table_of_schema(schema: u32) -> Option<Which>
 
 /// Tests a container that must have this table at its root.
 fn verify_as(alloc: Global, bytes: &[u8], which: Which) -> Result<(), PackageFault>
-    ensures bad { IfErr result (λ fault. IsFaultOf fault (container_fault_of_table which bytes.now)) }
+    ensures bad { IfErr result (λ fault. IsFaultOf fault
+        (container_fault_of_table which bytes.now)) }
     ensures sound { IfOk result (λ _. container_fault_of_table which bytes.now ≡ None) }
 {
     match which {
@@ -100,7 +101,8 @@ fn check_files(pkg: &mut Package<'_>) -> Result<(), Cause>
 #[tactic(auto, using(crate::proofs::Steps::other_fault))]
 fn verify_other(alloc: Global, bytes: &[u8], which: Which) -> Result<(), PackageFault>
     requires { which ≢ Tables.Package }
-    ensures bad { IfErr result (λ fault. IsFaultOf fault (container_fault_of_table which bytes.now)) }
+    ensures bad { IfErr result (λ fault. IsFaultOf fault
+        (container_fault_of_table which bytes.now)) }
     ensures sound { IfOk result (λ _. container_fault_of_table which bytes.now ≡ None) }
 {
     read_adb(alloc, bytes, which)?;
@@ -176,14 +178,14 @@ pub fn sha512_fault(hash: &[u8], found: [u8; 64]) -> Option<Cause>
 /// If no test of the blocks fails, they give the contents of each expected file, in order, and no
 /// others: each with the positions, the size and the digest of its file.
 pub fn good_blocks_give_the_contents_of_each_file()
-    ensures { (expected : List Expected) (r : Reading) → contents_fault expected r ≡ None
+    ensures { (expected : List ExpectedFile) (r : Reading) → contents_fault expected r ≡ None
         → AreContentsOf expected (contents_in (files_read_from_blocks expected r)) }
 {}
 
 /// The fault of the blocks that is reported is the first. Each block of contents is tested against
 /// the next expected file, then the framing after them, and finally that no file is left.
 pub fn the_first_fault_of_contents_is_reported()
-    ensures { (expected : List Expected) (r : Reading) (c : Cause)
+    ensures { (expected : List ExpectedFile) (r : Reading) (c : Cause)
         → contents_fault expected r ≡ Some c → IsFirstContentsFault expected r c }
 {}
 
@@ -192,7 +194,8 @@ pub fn the_first_fault_of_contents_is_reported()
 pub fn a_package_is_tested_by_its_values_and_then_its_files()
     ensures { (file : List ℕ)
         → package_fault file
-        ≡ option_or (first_fault Tables.Package file) (fault_of_files_read (files_in_file file)) }
+        ≡ option_or (container_fault_except_contents Tables.Package file) (fault_of_files_read
+        (files_read_from_package file)) }
 {}
 
 /// A package in which no test fails has the contents of each of its files that has no target and a
@@ -200,7 +203,7 @@ pub fn a_package_is_tested_by_its_values_and_then_its_files()
 /// or SHA-512 (FIPS 180-4) its digest.
 pub fn a_package_has_the_contents_of_its_files()
     ensures { (file : List ℕ) → package_fault file ≡ None
-        → MatchEachExpected (expected_contents (package_with_contents file).value)
+        → MatchEachExpected (expected_files_of_package (package_with_contents file).value)
         (package_with_contents file).contents }
 {
     // A law that the proof needs; it has no effect at run time.

@@ -42,10 +42,13 @@ impl<'a> Contents<'a> {
     ///
     /// `Bad` with the cause of the first test that fails, or `Memory`.
     pub fn new(alloc: Global, front: &'a Front) -> Result<Contents<'a>, PackageFault>
+        // The error is the first failed test of the values, or out of memory.
         ensures bad { IfErr result (λ fault. IsFaultOf fault
             (payload_fault Tables.Package (front_payload front.entry.now))) }
+        // If no error is returned, no test of the values fails.
         ensures sound { IfOk result (λ _.
             payload_fault Tables.Package (front_payload front.entry.now) ≡ None) }
+        // The value and its bytes are those of the front.
         ensures value { IfOk result (λ contents. value_of_contents contents
             ≡ root_value Tables.Package (front_payload front.entry.now)) }
         ensures payload { IfOk result (λ contents. payload_of_contents contents
@@ -59,6 +62,7 @@ impl<'a> Contents<'a> {
     /// no memory is allocated.
     pub fn open(payload: &'a [u8]) -> Contents<'a>
         requires { payload_fault Tables.Package payload.now ≡ None }
+        // The value and its bytes are those of the payload.
         ensures value { value_of_contents result ≡ root_value Tables.Package payload.entry.now }
         ensures payload { payload_of_contents result ≡ payload.entry.now }
     {
@@ -107,8 +111,10 @@ impl<'a> Contents<'a> {
 
 /// Tests the payload of a package in the order of `new`, and returns it opened.
 fn check_payload<'a>(alloc: Global, payload: &'a [u8]) -> Result<Adb<'a>, ReadFault>
+    // The error is the first failed test of the values, or out of memory.
     ensures bad { IfErr result
         (λ fault. IsReadFault fault (payload_fault Tables.Package payload.entry.now)) }
+    // If no error is returned, no test of the values fails.
     ensures sound { IfOk result (λ _. payload_fault Tables.Package payload.entry.now ≡ None) }
     ensures payload { IfOk result (λ adb. payload_of adb ≡ payload.entry.now) }
 {

@@ -4,7 +4,7 @@
 
 ghost use Rattle.std.specs.Prelude.{◌≡◌, ◌<◌, ◌≤◌, ◌+◌, ◌-◌, ℕ, List, [], ◌∷◌, ◌++◌, length, take, None, IfNone, IfOk, IfSome};
 ghost use Rattle.adb_schema.specs.Soundness.{contents_positions};
-ghost use Rattle.pkg_core.specs.Contents.{Expected, POSITIONS_LEN, contents_bytes, files_read_from_blocks};
+ghost use Rattle.pkg_core.specs.Contents.{ExpectedFile, POSITIONS_LEN, contents_bytes, files_read_from_blocks};
 ghost use Rattle.pkg_core.specs.Opened.{expected_of, files_left_in_walk};
 ghost use Rattle.pkg_core.specs.Pieces.{PiecesRead, part_of, pieces_of_payload, position_or_size_fault, files_joined_from_pieces, pieces_read_from_blocks};
 ghost use Rattle.pkg_core.specs.Taking.{HasTaken, IsOpenResult, IsPartOfCheckedFile, IsTakeResult, HasTakenOrPassedDigest, file_bytes_left, next_piece_len};
@@ -72,6 +72,7 @@ impl<'a> FileCheck<'a> {
         // Only the last piece ends the file.
         ensures more { IfOk result (λ taken. IfSome taken.1 (λ further.
             0 < file_bytes_left further)) }
+        // The last piece has all bytes that were left.
         ensures all { IfOk result (λ taken. IfNone taken.1
             (length bytes.now ≡ file_bytes_left self.entry)) }
     {
@@ -112,20 +113,22 @@ fn part_of(wanted: Wanted<'_>, last: bool) -> Part
 ///
 /// # Errors
 ///
-/// First the positions are compared, then the size: `DataOrder`, with (0, 0) if none is expected, or
-/// `DataSize`.
+/// First the positions are compared, then the size: `DataOrder`, with (0, 0) if no file is
+/// expected, or `DataSize`.
 pub fn open_file<'a>(
     walk: &mut Walk<'a>,
     len: u64,
     positions: &[u8; POSITIONS_LEN],
 ) -> Result<FileCheck<'a>, Cause>
     requires { POSITIONS_LEN ≤ len }
-    // Of each payload of this length that begins with these positions.
-    ensures opened { (payload : List ℕ) (further : List Expected → PiecesRead)
+    // For each payload of this length that begins with these positions.
+    ensures opened { (payload : List ℕ) (further : List ExpectedFile → PiecesRead)
         → length payload ≡ len → take POSITIONS_LEN payload ≡ positions.now
         → IsOpenResult (pieces_of_payload payload further (files_left_in_walk walk.old)) payload
         (further (files_left_in_walk walk.new)) result }
+    // All bytes after the positions are still to be taken.
     ensures left { IfOk result (λ file. POSITIONS_LEN + file_bytes_left file ≡ len) }
+    // The walk advances over this file.
     ensures walk { IfOk result (λ file.
         files_left_in_walk walk.old ≡ expected_of file.wanted ∷ files_left_in_walk walk.new) }
 {
@@ -142,8 +145,8 @@ pub fn open_file<'a>(
     }
 }
 
-/// Why contents are not those of a file, as far as that is known before their bytes: first the
-/// positions are compared, then the size.
+/// Why a block of contents does not belong to a file, before its bytes are read: first the
+/// positions are compared, then the size. None if both agree.
 fn position_or_size_fault(found: (u32, u32), size: u64, wanted: Wanted<'_>) -> Option<Cause>
     ensures exact { (payload : List ℕ) → length (contents_bytes payload) ≡ size
         → contents_positions payload ≡ found
@@ -181,6 +184,7 @@ pub struct Part {
 /// The pieces of each file, joined in order, are its contents, and the first failed test is the
 /// same: blocks read in pieces give the same result as blocks read as whole files.
 pub fn the_pieces_of_each_file_joined_are_its_contents()
-    ensures { (expected : List Expected) (r : Reading)
-        → files_joined_from_pieces (pieces_read_from_blocks expected r) [] ≡ files_read_from_blocks expected r }
+    ensures { (expected : List ExpectedFile) (r : Reading)
+        → files_joined_from_pieces (pieces_read_from_blocks expected r) []
+        ≡ files_read_from_blocks expected r }
 {}

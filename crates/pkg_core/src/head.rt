@@ -48,9 +48,12 @@ impl HeadBytes {
     pub fn read<T: Tree>(tree: &mut T, name: &Name, at: u64, left: u64) -> Result<HeadBytes, Disk>
         // Offsets have 64 bits.
         requires { at + left < 2 ^ 64 }
+        // These bytes were read at the offset of the block.
         ensures seen { IfOk result (λ head. (file_len : ℕ)
             → AreBytesRead (T.history tree.old) name.now file_len at head) }
+        // They are the first bytes of the header: all of them, if the file has them.
         ensures holds { IfOk result (λ head. IsHeadPrefix head left) }
+        // No byte after the header was read.
         ensures short { IfOk result (λ head. length head ≤ head_len head) }
         // The tree is unchanged. `Disk` is returned only if the tree failed, and no call is a
         // misuse if the file still has its length.

@@ -4,14 +4,14 @@ ghost use Rattle.std.specs.Prelude.{◌≡◌, ◌≢◌, ◌<◌, ℕ, All, Lis
 ghost use Rattle.std.specs.Option.{option_or};
 ghost use Rattle.adb_block.specs.Reading.{block_stream_from};
 ghost use Rattle.adb_schema.specs.SoundContainers.{IsSoundValue};
-ghost use Rattle.adb_schema.specs.Soundness.{first_fault, payload_fault, payload_in, root_value};
+ghost use Rattle.adb_schema.specs.Soundness.{container_fault_except_contents, payload_fault, payload_in, root_value};
 ghost use Rattle.adb_schema.specs.declared.read.TheConstants.{PACKAGE_WORD};
 ghost use Rattle.adb_view.specs.declared.tables.Which.{Which};
 ghost use Rattle.adb_view.specs.declared.tables.Which.TheVariants as Tables;
 ghost use Rattle.adb_view.specs.Plain.{IsNormal};
 ghost use Rattle.base_core.specs.declared.cause.Cause.{Cause};
 ghost use Rattle.base_core.specs.declared.cause.Cause.TheVariants.{WrongSchema};
-ghost use Rattle.pkg_core.specs.Contents.{contents_fault, expected_contents};
+ghost use Rattle.pkg_core.specs.Contents.{contents_fault, expected_files_of_package};
 ghost use Rattle.pkg_core.specs.Whole.{container_fault};
 ghost use Rattle.pkg_core.specs.Front.{IsFrontOf, position_after_front, front_fault, front_payload};
 ghost use Rattle.pkg_core.specs.declared.front.Front.{Front};
@@ -26,9 +26,10 @@ use adb_view::{values_are_normal, values_have_their_shape, values_of_few_visits_
 /// failed test of the file is that of its values.
 pub fn a_front_and_its_values_are_tested_as_a_whole_package()
     ensures front { (file : List ℕ) (cause : Cause) → front_fault PACKAGE_WORD file ≡ Some cause
-        → first_fault Tables.Package file ≡ Some cause }
+        → container_fault_except_contents Tables.Package file ≡ Some cause }
     ensures values { (file : List ℕ) (front : Front) → IsFrontOf PACKAGE_WORD file front
-        → first_fault Tables.Package file ≡ payload_fault Tables.Package (front_payload front) }
+        → container_fault_except_contents Tables.Package file
+        ≡ payload_fault Tables.Package (front_payload front) }
 {}
 
 /// The payload in a front is that of its file.
@@ -45,7 +46,8 @@ pub fn a_package_is_tested_by_its_front_and_then_by_its_contents()
     ensures contents { (file : List ℕ) (front : Front) → IsFrontOf PACKAGE_WORD file front
         → container_fault file
         ≡ option_or (payload_fault Tables.Package (front_payload front))
-        (contents_fault (expected_contents (root_value Tables.Package (front_payload front)))
+        (contents_fault (expected_files_of_package (root_value Tables.Package
+        (front_payload front)))
         (block_stream_from (position_after_front front file))) }
 {}
 

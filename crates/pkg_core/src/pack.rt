@@ -5,10 +5,10 @@ ghost use Rattle.std.specs.Prelude.{◌≡◌, None, IfOk, IfErr};
 ghost use Rattle.sha2.specs.Sha256.{sha256};
 ghost use Rattle.adb_block.specs.Reading.{block_stream_from};
 ghost use Rattle.adb_schema.specs.Checked.{table_of_checked};
-ghost use Rattle.adb_schema.specs.Soundness.{first_fault, payload_in, root_value};
+ghost use Rattle.adb_schema.specs.Soundness.{container_fault_except_contents, payload_in, root_value};
 ghost use Rattle.adb_view.specs.declared.tables.Which.TheVariants as Tables;
-ghost use Rattle.pkg_core.specs.Contents.{expected_contents, files_read_from_blocks};
-ghost use Rattle.pkg_core.specs.Whole.{files_in_file};
+ghost use Rattle.pkg_core.specs.Contents.{expected_files_of_package, files_read_from_blocks};
+ghost use Rattle.pkg_core.specs.Whole.{files_read_from_package};
 
 use crate::walk::{FileContents, Rest, Walk};
 use adb_block::Blocks;
@@ -89,14 +89,17 @@ impl<'a> Package<'a> {
     pub fn new(alloc: Global, bytes: &'a [u8]) -> Result<Package<'a>, PackageFault>
         // The error is the first failed test of the values; the package is read if none fails.
         ensures bad { IfErr result
-            (λ fault. IsFaultOf fault (first_fault Tables.Package bytes.entry.now)) }
-        ensures sound { IfOk result (λ _. first_fault Tables.Package bytes.entry.now ≡ None) }
+            (λ fault. IsFaultOf fault
+            (container_fault_except_contents Tables.Package bytes.entry.now)) }
+        ensures sound { IfOk result
+            (λ _. container_fault_except_contents Tables.Package bytes.entry.now ≡ None) }
         // It has the value, the id and the contents of the file from which it was read.
         ensures value { IfOk result
             (λ pkg. opened_value pkg ≡ root_value Tables.Package (payload_in bytes.entry.now)) }
         ensures payload { IfOk result (λ pkg. opened_payload pkg ≡ payload_in bytes.entry.now) }
         ensures id { IfOk result (λ pkg. sha256 (opened_payload pkg) ≡ package_id bytes.entry.now) }
-        ensures files { IfOk result (λ pkg. opened_files pkg ≡ files_in_file bytes.entry.now) }
+        ensures files { IfOk result (λ pkg. opened_files pkg
+            ≡ files_read_from_package bytes.entry.now) }
     {
         let checked = read_adb(alloc, bytes, Which::Package)?;
         let (payload, blocks) = first_block(bytes);
@@ -160,12 +163,13 @@ impl<'a> Package<'a> {
 }
 
 /// The payload of the first block, and the blocks after it.
-#[tactic(auto, unfolding(adb_schema::specs::Soundness::first_fault, adb_schema::specs::Soundness::payload_in, crate::specs::Whole::files_in_file))]
+#[tactic(auto, unfolding(adb_schema::specs::Soundness::container_fault_except_contents, adb_schema::specs::Soundness::payload_in, crate::specs::Whole::files_read_from_package))]
 fn first_block<'a>(bytes: &'a [u8]) -> (&'a [u8], Blocks<'a>)
-    requires { first_fault Tables.Package bytes.now ≡ None }
+    requires { container_fault_except_contents Tables.Package bytes.now ≡ None }
     ensures payload { result.0.now ≡ payload_in bytes.entry.now }
-    ensures files { files_read_from_blocks (expected_contents (root_value Tables.Package result.0.now))
-        (block_stream_from result.1) ≡ files_in_file bytes.entry.now }
+    ensures files { files_read_from_blocks (expected_files_of_package
+        (root_value Tables.Package result.0.now))
+        (block_stream_from result.1) ≡ files_read_from_package bytes.entry.now }
 {
     // No test of the values failed, so that the header is good and the first block is there.
     let Ok(mut blocks) = Blocks::new(bytes) else {

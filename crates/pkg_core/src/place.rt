@@ -55,6 +55,7 @@ impl<'a> BlockPlace<'a> {
     ) -> Result<Step<'a>, Cause>
         // The place, and the block there, are within the file.
         requires at { self.old.at ≤ self.old.len }
+        // The block ends within the file.
         requires fits { IfSome framing (λ frame. raw_size frame ≤ self.old.len - self.old.at) }
         // For each file of this length with this block there.
         ensures step { (file : List ℕ) → length file ≡ self.old.len
@@ -63,6 +64,7 @@ impl<'a> BlockPlace<'a> {
             → IsStepResult framing self.old file result self.new }
         // A reader follows the block then, unless a test failed.
         ensures len { self.new.len ≡ self.old.len }
+        // The new place is after the block and its padding.
         ensures behind { IfSome framing (λ frame. OnOk result (self.new.at
             ≡ self.old.at + whole_size frame (self.old.len - self.old.at))) }
         ensures within { self.new.at ≤ self.new.len }
@@ -70,6 +72,7 @@ impl<'a> BlockPlace<'a> {
         // the next of the walk. `End` is returned only if no block is left.
         ensures left { IfSome framing (λ frame. IfOk result (HasWholeFileLeft frame)) }
         ensures kind { IfSome framing (λ frame. IfOk result (OpensOnlyContents frame)) }
+        // The walk advances over an opened file; at the end no file is expected.
         ensures walk { IfOk result (λ step. IsWalkAfterStep self.old.walk step self.new.walk) }
         ensures ended { framing ≡ None → IfOk result (λ step. step ≡ Ended) }
     {
@@ -83,10 +86,12 @@ impl<'a> BlockPlace<'a> {
     /// `step`.
     #[tactic(auto, using(crate::proofs::Placed::end_good, crate::proofs::Placed::end_bad))]
     fn end(&mut self) -> Result<Step<'a>, Cause>
+        // For each file in which no block is left at the place.
         ensures step { (file : List ℕ) → block_step_at self.old file ≡ ended
             → IsStepResult None self.old file result self.new }
         ensures len { self.new.len ≡ self.old.len }
         ensures at { self.new.at ≡ self.old.at }
+        // The walk advances over an opened file; at the end no file is expected.
         ensures walk { IfOk result (λ step. IsWalkAfterStep self.old.walk step self.new.walk) }
         ensures ended { IfOk result (λ step. step ≡ Ended) }
     {
@@ -103,18 +108,24 @@ impl<'a> BlockPlace<'a> {
         frame: Frame,
         positions: &[u8; POSITIONS_LEN],
     ) -> Result<Step<'a>, Cause>
+        // The place is within the file.
         requires at { self.old.at ≤ self.old.len }
+        // The block ends within the file.
         requires fits { raw_size frame ≤ self.old.len - self.old.at }
+        // For each file of this length with this block there.
         ensures step { (file : List ℕ) → length file ≡ self.old.len
-            → IsFrameOrEndOfStep (Ok (Some frame)) (drop self.old.at file) (block_step_at self.old file)
+            → IsFrameOrEndOfStep (Ok (Some frame)) (drop self.old.at file)
+            (block_step_at self.old file)
             → HasPositions (Some frame) positions.now self.old file
             → IsStepResult (Some frame) self.old file result self.new }
         ensures len { self.new.len ≡ self.old.len }
+        // The new place is after the block and its padding.
         ensures behind { OnOk result (self.new.at
             ≡ self.old.at + whole_size frame (self.old.len - self.old.at)) }
         ensures within { self.new.at ≤ self.new.len }
         ensures left { IfOk result (HasWholeFileLeft frame) }
         ensures kind { IfOk result (OpensOnlyContents frame) }
+        // The walk advances over an opened file; at the end no file is expected.
         ensures walk { IfOk result (λ step. IsWalkAfterStep self.old.walk step self.new.walk) }
     {
         match frame.kind {
@@ -128,19 +139,25 @@ impl<'a> BlockPlace<'a> {
 
     /// Opens the file whose contents are in this block. The clauses are those of `step`.
     fn open(&mut self, frame: Frame, positions: &[u8; POSITIONS_LEN]) -> Result<Step<'a>, Cause>
+        // The place is within the file.
         requires at { self.old.at ≤ self.old.len }
+        // The block ends within the file.
         requires fits { raw_size frame ≤ self.old.len - self.old.at }
         requires kind { frame.kind ≡ Kinds.Contents }
+        // For each file of this length with this block there.
         ensures step { (file : List ℕ) → length file ≡ self.old.len
-            → IsFrameOrEndOfStep (Ok (Some frame)) (drop self.old.at file) (block_step_at self.old file)
+            → IsFrameOrEndOfStep (Ok (Some frame)) (drop self.old.at file)
+            (block_step_at self.old file)
             → HasPositions (Some frame) positions.now self.old file
             → IsStepResult (Some frame) self.old file result self.new }
         ensures len { self.new.len ≡ self.old.len }
+        // The new place is after the block and its padding.
         ensures behind { OnOk result (self.new.at
             ≡ self.old.at + whole_size frame (self.old.len - self.old.at)) }
         ensures within { self.new.at ≤ self.new.len }
         ensures left { IfOk result (HasWholeFileLeft frame) }
         ensures kind { IfOk result (OpensOnlyContents frame) }
+        // The walk advances over an opened file; at the end no file is expected.
         ensures walk { IfOk result (λ step. IsWalkAfterStep self.old.walk step self.new.walk) }
     {
         if frame.payload_len < POSITIONS_LEN as u64 {
@@ -157,7 +174,9 @@ impl<'a> BlockPlace<'a> {
 
     /// Advances over a block and its padding, as far as the file has it.
     fn pass(&mut self, frame: Frame)
+        // The place is within the file.
         requires at { self.old.at ≤ self.old.len }
+        // The block ends within the file.
         requires fits { raw_size frame ≤ self.old.len - self.old.at }
         ensures { self.new ≡ place_after self.old frame }
     {

@@ -82,8 +82,10 @@ impl Header {
     #[tactic(auto, using(crate::proofs::SeenBytes::seen_by_read, crate::proofs::SeenBytes::proper_where_long))]
     fn read<T: Tree>(tree: &mut T, name: &Name, len: u64) -> Result<Header, FrontFault>
         ensures len { IfOk result (λ header. length header ≡ min len 8) }
+        // These are the first bytes of the file.
         ensures seen { IfOk result (λ header. (file_len : ℕ)
             → AreBytesRead (T.history tree.old) name.now file_len 0 header) }
+        // The only error is that the tree failed.
         ensures disk { IfErr result (λ fault. fault ≡ DiskFault) }
         // The tree is unchanged. `Disk` is returned only if the tree failed, and no call is a
         // misuse if the file still has its length.
@@ -115,8 +117,10 @@ fn read_payload<T: Tree>(
     len: u64,
 ) -> Result<Vec<u8>, FrontFault>
     ensures len { IfOk result (λ payload. length payload.items ≡ len) }
+    // These bytes were read at this offset of the file.
     ensures seen { IfOk result (λ payload. (file_len : ℕ)
         → AreBytesRead (T.history tree.old) name.now file_len at payload.items) }
+    // An error is that the tree failed, or out of memory.
     ensures good { IfErr result (λ fault. IsDiskOrMemoryFault fault) }
     // The tree is unchanged. `Disk` is returned only if the tree failed, and no call is a misuse if
     // the file still has its length.
@@ -138,6 +142,7 @@ fn read_present<T: Tree>(
     schema: u32,
 ) -> Result<Front, FrontFault>
     ensures len { IfOk result (λ front. front.len ≡ len) }
+    // For each file of this length that has the bytes that were read.
     ensures front { (seen : List ℕ) × IsSeenIn (T.history tree.old) name.now len 0 seen
         × ((file : List ℕ) → length file ≡ len → HasBytesAtOffset file 0 seen
         → IsFrontReadOfFile schema result (length seen) file) }
@@ -171,9 +176,12 @@ fn read_present<T: Tree>(
 fn first_framed(left: u64, head: &HeadBytes) -> Result<Frame, Cause>
     requires holds { IsHeadPrefix head.now left }
     requires short { length head.now ≤ head_len head.now }
+    // The result is that of the tests, for any rest of the file that begins with these bytes.
     ensures exact { (bytes : List ℕ) → length bytes ≡ left → take (length head.now) bytes ≡ head.now
         → IsFrameOfStep result bytes (next_step None 8 bytes) }
+    // The first block of a file may have this kind.
     ensures order { IfOk result (λ framed. may_be_next_kind None framed.kind ≡ true) }
+    // The block ends within the file, and its whole header was read.
     ensures within { IfOk result (λ framed. (raw_size framed ≤ left)
         × (framed.head_len ≡ length head.now)) }
 {

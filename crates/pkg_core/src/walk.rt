@@ -7,8 +7,8 @@ ghost use Rattle.adb_view.specs.Values.{entries_in, count_of};
 ghost use Rattle.adb_schema.specs.Views.{file_value, package_value};
 ghost use Rattle.adb_schema.specs.adb_fields.ListValue.{list_value};
 ghost use Rattle.adb_schema.specs.adb_fields.Repeated.{list_of};
-ghost use Rattle.adb_schema.specs.Texts.{is_with_contents};
-ghost use Rattle.pkg_core.specs.Contents.{POSITIONS_LEN, expected_contents, expected_files, expected_folders, contents_bytes, expected_fault, missing_contents_fault};
+ghost use Rattle.adb_schema.specs.Texts.{is_file_with_contents};
+ghost use Rattle.pkg_core.specs.Contents.{POSITIONS_LEN, expected_files_of_package, expected_files_of_folder, expected_files_of_folders, contents_bytes, contents_fault_for_expected_file, missing_contents_fault};
 ghost use Rattle.pkg_core.specs.Opened.{expected_file_at, expected_of};
 
 use crate::checks::hash_fault;
@@ -17,8 +17,8 @@ use adb_schema::{DirInfo, FileInfo, List, PackageView, contents_positions};
 use base_core::Cause;
 
 /// A walk over the files of a package that have contents: its position, after this many folders,
-/// and after this many files of the next one. Contracts see the files that are left, by `files_left_in_walk`
-/// of `specs/`.
+/// and after this many files of the next one. Contracts see the files that are left, by
+/// `files_left_in_walk` of `specs/`.
 #[derive(Clone, Copy)]
 pub struct Walk<'a> {
     /// All folders of the package.
@@ -50,7 +50,7 @@ impl<'a> Walk<'a> {
     /// A walk before the first of these folders.
     pub fn new(folders: List<'a, DirInfo<'a>>) -> Walk<'a>
         ensures { files_left_in_walk result
-            ≡ expected_folders 1 (list_of (entries_in (list_value folders.entry))) }
+            ≡ expected_files_of_folders 1 (list_of (entries_in (list_value folders.entry))) }
     {
         Walk {
             folders,
@@ -61,7 +61,8 @@ impl<'a> Walk<'a> {
 
     /// Goes on to the next file that has contents, or None after the last.
     pub fn next(&mut self) -> Option<Wanted<'a>>
-        ensures { TakesFirstExpected (files_left_in_walk self.old) result (files_left_in_walk self.new) }
+        ensures { TakesFirstExpected (files_left_in_walk self.old) result
+            (files_left_in_walk self.new) }
     {
         while self.folder < self.folders.len() {
             let files = self.folders.get(self.folder + 1).files();
@@ -82,9 +83,10 @@ impl<'a> Walk<'a> {
         requires { self.old.folder + 1 < 2 ^ 32 }
         ensures folders { self.new.folders ≡ self.old.folders }
         ensures folder { self.new.folder ≡ self.old.folder }
-        ensures taken { TakesFirstExpected (expected_files (self.old.folder + 1) (self.old.file + 1)
+        ensures taken { TakesFirstExpected (expected_files_of_folder (self.old.folder + 1)
+            (self.old.file + 1)
             (drop self.old.file (list_of (entries_in (list_value files.entry))))) result
-            (expected_files (self.old.folder + 1) (self.new.file + 1)
+            (expected_files_of_folder (self.old.folder + 1) (self.new.file + 1)
             (drop self.new.file (list_of (entries_in (list_value files.entry))))) }
     {
         while self.file < files.len() {
@@ -107,7 +109,7 @@ impl<'a> Walk<'a> {
 /// only if there is no such file, or it has no contents.
 pub fn wanted_file<'a>(view: &PackageView<'a>, folder: u32, file: u32) -> Option<Wanted<'a>>
     ensures { option_map expected_of result ≡ expected_file_at folder file
-        (expected_contents (package_value view.now)) }
+        (expected_files_of_package (package_value view.now)) }
 {
     wanted_in_folder(view.paths(), folder, file)
 }
@@ -120,7 +122,7 @@ fn wanted_in_folder<'a>(
     file: u32,
 ) -> Option<Wanted<'a>>
     ensures { option_map expected_of result ≡ expected_file_at folder file
-        (expected_folders 1 (list_of (entries_in (list_value folders.entry)))) }
+        (expected_files_of_folders 1 (list_of (entries_in (list_value folders.entry)))) }
 {
     let i = folder as usize;
     if i == 0 {
@@ -136,7 +138,7 @@ fn wanted_in_folder<'a>(
 /// Positions count from 1.
 fn wanted_in<'a>(files: List<'a, FileInfo<'a>>, folder: u32, file: u32) -> Option<Wanted<'a>>
     ensures { option_map expected_of result ≡ expected_file_at folder file
-        (expected_files folder 1 (list_of (entries_in (list_value files.entry)))) }
+        (expected_files_of_folder folder 1 (list_of (entries_in (list_value files.entry)))) }
 {
     let i = file as usize;
     if i == 0 {
@@ -159,13 +161,13 @@ fn wanted_in<'a>(files: List<'a, FileInfo<'a>>, folder: u32, file: u32) -> Optio
 
 /// Whether a file has contents: it has no target, and a size above 0.
 fn has_contents(file: &FileInfo<'_>) -> bool
-    ensures { result ≡ is_with_contents (file_value file.now) }
+    ensures { result ≡ is_file_with_contents (file_value file.now) }
 {
     file.target().is_empty() && file.size() > 0
 }
 
-/// The length of the positions in front of a file's bytes in its contents: those of its folder and
-/// of itself, four bytes each.
+/// How many bytes the two positions have at the front of a block of contents: the position of the
+/// folder and that of the file, four bytes each.
 pub const POSITIONS_LEN: usize = 8;
 
 /// The contents of a file, with the positions of its folder (`path`) and of itself in it, which
@@ -225,9 +227,10 @@ impl<'a> Walk<'a> {
         }
     }
 
-    /// Tests a block of contents against the next file, and returns them.
+    /// Tests a block of contents against the next file, and returns the contents of that file.
     pub(crate) fn give(&mut self, payload: &'a [u8], at: u64) -> Result<FileContents<'a>, Cause>
-        ensures { ReturnsNextContents payload.entry.now at (files_left_in_walk self.old) result (files_left_in_walk self.new) }
+        ensures { ReturnsNextContents payload.entry.now at (files_left_in_walk self.old) result
+            (files_left_in_walk self.new) }
     {
         if payload.len() < POSITIONS_LEN {
             return Err(Cause::Truncated { at });
@@ -238,7 +241,7 @@ impl<'a> Walk<'a> {
                 found: contents_positions(payload),
             });
         };
-        match expected_fault(payload, wanted) {
+        match contents_fault_for_expected_file(payload, wanted) {
             Some(cause) => Err(cause),
             None => Ok(FileContents {
                 path: wanted.folder,
@@ -251,9 +254,9 @@ impl<'a> Walk<'a> {
 
 /// Why contents are not those of a file, if they are not: first the positions are compared, then
 /// the size, then the digest.
-fn expected_fault(payload: &[u8], wanted: Wanted<'_>) -> Option<Cause>
+fn contents_fault_for_expected_file(payload: &[u8], wanted: Wanted<'_>) -> Option<Cause>
     requires { POSITIONS_LEN ≤ length payload.now }
-    ensures { result ≡ expected_fault payload.now (expected_of wanted.entry) }
+    ensures { result ≡ contents_fault_for_expected_file payload.now (expected_of wanted.entry) }
 {
     let expected = (wanted.folder, wanted.file);
     let found = contents_positions(payload);

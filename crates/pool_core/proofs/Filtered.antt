@@ -8,7 +8,7 @@ use Rattle.std.proofs.lemmas.Bool.{cases_Bool}
 use Rattle.base_core.proofs.Booleans.{both_second, both_first, or_weaker}
 use Rattle.dep_core.specs.Dependency.{Dependency}
 use Rattle.dep_core.specs.Meets.{constraint_accepts}
-use Rattle.option_ranks.specs.candidate_core.Candidates.{Candidate, Need, entry, named, is_eligible, is_met_by_entry, meets_dependency, offers_name, need_name}
+use Rattle.option_ranks.specs.candidate_core.Candidates.{Candidate, Need, entry, named, is_eligible, is_met_by_provides_entry, meets_dependency, offers_name, need_name}
 use Rattle.option_ranks.specs.candidate_core.Rank.{SealedPool, candidate_at_passes, meets_at}
 use Rattle.option_ranks.specs.candidate_core.Options.{is_eligible_for_need, places_offering, places_passing_from}
 
@@ -27,7 +27,7 @@ pub meeting_offers : (d : Dependency) (c : Candidate) → meets_dependency d c �
 meeting_offers d c h =
     or_weaker _ _ (bytes_eq d.name c.name) (list_any (λ (p : Dependency). not p.conflict && bytes_eq d.name p.name) c.provides)
     (λ e. both_first (bytes_eq d.name c.name) (constraint_accepts d.version d.bits c.version) e)
-    (λ e. any_weaker (is_met_by_entry d) (λ (p : Dependency). not p.conflict && bytes_eq d.name p.name) c.provides (λ p g. and_weaker (not p.conflict) _ (bytes_eq d.name p.name) (λ k. both_first (bytes_eq d.name p.name) (constraint_accepts d.version d.bits p.version) k) g) e) h
+    (λ e. any_weaker (is_met_by_provides_entry d) (λ (p : Dependency). not p.conflict && bytes_eq d.name p.name) c.provides (λ p g. and_weaker (not p.conflict) _ (bytes_eq d.name p.name) (λ k. both_first (bytes_eq d.name p.name) (constraint_accepts d.version d.bits p.version) k) g) e) h
 
 pub filter_places : (weak strong : Candidate → Bool) (all : ℕ → Option Candidate) (n : ℕ) (cs : List Candidate) → ((c : Candidate) → strong c ≡ true → weak c ≡ true) → ((k : ℕ) → all (n + k) ≡ slice_get cs k) → filter (λ k. option_map_or strong (all k) false) (places_passing_from n weak cs) ≡ places_passing_from n strong cs
 filter_places weak strong all n [] to there = refl

@@ -14,7 +14,7 @@ use Rattle.pool_core.specs.declared.marks.Effect.TheVariants.{Bar, Pin}
 use Rattle.option_ranks.specs.candidate_core.Candidates.{Candidate, is_allowed, is_barred_by, offers_name}
 use Rattle.pool_core.specs.Marks.{affects, is_affected, with_mark_set_at, with_marks_set}
 use Rattle.option_ranks.specs.candidate_core.Options.{places_passing_from}
-use Rattle.option_ranks.specs.candidate_core.Rank.{is_pinned, is_pinned_to}
+use Rattle.option_ranks.specs.candidate_core.Rank.{is_pinned, is_name_pinned_to_tag}
 use Rattle.pool_core.proofs.Filtered.{meeting_offers}
 use Rattle.option_ranks.proofs.candidate_core.Steps.{any_snoc}
 
@@ -155,7 +155,7 @@ no_pin : (ds : List Dependency) → list_any (λ (d : Dependency). false) ds ≡
 no_pin [] = refl
 no_pin (d ∷ ds) = no_pin ds
 
-pinned_by_any : (name : List ℕ) (o : Option (List ℕ)) (ds : List Dependency) → list_any (λ (d : Dependency). option_map_or (λ tag. bytes_eq name d.name && option_map_or (bytes_eq tag) d.tag false) o false) ds ≡ option_map_or (is_pinned_to ds name) o false
+pinned_by_any : (name : List ℕ) (o : Option (List ℕ)) (ds : List Dependency) → list_any (λ (d : Dependency). option_map_or (λ tag. bytes_eq name d.name && option_map_or (bytes_eq tag) d.tag false) o false) ds ≡ option_map_or (is_name_pinned_to_tag ds name) o false
 pinned_by_any name None ds = no_pin ds
 pinned_by_any name (Some tag) ds = refl
 

@@ -10,7 +10,7 @@ use Rattle.dep_core.specs.Dependency.{Dependency}
 use Rattle.pool_core.specs.declared.world_marks.EntryKind.TheVariants.{Conflict, Tagged}
 use Rattle.option_ranks.specs.candidate_core.Candidates.{Candidate, has_usable_install_if, is_allowed, is_eligible, is_barred_by, meets_dependency, uses_tag}
 use Rattle.option_ranks.specs.candidate_core.Options.{places_passing_from}
-use Rattle.option_ranks.specs.candidate_core.Rank.{is_pinned, is_pinned_to}
+use Rattle.option_ranks.specs.candidate_core.Rank.{is_pinned, is_name_pinned_to_tag}
 use Rattle.option_ranks.specs.candidate_core.PositiveInstallIfs.{has_positive_install_if, places_marked_with_install_if}
 use Rattle.pool_core.specs.World.{entries_of_kind, is_entry_of_kind}
 
@@ -31,7 +31,7 @@ tag_there tag (Some t) h = refl
 uses_tag-tagged : (world : List Dependency) (tag : List ℕ) → uses_tag (entries_of_kind Tagged world) tag ≡ uses_tag world tag
 uses_tag-tagged world tag = any_filter (λ (d : Dependency). option_map_or (bytes_eq tag) d.tag false) (is_entry_of_kind Tagged) world (λ d h. tag_there tag d.tag h)
 
-pinned_to-tagged : (world : List Dependency) (name tag : List ℕ) → is_pinned_to (entries_of_kind Tagged world) name tag ≡ is_pinned_to world name tag
+pinned_to-tagged : (world : List Dependency) (name tag : List ℕ) → is_name_pinned_to_tag (entries_of_kind Tagged world) name tag ≡ is_name_pinned_to_tag world name tag
 pinned_to-tagged world name tag =
     any_filter (λ (d : Dependency). bytes_eq name d.name && option_map_or (bytes_eq tag) d.tag false) (is_entry_of_kind Tagged) world
     (λ d h. tag_there tag d.tag (both_second (bytes_eq name d.name) (option_map_or (bytes_eq tag) d.tag false) h))
@@ -52,7 +52,7 @@ eligible_is : (world : List Dependency) (c : Candidate) → (is_allowed (entries
 eligible_is world c = ap (λ (a : Bool). a && not (is_barred_by (entries_of_kind Conflict world) c)) (allowed-tagged world c) ∙ ap (λ (b : Bool). is_allowed world c && not b) (barred-conflicts world c)
 
 pinned_is : (world : List Dependency) (c : Candidate) → is_pinned (entries_of_kind Tagged world) c ≡ is_pinned world c
-pinned_is world c = tag_or c.tag (is_pinned_to (entries_of_kind Tagged world) c.name) (is_pinned_to world c.name) false (pinned_to-tagged world c.name)
+pinned_is world c = tag_or c.tag (is_name_pinned_to_tag (entries_of_kind Tagged world) c.name) (is_name_pinned_to_tag world c.name) false (pinned_to-tagged world c.name)
 
 map_same : (f g : Candidate → Bool) (cs : List Candidate) → ((c : Candidate) → f c ≡ g c) → map f cs ≡ map g cs
 map_same f g [] same = refl

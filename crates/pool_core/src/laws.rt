@@ -8,7 +8,7 @@ ghost use Rattle.std.specs.declared.cmp.Ordering.TheVariants.{Equal};
 ghost use Rattle.std.specs.List.{list_any};
 ghost use Rattle.adb_view.specs.Plain.{Plain};
 ghost use Rattle.adb_view.specs.Values.{int_in, text_in};
-ghost use Rattle.option_ranks.specs.candidate_core.Candidates.{Candidate, Need, as_installed, candidate_by, candidate_of, dependencies_in, is_same_id, is_same_package, need_name, offers_name, version_of_text, with_installed};
+ghost use Rattle.option_ranks.specs.candidate_core.Candidates.{Candidate, Need, as_installed, candidate_from_parts, candidate_of, dependencies_in, is_same_id, is_same_package, need_name, offers_name, version_of_text, with_installed};
 ghost use Rattle.pool_core.specs.FieldNames.{info_under_name};
 ghost use Rattle.option_ranks.specs.candidate_core.Rank.{SealedPool, candidate_at_passes, is_better, is_eligible_at, meets_at, rank_cmp};
 ghost use Rattle.option_ranks.specs.candidate_core.Options.{AreStrictlyIncreasing, IsSortedBestFirst, IsIn, options_for, places_offering};
@@ -44,7 +44,8 @@ pub fn offers_are_the_places()
         IsIn c (places_offering name pool.candidates) →
         (candidate_at_passes pool (offers_name name) c ≡ true) × (c < length pool.candidates) }
     ensures each { (pool : SealedPool) (name : List ℕ) (c : ℕ) →
-        candidate_at_passes pool (offers_name name) c ≡ true → IsIn c (places_offering name pool.candidates) }
+        candidate_at_passes pool (offers_name name) c ≡ true
+        → IsIn c (places_offering name pool.candidates) }
     ensures rising { (pool : SealedPool) (name : List ℕ) →
         AreStrictlyIncreasing (places_offering name pool.candidates) }
 {}
@@ -60,7 +61,7 @@ pub fn offers_hold_what_meets()
 pub fn a_candidate_is_read_by_field_names()
     ensures { (info : Plain) (repository : Option ℕ) (tag : Option (List ℕ)) (installed : Bool) →
         candidate_of info repository tag installed
-        ≡ candidate_by info (text_in (info_under_name (codes "name") info))
+        ≡ candidate_from_parts info (text_in (info_under_name (codes "name") info))
         (version_of_text (text_in (info_under_name (codes "version") info)))
         (text_in (info_under_name (codes "hashes") info))
         (dependencies_in (info_under_name (codes "depends") info))
@@ -70,7 +71,7 @@ pub fn a_candidate_is_read_by_field_names()
 {}
 
 /// An installed package is recognized in an index by its name, by the text of its version, and by
-/// its id, of which an index may store only a front. Without an id it is recognized in none.
+/// its id, of which an index may store only a prefix. Without an id it is recognized in none.
 pub fn an_installed_package_is_known_by_text_and_id()
     // The names of the two are the same.
     ensures name { (installed c : Candidate) → is_same_package installed c ≡ true →
@@ -78,13 +79,13 @@ pub fn an_installed_package_is_known_by_text_and_id()
     // The texts of the two versions are the same, or neither is a version.
     ensures text { (installed c : Candidate) → is_same_package installed c ≡ true →
         c.version ≡ installed.version }
-    // One id is a front of the other, and both are there.
+    // One id is a prefix of the other, and neither is empty.
     ensures id { (installed c : Candidate) → is_same_package installed c ≡ true →
         is_same_id c.id installed.id ≡ true }
-    // An installed package without an id is the same as none.
+    // An installed package without an id is the same as no candidate.
     ensures empty { (installed c : Candidate) → installed.id ≡ [] →
         is_same_package installed c ≡ false }
-    // Which of two ids is the front of the other makes no difference.
+    // Which of two ids is the prefix of the other makes no difference.
     ensures either { (a b : List ℕ) → is_same_id a b ≡ is_same_id b a }
     // An id that is not empty is the same as each longer one that begins with it.
     ensures front { (id rest : List ℕ) → 0 < length id → is_same_id id (id ++ rest) ≡ true }

@@ -32,7 +32,7 @@ pub(crate) enum Effect {
 }
 
 /// For each candidate, whether it may be selected. `tagged` are the entries of world that have a
-/// tag, and `conflicts` those that are conflicts; the others affect neither.
+/// tag, and `conflicts` those that are conflicts; other entries change no mark.
 pub(crate) fn eligible_marks(
     alloc: Global,
     packages: &Packages<'_>,

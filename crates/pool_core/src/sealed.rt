@@ -10,7 +10,7 @@ ghost use Rattle.option_ranks.specs.candidate_core.Options.{is_eligible_for_need
 ghost use Rattle.option_ranks.specs.candidate_core.Packages.{candidates_of_packages};
 ghost use Rattle.option_ranks.specs.candidate_core.Rank.{candidate_at, candidate_at_passes, is_kept_installed, is_pinned, is_pinned_at, sealed_pool_from_parts};
 ghost use Rattle.option_ranks.specs.Ranking.{IsRankingIn};
-ghost use Rattle.option_ranks.specs.candidate_core.Values.{candidate_value, names_upgraded_by, need_of_ref, need_of};
+ghost use Rattle.option_ranks.specs.candidate_core.Values.{candidate_value, names_upgraded_by, need_of_ref, need_of_owned};
 ghost use Rattle.pool_core.specs.PoolMatches.{AreMatchesInPool, AreMatchesOfPackages, places_fitting};
 ghost use Rattle.option_ranks.specs.VersionRanks.{HaveVersionsFromSameTexts, HasVersionTextsOfSources};
 ghost use Rattle.option_ranks.specs.candidate_core.declared.versions.VersionKind.TheVariants as Kinds;
@@ -74,7 +74,8 @@ impl<'a> Model for Sealed<'a> {
         × (s.kept.items ≡ map (is_kept_installed (names_upgraded_by s.upgrade))
         (candidates_of_packages s.packages))
         × (s.install_ifs.items
-        ≡ places_passing_from 0 (has_usable_install_if s.world.now) (candidates_of_packages s.packages)) };
+        ≡ places_passing_from 0 (has_usable_install_if s.world.now)
+        (candidates_of_packages s.packages)) };
 }
 
 impl<'a> Sealed<'a> {
@@ -145,7 +146,7 @@ impl<'a> Sealed<'a> {
     /// The candidates that may be selected and meet the need, best first. For k candidates that
     /// offer the need's name, it takes time linear in k log k.
     pub fn options(&self, alloc: Global, need: &Need<'_>) -> Result<Options, AllocError>
-        ensures { IfOk result (λ options. options ≡ options_for self.now (need_of need.now)) }
+        ensures { IfOk result (λ options. options ≡ options_for self.now (need_of_owned need.now)) }
     {
         match need {
             Need::Entry(dep) => self.options_for(alloc, &NeedRef::Entry(dep)),
@@ -218,8 +219,10 @@ impl<'a> Sealed<'a> {
         ensures each { IfOk result (λ rankings.
             All (IsRankingIn self.now (need_of_ref need.now)) rankings.items) }
         ensures places { IfOk result (λ rankings. map (λ r. r.place) rankings.items ≡ ids.now) }
-        ensures under { IfOk result (λ rankings. HaveVersionsFromSameTexts Kinds.Under rankings.items) }
-        ensures version { IfOk result (λ rankings. HaveVersionsFromSameTexts Kinds.Own rankings.items) }
+        ensures under { IfOk result
+            (λ rankings. HaveVersionsFromSameTexts Kinds.Under rankings.items) }
+        ensures version { IfOk result
+            (λ rankings. HaveVersionsFromSameTexts Kinds.Own rankings.items) }
     {
         let mut rankings = Vec::with_capacity(alloc, ids.len())?;
         for id in ids {
@@ -289,7 +292,8 @@ impl<'a> Sealed<'a> {
     ) -> Result<Vec<CandId>, AllocError>
         requires { AreMatchesInPool self.now (need_of_ref need.now) packages.now known.old }
         ensures places { IfOk result (λ ids. ids.items
-            ≡ filter (λ id. candidate_at_passes self.now (is_eligible_for_need self.now (need_of_ref need.now)) id) places.now) }
+            ≡ filter (λ id. candidate_at_passes self.now (is_eligible_for_need self.now
+            (need_of_ref need.now)) id) places.now) }
         ensures known { IfOk result (λ _.
             AreMatchesOfPackages packages.now (need_of_ref need.now) known.new) }
     {
@@ -312,7 +316,8 @@ impl<'a> Sealed<'a> {
     ) -> Result<bool, AllocError>
         requires { AreMatchesInPool self.now (need_of_ref need.now) packages.now known.old }
         ensures fits { IfOk result (λ fits. fits
-            ≡ candidate_at_passes self.now (is_eligible_for_need self.now (need_of_ref need.now)) id) }
+            ≡ candidate_at_passes self.now (is_eligible_for_need self.now
+            (need_of_ref need.now)) id) }
         ensures known { IfOk result (λ _.
             AreMatchesOfPackages packages.now (need_of_ref need.now) known.new) }
     {

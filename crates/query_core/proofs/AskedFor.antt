@@ -10,10 +10,10 @@ use Rattle.pool_core.specs.candidate_core.Options.{IsIn}
 use Rattle.command_core.specs.declared.operands.Operand.{Operand}
 use Rattle.dep_core.specs.Dependency.{Dependency}
 use Rattle.star_patterns.specs.Fills.{MatchesByFillingStars}
-use Rattle.star_patterns.specs.Patterns.{is_matched, matches_some_part}
+use Rattle.star_patterns.specs.Patterns.{is_whole_text_matched, matches_some_part}
 use Rattle.query_core.specs.Asked.{IsOwnOrProvidedName, MatchesNamePattern, MatchesPartOfName, ProvidesName}
 use Rattle.query_core.specs.List.{is_list_candidate, is_name_matched}
-use Rattle.query_core.specs.Search.{candidate_names, is_name_found, is_search_candidate, provided_names}
+use Rattle.query_core.specs.Search.{candidate_names, is_part_of_name_matched, is_search_candidate, provided_names}
 use Rattle.query_core.proofs.Parts.{found_in_part, part_found}
 use Rattle.query_core.proofs.Runs.{is_in_at, passes_at}
 
@@ -26,16 +26,16 @@ empty : (patterns : List Operand) → (length patterns == 0) ≡ true → patter
 empty [] h = refl
 empty (o ∷ patterns) h = let bad : suc (length patterns) ≡ 0 = (Decides-eqb (suc (length patterns)) 0).0 h in absurd (omega (arith, bad))
 
-module _ (law : (pattern text : List ℕ) → (is_matched pattern text ≡ true) ↔ MatchesByFillingStars pattern text) where
+module _ (law : (pattern text : List ℕ) → (is_whole_text_matched pattern text ≡ true) ↔ MatchesByFillingStars pattern text) where
   name_asked : (patterns : List Operand) (name : List ℕ) → is_name_matched patterns name ≡ true → MatchesNamePattern patterns name
   name_asked patterns name h =
-      let found = passes_at (λ (o : Operand). is_matched o.text name) patterns h in
+      let found = passes_at (λ (o : Operand). is_whole_text_matched o.text name) patterns h in
       record { pattern = found.1.0; given = is_in_at patterns found.0 found.1.0 found.1.1.0; filled = (law found.1.0.text name).0 found.1.1.1 }
 
   asked_name : (patterns : List Operand) (name : List ℕ) → MatchesNamePattern patterns name → is_name_matched patterns name ≡ true
-  asked_name patterns name asked = any_in (λ (o : Operand). is_matched o.text name) patterns asked.pattern asked.given ((law asked.pattern.text name).1 asked.filled)
+  asked_name patterns name asked = any_in (λ (o : Operand). is_whole_text_matched o.text name) patterns asked.pattern asked.given ((law asked.pattern.text name).1 asked.filled)
 
-  part_asked : (patterns : List Operand) (name : List ℕ) → is_name_found patterns name ≡ true → MatchesPartOfName patterns name
+  part_asked : (patterns : List Operand) (name : List ℕ) → is_part_of_name_matched patterns name ≡ true → MatchesPartOfName patterns name
   part_asked patterns name h =
       let found = passes_at (λ (o : Operand). matches_some_part o.text name) patterns h in
       let part = part_found found.1.0.text name found.1.1.1 in
@@ -49,7 +49,7 @@ module _ (law : (pattern text : List ℕ) → (is_matched pattern text ≡ true)
         filled = (law found.1.0.text part.part).0 part.matched;
       }
 
-  asked_part : (patterns : List Operand) (name : List ℕ) → MatchesPartOfName patterns name → is_name_found patterns name ≡ true
+  asked_part : (patterns : List Operand) (name : List ℕ) → MatchesPartOfName patterns name → is_part_of_name_matched patterns name ≡ true
   asked_part patterns name asked =
       any_in (λ (o : Operand). matches_some_part o.text name) patterns asked.pattern asked.given
       (found_in_part asked.pattern.text asked.before asked.part asked.after name asked.name_is ((law asked.pattern.text asked.part).1 asked.filled))
@@ -98,9 +98,9 @@ module _ (law : (pattern text : List ℕ) → (is_matched pattern text ≡ true)
   pub searched_if_asked : (patterns : List Operand) (c : Candidate) → (is_search_candidate patterns c ≡ true) ↔ ((is_some c.repository ≡ true) × ((name : List ℕ) × (IsOwnOrProvidedName c name × MatchesPartOfName patterns name)))
   searched_if_asked patterns c = (
     (λ h.
-        let both = and_parts (is_some c.repository) (list_any (is_name_found patterns) (candidate_names c)) h in
-        let found = passes_at (is_name_found patterns) (candidate_names c) both.1 in
+        let both = and_parts (is_some c.repository) (list_any (is_part_of_name_matched patterns) (candidate_names c)) h in
+        let found = passes_at (is_part_of_name_matched patterns) (candidate_names c) both.1 in
         let name : List ℕ = found.1.0 in
         (both.0, (name, (has_name c name (is_in_at (candidate_names c) found.0 name found.1.1.0), part_asked patterns name found.1.1.1)))),
-    (λ h. rw h.0 (any_in (is_name_found patterns) (candidate_names c) h.1.0 (name_in c h.1.0 h.1.1.0) (asked_part patterns h.1.0 h.1.1.1))),
+    (λ h. rw h.0 (any_in (is_part_of_name_matched patterns) (candidate_names c) h.1.0 (name_in c h.1.0 h.1.1.0) (asked_part patterns h.1.0 h.1.1.1))),
   )

@@ -14,7 +14,7 @@ use Rattle.std.proofs.lemmas.Slice.Eq.{bytes_eq-Decides}
 use Rattle.std.proofs.lemmas.Bool.{cases_Bool}
 use Rattle.pool_core.proofs.SamePackage.{same_version}
 use Rattle.version_core.specs.Order.{version_cmp}
-use Rattle.base_core.specs.Sorted.{sorted_by, with_element}
+use Rattle.base_core.specs.Sorted.{sorted_by, with_element_inserted}
 use Rattle.base_core.proofs.Sorting.{Rises, ranks, rises_in_order, sorted_same}
 use Rattle.pool_core.specs.candidate_core.Candidates.{Candidate, is_same_version}
 use Rattle.pool_core.specs.candidate_core.Options.{AreDistinct, IsIn, places_passing_from}
@@ -80,7 +80,7 @@ selects test cs place h =
     let z : 0 + place ≡ place = omega arith in
     moved_member unsorted (sorted_by (query_cmp cs) unsorted) place (sorted_same (query_cmp cs) unsorted) (subst (λ (k : ℕ). IsIn k unsorted) z (in_places 0 test cs place h))
 
-in_placed : (cmp : ℕ → ℕ → Ordering) (x z : ℕ) (ys : List ℕ) → IsIn z (with_element cmp x ys) → (z ≡ x) ⊎ IsIn z ys
+in_placed : (cmp : ℕ → ℕ → Ordering) (x z : ℕ) (ys : List ℕ) → IsIn z (with_element_inserted cmp x ys) → (z ≡ x) ⊎ IsIn z ys
 in_placed cmp x z [] (inl e) = inl e
 in_placed cmp x z [] (inr h) = absurd h
 in_placed cmp x z (y ∷ ys) h = elim (cases_Bool (is_gt (cmp x y))) [
@@ -91,7 +91,7 @@ in_placed cmp x z (y ∷ ys) h = elim (cases_Bool (is_gt (cmp x y))) [
   | inr g ↦ elim (rw g at h) [ inl e ↦ inl e | inr m ↦ inr m ]
 ]
 
-placed_distinct : (cmp : ℕ → ℕ → Ordering) (x : ℕ) (ys : List ℕ) → (IsIn x ys → ⊥) → AreDistinct ys → AreDistinct (with_element cmp x ys)
+placed_distinct : (cmp : ℕ → ℕ → Ordering) (x : ℕ) (ys : List ℕ) → (IsIn x ys → ⊥) → AreDistinct ys → AreDistinct (with_element_inserted cmp x ys)
 placed_distinct cmp x [] out d = ((λ h. absurd h), tt)
 placed_distinct cmp x (y ∷ ys) out d = elim (cases_Bool (is_gt (cmp x y))) [
   | inl g ↦ rw g ((λ h. elim (in_placed cmp x y ys h) [ inl e ↦ out (inl (sym e)) | inr k ↦ d.0 k ]), placed_distinct cmp x ys (λ h. out (inr h)) d.1)

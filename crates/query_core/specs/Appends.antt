@@ -3,6 +3,7 @@
 -- a report and counts it.
 use Rattle.std.specs.Prelude.{ℕ, List, ◌++◌}
 
--- a call appends bytes to an out: after any bytes that the out may have held before, it holds these
+-- a call appends these bytes to an output: if the output may have held some bytes before, it may hold
+-- those followed by these after the call
 abbrev pub Appends : {O : Type 0} → (O → List ℕ → Type 0) → O → O → List ℕ → Type 0
 Appends holds old new bytes = (before : List ℕ) → holds old before → holds new (before ++ bytes)

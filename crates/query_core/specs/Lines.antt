@@ -4,7 +4,7 @@ use Rattle.std.specs.Prelude.{ℕ, List, [], ◌++◌, codes}
 use Rattle.adb_view.specs.FieldIndexes.{INFO_ARCH, INFO_LICENSE, INFO_ORIGIN}
 use Rattle.adb_view.specs.Values.{entry_in, text_in}
 use Rattle.pool_core.specs.candidate_core.Candidates.{Candidate}
-use Rattle.report_core.specs.QueryReports.{installed_mark, search_line, text_between}
+use Rattle.report_core.specs.QueryReports.{installed_mark, search_line, text_between_unless_empty}
 use Rattle.query_core.specs.List.{candidate_line}
 use Rattle.query_core.specs.Order.{printed_version}
 use Rattle.query_core.specs.declared.candidates.LineForm.{LineForm}
@@ -13,9 +13,9 @@ use Rattle.query_core.specs.declared.candidates.LineForm.TheVariants.{Full, Shor
 -- what follows name and version in a line of `list`
 abbrev pub description_part : Candidate → List ℕ
 description_part c =
-    text_between (codes " ") (text_in (entry_in c.info INFO_ARCH)) []
-    ++ text_between (codes " {") (text_in (entry_in c.info INFO_ORIGIN)) (codes "}")
-    ++ text_between (codes " (") (text_in (entry_in c.info INFO_LICENSE)) (codes ")")
+    text_between_unless_empty (codes " ") (text_in (entry_in c.info INFO_ARCH)) []
+    ++ text_between_unless_empty (codes " {") (text_in (entry_in c.info INFO_ORIGIN)) (codes "}")
+    ++ text_between_unless_empty (codes " (") (text_in (entry_in c.info INFO_LICENSE)) (codes ")")
     ++ installed_mark c.installed
 
 -- the line of a candidate in a form

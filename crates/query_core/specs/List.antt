@@ -6,12 +6,12 @@ use Rattle.adb_view.specs.Values.{entry_in, text_in}
 use Rattle.pool_core.specs.candidate_core.Candidates.{Candidate}
 use Rattle.command_core.specs.declared.operands.Operand.{Operand}
 use Rattle.report_core.specs.QueryReports.{list_line}
-use Rattle.star_patterns.specs.Patterns.{is_matched}
+use Rattle.star_patterns.specs.Patterns.{is_whole_text_matched}
 use Rattle.query_core.specs.Order.{printed_version, sorted_candidates_passing}
 
 -- whether one of the patterns matches a name
 abbrev pub is_name_matched : List Operand → List ℕ → Bool
-is_name_matched patterns name = list_any (λ (o : Operand). is_matched o.text name) patterns
+is_name_matched patterns name = list_any (λ (o : Operand). is_whole_text_matched o.text name) patterns
 
 -- whether `list` prints a candidate: a pattern matches its name, or no pattern is given; and it is
 -- installed, if only installed packages are asked for

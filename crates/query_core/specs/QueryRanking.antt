@@ -24,8 +24,8 @@ abbrev pub have_same_version : VersionKey → Ranking → Ranking → Bool
 have_same_version ByRank a b = a.version.rank == b.version.rank
 have_same_version ByText a b = is_same_version a.version.version b.version.version
 
--- these rankings are read of candidates, and what their versions are compared by parts just the
--- versions that have other texts
+-- These rankings are read of candidates. By this key two of them have one version exactly if the texts
+-- of their versions are the same.
 pub record AreInQueryOrder (candidates : List Candidate) (key : VersionKey) (rs : List Ranking)
     : Type 0 where
   pub read : All (IsQueryRanking candidates) rs

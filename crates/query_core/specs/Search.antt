@@ -18,13 +18,13 @@ abbrev pub candidate_names : Candidate → List (List ℕ)
 candidate_names c = c.name ∷ provided_names c.provides
 
 -- whether one of the patterns matches some part of a name
-abbrev pub is_name_found : List Operand → List ℕ → Bool
-is_name_found patterns name = list_any (λ (o : Operand). matches_some_part o.text name) patterns
+abbrev pub is_part_of_name_matched : List Operand → List ℕ → Bool
+is_part_of_name_matched patterns name = list_any (λ (o : Operand). matches_some_part o.text name) patterns
 
 -- whether `search` prints a candidate: it is of a repository, and one of its names is found
 abbrev pub is_search_candidate : List Operand → Candidate → Bool
 is_search_candidate patterns c =
-    is_some c.repository && list_any (is_name_found patterns) (candidate_names c)
+    is_some c.repository && list_any (is_part_of_name_matched patterns) (candidate_names c)
 
 -- what `search` prints of candidates, by its patterns
 abbrev pub search_report : List Candidate → List Operand → List ℕ

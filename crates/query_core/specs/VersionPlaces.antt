@@ -10,8 +10,8 @@ use Rattle.report_core.specs.QueryReports.{policy_database_line, repository_line
 use Rattle.query_core.specs.Order.{printed_version}
 use Rattle.query_core.specs.Policy.{has_name_and_version, is_of_repository}
 
--- a version of a name, whether a candidate with it is installed, and the numbers of the
--- repositories that have one, none less than those before it
+-- A version of a name: whether a candidate with it is installed, and the numbers of the repositories that
+-- have such a candidate. No number is less than one before it.
 pub record VersionPlaces : Type 0 where
   pub version : Option (List ℕ)
   pub is_installed : Bool
@@ -33,12 +33,13 @@ repository_line_numbered repositories number =
     option_map_or (λ (r : Repository). repository_line r.tag r.path)
     (slice_get repositories (number - 1)) []
 
--- the lines of the repositories with these numbers, without those whose number is not greater than
--- one before it
+-- the lines of the repositories with these numbers. A number is skipped if it is not greater than
+-- `last`, the greatest one before it
 abbrev pub distinct_repository_lines : List Repository → ℕ → List ℕ → List ℕ
 distinct_repository_lines repositories last [] = []
 distinct_repository_lines repositories last (n ∷ numbers) =
-    if nat_lt last n then repository_line_numbered repositories n ++ distinct_repository_lines repositories n numbers
+    if nat_lt last n then repository_line_numbered repositories n
+    ++ distinct_repository_lines repositories n numbers
     else distinct_repository_lines repositories last numbers
 
 -- what is printed of a version

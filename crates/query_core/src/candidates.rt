@@ -3,7 +3,7 @@
 ghost use Rattle.query_core.specs.Appends.{Appends};
 ghost use Rattle.query_core.specs.Lines.{description_part, line_in_form};
 ghost use Rattle.query_core.specs.Order.{printed_version, query_cmp};
-ghost use Rattle.report_core.specs.QueryReports.{installed_mark, text_between};
+ghost use Rattle.report_core.specs.QueryReports.{installed_mark, text_between_unless_empty};
 ghost use Rattle.report_core.specs.Reports.{name_dash_version};
 ghost use Rattle.base_core.specs.Sorted.{sorted_by};
 ghost use Rattle.std.specs.List.{filter_map, flat_map};
@@ -25,8 +25,8 @@ pub(crate) enum LineForm {
     Short,
 }
 
-/// The place in the list of candidates that has a number, counted from 0; out of memory if a place
-/// cannot have it, which no list of candidates reaches.
+/// A number, counted from 0, as a place in the list of candidates. If the number is too large for a
+/// place, which no list of candidates reaches, the call fails as if out of memory.
 pub(crate) fn place_of(number: usize) -> Result<CandId, AllocError>
     ensures { IfOk result (λ place. place ≡ number) }
 {
@@ -158,7 +158,7 @@ fn put_between<O: ReportOut>(
     after: &[u8],
 ) -> Result<(), AllocError>
     ensures { OnOk result (Appends O.holds out.old out.new
-        (text_between before.now text.now after.now)) }
+        (text_between_unless_empty before.now text.now after.now)) }
 {
     if text.is_empty() {
         return Ok(());

@@ -96,7 +96,8 @@ pub fn policy_prints_each_version_once()
         → IsVersionOfName cs name version → IsIn version (versions_of_name cs name) }
     // The greater version comes first, and of equal ones the byte-lesser text.
     ensures order { (cs : List Candidate) (name : List ℕ)
-        → AreInOrderBy (then_cmp greater_version (option_cmp bytes_cmp)) (versions_of_name cs name) }
+        → AreInOrderBy (then_cmp greater_version (option_cmp bytes_cmp))
+        (versions_of_name cs name) }
     ensures unknown { (cs : List Candidate) (repositories : List Repository) (name : List ℕ)
         → ((version : Option (List ℕ)) → IsVersionOfName cs name version → ⊥)
         → name_policy cs repositories name ≡ policy_heading name }

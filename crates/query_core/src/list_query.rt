@@ -36,7 +36,8 @@ fn listed_places(
     installed_only: bool,
 ) -> Result<Vec<CandId>, AllocError>
     ensures { IfOk result (λ places. places.items
-        ≡ places_passing_from 0 (is_list_candidate patterns.now installed_only) pool.now.candidates) }
+        ≡ places_passing_from 0
+        (is_list_candidate patterns.now installed_only) pool.now.candidates) }
 {
     let mut places = Vec::new(alloc);
     for number in 0..pool.len() {

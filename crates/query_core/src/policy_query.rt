@@ -2,7 +2,7 @@
 ghost use Rattle.query_core.specs.Appends.{Appends};
 ghost use Rattle.query_core.specs.Policy.{name_policy, policy_report};
 ghost use Rattle.query_core.specs.VersionPlaces.{repository_line_numbered, distinct_repository_lines, version_lines};
-ghost use Rattle.report_core.specs.QueryReports.{policy_database_line, policy_origin_line, policy_heading, repository_line, version_heading};
+ghost use Rattle.report_core.specs.QueryReports.{policy_database_line, policy_line_with_origin_text, policy_heading, repository_line, version_heading};
 ghost use Rattle.std.specs.List.{flat_map};
 ghost use Rattle.std.specs.Prelude.{◌≡◌, ◌<◌, ◌++◌, [], IfOk, OnOk, codes, if◌then◌else◌, nat_lt, option_copied};
 
@@ -126,7 +126,7 @@ fn put_repositories<O: ReportOut>(
 }
 
 // Puts the line of the repository with a number if the number is greater than the last one, and
-// answers the greater of the two.
+// returns the greater of the two.
 fn put_greater<O: ReportOut>(
     out: &mut O,
     repositories: &Repos,
@@ -183,7 +183,7 @@ fn put_repository<O: ReportOut>(
 // Puts the line of a repository with a tag.
 fn put_tagged<O: ReportOut>(out: &mut O, tag: &[u8], path: &[u8]) -> Result<(), AllocError>
     ensures { OnOk result (Appends O.holds out.old out.new
-        (policy_origin_line (codes "@" ++ tag.now ++ codes " " ++ path.now))) }
+        (policy_line_with_origin_text (codes "@" ++ tag.now ++ codes " " ++ path.now))) }
 {
     out.put(b"    @")?;
     out.put(tag)?;
@@ -194,7 +194,8 @@ fn put_tagged<O: ReportOut>(out: &mut O, tag: &[u8], path: &[u8]) -> Result<(), 
 
 // Puts a line on where a version is.
 fn put_place<O: ReportOut>(out: &mut O, text: &[u8]) -> Result<(), AllocError>
-    ensures { OnOk result (Appends O.holds out.old out.new (policy_origin_line text.now)) }
+    ensures { OnOk result (Appends O.holds out.old out.new
+        (policy_line_with_origin_text text.now)) }
 {
     out.put(b"    ")?;
     out.put(text)?;

@@ -7,7 +7,7 @@ ghost use Rattle.std.specs.Prelude.{◌≡◌, OnOk};
 
 use std::alloc::AllocError;
 
-/// What bytes are put into, one piece after another.
+/// An output, into which bytes are put, one piece after another.
 pub(crate) trait ReportOut {
     ghost use Rattle.std.specs.Prelude.{ℕ, List};
 

@@ -123,7 +123,7 @@ fn grouped<'a>(
     Ok(versions)
 }
 
-// Where the candidates end that are side by side and have the version of the one at a place.
+// The first index after `start` at which the version is another one than at `start`, or the length.
 fn end_of_version(rankings: &[RankedOption<'_>], key: VersionKey, start: usize) -> usize
     requires { start < length rankings.now }
     ensures after { start < result }

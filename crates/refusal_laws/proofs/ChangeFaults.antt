@@ -11,7 +11,7 @@ use Rattle.outcome.specs.change_files.PlanLists.{first_reserved_path}
 use Rattle.outcome.proofs.change_files.InOrder.{from_order}
 use Rattle.outcome.specs.change_inputs.Chains.{and_then}
 use Rattle.outcome.specs.change_inputs.Inputs.{Inputs}
-use Rattle.outcome.specs.change_outcome.ChangeOutcome.{ChangeDone, ChangeWishes, IsClashFound, IsClashOfChange, actions_of, change_done, change_members, change_or_refusal, change_with_members, file_change, member_name_at_place, new_records, touched_paths, unless_clash, unless_contested, or_result_too_large, unless_overflow, unless_reserved_path, unless_too_large}
+use Rattle.outcome.specs.change_outcome.ChangeOutcome.{ChangeDone, ChangeWishes, IsClashFound, IsClashOfChange, intent_of_change, change_done, members_after_change, change_or_refusal, change_with_members, file_change, member_name_at_place, new_records, touched_paths, unless_clash, unless_contested, or_result_too_large, unless_overflow, unless_reserved_path, unless_too_large}
 use Rattle.outcome.specs.change_outcome.MembersAfter.{MemberFound}
 use Rattle.outcome.specs.change_outcome.PackageFiles.{has_script_of}
 use Rattle.report_core.specs.Numbers.{TRIGGER_SCRIPT}
@@ -28,7 +28,7 @@ use Rattle.outcome.specs.path_claims.Claims.{ContestedPath}
 use Rattle.outcome.specs.path_clashes.Clash.{NamePair}
 use Rattle.report_core.specs.declared.refusal.Refusal.{Refusal}
 use Rattle.report_core.specs.declared.refusal.Refusal.TheVariants.{Owned, PathClash, Reserved, ResultTooLarge, TriggerNeeded}
-use Rattle.refusal_laws.specs.ChangeFaults.{IsFaultOfChange, IsFaultOfFiles, IsResultTooLarge, IsTooLarge, IsTriggerNeeded, IsWatchedFor}
+use Rattle.refusal_laws.specs.ChangeFaults.{IsFaultOfChange, IsFaultOfFiles, IsResultTooLarge, IsTooLarge, IsTriggerDueAndNotSkipped, HasPatternOfTouchedFolder}
 use Rattle.refusal_laws.proofs.Lists.{and_then_err, any_in, found_in, in_names, mapped_in}
 use Rattle.refusal_laws.proofs.PackageFaults.{members_fault}
 use Rattle.refusal_laws.proofs.Paths.{contested_is, first_reserved_is}
@@ -74,7 +74,7 @@ trigger_of paths (m ∷ members) refusal e = by_test (has_due_trigger (folders_o
     by_test true due e more = (m, inl refl, due, (let same : TriggerNeeded (member_name m) ≡ refusal = cc in same))
     by_test false due e more = let other = more e in (other.0, inr other.1, other.2, other.3)
 
-watches : (change : FileChange) (files : Files) (pkg : Plain) → has_due_trigger (folders_of_paths (touched_paths change files)) pkg ≡ true → (has_script_of pkg TRIGGER_SCRIPT ≡ true) × IsWatchedFor change files pkg
+watches : (change : FileChange) (files : Files) (pkg : Plain) → has_due_trigger (folders_of_paths (touched_paths change files)) pkg ≡ true → (has_script_of pkg TRIGGER_SCRIPT ≡ true) × HasPatternOfTouchedFolder change files pkg
 watches change files pkg due =
     let folder = any_in (is_trigger_due pkg) (folders_of_paths (touched_paths change files)) due in
     let both = and_parts (has_script_of pkg TRIGGER_SCRIPT) (watches_folder pkg folder.0) folder.2 in
@@ -91,7 +91,7 @@ watches change files pkg due =
     )
 
 trigger_err : (wishes : ChangeWishes) (change : FileChange) (files : Files) (no_scripts : Bool) (refusal : Refusal) → wishes.no_scripts ≡ no_scripts → unless_trigger_due no_scripts (touched_paths change files) change.members ≡ Err refusal
-    → (name : List ℕ) × IsTriggerNeeded wishes change files name × (TriggerNeeded name ≡ refusal)
+    → (name : List ℕ) × IsTriggerDueAndNotSkipped wishes change files name × (TriggerNeeded name ≡ refusal)
 trigger_err wishes change files true refusal asked e = absurd (true_err change.members e)
   where
     true_err : (members : List Member) → unless_trigger_due true (touched_paths change files) members ≡ Err refusal → ⊥
@@ -115,10 +115,10 @@ module _ (inputs : Inputs) (r : Replacement) (wishes : ChangeWishes) (files : Fi
   pub large_told : (refusal : Refusal) → unless_too_large inputs r wishes found files ≡ Err refusal → (bytes : ℕ) × (values : ℕ) × (ResultTooLarge bytes values ≡ refusal)
   large_told refusal e =
       elim (and_then_err (or_result_too_large (database_of change.members (owned_flags_of change.members))) (λ database.
-      unless_overflow (overflow_of (value_of_intent (intent_of_lists (actions_of inputs change files (new_records inputs database)).removals (actions_of inputs change files (new_records inputs database)).writes)))
+      unless_overflow (overflow_of (value_of_intent (intent_of_lists (intent_of_change inputs change files (new_records inputs database)).removals (intent_of_change inputs change files (new_records inputs database)).writes)))
       (change_done inputs r wishes found files (new_records inputs database))) refusal e) [
         | inl first ↦ (let large = large_err (database_of change.members (owned_flags_of change.members)) refusal first in (large.0.0, large.0.1, large.2))
-        | inr next ↦ (let intent : Plain = value_of_intent (intent_of_lists (actions_of inputs change files (new_records inputs next.0)).removals (actions_of inputs change files (new_records inputs next.0)).writes) in
+        | inr next ↦ (let intent : Plain = value_of_intent (intent_of_lists (intent_of_change inputs change files (new_records inputs next.0)).removals (intent_of_change inputs change files (new_records inputs next.0)).writes) in
             let over = overflow_err (overflow_of intent) (change_done inputs r wishes found files (new_records inputs next.0)) refusal next.2 in
             (over.0.0, over.0.1, over.2))
       ]
@@ -129,13 +129,13 @@ module _ (inputs : Inputs) (r : Replacement) (wishes : ChangeWishes) (files : Fi
   large_fault : (refusal : Refusal) → unless_too_large inputs r wishes found files ≡ Err refusal → IsSo refusal
   large_fault refusal e =
       elim (and_then_err (or_result_too_large (database_of change.members (owned_flags_of change.members))) (λ database.
-      unless_overflow (overflow_of (value_of_intent (intent_of_lists (actions_of inputs change files (new_records inputs database)).removals (actions_of inputs change files (new_records inputs database)).writes)))
+      unless_overflow (overflow_of (value_of_intent (intent_of_lists (intent_of_change inputs change files (new_records inputs database)).removals (intent_of_change inputs change files (new_records inputs database)).writes)))
       (change_done inputs r wishes found files (new_records inputs database))) refusal e) [
         | inl first ↦ (let large = large_err (database_of change.members (owned_flags_of change.members)) refusal first in
             result_fault large.0.0 large.0.1 refusal
             (inl (too_large (database_value change.members (owned_flags_of change.members)) large.0
             (payload_large (database_value change.members (owned_flags_of change.members)) large.0 (database_err change.members (owned_flags_of change.members) large.0 large.1)))) large.2)
-        | inr next ↦ (let intent : Plain = value_of_intent (intent_of_lists (actions_of inputs change files (new_records inputs next.0)).removals (actions_of inputs change files (new_records inputs next.0)).writes) in
+        | inr next ↦ (let intent : Plain = value_of_intent (intent_of_lists (intent_of_change inputs change files (new_records inputs next.0)).removals (intent_of_change inputs change files (new_records inputs next.0)).writes) in
             let over = overflow_err (overflow_of intent) (change_done inputs r wishes found files (new_records inputs next.0)) refusal next.2 in
             result_fault over.0.0 over.0.1 refusal
             (inr (record { database = next.0; fits = large_ok (database_of change.members (owned_flags_of change.members)) next.0 next.1; passes = too_large intent over.0 over.1 })) over.2)
@@ -178,7 +178,7 @@ pub change_fault : (inputs : Inputs) (r : Replacement) (wishes : ChangeWishes) (
     → change_or_refusal inputs r wishes read clash files ≡ Err refusal → IsClashOfChange inputs r wishes read files clash → IsFaultOfChange inputs r wishes read files refusal
 unfolding change_or_refusal
 change_fault inputs r wishes read clash files refusal e is =
-    elim (and_then_err (change_members inputs r wishes read) (change_with_members inputs r wishes clash files) refusal e) [
+    elim (and_then_err (members_after_change inputs r wishes read) (change_with_members inputs r wishes clash files) refusal e) [
       | inl first ↦ inl (members_fault inputs r wishes read refusal first)
       | inr next ↦ inr (next.0, next.1, files_fault inputs r wishes files next.0 clash refusal (subst (λ (m : Result (List MemberFound) Refusal). IsClashFound inputs wishes files m clash) next.1 is) next.2)
     ]

@@ -13,10 +13,10 @@ use Rattle.command_core.specs.declared.command.Applet.{Applet}
 use Rattle.command_core.specs.declared.command.Applet.TheVariants.{Del, Fix, Upgrade}
 use Rattle.command_core.specs.declared.operands.Operand.{Operand}
 use Rattle.dep_core.specs.World.{has_name}
-use Rattle.outcome.specs.engine_core.Changed.{IsClashFor, IsClashOfSelected, IsClashUnlessSimulated, InputsAndReplacement, change_of_selected, change_of_command, selected_by, selected_for, selected_of_inputs, simulated_change}
+use Rattle.outcome.specs.engine_core.Changed.{IsClashOfCommand, IsClashOfSelected, IsClashUnlessSimulated, InputsAndReplacement, change_of_selected, change_of_command, selected_by, selected_for, selected_of_inputs, simulated_change}
 use Rattle.outcome.specs.engine_core.Choice.{IsChoiceFrom}
 use Rattle.outcome.specs.engine_core.Selecting.{pool_of_inputs, pool_of_command}
-use Rattle.outcome.specs.engine_core.Wishes.{first_unknown, is_installed_name, is_known_name, names_to_upgrade, unknown_operand_place, unless_unknown_operand, wishes_of}
+use Rattle.outcome.specs.engine_core.Wishes.{place_of_first_unknown_operand, is_installed_name, is_known_name, names_to_upgrade, unknown_operand_place, unless_unknown_operand, wishes_of}
 use Rattle.outcome.specs.make_info.Reads.{Reads}
 use Rattle.outcome.specs.path_clashes.Clash.{NamePair}
 use Rattle.outcome.specs.candidate_core.Rank.{SealedPool, UpgradedNames, sealed_pool_from_parts}
@@ -24,7 +24,7 @@ use Rattle.outcome.specs.candidate_core.declared.candidate_list.TheConstants.{MO
 use Rattle.report_core.specs.declared.refusal.Refusal.{Refusal}
 use Rattle.report_core.specs.declared.refusal.Refusal.TheVariants.{NotInstalled, TooMany, Unsatisfied}
 use Rattle.refusal_laws.specs.CommandFaults.{IsChangeRefused, IsFaultOfCommand, IsFaultOfSelection, IsUnknownTo}
-use Rattle.refusal_laws.specs.InputFaults.{AreTooManyCandidates}
+use Rattle.refusal_laws.specs.InputFaults.{IsCountReportedAsTooMany}
 use Rattle.refusal_laws.proofs.ChangeFaults.{change_fault}
 use Rattle.refusal_laws.proofs.InputFaults.{input_fault}
 use Rattle.refusal_laws.proofs.Lists.{and_then_err}
@@ -37,24 +37,24 @@ kept_done r = r
 abbrev kept_pool : Result SealedPool Refusal → Result SealedPool Refusal
 kept_pool r = r
 
-pub pool_fault : (inputs : Inputs) (upgraded : UpgradedNames) (refusal : Refusal) → root_pool inputs upgraded ≡ Err refusal → (count : ℕ) × AreTooManyCandidates inputs count × (TooMany count ≡ refusal)
+pub pool_fault : (inputs : Inputs) (upgraded : UpgradedNames) (refusal : Refusal) → root_pool inputs upgraded ≡ Err refusal → (count : ℕ) × IsCountReportedAsTooMany inputs count × (TooMany count ≡ refusal)
 unfolding root_pool
 pool_fault inputs upgraded refusal e = by_count (nat_lt MOST_CANDIDATES (length (candidates_of inputs))) refl e
   where
     by_count : (b : Bool) → nat_lt MOST_CANDIDATES (length (candidates_of inputs)) ≡ b
         → kept_pool (if b then Err (TooMany (MOST_CANDIDATES + 1)) else Ok (sealed_pool_from_parts (candidates_of inputs) inputs.root.new_world upgraded)) ≡ Err refusal
-        → (count : ℕ) × AreTooManyCandidates inputs count × (TooMany count ≡ refusal)
+        → (count : ℕ) × IsCountReportedAsTooMany inputs count × (TooMany count ≡ refusal)
     by_count true more e = (MOST_CANDIDATES + 1, record { more = ltb-true MOST_CANDIDATES (length (candidates_of inputs)) more; told = refl }, (let same : TooMany (MOST_CANDIDATES + 1) ≡ refusal = cc in same))
     by_count false more e = absurd (cc (e))
 
 -- ---- operands
 
-unknown_in : (is_known : List ℕ → Bool) (operands : List Operand) (place : ℕ) → first_unknown is_known operands ≡ Some place → (o : Operand) × IsIn o operands × (o.place ≡ place) × (is_known o.text ≡ false)
+unknown_in : (is_known : List ℕ → Bool) (operands : List Operand) (place : ℕ) → place_of_first_unknown_operand is_known operands ≡ Some place → (o : Operand) × IsIn o operands × (o.place ≡ place) × (is_known o.text ≡ false)
 unknown_in is_known [] place e = absurd (cc (e))
 unknown_in is_known (o ∷ operands) place e = by_test (is_known o.text) refl e (unknown_in is_known operands place)
   where
-    by_test : (b : Bool) → is_known o.text ≡ b → (if b then first_unknown is_known operands else Some o.place) ≡ Some place
-        → (first_unknown is_known operands ≡ Some place → (p : Operand) × IsIn p operands × (p.place ≡ place) × (is_known p.text ≡ false)) → (p : Operand) × IsIn p (o ∷ operands) × (p.place ≡ place) × (is_known p.text ≡ false)
+    by_test : (b : Bool) → is_known o.text ≡ b → (if b then place_of_first_unknown_operand is_known operands else Some o.place) ≡ Some place
+        → (place_of_first_unknown_operand is_known operands ≡ Some place → (p : Operand) × IsIn p operands × (p.place ≡ place) × (is_known p.text ≡ false)) → (p : Operand) × IsIn p (o ∷ operands) × (p.place ≡ place) × (is_known p.text ≡ false)
     by_test true k e more = let other = more e in (other.0, inr other.1, other.2, other.3)
     by_test false k e more = (o, inl refl, (let same : o.place ≡ place = cc in same), k)
 
@@ -111,7 +111,7 @@ module _ (command : CommandLine) (read : Reads) (chosen : Option (List ℕ)) (ch
       by_flag false off e =
           (s, is, off, change_fault s.inputs s.replacement (wishes_of command) read clash files refusal e (subst (λ b. IsClashUnlessSimulated b (wishes_of command) read files s clash) off clashes))
 
-  pub command_fault : (files : Files) (clash : Option NamePair) (refusal : Refusal) → IsClashFor command read files chosen clash → change_of_command command read files chosen clash ≡ Err refusal → IsFaultOfCommand command read files chosen refusal
+  pub command_fault : (files : Files) (clash : Option NamePair) (refusal : Refusal) → IsClashOfCommand command read files chosen clash → change_of_command command read files chosen clash ≡ Err refusal → IsFaultOfCommand command read files chosen refusal
   unfolding change_of_command
   command_fault files clash refusal clashes e =
       elim (and_then_err (selected_for command read chosen) (change_of_selected command read files clash) refusal e) [

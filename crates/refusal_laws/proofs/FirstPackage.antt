@@ -12,16 +12,16 @@ use Rattle.base_core.specs.declared.cause.Cause.{Cause}
 use Rattle.base_core.proofs.Rising as Names
 use Rattle.outcome.proofs.change_files.InOrder.{in_left, in_order, order_rises}
 use Rattle.outcome.specs.change_inputs.Chains.{and_then}
-use Rattle.outcome.specs.change_inputs.Inputs.{Inputs, first_index_read}
-use Rattle.outcome.specs.change_outcome.ChangeOutcome.{ChangeWishes, change_members}
-use Rattle.outcome.specs.change_outcome.MembersAfter.{MemberFound, added_package_by_path, added_member_found, members_after, name_after, name_by_change, name_by_selected, member_of_added_name, member_of_removed_name, names_after}
-use Rattle.outcome.specs.change_outcome.PackageFiles.{AddedPackage, first_script_of, package_file_of, added_package_or_refusal, package_in_file, scripts_of_change, unless_script_number, unless_package_bad, unless_script}
+use Rattle.outcome.specs.change_inputs.Inputs.{Inputs, first_index_read_number}
+use Rattle.outcome.specs.change_outcome.ChangeOutcome.{ChangeWishes, members_after_change}
+use Rattle.outcome.specs.change_outcome.MembersAfter.{MemberFound, added_package_by_path, added_member_found, members_after, member_of_name_after, member_of_name_by_change, member_of_name_by_selected, member_of_added_name, member_of_removed_name, names_after}
+use Rattle.outcome.specs.change_outcome.PackageFiles.{AddedPackage, first_script_of, package_file_of, added_package_or_refusal, package_in_file, scripts_of_change, unless_script_number, unless_package_bad, unless_script_needed}
 use Rattle.outcome.specs.db_core.Packages.{is_package_named}
-use Rattle.outcome.specs.file_owners.Replaces.{version_text}
+use Rattle.outcome.specs.file_owners.Replaces.{package_version_text}
 use Rattle.base_core.specs.ByteOrder.{precedes}
 use Rattle.base_core.proofs.Orderings.{precedes_one_way}
 use Rattle.outcome.specs.make_info.Reads.{Reads}
-use Rattle.outcome.specs.package_changes.Changes.{Replacement, change_of_name, is_selected_named, names_before_and_selected, selected_version}
+use Rattle.outcome.specs.package_changes.Changes.{Replacement, change_of_name, is_candidate_named, names_before_and_selected, candidate_version_text}
 use Rattle.outcome.proofs.path_clashes.PairOrder.{precedes_itself}
 use Rattle.outcome.specs.pkg_core.Whole.{package_fault}
 use Rattle.outcome.specs.candidate_core.Candidates.{Candidate, is_same_id}
@@ -29,7 +29,7 @@ use Rattle.report_core.specs.Reports.{Change}
 use Rattle.report_core.specs.declared.refusal.Refusal.{Refusal}
 use Rattle.report_core.specs.declared.refusal.Refusal.TheVariants.{PackageBad, PackageDiffers, PackageMissing, ScriptNeeded}
 use Rattle.refusal_laws.specs.ChangeFaults.{IsFaultOfPackage}
-use Rattle.refusal_laws.specs.AddedPackages.{IsAsSelected, IsReadFor, selected_of_name}
+use Rattle.refusal_laws.specs.AddedPackages.{IsFileOfCandidate, IsFileReadForAddedPackage, selected_of_name}
 use Rattle.refusal_laws.specs.FirstPackage.{IsFirstRefused, refused_name}
 use Rattle.refusal_laws.specs.PackageFaults.{IsAddedOrRemoved, IsOtherPackage}
 use Rattle.refusal_laws.proofs.Coming.{by_fields, different_err, path_is, script_err}
@@ -38,30 +38,30 @@ use Rattle.refusal_laws.proofs.Lists.{and_then_err, found_in, in_mapped}
 
 -- ---- the name that a refusal tells
 
-candidate_named : (name : List ℕ) (cs : List Candidate) (c : Candidate) → find (is_selected_named name) cs ≡ Some c → c.name ≡ name
-candidate_named name cs c e = (bytes_eq-Decides c.name name).0 (found_in (is_selected_named name) cs c e).1
+candidate_named : (name : List ℕ) (cs : List Candidate) (c : Candidate) → find (is_candidate_named name) cs ≡ Some c → c.name ≡ name
+candidate_named name cs c e = (bytes_eq-Decides c.name name).0 (found_in (is_candidate_named name) cs c e).1
 
 found_name : (c : Candidate) (file : Option (List ℕ)) (refusal : Refusal) → added_package_or_refusal c file ≡ Err refusal → refused_name refusal ≡ c.name
-found_name c None refusal e = let told : PackageMissing c.name (selected_version c) ≡ refusal = cc in ap refused_name (sym told)
+found_name c None refusal e = let told : PackageMissing c.name (candidate_version_text c) ≡ refusal = cc in ap refused_name (sym told)
 found_name c (Some file) refusal e = by_fault (package_fault file) e
   where
     by_fault : (fault : Option Cause) → unless_package_bad c fault (package_in_file file) ≡ Err refusal → refused_name refusal ≡ c.name
     by_fault None e = ap refused_name (sym (different_err c (package_in_file file) refusal e).4)
-    by_fault (Some cause) e = let told : PackageBad c.name (selected_version c) cause ≡ refusal = cc in ap refused_name (sym told)
+    by_fault (Some cause) e = let told : PackageBad c.name (candidate_version_text c) cause ≡ refusal = cc in ap refused_name (sym told)
 
-script_name : {A : Type 0} (no_scripts : Bool) (name : List ℕ) (pkg : Plain) (numbers : List ℕ) (a : A) (refusal : Refusal) → unless_script no_scripts name pkg numbers a ≡ Err refusal → refused_name refusal ≡ name
+script_name : {A : Type 0} (no_scripts : Bool) (name : List ℕ) (pkg : Plain) (numbers : List ℕ) (a : A) (refusal : Refusal) → unless_script_needed no_scripts name pkg numbers a ≡ Err refusal → refused_name refusal ≡ name
 script_name no_scripts name pkg numbers a refusal e = ap refused_name (sym (script_err no_scripts name pkg numbers a refusal e).3)
 
 script_is : {A : Type 0} (no_scripts : Bool) (name : List ℕ) (pkg : Plain) (numbers : List ℕ) (a : A) (script : ℕ) → no_scripts ≡ false → first_script_of pkg numbers ≡ Some script
-    → unless_script no_scripts name pkg numbers a ≡ Err (ScriptNeeded name script)
-script_is no_scripts name pkg numbers a script asked first = ap (λ b. unless_script b name pkg numbers a) asked ∙ ap (λ o. unless_script_number name o a) first
+    → unless_script_needed no_scripts name pkg numbers a ≡ Err (ScriptNeeded name script)
+script_is no_scripts name pkg numbers a script asked first = ap (λ b. unless_script_needed b name pkg numbers a) asked ∙ ap (λ o. unless_script_number name o a) first
 
 -- what passes all tests is found
-found_so : (c : Candidate) (file : List ℕ) → IsAsSelected c file → added_package_or_refusal c (Some file) ≡ Ok (package_in_file file)
+found_so : (c : Candidate) (file : List ℕ) → IsFileOfCandidate c file → added_package_or_refusal c (Some file) ≡ Ok (package_in_file file)
 found_so c file is =
     ap (λ o. unless_package_bad c o (package_in_file file)) is.sound
     ∙ (λ i. by_fields c (package_in_file file) (is.id i) ((bytes_eq-Decides c.name (package_name (package_in_file file).value)).1 (sym is.name) i)
-    ((bytes_eq-Decides (selected_version c) (version_text (package_in_file file).value)).1 (sym is.version) i))
+    ((bytes_eq-Decides (candidate_version_text c) (package_version_text (package_in_file file).value)).1 (sym is.version) i))
 
 -- two texts that differ are not equal as bytes
 apart_bytes : (a b wanted found : List ℕ) → wanted ≡ a → found ≡ b → (wanted ≡ found → ⊥) → bytes_eq a b ≡ false
@@ -69,18 +69,18 @@ apart_bytes a b wanted found w f differ = false_from_ne_true (bytes_eq a b) (λ 
 
 module _ (inputs : Inputs) (r : Replacement) (wishes : ChangeWishes) (read : Reads) where
   abbrev first_read : ℕ
-  first_read = first_index_read + length inputs.root.repositories
+  first_read = first_index_read_number + length inputs.root.repositories
 
   abbrev of_name : ℕ → List ℕ → Result (Option MemberFound) Refusal
-  of_name n name = name_after r read inputs.root.repositories wishes.no_scripts n name
+  of_name n name = member_of_name_after r read inputs.root.repositories wishes.no_scripts n name
 
   abbrev with_scripts : List ℕ → Change → AddedPackage → Result (Option MemberFound) Refusal
-  with_scripts name change pkg = unless_script wishes.no_scripts name pkg.value (scripts_of_change change) (Some (added_member_found pkg))
+  with_scripts name change pkg = unless_script_needed wishes.no_scripts name pkg.value (scripts_of_change change) (Some (added_member_found pkg))
 
   -- ---- of the name that is refused
 
   told_name : (n : ℕ) (name : List ℕ) (refusal : Refusal) → of_name n name ≡ Err refusal → refused_name refusal ≡ name
-  told_name n name refusal e = by_change (change_of_name r name) (find (is_package_named name) r.before) (find (is_selected_named name) r.selected) (λ c is. candidate_named name r.selected c is) e
+  told_name n name refusal e = by_change (change_of_name r name) (find (is_package_named name) r.before) (find (is_candidate_named name) r.selected) (λ c is. candidate_named name r.selected c is) e
     where
       comes : (change : Change) (c : Candidate) → c.name ≡ name → member_of_added_name read inputs.root.repositories wishes.no_scripts n name change c ≡ Err refusal → refused_name refusal ≡ name
       comes change c named e =
@@ -94,7 +94,7 @@ module _ (inputs : Inputs) (r : Replacement) (wishes : ChangeWishes) (read : Rea
       goes change (Some pkg) e = script_name wishes.no_scripts name pkg (scripts_of_change change) None refusal e
 
       by_change : (change : Option Change) (before : Option Plain) (c : Option Candidate) → ((x : Candidate) → c ≡ Some x → x.name ≡ name)
-          → name_by_change read inputs.root.repositories wishes.no_scripts n name change before c ≡ Err refusal → refused_name refusal ≡ name
+          → member_of_name_by_change read inputs.root.repositories wishes.no_scripts n name change before c ≡ Err refusal → refused_name refusal ≡ name
       by_change None before c named e = absurd (cc (e))
       by_change (Some change) before None named e = goes change before e
       by_change (Some change) before (Some c) named e = comes change c (named c refl) e
@@ -150,32 +150,32 @@ module _ (inputs : Inputs) (r : Replacement) (wishes : ChangeWishes) (read : Rea
   comes_is : (n : ℕ) (name : List ℕ) (change : Change) (c : Candidate) → change_of_name r name ≡ Some change → selected_of_name r name ≡ Some c
       → of_name n name ≡ member_of_added_name read inputs.root.repositories wishes.no_scripts n name change c
   comes_is n name change c becomes selected =
-      ap (λ ch. name_by_change read inputs.root.repositories wishes.no_scripts n name ch (find (is_package_named name) r.before) (find (is_selected_named name) r.selected)) becomes
-      ∙ ap (λ s. name_by_selected read inputs.root.repositories wishes.no_scripts n name change (find (is_package_named name) r.before) s) selected
+      ap (λ ch. member_of_name_by_change read inputs.root.repositories wishes.no_scripts n name ch (find (is_package_named name) r.before) (find (is_candidate_named name) r.selected)) becomes
+      ∙ ap (λ s. member_of_name_by_selected read inputs.root.repositories wishes.no_scripts n name change (find (is_package_named name) r.before) s) selected
 
-  file_is : (name version : List ℕ) (file : Option (List ℕ)) (is : IsReadFor inputs r read name version file) → of_name (first_read + is.place) name ≡ and_then (added_package_or_refusal is.candidate file) (with_scripts name is.change)
+  file_is : (name version : List ℕ) (file : Option (List ℕ)) (is : IsFileReadForAddedPackage inputs r read name version file) → of_name (first_read + is.place) name ≡ and_then (added_package_or_refusal is.candidate file) (with_scripts name is.change)
   file_is name version file is =
       comes_is (first_read + is.place) name is.change is.candidate is.becomes is.selected
       ∙ ap (λ p. and_then p (with_scripts name is.change)) (path_is read (first_read + is.place) is.candidate (package_file_of inputs.root.repositories is.candidate) ∙ ap (added_package_or_refusal is.candidate) is.is_file)
 
-  named : (name version : List ℕ) (file : Option (List ℕ)) (is : IsReadFor inputs r read name version file) → is.candidate.name ≡ name
+  named : (name version : List ℕ) (file : Option (List ℕ)) (is : IsFileReadForAddedPackage inputs r read name version file) → is.candidate.name ≡ name
   named name version file is = candidate_named name r.selected is.candidate is.selected
 
-  different_told : (name version file : List ℕ) (is : IsReadFor inputs r read name version (Some file)) (field : ℕ) (wanted found : List ℕ) → package_fault file ≡ None
+  different_told : (name version file : List ℕ) (is : IsFileReadForAddedPackage inputs r read name version (Some file)) (field : ℕ) (wanted found : List ℕ) → package_fault file ≡ None
       → IsOtherPackage is.candidate (package_in_file file) field wanted found → added_package_or_refusal is.candidate (Some file) ≡ Err (PackageDiffers name version field wanted found)
   different_told name version file is field wanted found sound other = ap (λ o. unless_package_bad is.candidate o (package_in_file file)) sound ∙ by other
     where
       by : IsOtherPackage is.candidate (package_in_file file) field wanted found
-          → by_fields is.candidate (package_in_file file) (is_same_id is.candidate.id (package_in_file file).id) (bytes_eq is.candidate.name (package_name (package_in_file file).value)) (bytes_eq (selected_version is.candidate) (version_text (package_in_file file).value)) ≡ Err (PackageDiffers name version field wanted found)
+          → by_fields is.candidate (package_in_file file) (is_same_id is.candidate.id (package_in_file file).id) (bytes_eq is.candidate.name (package_name (package_in_file file).value)) (bytes_eq (candidate_version_text is.candidate) (package_version_text (package_in_file file).value)) ≡ Err (PackageDiffers name version field wanted found)
       by (inl (field_is, (wanted_is, found_is, off))) =
-          ap (λ a. by_fields is.candidate (package_in_file file) a (bytes_eq is.candidate.name (package_name (package_in_file file).value)) (bytes_eq (selected_version is.candidate) (version_text (package_in_file file).value))) ((λ i. is_same_id (sym wanted_is i) (sym found_is i)) ∙ off)
+          ap (λ a. by_fields is.candidate (package_in_file file) a (bytes_eq is.candidate.name (package_name (package_in_file file).value)) (bytes_eq (candidate_version_text is.candidate) (package_version_text (package_in_file file).value))) ((λ i. is_same_id (sym wanted_is i) (sym found_is i)) ∙ off)
           ∙ (λ i. Err (PackageDiffers (named name version (Some file) is i) (is.has_version i) (sym field_is i) (sym wanted_is i) (sym found_is i)))
       by (inr (inl (field_is, same_id, (wanted_is, found_is, differ)))) =
-          (λ i. by_fields is.candidate (package_in_file file) (same_id i) (apart_bytes is.candidate.name (package_name (package_in_file file).value) wanted found wanted_is found_is differ i) (bytes_eq (selected_version is.candidate) (version_text (package_in_file file).value)))
+          (λ i. by_fields is.candidate (package_in_file file) (same_id i) (apart_bytes is.candidate.name (package_name (package_in_file file).value) wanted found wanted_is found_is differ i) (bytes_eq (candidate_version_text is.candidate) (package_version_text (package_in_file file).value)))
           ∙ (λ i. Err (PackageDiffers (named name version (Some file) is i) (is.has_version i) (sym field_is i) (sym wanted_is i) (sym found_is i)))
       by (inr (inr (field_is, same_id, same_name, (wanted_is, found_is, differ)))) =
           (λ i. by_fields is.candidate (package_in_file file) (same_id i) ((bytes_eq-Decides is.candidate.name (package_name (package_in_file file).value)).1 same_name i)
-          (apart_bytes (selected_version is.candidate) (version_text (package_in_file file).value) wanted found wanted_is found_is differ i))
+          (apart_bytes (candidate_version_text is.candidate) (package_version_text (package_in_file file).value) wanted found wanted_is found_is differ i))
           ∙ (λ i. Err (PackageDiffers (named name version (Some file) is i) (is.has_version i) (sym field_is i) (sym wanted_is i) (sym found_is i)))
 
   script_told : (name : List ℕ) (script : ℕ) (pkg : Plain) (change : Change) → wishes.no_scripts ≡ false → IsAddedOrRemoved inputs r read name pkg → change_of_name r name ≡ Some change
@@ -203,8 +203,8 @@ module _ (inputs : Inputs) (r : Replacement) (wishes : ChangeWishes) (read : Rea
         place = place.0;
         at = place.1 ∙ ap (λ (q : List ℕ). Some q) named_so;
         told =
-            ap (λ ch. name_by_change read inputs.root.repositories wishes.no_scripts (first_read + place.0) name ch (find (is_package_named name) r.before) (find (is_selected_named name) r.selected)) becomes
-            ∙ (ap (λ s. name_by_selected read inputs.root.repositories wishes.no_scripts (first_read + place.0) name change (find (is_package_named name) r.before) s) going.unselected
+            ap (λ ch. member_of_name_by_change read inputs.root.repositories wishes.no_scripts (first_read + place.0) name ch (find (is_package_named name) r.before) (find (is_candidate_named name) r.selected)) becomes
+            ∙ (ap (λ s. member_of_name_by_selected read inputs.root.repositories wishes.no_scripts (first_read + place.0) name change (find (is_package_named name) r.before) s) going.unselected
             ∙ (ap (λ b. member_of_removed_name wishes.no_scripts name change b) going.before
             ∙ script_is wishes.no_scripts name pkg (scripts_of_change change) None script asked first));
       }
@@ -280,7 +280,7 @@ module _ (inputs : Inputs) (r : Replacement) (wishes : ChangeWishes) (read : Rea
             ∙ (ap (precedes at.name) (name ∙ told_here) ∙ precedes_itself at.name))))
             (λ more. (same_place other told (omega arith)).1) (cases_lt at.place told.place)) (cases_lt told.place at.place)
 
-  pub first_refused : (refusal : Refusal) → change_members inputs r wishes read ≡ Err refusal → IsFirstRefused inputs r wishes read refusal
+  pub first_refused : (refusal : Refusal) → members_after_change inputs r wishes read ≡ Err refusal → IsFirstRefused inputs r wishes read refusal
   unfolding members_after
   first_refused refusal e =
       let at = refused_in first_read (names_before_and_selected r) refusal e in

@@ -9,20 +9,20 @@ use Rattle.base_core.specs.declared.cause.Cause.{Cause}
 use Rattle.base_core.proofs.Rising as Names
 use Rattle.outcome.proofs.change_files.InOrder.{in_left, in_order}
 use Rattle.outcome.specs.change_inputs.Chains.{and_then}
-use Rattle.outcome.specs.change_inputs.Inputs.{Inputs, first_index_read}
-use Rattle.outcome.specs.change_outcome.ChangeOutcome.{ChangeWishes, change_members}
-use Rattle.outcome.specs.change_outcome.MembersAfter.{MemberFound, added_package_by_path, added_member_found, members_after, name_after, name_by_change, name_by_selected, member_of_added_name, member_of_removed_name, names_after}
-use Rattle.outcome.specs.change_outcome.PackageFiles.{AddedPackage, first_script_of, package_file_of, added_package_or_refusal, package_in_file, scripts_of_change, unless_script_number, unless_package_bad, unless_script}
+use Rattle.outcome.specs.change_inputs.Inputs.{Inputs, first_index_read_number}
+use Rattle.outcome.specs.change_outcome.ChangeOutcome.{ChangeWishes, members_after_change}
+use Rattle.outcome.specs.change_outcome.MembersAfter.{MemberFound, added_package_by_path, added_member_found, members_after, member_of_name_after, member_of_name_by_change, member_of_name_by_selected, member_of_added_name, member_of_removed_name, names_after}
+use Rattle.outcome.specs.change_outcome.PackageFiles.{AddedPackage, first_script_of, package_file_of, added_package_or_refusal, package_in_file, scripts_of_change, unless_script_number, unless_package_bad, unless_script_needed}
 use Rattle.outcome.specs.db_core.Packages.{is_package_named}
 use Rattle.outcome.specs.make_info.Reads.{Reads}
-use Rattle.outcome.specs.package_changes.Changes.{Replacement, change_of_name, is_selected_named, names_before_and_selected}
+use Rattle.outcome.specs.package_changes.Changes.{Replacement, change_of_name, is_candidate_named, names_before_and_selected}
 use Rattle.outcome.specs.pkg_core.Whole.{package_fault}
 use Rattle.outcome.specs.candidate_core.Candidates.{Candidate, is_same_id}
 use Rattle.report_core.specs.Reports.{Change}
 use Rattle.report_core.specs.declared.refusal.Refusal.{Refusal}
 use Rattle.report_core.specs.declared.refusal.Refusal.TheVariants.{PackageBad, PackageDiffers, PackageMissing, ScriptNeeded}
 use Rattle.refusal_laws.specs.ChangeFaults.{IsFaultOfPackage}
-use Rattle.refusal_laws.specs.AddedPackages.{IsAsSelected, IsReadFor, selected_of_name}
+use Rattle.refusal_laws.specs.AddedPackages.{IsFileOfCandidate, IsFileReadForAddedPackage, selected_of_name}
 use Rattle.refusal_laws.specs.PackageFaults.{IsAddedOrRemoved, IsOtherPackage}
 use Rattle.refusal_laws.proofs.Coming.{found_ok, path_is}
 use Rattle.refusal_laws.proofs.Lists.{and_then_ok, found_in, in_mapped}
@@ -36,7 +36,7 @@ member_name_at_place (x ∷ xs) q (inr more) = let other = member_name_at_place 
 
 -- ---- files
 
-not_other : (c : Candidate) (file : List ℕ) (field : ℕ) (wanted found : List ℕ) → IsAsSelected c file → IsOtherPackage c (package_in_file file) field wanted found → ⊥
+not_other : (c : Candidate) (file : List ℕ) (field : ℕ) (wanted found : List ℕ) → IsFileOfCandidate c file → IsOtherPackage c (package_in_file file) field wanted found → ⊥
 not_other c file field wanted found agrees (inl other) =
     true≢false (sym agrees.id ∙ (ap (λ w. is_same_id w (package_in_file file).id) (sym other.1.0) ∙ (ap (is_same_id wanted) (sym other.1.1) ∙ other.1.2)))
 not_other c file field wanted found agrees (inr (inl other)) = other.2.2 (other.2.0 ∙ (sym agrees.name ∙ sym other.2.1))
@@ -48,7 +48,7 @@ no_bad_file c file cause pkg fault e = refused (ap (λ o. unless_package_bad c o
     refused : unless_package_bad c (Some cause) (package_in_file file) ≡ Ok pkg → ⊥
     refused e = cc (e)
 
-no_script : {A : Type 0} (no_scripts : Bool) (name : List ℕ) (pkg : Plain) (numbers : List ℕ) (a b : A) (script : ℕ) → no_scripts ≡ false → first_script_of pkg numbers ≡ Some script → unless_script no_scripts name pkg numbers a ≡ Ok b → ⊥
+no_script : {A : Type 0} (no_scripts : Bool) (name : List ℕ) (pkg : Plain) (numbers : List ℕ) (a b : A) (script : ℕ) → no_scripts ≡ false → first_script_of pkg numbers ≡ Some script → unless_script_needed no_scripts name pkg numbers a ≡ Ok b → ⊥
 no_script true name pkg numbers a b script asked first e = true≢false asked
 no_script false name pkg numbers a b script asked first e = refused (first_script_of pkg numbers) first e
   where
@@ -56,35 +56,35 @@ no_script false name pkg numbers a b script asked first e = refused (first_scrip
     refused None is e = cc (is)
     refused (Some number) is e = cc (e)
 
-module _ (inputs : Inputs) (r : Replacement) (wishes : ChangeWishes) (read : Reads) (found : List MemberFound) (are : change_members inputs r wishes read ≡ Ok found) where
+module _ (inputs : Inputs) (r : Replacement) (wishes : ChangeWishes) (read : Reads) (found : List MemberFound) (are : members_after_change inputs r wishes read ≡ Ok found) where
   abbrev first_read : ℕ
-  first_read = first_index_read + length inputs.root.repositories
+  first_read = first_index_read_number + length inputs.root.repositories
 
   -- ---- each name is found
 
   name_found_at : (n : ℕ) (names : List (List ℕ)) (fs : List MemberFound) (i : ℕ) (name : List ℕ) → names_after r read inputs.root.repositories wishes.no_scripts n names ≡ Ok fs → slice_get names i ≡ Some name
-      → (o : Option MemberFound) × (name_after r read inputs.root.repositories wishes.no_scripts (n + i) name ≡ Ok o)
+      → (o : Option MemberFound) × (member_of_name_after r read inputs.root.repositories wishes.no_scripts (n + i) name ≡ Ok o)
   name_found_at n [] fs i name e at = absurd (cc (at))
   name_found_at n (x ∷ names) fs zero name e at =
-      let first = and_then_ok (name_after r read inputs.root.repositories wishes.no_scripts n x) (λ first.
+      let first = and_then_ok (member_of_name_after r read inputs.root.repositories wishes.no_scripts n x) (λ first.
       and_then (names_after r read inputs.root.repositories wishes.no_scripts (suc n) names) (λ others.
       Ok (cons_option first others))) fs e in
       let same : x ≡ name = cc in
       let k : n ≡ n + zero = omega arith in (
         first.0,
-        subst (λ q. name_after r read inputs.root.repositories wishes.no_scripts (n + zero) q ≡ Ok first.0) same
-            (subst (λ m. name_after r read inputs.root.repositories wishes.no_scripts m x ≡ Ok first.0) k first.1),
+        subst (λ q. member_of_name_after r read inputs.root.repositories wishes.no_scripts (n + zero) q ≡ Ok first.0) same
+            (subst (λ m. member_of_name_after r read inputs.root.repositories wishes.no_scripts m x ≡ Ok first.0) k first.1),
       )
   name_found_at n (x ∷ names) fs (suc i) name e at =
-      let first = and_then_ok (name_after r read inputs.root.repositories wishes.no_scripts n x) (λ first.
+      let first = and_then_ok (member_of_name_after r read inputs.root.repositories wishes.no_scripts n x) (λ first.
       and_then (names_after r read inputs.root.repositories wishes.no_scripts (suc n) names) (λ others.
       Ok (cons_option first others))) fs e in
       let others = and_then_ok (names_after r read inputs.root.repositories wishes.no_scripts (suc n) names) (λ others. Ok (cons_option first.0 others)) fs first.2 in
       let behind = name_found_at (suc n) names others.0 i name others.1 at in
       let k : suc n + i ≡ n + suc i = omega arith in
-      (behind.0, subst (λ m. name_after r read inputs.root.repositories wishes.no_scripts m name ≡ Ok behind.0) k behind.1)
+      (behind.0, subst (λ m. member_of_name_after r read inputs.root.repositories wishes.no_scripts m name ≡ Ok behind.0) k behind.1)
 
-  found_at : (place : ℕ) (name : List ℕ) → slice_get (names_before_and_selected r) place ≡ Some name → (o : Option MemberFound) × (name_after r read inputs.root.repositories wishes.no_scripts (first_read + place) name ≡ Ok o)
+  found_at : (place : ℕ) (name : List ℕ) → slice_get (names_before_and_selected r) place ≡ Some name → (o : Option MemberFound) × (member_of_name_after r read inputs.root.repositories wishes.no_scripts (first_read + place) name ≡ Ok o)
   unfolding members_after
   found_at place name at = name_found_at first_read (names_before_and_selected r) found place name are at
 
@@ -95,8 +95,8 @@ module _ (inputs : Inputs) (r : Replacement) (wishes : ChangeWishes) (read : Rea
   comes_so place name change c at becomes selected =
       let o = found_at place name at in (
         o.0,
-        ap (λ s. name_by_selected read inputs.root.repositories wishes.no_scripts (first_read + place) name change (find (is_package_named name) r.before) s) (sym selected)
-            ∙ (ap (λ ch. name_by_change read inputs.root.repositories wishes.no_scripts (first_read + place) name ch (find (is_package_named name) r.before) (find (is_selected_named name) r.selected)) (sym becomes) ∙ o.1),
+        ap (λ s. member_of_name_by_selected read inputs.root.repositories wishes.no_scripts (first_read + place) name change (find (is_package_named name) r.before) s) (sym selected)
+            ∙ (ap (λ ch. member_of_name_by_change read inputs.root.repositories wishes.no_scripts (first_read + place) name ch (find (is_package_named name) r.before) (find (is_candidate_named name) r.selected)) (sym becomes) ∙ o.1),
       )
 
   -- the package in its file is found, and none of its scripts would run
@@ -104,13 +104,13 @@ module _ (inputs : Inputs) (r : Replacement) (wishes : ChangeWishes) (read : Rea
     pub pkg : AddedPackage
     pub is : added_package_or_refusal c file ≡ Ok pkg
     pub after : Option MemberFound
-    pub scripts : unless_script wishes.no_scripts name pkg.value (scripts_of_change change) (Some (added_member_found pkg)) ≡ Ok after
+    pub scripts : unless_script_needed wishes.no_scripts name pkg.value (scripts_of_change change) (Some (added_member_found pkg)) ≡ Ok after
 
-  fine : (name version : List ℕ) (file : Option (List ℕ)) (is : IsReadFor inputs r read name version file) → IsFine name is.change is.candidate file
+  fine : (name version : List ℕ) (file : Option (List ℕ)) (is : IsFileReadForAddedPackage inputs r read name version file) → IsFine name is.change is.candidate file
   fine name version file is =
       let comes = comes_so is.place name is.change is.candidate is.is_place is.becomes is.selected in
       let pkg = and_then_ok (added_package_by_path read (first_read + is.place) is.candidate (package_file_of inputs.root.repositories is.candidate)) (λ pkg.
-      unless_script wishes.no_scripts name pkg.value (scripts_of_change is.change) (Some (added_member_found pkg))) comes.0 comes.1 in
+      unless_script_needed wishes.no_scripts name pkg.value (scripts_of_change is.change) (Some (added_member_found pkg))) comes.0 comes.1 in
       record {
         pkg = pkg.0;
         is = ap (added_package_or_refusal is.candidate) (sym is.is_file) ∙ (sym (path_is read (first_read + is.place) is.candidate (package_file_of inputs.root.repositories is.candidate)) ∙ pkg.1);
@@ -138,8 +138,8 @@ module _ (inputs : Inputs) (r : Replacement) (wishes : ChangeWishes) (read : Rea
       let o = found_at place.0 name (place.1 ∙ ap (λ (q : List ℕ). Some q) named) in
       no_script wishes.no_scripts name pkg (scripts_of_change change) None o.0 script asked first
       (ap (λ b. member_of_removed_name wishes.no_scripts name change b) (sym going.before)
-      ∙ (ap (λ s. name_by_selected read inputs.root.repositories wishes.no_scripts (first_read + place.0) name change (find (is_package_named name) r.before) s) (sym going.unselected)
-      ∙ (ap (λ ch. name_by_change read inputs.root.repositories wishes.no_scripts (first_read + place.0) name ch (find (is_package_named name) r.before) (find (is_selected_named name) r.selected)) (sym becomes) ∙ o.1)))
+      ∙ (ap (λ s. member_of_name_by_selected read inputs.root.repositories wishes.no_scripts (first_read + place.0) name change (find (is_package_named name) r.before) s) (sym going.unselected)
+      ∙ (ap (λ ch. member_of_name_by_change read inputs.root.repositories wishes.no_scripts (first_read + place.0) name ch (find (is_package_named name) r.before) (find (is_candidate_named name) r.selected)) (sym becomes) ∙ o.1)))
 
   -- ---- none is refused
 

@@ -3,7 +3,7 @@ use Rattle.std.proofs.Common.{◌≡◌, ◌⊎◌, inl, inr, ◌∙◌, ℕ, Bo
 use Rattle.std.specs.Prelude.{if◌then◌else◌, bytes_eq, is_some}
 use Rattle.std.proofs.lemmas.Slice.Eq.{bytes_eq-Decides}
 use Rattle.outcome.specs.adb_fields.FirstPair.{IsIn}
-use Rattle.outcome.specs.adb_fields.Repeated.{package_name, paths_in}
+use Rattle.outcome.specs.adb_fields.Repeated.{package_name, paths_of_package_files}
 use Rattle.adb_view.specs.Plain.{Plain}
 use Rattle.command_core.specs.Command.{CommandLine}
 use Rattle.command_core.specs.declared.command.Flags.{Flags}
@@ -13,7 +13,7 @@ use Rattle.dep_core.specs.LeadingSlash.{without_slash}
 use Rattle.report_core.specs.declared.refusal.Refusal.{Refusal}
 use Rattle.report_core.specs.declared.refusal.Refusal.TheVariants.{NotInstalled}
 use Rattle.outcome.specs.installed_info.Form.{form_of}
-use Rattle.outcome.specs.installed_info.Info.{form_info, info_of, info_refusal, info_unless, operands_info}
+use Rattle.outcome.specs.installed_info.Info.{form_info, info_of, info_refusal, info_unless_refused, operands_info}
 use Rattle.outcome.specs.installed_info.Packages.{package_meant_by, package_named, path_owner}
 use Rattle.outcome.specs.installed_info.declared.telling.ReportAndRefusal.{ReportAndRefusal}
 use Rattle.outcome.proofs.installed_info.Refusing.{unless_err}
@@ -34,13 +34,13 @@ none_is (Some x) e = absurd (cc (e))
 abbrev IsThere : Bool → List Plain → List ℕ → Type 0
 IsThere owner packages text = (pkg : Plain) × IsIn pkg packages × IsPackageAskedFor owner text pkg
 
-lists : (path : List ℕ) (pkg : Plain) → lists_path path pkg ≡ true → IsIn path (paths_in pkg)
+lists : (path : List ℕ) (pkg : Plain) → lists_path path pkg ≡ true → IsIn path (paths_of_package_files pkg)
 lists path pkg e =
-    let here = any_in (bytes_eq path) (paths_in pkg) e in
-    subst (λ (p : List ℕ). IsIn p (paths_in pkg)) (sym ((bytes_eq-Decides path here.0).0 here.2)) here.1
+    let here = any_in (bytes_eq path) (paths_of_package_files pkg) e in
+    subst (λ (p : List ℕ). IsIn p (paths_of_package_files pkg)) (sym ((bytes_eq-Decides path here.0).0 here.2)) here.1
 
-is_listed : (path : List ℕ) (pkg : Plain) → IsIn path (paths_in pkg) → lists_path path pkg ≡ true
-is_listed path pkg here = in_any (bytes_eq path) (paths_in pkg) path here ((bytes_eq-Decides path path).1 refl)
+is_listed : (path : List ℕ) (pkg : Plain) → IsIn path (paths_of_package_files pkg) → lists_path path pkg ≡ true
+is_listed path pkg here = in_any (bytes_eq path) (paths_of_package_files pkg) path here ((bytes_eq-Decides path path).1 refl)
 
 owner_there : (packages : List Plain) (path : List ℕ) → is_some (path_owner packages (without_slash path)) ≡ true → IsThere true packages path
 owner_there packages path e =
@@ -87,7 +87,7 @@ not_there flags false false false false packages text e = none_named_there packa
 
 -- ---- a report or a refusal
 
-unless_ok : (refused : Option Refusal) (report : List ℕ) (done : ReportAndRefusal) → info_unless refused report ≡ Ok done → (refused ≡ None) × (done.following_refusal ≡ None)
+unless_ok : (refused : Option Refusal) (report : List ℕ) (done : ReportAndRefusal) → info_unless_refused refused report ≡ Ok done → (refused ≡ None) × (done.following_refusal ≡ None)
 unless_ok None report done e = (refl, cc)
 unless_ok (Some r) report done e = absurd (cc (e))
 
@@ -109,7 +109,7 @@ module _ (flags : Flags) (packages : List Plain) where
   abbrev IsLate : Bool → Option Refusal → List Operand → Option Refusal → Type 0
   IsLate installed refused operands following_refusal = ((installed ≡ true) × (refused ≡ following_refusal)) ⊎ ((following_refusal ≡ None) × ((refused ≡ None) ⊎ (operands ≡ [])))
 
-  not_late : (installed : Bool) (refused : Option Refusal) (report : List ℕ) (operands : List Operand) (done : ReportAndRefusal) → info_unless refused report ≡ Ok done → IsLate installed refused operands done.following_refusal
+  not_late : (installed : Bool) (refused : Option Refusal) (report : List ℕ) (operands : List Operand) (done : ReportAndRefusal) → info_unless_refused refused report ≡ Ok done → IsLate installed refused operands done.following_refusal
   not_late installed refused report operands done e = let none = unless_ok refused report done e in inr (none.1, inl none.0)
 
   form_ok : (owner installed contents depends : Bool) (operands : List Operand) (done : ReportAndRefusal) → form_info (form_of (flags_by flags owner installed contents depends)) packages operands ≡ Ok done

@@ -16,7 +16,7 @@ use Rattle.outcome.specs.make_info.declared.fault.MakeFault.TheVariants.{TooLarg
 use Rattle.outcome.specs.package_files.Folders.{FolderListing, folder_listings_of}
 use Rattle.outcome.specs.make_package.Making.{container_unless, made_package, or_info_bad, package_container, package_of_parts}
 use Rattle.outcome.specs.package_files.Package.{Script, Source, SourceFolder, contents_of_folders, installed_size, value_of_package}
-use Rattle.outcome.specs.package_files.Sources.{each_from, source_file_read_at, source_folder_read_at, folders_below, found_bytes_or_missing, and_then, script_at, script_with, scripts_from, source_of_read, sources_from, texts_of, values_of_letter}
+use Rattle.outcome.specs.package_files.Sources.{results_from_read, source_file_read_at, source_folder_read_at, folders_below, found_bytes_or_missing, and_then, script_at, script_with, scripts_from, source_of_read, sources_from, texts_of, values_of_letter}
 use Rattle.outcome.specs.pkg_core.Contents.{Contents}
 use Rattle.refusal_laws.specs.MadeTooLarge.{IsPackageTooLarge}
 use Rattle.refusal_laws.proofs.ChangeFaults.{too_large}
@@ -34,12 +34,12 @@ module _ (bytes values : ℕ) where
   abbrev IsNever : {A : Type 0} → Result A MakeFault → Type 0
   IsNever r = r ≡ Err (TooLarge bytes values) → ⊥
 
-  each_never : {X Y : Type 0} (count : X → ℕ) (of : ℕ → X → Result Y MakeFault) → ((n : ℕ) (x : X) → IsNever (of n x)) → (n : ℕ) (xs : List X) → IsNever (each_from count of n xs)
+  each_never : {X Y : Type 0} (count : X → ℕ) (of : ℕ → X → Result Y MakeFault) → ((n : ℕ) (x : X) → IsNever (of n x)) → (n : ℕ) (xs : List X) → IsNever (results_from_read count of n xs)
   each_never count of never n [] e = cc (e)
   each_never count of never n (x ∷ xs) e =
-      elim (success_err (of n x) (λ y. and_then (each_from count of (n + count x) xs) (λ ys. Ok (y ∷ ys))) (TooLarge bytes values) e) [
+      elim (success_err (of n x) (λ y. and_then (results_from_read count of (n + count x) xs) (λ ys. Ok (y ∷ ys))) (TooLarge bytes values) e) [
         | inl first ↦ never n x first
-        | inr next ↦ elim (success_err (each_from count of (n + count x) xs) (λ ys. Ok (next.0 ∷ ys)) (TooLarge bytes values) next.2) [
+        | inr next ↦ elim (success_err (results_from_read count of (n + count x) xs) (λ ys. Ok (next.0 ∷ ys)) (TooLarge bytes values) next.2) [
           | inl others ↦ each_never count of never (n + count x) xs others
           | inr last ↦ no_fault (next.0 ∷ last.0) (TooLarge bytes values) last.2
         ]

@@ -9,7 +9,7 @@ use Rattle.command_core.specs.declared.command.Applet.TheVariants.{Del, Fix, Upg
 use Rattle.command_core.specs.declared.operands.Operand.{Operand}
 use Rattle.outcome.specs.engine_core.Changed.{selected_by, selected_of_inputs}
 use Rattle.outcome.specs.engine_core.Selecting.{pool_of_inputs}
-use Rattle.outcome.specs.engine_core.Wishes.{first_unknown, is_installed_name, is_known_name, names_to_upgrade, unknown_operand_place, unless_unknown_operand}
+use Rattle.outcome.specs.engine_core.Wishes.{place_of_first_unknown_operand, is_installed_name, is_known_name, names_to_upgrade, unknown_operand_place, unless_unknown_operand}
 use Rattle.outcome.specs.candidate_core.Rank.{SealedPool}
 use Rattle.report_core.specs.declared.refusal.Refusal.{Refusal}
 use Rattle.report_core.specs.declared.refusal.Refusal.TheVariants.{NotInstalled, Unsatisfied}
@@ -35,15 +35,15 @@ one_more : (is_known : List ℕ → Bool) (o : Operand) (operands : List Operand
 one_more is_known o operands k more p (inl same) = ap (λ (x : Operand). is_known x.text) same ∙ k
 one_more is_known o operands k more p (inr inside) = more p inside
 
-all_passing : (is_known : List ℕ → Bool) (operands : List Operand) → first_unknown is_known operands ≡ None → ArePassing is_known operands
+all_passing : (is_known : List ℕ → Bool) (operands : List Operand) → place_of_first_unknown_operand is_known operands ≡ None → ArePassing is_known operands
 all_passing is_known [] e = λ p inside. absurd inside
 all_passing is_known (o ∷ operands) e = by_test (is_known o.text) refl e (all_passing is_known operands)
   where
-    by_test : (b : Bool) → is_known o.text ≡ b → (if b then first_unknown is_known operands else Some o.place) ≡ None → (first_unknown is_known operands ≡ None → ArePassing is_known operands) → ArePassing is_known (o ∷ operands)
+    by_test : (b : Bool) → is_known o.text ≡ b → (if b then place_of_first_unknown_operand is_known operands else Some o.place) ≡ None → (place_of_first_unknown_operand is_known operands ≡ None → ArePassing is_known operands) → ArePassing is_known (o ∷ operands)
     by_test true k e more = one_more is_known o operands k (more e)
     by_test false k e more = absurd (cc (e))
 
-first_failing : (is_known : List ℕ → Bool) (operands : List Operand) (place : ℕ) → first_unknown is_known operands ≡ Some place → IsFirstFailing is_known operands place
+first_failing : (is_known : List ℕ → Bool) (operands : List Operand) (place : ℕ) → place_of_first_unknown_operand is_known operands ≡ Some place → IsFirstFailing is_known operands place
 first_failing is_known [] place e = absurd (cc (e))
 first_failing is_known (o ∷ operands) place e = by_test (is_known o.text) refl e (first_failing is_known operands place)
   where
@@ -57,8 +57,8 @@ first_failing is_known (o ∷ operands) place e = by_test (is_known o.text) refl
       known = one_more is_known o f.before k f.known;
     }
 
-    by_test : (b : Bool) → is_known o.text ≡ b → (if b then first_unknown is_known operands else Some o.place) ≡ Some place
-        → (first_unknown is_known operands ≡ Some place → IsFirstFailing is_known operands place) → IsFirstFailing is_known (o ∷ operands) place
+    by_test : (b : Bool) → is_known o.text ≡ b → (if b then place_of_first_unknown_operand is_known operands else Some o.place) ≡ Some place
+        → (place_of_first_unknown_operand is_known operands ≡ Some place → IsFirstFailing is_known operands place) → IsFirstFailing is_known (o ∷ operands) place
     by_test true k e more = behind k (more e)
     by_test false k e more = record { before = []; operand = o; after = operands; are = refl; at = (let same : o.place ≡ place = cc in same); known = λ p inside. absurd inside }
 
@@ -74,7 +74,7 @@ del_knows inputs name known (world, installed) = true≢false (sym known ∙ (λ
 
 module _ (command : CommandLine) (inputs : Inputs) where
   first_by : (applet : Applet) (is_known : List ℕ → Bool) (place : ℕ) → ((name : List ℕ) → is_known name ≡ true → IsUnknownTo applet inputs name → ⊥) → applet ≡ command.applet
-      → first_unknown is_known command.operands ≡ Some place → IsFirstUnknown command inputs place
+      → place_of_first_unknown_operand is_known command.operands ≡ Some place → IsFirstUnknown command inputs place
   first_by applet is_known place known same e =
       let f = first_failing is_known command.operands place e in
       record { before = f.before; operand = f.operand; after = f.after; are = f.are; at = f.at; known = known_to command inputs applet is_known known same f.before f.known }

@@ -4,13 +4,13 @@ use Rattle.std.specs.Prelude.{slice_get}
 use Rattle.std.specs.List.{cons_option, find}
 use Rattle.adb_view.specs.Plain.{Plain}
 use Rattle.outcome.specs.change_inputs.Chains.{and_then}
-use Rattle.outcome.specs.change_inputs.Inputs.{Inputs, first_index_read}
-use Rattle.outcome.specs.change_outcome.ChangeOutcome.{ChangeWishes, change_members}
-use Rattle.outcome.specs.change_outcome.MembersAfter.{MemberFound, added_package_by_path, added_member_found, members_after, name_after, name_by_change, name_by_selected, member_of_added_name, member_of_removed_name, names_after}
-use Rattle.outcome.specs.change_outcome.PackageFiles.{package_file_of, scripts_of_change, unless_script}
+use Rattle.outcome.specs.change_inputs.Inputs.{Inputs, first_index_read_number}
+use Rattle.outcome.specs.change_outcome.ChangeOutcome.{ChangeWishes, members_after_change}
+use Rattle.outcome.specs.change_outcome.MembersAfter.{MemberFound, added_package_by_path, added_member_found, members_after, member_of_name_after, member_of_name_by_change, member_of_name_by_selected, member_of_added_name, member_of_removed_name, names_after}
+use Rattle.outcome.specs.change_outcome.PackageFiles.{package_file_of, scripts_of_change, unless_script_needed}
 use Rattle.outcome.specs.db_core.Packages.{is_package_named}
 use Rattle.outcome.specs.make_info.Reads.{Reads}
-use Rattle.outcome.specs.package_changes.Changes.{Replacement, change_of_name, is_selected_named, names_before_and_selected}
+use Rattle.outcome.specs.package_changes.Changes.{Replacement, change_of_name, is_candidate_named, names_before_and_selected}
 use Rattle.outcome.specs.candidate_core.Candidates.{Candidate}
 use Rattle.report_core.specs.Reports.{Change}
 use Rattle.report_core.specs.declared.refusal.Refusal.{Refusal}
@@ -50,32 +50,32 @@ module _ (inputs : Inputs) (r : Replacement) (wishes : ChangeWishes) (read : Rea
       → member_of_added_name read inputs.root.repositories wishes.no_scripts n name change c ≡ Err refusal → IsSo refusal
   comes_fault n name change c refusal at selected becomes e =
       elim (and_then_err (added_package_by_path read n c (package_file_of inputs.root.repositories c)) (λ pkg.
-      unless_script wishes.no_scripts name pkg.value (scripts_of_change change) (Some (added_member_found pkg))) refusal e) [
+      unless_script_needed wishes.no_scripts name pkg.value (scripts_of_change change) (Some (added_member_found pkg))) refusal e) [
         | inl first ↦ coming_fault inputs r wishes read n name at change becomes c selected refusal first
         | inr next ↦ script_fault inputs r wishes read name next.0.value change (Some (added_member_found next.0)) refusal
             (inl (next.0, brought inputs r wishes read n name at change becomes c selected next.0 next.1, refl)) becomes next.2
       ]
 
   selected_fault : (n : ℕ) (name : List ℕ) (change : Change) (selected : Option Candidate) (refusal : Refusal) → IsNameAt inputs r n name → selected_of_name r name ≡ selected → change_of_name r name ≡ Some change
-      → name_by_selected read inputs.root.repositories wishes.no_scripts n name change (find (is_package_named name) r.before) selected ≡ Err refusal → IsSo refusal
+      → member_of_name_by_selected read inputs.root.repositories wishes.no_scripts n name change (find (is_package_named name) r.before) selected ≡ Err refusal → IsSo refusal
   selected_fault n name change None refusal at is becomes e = goes_fault name change (find (is_package_named name) r.before) refusal refl is becomes e
   selected_fault n name change (Some c) refusal at is becomes e = comes_fault n name change c refusal at is becomes e
 
   change_fault : (n : ℕ) (name : List ℕ) (change : Option Change) (refusal : Refusal) → IsNameAt inputs r n name → change_of_name r name ≡ change
-      → name_by_change read inputs.root.repositories wishes.no_scripts n name change (find (is_package_named name) r.before) (find (is_selected_named name) r.selected) ≡ Err refusal → IsSo refusal
+      → member_of_name_by_change read inputs.root.repositories wishes.no_scripts n name change (find (is_package_named name) r.before) (find (is_candidate_named name) r.selected) ≡ Err refusal → IsSo refusal
   change_fault n name None refusal at becomes e = absurd (cc (e))
-  change_fault n name (Some change) refusal at becomes e = selected_fault n name change (find (is_selected_named name) r.selected) refusal at refl becomes e
+  change_fault n name (Some change) refusal at becomes e = selected_fault n name change (find (is_candidate_named name) r.selected) refusal at refl becomes e
 
-  name_fault : (n : ℕ) (name : List ℕ) (refusal : Refusal) → IsNameAt inputs r n name → name_after r read inputs.root.repositories wishes.no_scripts n name ≡ Err refusal → IsSo refusal
+  name_fault : (n : ℕ) (name : List ℕ) (refusal : Refusal) → IsNameAt inputs r n name → member_of_name_after r read inputs.root.repositories wishes.no_scripts n name ≡ Err refusal → IsSo refusal
   name_fault n name refusal at e = change_fault n name (change_of_name r name) refusal at refl e
 
   -- ---- all of them
 
-  names_fault : (n place : ℕ) (names : List (List ℕ)) (refusal : Refusal) → first_index_read + length inputs.root.repositories + place ≡ n → AreNamesFrom r place names
+  names_fault : (n place : ℕ) (names : List (List ℕ)) (refusal : Refusal) → first_index_read_number + length inputs.root.repositories + place ≡ n → AreNamesFrom r place names
       → names_after r read inputs.root.repositories wishes.no_scripts n names ≡ Err refusal → IsSo refusal
   names_fault n place [] refusal number are e = absurd (cc (e))
   names_fault n place (name ∷ names) refusal number are e =
-      elim (and_then_err (name_after r read inputs.root.repositories wishes.no_scripts n name) (λ first.
+      elim (and_then_err (member_of_name_after r read inputs.root.repositories wishes.no_scripts n name) (λ first.
       and_then (names_after r read inputs.root.repositories wishes.no_scripts (suc n) names) (λ others.
       Ok (cons_option first others))) refusal e) [
         | inl first ↦ name_fault n name refusal (record { place = place; is_place = first_name r place name names are; is_number = number }) first
@@ -93,7 +93,7 @@ module _ (inputs : Inputs) (r : Replacement) (wishes : ChangeWishes) (read : Rea
           no_refusal : (fs : List MemberFound) → Ok fs ≡ Err refusal → ⊥
           no_refusal fs e = cc (e)
 
-  pub members_fault : (refusal : Refusal) → change_members inputs r wishes read ≡ Err refusal → IsFaultOfPackage inputs r wishes read refusal
+  pub members_fault : (refusal : Refusal) → members_after_change inputs r wishes read ≡ Err refusal → IsFaultOfPackage inputs r wishes read refusal
   unfolding members_after
   members_fault refusal e =
-      names_fault (first_index_read + length inputs.root.repositories) 0 (names_before_and_selected r) refusal (omega arith) (all_names r) e
+      names_fault (first_index_read_number + length inputs.root.repositories) 0 (names_before_and_selected r) refusal (omega arith) (all_names r) e

@@ -9,19 +9,19 @@ use Rattle.adb_view.specs.Plain.{Plain}
 use Rattle.base_core.proofs.Rising as Names
 use Rattle.outcome.proofs.change_files.InOrder.{in_order, in_right, order_rises}
 use Rattle.outcome.specs.change_inputs.Chains.{and_then}
-use Rattle.outcome.specs.change_inputs.Inputs.{Inputs, first_index_read}
-use Rattle.outcome.specs.change_outcome.ChangeOutcome.{ChangeWishes, change_members}
-use Rattle.outcome.specs.change_outcome.MembersAfter.{MemberFound, added_package_by_path, added_member_found, members_after, found_members, name_after, name_by_change, name_by_selected, member_of_added_name, member_of_removed_name, names_after, kept_member_found}
-use Rattle.outcome.specs.change_outcome.PackageFiles.{AddedPackage, package_file_of, scripts_of_change, unless_script}
+use Rattle.outcome.specs.change_inputs.Inputs.{Inputs, first_index_read_number}
+use Rattle.outcome.specs.change_outcome.ChangeOutcome.{ChangeWishes, members_after_change}
+use Rattle.outcome.specs.change_outcome.MembersAfter.{MemberFound, added_package_by_path, added_member_found, members_after, found_members, member_of_name_after, member_of_name_by_change, member_of_name_by_selected, member_of_added_name, member_of_removed_name, names_after, kept_member_found}
+use Rattle.outcome.specs.change_outcome.PackageFiles.{AddedPackage, package_file_of, scripts_of_change, unless_script_needed}
 use Rattle.outcome.specs.db_core.Members.{member_name}
 use Rattle.outcome.specs.db_core.Packages.{is_package_named}
 use Rattle.outcome.specs.make_info.Reads.{Reads}
-use Rattle.outcome.specs.package_changes.Changes.{Replacement, change_between, change_of_name, is_candidate_this_package, is_selected_named, names_before_and_selected, change_unless_same}
+use Rattle.outcome.specs.package_changes.Changes.{Replacement, change_between, change_of_name, is_candidate_this_package, is_candidate_named, names_before_and_selected, change_unless_same}
 use Rattle.outcome.specs.candidate_core.Candidates.{Candidate}
 use Rattle.report_core.specs.Reports.{Change}
 use Rattle.report_core.specs.declared.refusal.Refusal.{Refusal}
 use Rattle.refusal_laws.specs.AddedPackages.{selected_of_name}
-use Rattle.refusal_laws.specs.PackagesAfter.{AreSelectedOnes, IsAddedMember, IsSelectedMember, IsUnchanged}
+use Rattle.refusal_laws.specs.PackagesAfter.{AreSelectedMembers, IsAddedMember, IsSelectedMember, IsUnchangedMember}
 use Rattle.refusal_laws.proofs.Coming.{IsNameAt, brought, script_ok}
 use Rattle.refusal_laws.proofs.Lists.{and_then_ok, found_in, in_found, in_mapped}
 use Rattle.refusal_laws.proofs.PackageFaults.{AreNamesFrom, all_names, first_name, other_names}
@@ -45,9 +45,9 @@ same_where_unchanged is_again name (Some pkg) (Some c) e = by_test (is_candidate
     by_test true e = refl
     by_test false e = absurd (cc (e))
 
-unchanged_same : (r : Replacement) (name : List ℕ) → change_of_name r name ≡ None → AreSame (find (is_package_named name) r.before) (find (is_selected_named name) r.selected)
+unchanged_same : (r : Replacement) (name : List ℕ) → change_of_name r name ≡ None → AreSame (find (is_package_named name) r.before) (find (is_candidate_named name) r.selected)
 unfolding change_of_name
-unchanged_same r name e = same_where_unchanged (list_any (bytes_eq name) r.again) name (find (is_package_named name) r.before) (find (is_selected_named name) r.selected) e
+unchanged_same r name e = same_where_unchanged (list_any (bytes_eq name) r.again) name (find (is_package_named name) r.before) (find (is_candidate_named name) r.selected) e
 
 module _ (inputs : Inputs) (r : Replacement) (wishes : ChangeWishes) (read : Reads) where
   -- ---- one name
@@ -56,7 +56,7 @@ module _ (inputs : Inputs) (r : Replacement) (wishes : ChangeWishes) (read : Rea
     pub named : member_name f.member ≡ name
     pub candidate : Candidate
     pub selected : selected_of_name r name ≡ Some candidate
-    pub is : IsUnchanged r name candidate f ⊎ IsAddedMember inputs r read name f
+    pub is : IsUnchangedMember r name candidate f ⊎ IsAddedMember inputs r read name f
 
   abbrev IfFound : List ℕ → Option MemberFound → Type 0
   IfFound name None = selected_of_name r name ≡ None
@@ -83,9 +83,9 @@ module _ (inputs : Inputs) (r : Replacement) (wishes : ChangeWishes) (read : Rea
       → member_of_added_name read inputs.root.repositories wishes.no_scripts n name change c ≡ Ok o → IfFound name o
   comes n name change c o at selected becomes e =
       let pkg = and_then_ok (added_package_by_path read n c (package_file_of inputs.root.repositories c)) (λ pkg.
-      unless_script wishes.no_scripts name pkg.value (scripts_of_change change) (Some (added_member_found pkg))) o e in
+      unless_script_needed wishes.no_scripts name pkg.value (scripts_of_change change) (Some (added_member_found pkg))) o e in
       let is = brought inputs r wishes read n name at change becomes c selected pkg.0 pkg.1 in
-      let named : c.name ≡ name = (bytes_eq-Decides c.name name).0 (found_in (is_selected_named name) r.selected c selected).1 in
+      let named : c.name ≡ name = (bytes_eq-Decides c.name name).0 (found_in (is_candidate_named name) r.selected c selected).1 in
       let one : is.is_read.candidate ≡ c = (let both = is.is_read.selected in cc) in
       subst (IfFound name) (script_ok wishes.no_scripts name pkg.0.value (scripts_of_change change) (Some (added_member_found pkg.0)) o pkg.2)
       (record {
@@ -100,16 +100,16 @@ module _ (inputs : Inputs) (r : Replacement) (wishes : ChangeWishes) (read : Rea
   goes name change (Some pkg) o none e = subst (IfFound name) (script_ok wishes.no_scripts name pkg (scripts_of_change change) None o e) none
 
   selected_found : (n : ℕ) (name : List ℕ) (change : Change) (selected : Option Candidate) (o : Option MemberFound) → IsNameAt inputs r n name → selected_of_name r name ≡ selected → change_of_name r name ≡ Some change
-      → name_by_selected read inputs.root.repositories wishes.no_scripts n name change (find (is_package_named name) r.before) selected ≡ Ok o → IfFound name o
+      → member_of_name_by_selected read inputs.root.repositories wishes.no_scripts n name change (find (is_package_named name) r.before) selected ≡ Ok o → IfFound name o
   selected_found n name change None o at is becomes e = goes name change (find (is_package_named name) r.before) o is e
   selected_found n name change (Some c) o at is becomes e = comes n name change c o at is becomes e
 
   change_found : (n : ℕ) (name : List ℕ) (change : Option Change) (o : Option MemberFound) → IsNameAt inputs r n name → change_of_name r name ≡ change
-      → name_by_change read inputs.root.repositories wishes.no_scripts n name change (find (is_package_named name) r.before) (find (is_selected_named name) r.selected) ≡ Ok o → IfFound name o
-  change_found n name None o at becomes e = stays name (find (is_package_named name) r.before) (find (is_selected_named name) r.selected) o refl refl becomes (unchanged_same r name becomes) e
-  change_found n name (Some change) o at becomes e = selected_found n name change (find (is_selected_named name) r.selected) o at refl becomes e
+      → member_of_name_by_change read inputs.root.repositories wishes.no_scripts n name change (find (is_package_named name) r.before) (find (is_candidate_named name) r.selected) ≡ Ok o → IfFound name o
+  change_found n name None o at becomes e = stays name (find (is_package_named name) r.before) (find (is_candidate_named name) r.selected) o refl refl becomes (unchanged_same r name becomes) e
+  change_found n name (Some change) o at becomes e = selected_found n name change (find (is_candidate_named name) r.selected) o at refl becomes e
 
-  name_found : (n : ℕ) (name : List ℕ) (o : Option MemberFound) → IsNameAt inputs r n name → name_after r read inputs.root.repositories wishes.no_scripts n name ≡ Ok o → IfFound name o
+  name_found : (n : ℕ) (name : List ℕ) (o : Option MemberFound) → IsNameAt inputs r n name → member_of_name_after r read inputs.root.repositories wishes.no_scripts n name ≡ Ok o → IfFound name o
   name_found n name o at e = change_found n name (change_of_name r name) o at refl e
 
   -- ---- all of them
@@ -126,7 +126,7 @@ module _ (inputs : Inputs) (r : Replacement) (wishes : ChangeWishes) (read : Rea
 
   member_of : (name : List ℕ) (f : MemberFound) → IsFoundFor name f → IsSelectedMember inputs r read f
   member_of name f found =
-      let P : List ℕ → Type 0 = λ q. (c : Candidate) × (selected_of_name r q ≡ Some c) × (IsUnchanged r q c f ⊎ IsAddedMember inputs r read q f) in
+      let P : List ℕ → Type 0 = λ q. (c : Candidate) × (selected_of_name r q ≡ Some c) × (IsUnchangedMember r q c f ⊎ IsAddedMember inputs r read q f) in
       let is = subst P (sym found.named) (found.candidate, found.selected, found.is) in
       record { candidate = is.0; selected = is.1; is = is.2 }
 
@@ -148,13 +148,13 @@ module _ (inputs : Inputs) (r : Replacement) (wishes : ChangeWishes) (read : Rea
     ];
   }
 
-  names_found : (n place : ℕ) (names : List (List ℕ)) (fs : List MemberFound) → first_index_read + length inputs.root.repositories + place ≡ n → AreNamesFrom r place names → Names.Rises names
+  names_found : (n place : ℕ) (names : List (List ℕ)) (fs : List MemberFound) → first_index_read_number + length inputs.root.repositories + place ≡ n → AreNamesFrom r place names → Names.Rises names
       → names_after r read inputs.root.repositories wishes.no_scripts n names ≡ Ok fs → AreFoundFor names fs
   names_found n place [] fs number are rises e =
       let same : [] ≡ fs = cc in
       subst (AreFoundFor []) same (record { rises = tt; within = λ q here. absurd here; each = λ f here. absurd here; all = λ q c here some. absurd here })
   names_found n place (name ∷ names) fs number are rises e =
-      let first = and_then_ok (name_after r read inputs.root.repositories wishes.no_scripts n name) (λ first.
+      let first = and_then_ok (member_of_name_after r read inputs.root.repositories wishes.no_scripts n name) (λ first.
       and_then (names_after r read inputs.root.repositories wishes.no_scripts (suc n) names) (λ others.
       Ok (cons_option first others))) fs e in
       let others = and_then_ok (names_after r read inputs.root.repositories wishes.no_scripts (suc n) names) (λ others. Ok (cons_option first.0 others)) fs first.2 in
@@ -164,23 +164,23 @@ module _ (inputs : Inputs) (r : Replacement) (wishes : ChangeWishes) (read : Rea
       (name_found n name first.0 (record { place = place; is_place = first_name r place name names are; is_number = number }) first.1)
       (names_found (suc n) (suc place) names others.0 (omega (arith, number)) (other_names r place name names are) rises.1 others.1))
 
-  all_found : (fs : List MemberFound) → change_members inputs r wishes read ≡ Ok fs → AreFoundFor (names_before_and_selected r) fs
+  all_found : (fs : List MemberFound) → members_after_change inputs r wishes read ≡ Ok fs → AreFoundFor (names_before_and_selected r) fs
   unfolding members_after
   all_found fs e =
-      names_found (first_index_read + length inputs.root.repositories) 0 (names_before_and_selected r) fs (omega arith) (all_names r) (order_rises _) e
+      names_found (first_index_read_number + length inputs.root.repositories) 0 (names_before_and_selected r) fs (omega arith) (all_names r) (order_rises _) e
 
   is_one_side : (c : Candidate) → IsIn c r.selected → Names.IsIn c.name (names_before_and_selected r)
   is_one_side c here =
       in_order c.name (map package_name r.before ++ map (λ (c : Candidate). c.name) r.selected)
       (in_right c.name (map package_name r.before) (map (λ (c : Candidate). c.name) r.selected) (in_mapped (λ (c : Candidate). c.name) r.selected c here))
 
-  pub selected_ones : (fs : List MemberFound) → change_members inputs r wishes read ≡ Ok fs → AreSelectedOnes inputs r read fs
+  pub selected_ones : (fs : List MemberFound) → members_after_change inputs r wishes read ≡ Ok fs → AreSelectedMembers inputs r read fs
   selected_ones fs e =
       let are = all_found fs e in
       record {
         in_order = Names.pairs_from_rises (map member_name (found_members fs)) are.rises;
         each = are.each;
         all = λ c here.
-            (let some = in_found (is_selected_named c.name) r.selected c here ((bytes_eq-Decides c.name c.name).1 refl) in
+            (let some = in_found (is_candidate_named c.name) r.selected c here ((bytes_eq-Decides c.name c.name).1 refl) in
             are.all c.name some.0 (is_one_side c here) some.1);
       }

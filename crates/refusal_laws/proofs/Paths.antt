@@ -15,7 +15,7 @@ use Rattle.outcome.specs.change_files.NamesAfter.{added_paths}
 use Rattle.outcome.specs.change_files.PlanLists.{first_reserved_path}
 use Rattle.outcome.specs.change_outcome.ChangeOutcome.{member_name_at_place}
 use Rattle.outcome.specs.db_core.Members.{Listing, Member, member_listings, member_name}
-use Rattle.outcome.specs.file_owners.Owners.{claim_of_listing, claims_from, claims_in, first_contested_path_of_members, member_beats, owner_of_path, takes_over_if_any}
+use Rattle.outcome.specs.file_owners.Owners.{claim_of_listing, claims_from, claims_in, first_contested_path_of_members, member_beats, owner_of_path, takes_over_if_both_exist}
 use Rattle.outcome.specs.file_owners.Replaces.{takes_over}
 use Rattle.outcome.proofs.file_owners.Claiming.{owner_is}
 use Rattle.base_core.specs.ByteOrder.{bytes_cmp, precedes, smallest_text}
@@ -28,7 +28,7 @@ use Rattle.outcome.proofs.own_core.NamesOnce.{not_below}
 use Rattle.outcome.specs.path_claims.Claims.{ContestedPath, claimants, contested_path_at, first_contested_path, first_path_without_owner, is_claim_of_path, owner_among}
 use Rattle.outcome.specs.path_claims.Contest.{beats_each, first_with_unbeaten_rival, rivals_of, winner}
 use Rattle.outcome.specs.path_claims.declared.contest.Rivals.{Rivals}
-use Rattle.refusal_laws.specs.ChangeFaults.{IsContested, IsFirstReservedAddedPath}
+use Rattle.refusal_laws.specs.ChangeFaults.{IsFirstContestedPath, IsFirstReservedAddedPath}
 use Rattle.refusal_laws.specs.TestsPassed.{AreAddedPathsUnreserved, EachListedPathHasOwner}
 use Rattle.refusal_laws.proofs.Lists.{all_pass, found_in, in_names, name_in, none_found}
 
@@ -167,7 +167,7 @@ module _ (members : List Member) where
   beats_is one other here there =
       let first = each_here (IsPlaced members) (member_listings members) one (each_placed members) here in
       let second = each_here (IsPlaced members) (member_listings members) other (each_placed members) there in
-      ap₂ takes_over_if_any first.at second.at
+      ap₂ takes_over_if_both_exist first.at second.at
 
   -- where no third member claims the path, and one of the two took it over, it would own it
   takes_neither : (path : List ℕ) (x y : ℕ) → owner_by_claims path ≡ None → IsIn x (claimants (claims_in members) path)
@@ -186,7 +186,7 @@ module _ (members : List Member) where
           absurd (true≢false (sym each ∙ none_found (beats_each (member_beats members) ms) ms x unowned here))
 
   contested_rivals : (path : List ℕ) (rivals : Rivals) → first_path_without_owner (member_beats members) (claims_in members) ≡ Some path → first_with_unbeaten_rival (member_beats members) (claimants (claims_in members) path) ≡ Some rivals
-      → IsContested members path (member_name_at_place members rivals.first) (member_name_at_place members rivals.second)
+      → IsFirstContestedPath members path (member_name_at_place members rivals.first) (member_name_at_place members rivals.second)
   unfolding claims_in
   contested_rivals path rivals found e =
       let are = rivals_are (member_beats members) (claimants (claims_in members) path) rivals e in
@@ -270,18 +270,18 @@ module _ (members : List Member) where
           no_rivals None e = refl
           no_rivals (Some rivals) e = absurd (cc (e))
 
-  pub contested_is : (c : ContestedPath) → first_contested_path_of_members members ≡ Some c → IsContested members c.path (member_name_at_place members c.rivals.first) (member_name_at_place members c.rivals.second)
+  pub contested_is : (c : ContestedPath) → first_contested_path_of_members members ≡ Some c → IsFirstContestedPath members c.path (member_name_at_place members c.rivals.first) (member_name_at_place members c.rivals.second)
   unfolding first_contested_path_of_members first_contested_path
   contested_is c e = by_path (first_path_without_owner (member_beats members) (claims_in members)) refl e
     where
       by_rivals : (path : List ℕ) → first_path_without_owner (member_beats members) (claims_in members) ≡ Some path → (o : Option Rivals) → first_with_unbeaten_rival (member_beats members) (claimants (claims_in members) path) ≡ o
-          → option_map (λ rivals. record { path = path; rivals = rivals }) o ≡ Some c → IsContested members c.path (member_name_at_place members c.rivals.first) (member_name_at_place members c.rivals.second)
+          → option_map (λ rivals. record { path = path; rivals = rivals }) o ≡ Some c → IsFirstContestedPath members c.path (member_name_at_place members c.rivals.first) (member_name_at_place members c.rivals.second)
       by_rivals path found None is e = absurd (cc (e))
       by_rivals path found (Some rivals) is e =
           let same : record { path = path; rivals = rivals } ≡ c = cc in
-          subst (λ (d : ContestedPath). IsContested members d.path (member_name_at_place members d.rivals.first) (member_name_at_place members d.rivals.second)) same (contested_rivals path rivals found is)
+          subst (λ (d : ContestedPath). IsFirstContestedPath members d.path (member_name_at_place members d.rivals.first) (member_name_at_place members d.rivals.second)) same (contested_rivals path rivals found is)
 
       by_path : (o : Option (List ℕ)) → first_path_without_owner (member_beats members) (claims_in members) ≡ o → option_and_then (contested_path_at (member_beats members) (claims_in members)) o ≡ Some c
-          → IsContested members c.path (member_name_at_place members c.rivals.first) (member_name_at_place members c.rivals.second)
+          → IsFirstContestedPath members c.path (member_name_at_place members c.rivals.first) (member_name_at_place members c.rivals.second)
       by_path None is e = absurd (cc (e))
       by_path (Some path) is e = by_rivals path is (first_with_unbeaten_rival (member_beats members) (claimants (claims_in members) path)) refl e

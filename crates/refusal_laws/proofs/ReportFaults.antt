@@ -8,7 +8,7 @@ use Rattle.outcome.specs.audit_core.Manifest.{manifest_of, manifest_with, operan
 use Rattle.outcome.specs.candidate_core.Rank.{SealedPool, no_names}
 use Rattle.outcome.specs.change_inputs.Candidates.{root_pool}
 use Rattle.outcome.specs.change_inputs.Database.{Database}
-use Rattle.outcome.specs.change_inputs.Inputs.{Inputs, database_for, database_read, inputs_of, text_database_read}
+use Rattle.outcome.specs.change_inputs.Inputs.{Inputs, database_for, database_read_number, inputs_of, text_database_read_number}
 use Rattle.command_core.specs.Command.{CommandLine}
 use Rattle.command_core.specs.declared.operands.Operand.{Operand}
 use Rattle.outcome.specs.installed_info.Info.{report_and_refusal}
@@ -118,14 +118,14 @@ module _ (command : CommandLine) (read : Reads) where
   pub audit_fault : (refusal : Refusal) → audit_result command read ≡ Err refusal → IsFaultOfDatabase command read refusal
   audit_fault refusal e =
       elim (and_then_err (database_for command read) (audit_of read) refusal e) [
-        | inl first ↦ database_fault command read (read database_read database_name) (read text_database_read text_database_name) refusal refl refl first
+        | inl first ↦ database_fault command read (read database_read_number database_name) (read text_database_read_number text_database_name) refusal refl refl first
         | inr next ↦ absurd (no_refusal _ refusal next.2)
       ]
 
   pub manifest_fault : (refusal : Refusal) → command.flags.who_owns ≡ false → manifest_result command read ≡ Err refusal → IsFaultOfInfo command read refusal
   manifest_fault refusal named e =
       elim (and_then_err (database_for command read) (manifest_report command) refusal e) [
-        | inl first ↦ inl (database_fault command read (read database_read database_name) (read text_database_read text_database_name) refusal refl refl first)
+        | inl first ↦ inl (database_fault command read (read database_read_number database_name) (read text_database_read_number text_database_name) refusal refl refl first)
         | inr next ↦ inr (record { database = next.0; is_database = next.1; first = first_missing command named next.0.packages refusal (manifest_err command next.0 refusal next.2) })
       ]
 

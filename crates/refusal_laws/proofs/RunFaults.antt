@@ -4,15 +4,15 @@ use Rattle.base_core.specs.Files.{Files}
 use Rattle.base_core.specs.declared.cause.Cause.{Cause}
 use Rattle.outcome.specs.change_outcome.ChangeOutcome.{ChangeDone}
 use Rattle.command_core.specs.Command.{CommandLine}
-use Rattle.outcome.specs.engine_core.Changed.{IsClashFor, change_of_command}
+use Rattle.outcome.specs.engine_core.Changed.{IsClashOfCommand, change_of_command}
 use Rattle.outcome.specs.engine_core.Choice.{IsChoiceFrom}
 use Rattle.outcome.specs.engine_core.Selecting.{pool_of_command}
 use Rattle.outcome.specs.journal_core.Recovery.{intent_name}
 use Rattle.outcome.specs.journal_core.Staged.{unstaged_files}
 use Rattle.outcome.specs.Changing.{change_outcome}
-use Rattle.outcome.specs.Commands.{IsOutcomeAfterRecovery, reads_in}
+use Rattle.outcome.specs.Commands.{IsOutcomeOverRecoveredFiles, reads_in}
 use Rattle.outcome.specs.Effect.{Changes, Effect, effect_of}
-use Rattle.outcome.specs.Given.{IsChosenFor, IsClashBy}
+use Rattle.outcome.specs.Given.{IsChosenFor, IsFirstClashForEffect}
 use Rattle.outcome.specs.Outcome.{Outcome, just_refusal}
 use Rattle.outcome.specs.Work.{fault_of_intent}
 use Rattle.outcome.proofs.Applets.{change_is}
@@ -27,10 +27,10 @@ refused_is : (files : Files) (c : Result ChangeDone Refusal) (refusal : Refusal)
 refused_is files (Ok done) refusal e = absurd (cc (e))
 refused_is files (Err first) refusal e = ap (λ (r : Refusal). Err r) (some_same first refusal e)
 
-pub over_fault : (command : CommandLine) (files : Files) (o : Outcome) (refusal : Refusal) → effect_of command.applet ≡ Changes → IsOutcomeAfterRecovery command files o → o.refusal ≡ Some refusal → IsFaultOfCommandOver command files refusal
+pub over_fault : (command : CommandLine) (files : Files) (o : Outcome) (refusal : Refusal) → effect_of command.applet ≡ Changes → IsOutcomeOverRecoveredFiles command files o → o.refusal ≡ Some refusal → IsFaultOfCommandOver command files refusal
 over_fault command files o refusal changes (given, is, outcome) e =
     let choice : IsChoiceFrom (pool_of_command command (reads_in files)) given.chosen = subst (λ (x : Effect). IsChosenFor x command (reads_in files) given.chosen) changes is.chosen in
-    let clash : IsClashFor command (reads_in files) files given.chosen given.clash = subst (λ (x : Effect). IsClashBy x command (reads_in files) files given.chosen given.clash) changes is.clash in
+    let clash : IsClashOfCommand command (reads_in files) files given.chosen given.clash = subst (λ (x : Effect). IsFirstClashForEffect x command (reads_in files) files given.chosen given.clash) changes is.clash in
     let same : change_outcome files (change_of_command command (reads_in files) files given.chosen given.clash) ≡ o = change_is command.applet command given (reads_in files) files changes ∙ sym outcome in
     record {
       chosen = given.chosen;
@@ -42,7 +42,7 @@ over_fault command files o refusal changes (given, is, outcome) e =
 -- by whether the intent is bad
 pub run_fault : (command : CommandLine) (files : Files) (o : Outcome) (refusal : Refusal) → effect_of command.applet ≡ Changes
     → ((cause : Cause) → fault_of_intent (files intent_name) ≡ Some cause → o ≡ just_refusal files (IntentBad cause))
-    → (fault_of_intent (files intent_name) ≡ None → IsOutcomeAfterRecovery command (unstaged_files files) o)
+    → (fault_of_intent (files intent_name) ≡ None → IsOutcomeOverRecoveredFiles command (unstaged_files files) o)
     → o.refusal ≡ Some refusal → IsFaultOfRun command files refusal
 run_fault command files o refusal changes bad works e = by_intent (fault_of_intent (files intent_name)) refl
   where

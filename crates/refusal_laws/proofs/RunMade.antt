@@ -6,12 +6,12 @@ use Rattle.outcome.specs.change_outcome.ChangeOutcome.{ChangeDone, change_or_ref
 use Rattle.command_core.specs.Command.{CommandLine}
 use Rattle.outcome.specs.engine_core.Changed.{IsClashOfSelected, IsClashUnlessSimulated, InputsAndReplacement, change_of_selected, simulated_change}
 use Rattle.outcome.specs.engine_core.Wishes.{wishes_of}
-use Rattle.outcome.specs.ChangeEnd.{IsChangeEnd, IsEndBy, TakesFirstSelection}
+use Rattle.outcome.specs.ChangeEnd.{IsChangeEnd, IsEndOfSelectedChange, TakesFirstPreferredSelection}
 use Rattle.outcome.specs.Commands.{reads_in}
 use Rattle.outcome.specs.Outcome.{Outcome, just_refusal}
 use Rattle.report_core.specs.declared.refusal.Refusal.{Refusal}
 use Rattle.report_core.specs.declared.refusal.Refusal.TheVariants.{Unsatisfied}
-use Rattle.refusal_laws.specs.RunMade.{HasFirstSelection}
+use Rattle.refusal_laws.specs.RunMade.{HasFaultlessFirstPreferredSelection}
 use Rattle.refusal_laws.proofs.CommandFaults.{kept_done}
 use Rattle.refusal_laws.proofs.PackagesAfter.{selected_ones}
 use Rattle.refusal_laws.proofs.TestsPassed.{change_made}
@@ -19,11 +19,11 @@ use Rattle.refusal_laws.proofs.TestsPassed.{change_made}
 not_refused : (files : Files) (o : Outcome) (refusal : Refusal) → o ≡ just_refusal files refusal → o.refusal ≡ None → ⊥
 not_refused files o refusal is none = let both : Some refusal ≡ None = sym (ap (λ (x : Outcome). x.refusal) is) ∙ none in cc (both)
 
-ended : (command : CommandLine) (files : Files) (s : InputsAndReplacement) (c : Result ChangeDone Refusal) (o : Outcome) → IsEndBy command files s c o → o.refusal ≡ None → (done : ChangeDone) × (c ≡ Ok done)
+ended : (command : CommandLine) (files : Files) (s : InputsAndReplacement) (c : Result ChangeDone Refusal) (o : Outcome) → IsEndOfSelectedChange command files s c o → o.refusal ≡ None → (done : ChangeDone) × (c ≡ Ok done)
 ended command files s (Ok done) o end none = (done, refl)
 ended command files s (Err refusal) o end none = absurd (not_refused files o refusal end.1 none)
 
-takes_first : (command : CommandLine) (files : Files) (o : Outcome) → o.refusal ≡ None → command.flags.simulate ≡ false → TakesFirstSelection command files o → HasFirstSelection command files
+takes_first : (command : CommandLine) (files : Files) (o : Outcome) → o.refusal ≡ None → command.flags.simulate ≡ false → TakesFirstPreferredSelection command files o → HasFaultlessFirstPreferredSelection command files
 takes_first command files o none off takes =
     let s : InputsAndReplacement = takes.selected in
     let clash = subst (λ (x : Result InputsAndReplacement Refusal). IsClashOfSelected command (reads_in files) files x takes.clash) takes.selects takes.is_clash in
@@ -46,7 +46,7 @@ takes_first command files o none off takes =
       no_fault = made.2;
     }
 
-pub first_selected : (command : CommandLine) (files : Files) (o : Outcome) → IsChangeEnd command files o → o.refusal ≡ None → command.flags.simulate ≡ false → HasFirstSelection command files
+pub first_selected : (command : CommandLine) (files : Files) (o : Outcome) → IsChangeEnd command files o → o.refusal ≡ None → command.flags.simulate ≡ false → HasFaultlessFirstPreferredSelection command files
 first_selected command files o (inl input) none off = absurd (not_refused files o input.refusal input.outcome none)
 first_selected command files o (inr (inl unsatisfied)) none off = absurd (not_refused files o Unsatisfied unsatisfied.outcome none)
 first_selected command files o (inr (inr takes)) none off = takes_first command files o none off takes

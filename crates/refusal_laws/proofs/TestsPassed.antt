@@ -10,7 +10,7 @@ use Rattle.outcome.specs.change_files.PlanLists.{first_reserved_path}
 use Rattle.outcome.proofs.change_files.InOrder.{in_order}
 use Rattle.outcome.specs.change_inputs.Chains.{and_then}
 use Rattle.outcome.specs.change_inputs.Inputs.{Inputs}
-use Rattle.outcome.specs.change_outcome.ChangeOutcome.{ChangeDone, ChangeWishes, IsClashFound, IsClashOfChange, change_members, change_or_refusal, change_with_members, file_change, member_name_at_place, touched_paths, unless_clash, unless_contested, unless_reserved_path, unless_too_large}
+use Rattle.outcome.specs.change_outcome.ChangeOutcome.{ChangeDone, ChangeWishes, IsClashFound, IsClashOfChange, members_after_change, change_or_refusal, change_with_members, file_change, member_name_at_place, touched_paths, unless_clash, unless_contested, unless_reserved_path, unless_too_large}
 use Rattle.outcome.specs.change_outcome.MembersAfter.{MemberFound}
 use Rattle.outcome.specs.change_outcome.PackageFiles.{has_script_of}
 use Rattle.report_core.specs.Numbers.{TRIGGER_SCRIPT}
@@ -24,15 +24,15 @@ use Rattle.outcome.specs.path_claims.Claims.{ContestedPath}
 use Rattle.outcome.specs.path_clashes.Clash.{NamePair}
 use Rattle.report_core.specs.declared.refusal.Refusal.{Refusal}
 use Rattle.report_core.specs.declared.refusal.Refusal.TheVariants.{Owned, PathClash, Reserved, TriggerNeeded}
-use Rattle.refusal_laws.specs.ChangeFaults.{IsWatchedFor}
-use Rattle.refusal_laws.specs.TestsPassed.{AreAddedPathsUnreserved, PassesChangeTests, HasNoTrigger, PassesNameTests, PassesFileTests, HasPassedBefore}
+use Rattle.refusal_laws.specs.ChangeFaults.{HasPatternOfTouchedFolder}
+use Rattle.refusal_laws.specs.TestsPassed.{AreAddedPathsUnreserved, PassesChangeTestsExceptLimits, HasNoDueTrigger, PassesNameTests, PassesFileTests, HasPassedBefore}
 use Rattle.refusal_laws.proofs.ChangeFaults.{kept_test, large_told, trigger_of}
 use Rattle.refusal_laws.proofs.Lists.{and_then_err, and_then_ok, in_any, in_mapped, name_in}
 use Rattle.refusal_laws.proofs.Paths.{are_unreserved, have_owners}
 
 -- ---- triggers
 
-is_due_where : (change : FileChange) (files : Files) (pkg : Plain) → has_script_of pkg TRIGGER_SCRIPT ≡ true → IsWatchedFor change files pkg → has_due_trigger (folders_of_paths (touched_paths change files)) pkg ≡ true
+is_due_where : (change : FileChange) (files : Files) (pkg : Plain) → has_script_of pkg TRIGGER_SCRIPT ≡ true → HasPatternOfTouchedFolder change files pkg → has_due_trigger (folders_of_paths (touched_paths change files)) pkg ≡ true
 is_due_where change files pkg has watched =
     let folders : List (List ℕ) = map folder_of (touched_paths change files) in
     let folder : List ℕ = folder_of watched.path in
@@ -50,7 +50,7 @@ none_due paths (n ∷ members) is_allowed e m here due = by_test (has_due_trigge
     by_test false is e (inl same) rest = true≢false (sym due ∙ (ap (λ (k : Member). has_due_trigger (folders_of_paths paths) k.pkg) same ∙ is))
     by_test false is e (inr more) rest = rest e more
 
-no_trigger : (wishes : ChangeWishes) (change : FileChange) (files : Files) (is_allowed : Bool) → unless_trigger_due wishes.no_scripts (touched_paths change files) change.members ≡ Ok is_allowed → HasNoTrigger wishes change files
+no_trigger : (wishes : ChangeWishes) (change : FileChange) (files : Files) (is_allowed : Bool) → unless_trigger_due wishes.no_scripts (touched_paths change files) change.members ≡ Ok is_allowed → HasNoDueTrigger wishes change files
 no_trigger wishes change files is_allowed e asked m here has watched =
     none_due (touched_paths change files) change.members is_allowed (ap (λ b. unless_trigger_due b (touched_paths change files) change.members) (sym asked) ∙ e) m here
     (is_due_where change files m.pkg has watched)
@@ -105,26 +105,26 @@ module _ (inputs : Inputs) (r : Replacement) (wishes : ChangeWishes) (files : Fi
 
   -- ---- made
 
-  owners_made : (o : Option ContestedPath) (done : ChangeDone) → first_contested_path_of_members change.members ≡ o → PassesNameTests change files → unless_contested change.members o with_triggers ≡ Ok done → PassesChangeTests wishes change files
+  owners_made : (o : Option ContestedPath) (done : ChangeDone) → first_contested_path_of_members change.members ≡ o → PassesNameTests change files → unless_contested change.members o with_triggers ≡ Ok done → PassesChangeTestsExceptLimits wishes change files
   owners_made None done is names e =
       let triggers = and_then_ok (unless_trigger_due wishes.no_scripts (touched_paths change files) change.members) (λ is_allowed. unless_too_large inputs r wishes found files) done e in
       ((names, have_owners change.members is), no_trigger wishes change files triggers.0 triggers.1)
   owners_made (Some c) done is names e = absurd (cc (e))
 
   clash_made : (o : Option NamePair) (done : ChangeDone) → IsClashFound inputs wishes files (Ok found) o → AreAddedPathsUnreserved change.members
-      → unless_clash o (unless_contested change.members (first_contested_path_of_members change.members) with_triggers) ≡ Ok done → PassesChangeTests wishes change files
+      → unless_clash o (unless_contested change.members (first_contested_path_of_members change.members) with_triggers) ≡ Ok done → PassesChangeTestsExceptLimits wishes change files
   clash_made None done is free e = owners_made (first_contested_path_of_members change.members) done refl (free, is) e
   clash_made (Some pair) done is free e = absurd (cc (e))
 
-  pub files_made : (clash : Option NamePair) (done : ChangeDone) → IsClashFound inputs wishes files (Ok found) clash → change_with_members inputs r wishes clash files found ≡ Ok done → PassesChangeTests wishes (file_change inputs wishes found) files
+  pub files_made : (clash : Option NamePair) (done : ChangeDone) → IsClashFound inputs wishes files (Ok found) clash → change_with_members inputs r wishes clash files found ≡ Ok done → PassesChangeTestsExceptLimits wishes (file_change inputs wishes found) files
   files_made clash done is e = by_path (first_reserved_path change.members) refl e
     where
-      by_path : (o : Option (List ℕ)) → first_reserved_path change.members ≡ o → unless_reserved_path o (unless_clash clash (unless_contested change.members (first_contested_path_of_members change.members) with_triggers)) ≡ Ok done → PassesChangeTests wishes change files
+      by_path : (o : Option (List ℕ)) → first_reserved_path change.members ≡ o → unless_reserved_path o (unless_clash clash (unless_contested change.members (first_contested_path_of_members change.members) with_triggers)) ≡ Ok done → PassesChangeTestsExceptLimits wishes change files
       by_path None none e = clash_made clash done is (are_unreserved change.members none) e
       by_path (Some path) first e = absurd (cc (e))
 
 pub change_passed : (inputs : Inputs) (r : Replacement) (wishes : ChangeWishes) (read : Reads) (clash : Option NamePair) (files : Files) (found : List MemberFound) (refusal : Refusal)
-    → change_members inputs r wishes read ≡ Ok found → change_or_refusal inputs r wishes read clash files ≡ Err refusal → IsClashOfChange inputs r wishes read files clash → HasPassedBefore wishes (file_change inputs wishes found) files refusal
+    → members_after_change inputs r wishes read ≡ Ok found → change_or_refusal inputs r wishes read clash files ≡ Err refusal → IsClashOfChange inputs r wishes read files clash → HasPassedBefore wishes (file_change inputs wishes found) files refusal
 unfolding change_or_refusal
 change_passed inputs r wishes read clash files found refusal are e is =
     files_passed inputs r wishes files found clash refusal (subst (λ (m : Result (List MemberFound) Refusal). IsClashFound inputs wishes files m clash) are is)
@@ -132,8 +132,8 @@ change_passed inputs r wishes read clash files found refusal are e is =
 
 pub change_made : (inputs : Inputs) (r : Replacement) (wishes : ChangeWishes) (read : Reads) (clash : Option NamePair) (files : Files) (done : ChangeDone)
     → change_or_refusal inputs r wishes read clash files ≡ Ok done → IsClashOfChange inputs r wishes read files clash
-    → (found : List MemberFound) × (change_members inputs r wishes read ≡ Ok found) × PassesChangeTests wishes (file_change inputs wishes found) files
+    → (found : List MemberFound) × (members_after_change inputs r wishes read ≡ Ok found) × PassesChangeTestsExceptLimits wishes (file_change inputs wishes found) files
 unfolding change_or_refusal
 change_made inputs r wishes read clash files done e is =
-    let found = and_then_ok (change_members inputs r wishes read) (change_with_members inputs r wishes clash files) done e in
+    let found = and_then_ok (members_after_change inputs r wishes read) (change_with_members inputs r wishes clash files) done e in
     (found.0, found.1, files_made inputs r wishes files found.0 clash done (subst (λ (m : Result (List MemberFound) Refusal). IsClashFound inputs wishes files m clash) found.1 is) found.2)

@@ -10,7 +10,7 @@ use Rattle.base_core.specs.Files.{Files}
 use Rattle.outcome.specs.change_files.FileChange.{FileChange}
 use Rattle.outcome.specs.change_files.NamesAfter.{added_paths, name_change}
 use Rattle.outcome.specs.change_inputs.Inputs.{Inputs}
-use Rattle.outcome.specs.change_outcome.ChangeOutcome.{ChangeWishes, actions_of, change_members, file_change, new_records, touched_paths}
+use Rattle.outcome.specs.change_outcome.ChangeOutcome.{ChangeWishes, intent_of_change, members_after_change, file_change, new_records, touched_paths}
 use Rattle.outcome.specs.change_outcome.MembersAfter.{MemberFound, found_members}
 use Rattle.outcome.specs.change_outcome.PackageFiles.{has_script_of}
 use Rattle.report_core.specs.Numbers.{TRIGGER_SCRIPT}
@@ -27,7 +27,7 @@ use Rattle.outcome.specs.package_changes.Changes.{Replacement}
 use Rattle.outcome.specs.path_clashes.Clash.{IsFirstClash}
 use Rattle.report_core.specs.declared.refusal.Refusal.{Refusal}
 use Rattle.report_core.specs.declared.refusal.Refusal.TheVariants.{Owned, PackageBad, PackageDiffers, PackageMissing, PathClash, Reserved, ResultTooLarge, ScriptNeeded, TriggerNeeded}
-use Rattle.refusal_laws.specs.PackageFaults.{IsFileBad, IsPackageMissing, IsPackageOther, IsScriptNeeded}
+use Rattle.refusal_laws.specs.PackageFaults.{IsFileBad, IsPackageMissing, IsFileOfOtherPackage, IsFirstScriptRunAndNotSkipped}
 
 -- ---- paths
 
@@ -45,9 +45,9 @@ pub record IsListedBy (members : List Member) (path name : List ℕ) (l : Listin
   pub by : member_name l.member ≡ name
 
 -- A path is contested: no package takes it over from all others that list it, and it is the first such
--- path. These two list it, and the first does not take over files of the second. If only these two list
--- it, neither takes over the other's.
-pub record IsContested (members : List Member) (path one other : List ℕ) : Type 0 where
+-- path. The packages `one` and `other` list it, and `one` does not take over files of `other`. If no
+-- third package lists it, `other` does not take over files of `one` either.
+pub record IsFirstContestedPath (members : List Member) (path one other : List ℕ) : Type 0 where
   pub unowned : owner_of_path members path ≡ None
   pub first : (l : Listing) → IsIn l (member_listings members) → precedes l.path path ≡ true
       → is_some (owner_of_path members l.path) ≡ true
@@ -64,7 +64,7 @@ pub record IsContested (members : List Member) (path one other : List ℕ) : Typ
 -- ---- triggers
 
 -- a pattern of the package matches the folder of a file that the change writes or removes
-pub record IsWatchedFor (change : FileChange) (files : Files) (pkg : Plain) : Type 0 where
+pub record HasPatternOfTouchedFolder (change : FileChange) (files : Files) (pkg : Plain) : Type 0 where
   pub path : List ℕ
   pub touched : IsIn path (touched_paths change files)
   pub pattern : List ℕ
@@ -73,14 +73,14 @@ pub record IsWatchedFor (change : FileChange) (files : Files) (pkg : Plain) : Ty
 
 -- a package of this name has a trigger script and watches the folder of a file that the change touches,
 -- and scripts are not skipped
-pub record IsTriggerNeeded (wishes : ChangeWishes) (change : FileChange) (files : Files)
+pub record IsTriggerDueAndNotSkipped (wishes : ChangeWishes) (change : FileChange) (files : Files)
     (name : List ℕ) : Type 0 where
   pub asked : wishes.no_scripts ≡ false
   pub member : Member
   pub located : IsIn member change.members
   pub named : member_name member ≡ name
   pub has : has_script_of member.pkg TRIGGER_SCRIPT ≡ true
-  pub watches : IsWatchedFor change files member.pkg
+  pub watches : HasPatternOfTouchedFolder change files member.pkg
 
 -- ---- limits
 
@@ -99,7 +99,7 @@ pub record IsIntentTooLarge (inputs : Inputs) (change : FileChange) (files : Fil
     (bytes values : ℕ) : Type 0 where
   pub database : List ℕ
   pub fits : database_of change.members (owned_flags_of change.members) ≡ Ok database
-  pub passes : (let actions = actions_of inputs change files (new_records inputs database) in
+  pub passes : (let actions = intent_of_change inputs change files (new_records inputs database) in
       IsTooLarge (value_of_intent actions) bytes values)
 
 -- what a change writes exceeds a limit: of the database or, if that fits, of the intent
@@ -118,9 +118,9 @@ IsFaultOfFiles inputs wishes files found (PathClash path other) =
     IsFirstClash (name_change (file_change inputs wishes found) files) files
     (record { path = path; other = other })
 IsFaultOfFiles inputs wishes files found (Owned path first second) =
-    IsContested (found_members found) path first second
+    IsFirstContestedPath (found_members found) path first second
 IsFaultOfFiles inputs wishes files found (TriggerNeeded name) =
-    IsTriggerNeeded wishes (file_change inputs wishes found) files name
+    IsTriggerDueAndNotSkipped wishes (file_change inputs wishes found) files name
 IsFaultOfFiles inputs wishes files found (ResultTooLarge bytes values) =
     IsResultTooLarge inputs (file_change inputs wishes found) files bytes values
 IsFaultOfFiles inputs wishes files found other = ⊥
@@ -132,9 +132,9 @@ IsFaultOfPackage inputs r wishes read (PackageMissing name version) =
 IsFaultOfPackage inputs r wishes read (PackageBad name version cause) =
     IsFileBad inputs r read name version cause
 IsFaultOfPackage inputs r wishes read (PackageDiffers name version field wanted found) =
-    IsPackageOther inputs r read name version field wanted found
+    IsFileOfOtherPackage inputs r read name version field wanted found
 IsFaultOfPackage inputs r wishes read (ScriptNeeded name script) =
-    IsScriptNeeded inputs r wishes read name script
+    IsFirstScriptRunAndNotSkipped inputs r wishes read name script
 IsFaultOfPackage inputs r wishes read other = ⊥
 
 -- a refusal of a change is true: of an added or removed package; or the packages after the change are
@@ -143,5 +143,5 @@ abbrev pub IsFaultOfChange :
     Inputs → Replacement → ChangeWishes → Reads → Files → Refusal → Type 0
 IsFaultOfChange inputs r wishes read files refusal =
     IsFaultOfPackage inputs r wishes read refusal
-    ⊎ ((found : List MemberFound) × (change_members inputs r wishes read ≡ Ok found)
+    ⊎ ((found : List MemberFound) × (members_after_change inputs r wishes read ≡ Ok found)
     × IsFaultOfFiles inputs wishes files found refusal)

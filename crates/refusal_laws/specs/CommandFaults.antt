@@ -18,7 +18,7 @@ use Rattle.report_core.specs.declared.refusal.Refusal.{Refusal}
 use Rattle.report_core.specs.declared.refusal.Refusal.TheVariants.{NotInstalled, TooMany, Unsatisfied}
 use Rattle.outcome.specs.search_tables.Selection.{IsSatisfying}
 use Rattle.refusal_laws.specs.ChangeFaults.{IsFaultOfChange}
-use Rattle.refusal_laws.specs.InputFaults.{AreTooManyCandidates, IsFaultOfInput}
+use Rattle.refusal_laws.specs.InputFaults.{IsCountReportedAsTooMany, IsFaultOfInput}
 
 -- ---- a selection
 
@@ -44,9 +44,9 @@ pub record IsUnsatisfied (command : CommandLine) (inputs : Inputs) : Type 0 wher
   pub is_pool : pool_of_inputs command inputs ≡ Ok pool
   pub none : (selection : List ℕ) → IsSatisfying pool selection → ⊥
 
--- a refusal is true that follows the reading of the root and precedes the packages' files
+-- a refusal is true that is tested after the root is read and before the packages' files are
 abbrev pub IsFaultOfSelection : CommandLine → Inputs → Refusal → Type 0
-IsFaultOfSelection command inputs (TooMany count) = AreTooManyCandidates inputs count
+IsFaultOfSelection command inputs (TooMany count) = IsCountReportedAsTooMany inputs count
 IsFaultOfSelection command inputs (NotInstalled place) = IsUnknownOperand command inputs place
 IsFaultOfSelection command inputs Unsatisfied = IsUnsatisfied command inputs
 IsFaultOfSelection command inputs other = ⊥
@@ -63,7 +63,8 @@ IsSelectionRefused command read refusal =
 abbrev pub IsChangeRefused :
     CommandLine → Reads → Files → Option (List ℕ) → Refusal → Type 0
 IsChangeRefused command read files chosen refusal =
-    (s : InputsAndReplacement) × (selected_for command read chosen ≡ Ok s) × (command.flags.simulate ≡ false)
+    (s : InputsAndReplacement) × (selected_for command read chosen ≡ Ok s)
+    × (command.flags.simulate ≡ false)
     × IsFaultOfChange s.inputs s.replacement (wishes_of command) read files refusal
 
 -- a refusal of what the command finds is true: of its input, its selection or its change

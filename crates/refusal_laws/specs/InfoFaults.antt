@@ -1,7 +1,7 @@
 -- Why `info` is refused. The refusals are in `docs/commands.md`, "`info`", what is refused.
 use Rattle.std.specs.Prelude.{◌≡◌, ◌⊎◌, ℕ, Bool, true, false, List, ◌∷◌, ◌++◌, Ok}
 use Rattle.outcome.specs.adb_fields.FirstPair.{IsIn}
-use Rattle.outcome.specs.adb_fields.Repeated.{package_name, paths_in}
+use Rattle.outcome.specs.adb_fields.Repeated.{package_name, paths_of_package_files}
 use Rattle.adb_view.specs.Plain.{Plain}
 use Rattle.outcome.specs.change_inputs.Database.{Database}
 use Rattle.outcome.specs.change_inputs.Inputs.{database_for}
@@ -12,7 +12,7 @@ use Rattle.outcome.specs.make_info.Reads.{Reads}
 use Rattle.report_core.specs.declared.refusal.Refusal.{Refusal}
 use Rattle.report_core.specs.declared.refusal.Refusal.TheVariants.{DatabaseBad, NoDatabase, NotInstalled, ResultTooLarge}
 use Rattle.outcome.specs.v2_core.declared.read.V2Fault.TheVariants.{Bad, TooLarge}
-use Rattle.refusal_laws.specs.InputFaults.{HasNoDatabase, IsContainerBad, IsTextRefused}
+use Rattle.refusal_laws.specs.InputFaults.{HasNoDatabase, IsDatabaseContainerBad, IsTextDatabaseRefused}
 
 -- ---- the database
 
@@ -20,9 +20,9 @@ use Rattle.refusal_laws.specs.InputFaults.{HasNoDatabase, IsContainerBad, IsText
 abbrev pub IsFaultOfDatabase : CommandLine → Reads → Refusal → Type 0
 IsFaultOfDatabase command read NoDatabase = HasNoDatabase command read
 IsFaultOfDatabase command read (DatabaseBad cause) =
-    IsContainerBad read cause ⊎ IsTextRefused read (Bad cause)
+    IsDatabaseContainerBad read cause ⊎ IsTextDatabaseRefused read (Bad cause)
 IsFaultOfDatabase command read (ResultTooLarge bytes values) =
-    IsTextRefused read (TooLarge bytes values)
+    IsTextDatabaseRefused read (TooLarge bytes values)
 IsFaultOfDatabase command read other = ⊥
 
 -- ---- the operands
@@ -30,7 +30,7 @@ IsFaultOfDatabase command read other = ⊥
 -- a text asks for this package: with `--who-owns` it lists the path, of which one leading `/` is
 -- dropped; otherwise it has the name
 abbrev pub IsPackageAskedFor : Bool → List ℕ → Plain → Type 0
-IsPackageAskedFor true path pkg = IsIn (without_slash path) (paths_in pkg)
+IsPackageAskedFor true path pkg = IsIn (without_slash path) (paths_of_package_files pkg)
 IsPackageAskedFor false name pkg = package_name pkg ≡ name
 
 -- what a text asks for is installed

@@ -1,11 +1,11 @@
 -- Why what a change reads of a root is refused. The refusals are in `docs/commands.md`, "`add` and
 -- `del`", what is refused, in their order, and in "Error lines".
 use Rattle.std.specs.Prelude.{◌≡◌, ◌⊎◌, ◌+◌, ◌<◌, ℕ, suc, false, List, ◌∷◌, length, Option, Some, None, Ok, Err, slice_get}
-use Rattle.outcome.specs.adb_schema.Soundness.{first_fault}
+use Rattle.outcome.specs.adb_schema.Soundness.{container_fault_except_contents}
 use Rattle.adb_view.specs.declared.tables.Which.TheVariants.{Idb, Index}
 use Rattle.base_core.specs.declared.cause.Cause.{Cause}
 use Rattle.outcome.specs.change_inputs.Candidates.{candidates_of}
-use Rattle.outcome.specs.change_inputs.Inputs.{Inputs, database_read, first_index_read, repositories_read, text_database_read, world_read}
+use Rattle.outcome.specs.change_inputs.Inputs.{Inputs, database_read_number, first_index_read_number, repositories_read_number, text_database_read_number, world_read_number}
 use Rattle.outcome.specs.change_inputs.World.{found_text_or_empty}
 use Rattle.command_core.specs.Command.{CommandLine}
 use Rattle.dep_core.specs.Repositories.{Repository, repositories_of}
@@ -23,51 +23,51 @@ use Rattle.outcome.specs.v2_core.declared.read.V2Fault.TheVariants.{Bad, TooLarg
 
 -- neither file of a database is there, and the command may not begin one
 pub record HasNoDatabase (command : CommandLine) (read : Reads) : Type 0 where
-  pub container : read database_read database_name ≡ None
-  pub text : read text_database_read text_database_name ≡ None
+  pub container : read database_read_number database_name ≡ None
+  pub text : read text_database_read_number text_database_name ≡ None
   pub not_begun : command.flags.initdb ≡ false
 
 -- the container of the database is there, and this is the first test that it fails
-pub record IsContainerBad (read : Reads) (cause : Cause) : Type 0 where
+pub record IsDatabaseContainerBad (read : Reads) (cause : Cause) : Type 0 where
   pub file : List ℕ
-  pub is_file : read database_read database_name ≡ Some file
-  pub fault : first_fault Idb file ≡ Some cause
+  pub is_file : read database_read_number database_name ≡ Some file
+  pub fault : container_fault_except_contents Idb file ≡ Some cause
 
 -- there is no container, and the text database has this fault
-pub record IsTextRefused (read : Reads) (fault : V2Fault) : Type 0 where
-  pub container : read database_read database_name ≡ None
+pub record IsTextDatabaseRefused (read : Reads) (fault : V2Fault) : Type 0 where
+  pub container : read database_read_number database_name ≡ None
   pub text : List ℕ
-  pub is_text : read text_database_read text_database_name ≡ Some text
+  pub is_text : read text_database_read_number text_database_name ≡ Some text
   pub refused : payload_of_text text ≡ Err fault
 
 -- ---- repositories
 
 -- the text of the list of repositories as it is read: empty if the file is absent
-abbrev pub repositories_found : Reads → List ℕ
-repositories_found read = found_text_or_empty (read repositories_read repositories_name)
+abbrev pub repositories_file_text : Reads → List ℕ
+repositories_file_text read = found_text_or_empty (read repositories_read_number repositories_name)
 
--- the list names a repository, and reading unsigned ones is not allowed
-pub record IsUntrusted (command : CommandLine) (read : Reads) : Type 0 where
+-- the list names a repository, and `--allow-untrusted` is not given
+pub record IsUntrustedRepositoryListed (command : CommandLine) (read : Reads) : Type 0 where
   pub no_leave : command.flags.allow_untrusted ≡ false
   pub repository : Repository
   pub others : List Repository
-  pub listed : repositories_of (repositories_found read) ≡ Ok (repository ∷ others)
+  pub listed : repositories_of (repositories_file_text read) ≡ Ok (repository ∷ others)
 
 -- the repository with this number, counted from 1, is listed, and this is found under its path
 pub record IsIndexRead (read : Reads) (number : ℕ) (file : Option (List ℕ)) : Type 0 where
   pub repositories : List Repository
-  pub listed : repositories_of (repositories_found read) ≡ Ok repositories
+  pub listed : repositories_of (repositories_file_text read) ≡ Ok repositories
   pub place : ℕ
   pub is_number : number ≡ suc place
   pub repository : Repository
   pub is_repository : slice_get repositories place ≡ Some repository
-  pub is_file : read (first_index_read + place) repository.path ≡ file
+  pub is_file : read (first_index_read_number + place) repository.path ≡ file
 
 -- the index of the repository with this number is there, and this is the first test that it fails
 pub record IsIndexBad (read : Reads) (number : ℕ) (cause : Cause) : Type 0 where
   pub file : List ℕ
   pub is_read : IsIndexRead read number (Some file)
-  pub fault : first_fault Index file ≡ Some cause
+  pub fault : container_fault_except_contents Index file ≡ Some cause
 
 -- ---- each refusal
 
@@ -75,15 +75,15 @@ pub record IsIndexBad (read : Reads) (number : ℕ) (cause : Cause) : Type 0 whe
 abbrev pub IsFaultOfInput : CommandLine → Reads → Refusal → Type 0
 IsFaultOfInput command read NoDatabase = HasNoDatabase command read
 IsFaultOfInput command read (DatabaseBad cause) =
-    IsContainerBad read cause ⊎ IsTextRefused read (Bad cause)
+    IsDatabaseContainerBad read cause ⊎ IsTextDatabaseRefused read (Bad cause)
 -- a text database with more data than a container may have
 IsFaultOfInput command read (ResultTooLarge bytes values) =
-    IsTextRefused read (TooLarge bytes values)
+    IsTextDatabaseRefused read (TooLarge bytes values)
 IsFaultOfInput command read (WorldBad line) =
-    world_of (found_text_or_empty (read world_read world_name)) ≡ Err line
+    world_of (found_text_or_empty (read world_read_number world_name)) ≡ Err line
 IsFaultOfInput command read (RepositoriesBad line) =
-    repositories_of (repositories_found read) ≡ Err line
-IsFaultOfInput command read Untrusted = IsUntrusted command read
+    repositories_of (repositories_file_text read) ≡ Err line
+IsFaultOfInput command read Untrusted = IsUntrustedRepositoryListed command read
 IsFaultOfInput command read (IndexMissing number) = IsIndexRead read number None
 IsFaultOfInput command read (IndexBad number cause) = IsIndexBad read number cause
 IsFaultOfInput command read other = ⊥
@@ -91,6 +91,6 @@ IsFaultOfInput command read other = ⊥
 -- ---- too many
 
 -- there are more candidates than are allowed, and the refusal reports one more than that limit
-pub record AreTooManyCandidates (inputs : Inputs) (count : ℕ) : Type 0 where
+pub record IsCountReportedAsTooMany (inputs : Inputs) (count : ℕ) : Type 0 where
   pub more : MOST_CANDIDATES < length (candidates_of inputs)
   pub told : count ≡ MOST_CANDIDATES + 1

@@ -10,26 +10,26 @@ use Rattle.outcome.specs.change_inputs.Inputs.{Inputs}
 use Rattle.outcome.specs.change_outcome.ChangeOutcome.{ChangeWishes}
 use Rattle.outcome.specs.change_outcome.PackageFiles.{AddedPackage, first_script_of, has_script_of, package_in_file, scripts_of_change}
 use Rattle.outcome.specs.db_core.Packages.{is_package_named}
-use Rattle.outcome.specs.file_owners.Replaces.{version_text}
+use Rattle.outcome.specs.file_owners.Replaces.{package_version_text}
 use Rattle.outcome.specs.make_info.Reads.{Reads}
-use Rattle.outcome.specs.package_changes.Changes.{Replacement, change_of_name, selected_version}
+use Rattle.outcome.specs.package_changes.Changes.{Replacement, change_of_name, candidate_version_text}
 use Rattle.outcome.specs.pkg_core.Whole.{package_fault}
 use Rattle.outcome.specs.candidate_core.Candidates.{Candidate, is_same_id}
 use Rattle.report_core.specs.Numbers.{HASHES_FIELD, NAME_FIELD, VERSION_FIELD}
 use Rattle.report_core.specs.Reports.{Change}
-use Rattle.refusal_laws.specs.AddedPackages.{IsAddedAsSelected, IsReadFor, selected_of_name}
+use Rattle.refusal_laws.specs.AddedPackages.{IsAddedAsSelected, IsFileReadForAddedPackage, selected_of_name}
 
 -- ---- its file
 
 -- a candidate of this name and version is added, and no file of it is found
 abbrev pub IsPackageMissing : Inputs → Replacement → Reads → List ℕ → List ℕ → Type 0
-IsPackageMissing inputs r read name version = IsReadFor inputs r read name version None
+IsPackageMissing inputs r read name version = IsFileReadForAddedPackage inputs r read name version None
 
 -- the file of an added package is there, and this is the first test that it fails
 pub record IsFileBad (inputs : Inputs) (r : Replacement) (read : Reads) (name version : List ℕ)
     (cause : Cause) : Type 0 where
   pub file : List ℕ
-  pub is_read : IsReadFor inputs r read name version (Some file)
+  pub is_read : IsFileReadForAddedPackage inputs r read name version (Some file)
   pub fault : package_fault file ≡ Some cause
 
 -- ---- another package
@@ -47,7 +47,7 @@ HasOtherName c pkg wanted found =
 -- the wanted version is the index's, the other that of the package's file
 abbrev pub HasOtherVersion : Candidate → AddedPackage → List ℕ → List ℕ → Type 0
 HasOtherVersion c pkg wanted found =
-    (wanted ≡ selected_version c) × (found ≡ version_text pkg.value) × (wanted ≡ found → ⊥)
+    (wanted ≡ candidate_version_text c) × (found ≡ package_version_text pkg.value) × (wanted ≡ found → ⊥)
 
 -- the package in a file is not the candidate's: the id is another; or it is the same, and the name is
 -- another; or both are the same, and the version is another
@@ -60,10 +60,10 @@ IsOtherPackage c pkg field wanted found =
 
 -- the file of an added package passes all tests, and the package in it is not the one that the index
 -- lists
-pub record IsPackageOther (inputs : Inputs) (r : Replacement) (read : Reads)
+pub record IsFileOfOtherPackage (inputs : Inputs) (r : Replacement) (read : Reads)
     (name version : List ℕ) (field : ℕ) (wanted found : List ℕ) : Type 0 where
   pub file : List ℕ
-  pub is_read : IsReadFor inputs r read name version (Some file)
+  pub is_read : IsFileReadForAddedPackage inputs r read name version (Some file)
   pub sound : package_fault file ≡ None
   pub other : IsOtherPackage is_read.candidate (package_in_file file) field wanted found
 
@@ -83,7 +83,7 @@ IsAddedOrRemoved inputs r read name pkg =
 -- The change of the package of this name would run this script, the first that the package has of those
 -- that would run; and scripts are not skipped. `script` is its number in table 6 of `docs/formats.md`,
 -- "Schemas".
-pub record IsScriptNeeded (inputs : Inputs) (r : Replacement) (wishes : ChangeWishes)
+pub record IsFirstScriptRunAndNotSkipped (inputs : Inputs) (r : Replacement) (wishes : ChangeWishes)
     (read : Reads) (name : List ℕ) (script : ℕ) : Type 0 where
   pub asked : wishes.no_scripts ≡ false
   pub pkg : Plain

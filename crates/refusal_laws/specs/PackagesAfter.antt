@@ -16,7 +16,7 @@ use Rattle.refusal_laws.specs.AddedPackages.{IsAddedAsSelected, selected_of_name
 
 -- a member is the package of its name before, to the letter, which is the selected candidate and does
 -- not change
-pub record IsUnchanged (r : Replacement) (name : List ℕ) (c : Candidate) (f : MemberFound) :
+pub record IsUnchangedMember (r : Replacement) (name : List ℕ) (c : Candidate) (f : MemberFound) :
     Type 0 where
   pub pkg : Plain
   pub before : find (is_package_named name) r.before ≡ Some pkg
@@ -36,12 +36,12 @@ pub record IsSelectedMember (inputs : Inputs) (r : Replacement) (read : Reads) (
     Type 0 where
   pub candidate : Candidate
   pub selected : selected_of_name r (member_name f.member) ≡ Some candidate
-  pub is : IsUnchanged r (member_name f.member) candidate f
+  pub is : IsUnchangedMember r (member_name f.member) candidate f
       ⊎ IsAddedMember inputs r read (member_name f.member) f
 
 -- The packages after a change are the selected ones: in byte order of names, each once, and one for
 -- each selected candidate.
-pub record AreSelectedOnes (inputs : Inputs) (r : Replacement) (read : Reads)
+pub record AreSelectedMembers (inputs : Inputs) (r : Replacement) (read : Reads)
     (found : List MemberFound) : Type 0 where
   pub in_order : AreInOrder (found_members found)
   pub each : (f : MemberFound) → IsIn f found → IsSelectedMember inputs r read f

@@ -6,7 +6,7 @@ use Rattle.command_core.specs.Command.{CommandLine}
 use Rattle.outcome.specs.make_info.Reads.{Reads}
 use Rattle.report_core.specs.declared.refusal.Refusal.{Refusal}
 use Rattle.report_core.specs.declared.refusal.Refusal.TheVariants.{TooMany}
-use Rattle.refusal_laws.specs.InputFaults.{AreTooManyCandidates, IsFaultOfInput}
+use Rattle.refusal_laws.specs.InputFaults.{IsCountReportedAsTooMany, IsFaultOfInput}
 
 -- the inputs are read, and a refusal reports that they have more candidates than a pool holds
 pub record HasTooManyCandidates (command : CommandLine) (read : Reads) (refusal : Refusal)
@@ -14,7 +14,7 @@ pub record HasTooManyCandidates (command : CommandLine) (read : Reads) (refusal 
   pub inputs : Inputs
   pub are_inputs : inputs_of command read ≡ Ok inputs
   pub count : ℕ
-  pub too_many : AreTooManyCandidates inputs count
+  pub too_many : IsCountReportedAsTooMany inputs count
   pub is : refusal ≡ TooMany count
 
 -- a refusal of a query is true: of the input; or, if that is read, of its candidates

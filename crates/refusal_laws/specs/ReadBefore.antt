@@ -3,7 +3,7 @@
 use Rattle.std.specs.Prelude.{◌≡◌, ◌<◌, ℕ, true, List, None, Ok}
 use Rattle.base_core.specs.declared.cause.Cause.{Cause}
 use Rattle.outcome.specs.change_inputs.Database.{Database}
-use Rattle.outcome.specs.change_inputs.Inputs.{database_for, world_read}
+use Rattle.outcome.specs.change_inputs.Inputs.{database_for, world_read_number}
 use Rattle.outcome.specs.change_inputs.World.{root_world, found_text_or_empty}
 use Rattle.command_core.specs.Command.{CommandLine}
 use Rattle.dep_core.specs.Dependency.{Dependency}
@@ -12,7 +12,7 @@ use Rattle.outcome.specs.make_info.Reads.{Reads}
 use Rattle.report_core.specs.declared.refusal.Refusal.{Refusal}
 use Rattle.report_core.specs.declared.refusal.Refusal.TheVariants.{IndexBad, IndexMissing, RepositoriesBad, Untrusted, WorldBad}
 use Rattle.root_names.specs.RootNames.{world_name}
-use Rattle.refusal_laws.specs.InputFaults.{IsIndexBad, IsIndexRead, repositories_found}
+use Rattle.refusal_laws.specs.InputFaults.{IsIndexBad, IsIndexRead, repositories_file_text}
 
 -- the database was read without a refusal: it passed its tests, or there is none and one may be
 -- begun
@@ -22,18 +22,20 @@ HasDatabase command read = (database : Database) × (database_for command read �
 -- no line of world is bad
 abbrev pub HasWorld : Reads → Type 0
 HasWorld read =
-    (world : List Dependency) × (root_world (found_text_or_empty (read world_read world_name)) ≡ Ok world)
+    (world : List Dependency)
+    × (root_world (found_text_or_empty (read world_read_number world_name)) ≡ Ok world)
 
 -- no line of the list of repositories is bad
 abbrev pub HasRepositories : Reads → Type 0
 HasRepositories read =
-    (repositories : List Repository) × (repositories_of (repositories_found read) ≡ Ok repositories)
+    (repositories : List Repository) × (repositories_of (repositories_file_text read) ≡ Ok repositories)
 
 -- the database and world were read without a refusal
 abbrev pub HasDatabaseAndWorld : CommandLine → Reads → Type 0
 HasDatabaseAndWorld command read = HasDatabase command read × HasWorld read
 
--- no line of the list of repositories is bad either, and reading them is allowed
+-- the database, world and the list of repositories were read without a refusal, and
+-- `--allow-untrusted` is given
 abbrev pub AllowsUntrusted : CommandLine → Reads → Type 0
 AllowsUntrusted command read =
     HasDatabaseAndWorld command read × HasRepositories read × (command.flags.allow_untrusted ≡ true)

@@ -2,7 +2,7 @@
 -- "Which selection is taken", and in `docs/commands.md`, "What a change does with files".
 use Rattle.std.specs.Prelude.{◌≡◌, ℕ, List, Some, Ok}
 use Rattle.base_core.specs.Files.{Files}
-use Rattle.outcome.specs.change_outcome.ChangeOutcome.{change_members, file_change}
+use Rattle.outcome.specs.change_outcome.ChangeOutcome.{members_after_change, file_change}
 use Rattle.outcome.specs.change_outcome.MembersAfter.{MemberFound}
 use Rattle.command_core.specs.Command.{CommandLine}
 use Rattle.outcome.specs.engine_core.Changed.{InputsAndReplacement, selected_for}
@@ -11,26 +11,27 @@ use Rattle.outcome.specs.engine_core.Wishes.{wishes_of}
 use Rattle.outcome.specs.Commands.{reads_in}
 use Rattle.outcome.specs.package_changes.Placed.{candidates_at}
 use Rattle.outcome.specs.candidate_core.Rank.{SealedPool}
-use Rattle.outcome.specs.search_tables.Selection.{IsFirstSelection}
-use Rattle.refusal_laws.specs.PackagesAfter.{AreSelectedOnes}
-use Rattle.refusal_laws.specs.TestsPassed.{PassesChangeTests}
+use Rattle.outcome.specs.search_tables.Selection.{IsFirstPreferredSelection}
+use Rattle.refusal_laws.specs.PackagesAfter.{AreSelectedMembers}
+use Rattle.refusal_laws.specs.TestsPassed.{PassesChangeTestsExceptLimits}
 
 -- a run has taken the first preferred selection: it is found, the packages after the change are exactly
 -- those, and the files that they leave have no fault
-pub record HasFirstSelection (command : CommandLine) (files : Files) : Type 0 where
+pub record HasFaultlessFirstPreferredSelection (command : CommandLine) (files : Files) : Type 0 where
   pub pool : SealedPool
   pub is_pool : pool_of_command command (reads_in files) ≡ Ok pool
   pub trace : List ℕ
-  pub first : IsFirstSelection pool trace
+  pub first : IsFirstPreferredSelection pool trace
   pub selected : InputsAndReplacement
   pub selects : selected_for command (reads_in files) (Some trace) ≡ Ok selected
   pub candidates : selected.replacement.selected ≡ candidates_at pool trace
   pub found : List MemberFound
   pub members :
-      change_members selected.inputs selected.replacement (wishes_of command) (reads_in files)
+      members_after_change selected.inputs selected.replacement (wishes_of command) (reads_in files)
       ≡ Ok found
   pub are_selected :
-      AreSelectedOnes selected.inputs selected.replacement (reads_in files) found
+      AreSelectedMembers selected.inputs selected.replacement (reads_in files) found
   pub no_fault :
-      PassesChangeTests (wishes_of command) (file_change selected.inputs (wishes_of command) found)
+      PassesChangeTestsExceptLimits (wishes_of command)
+      (file_change selected.inputs (wishes_of command) found)
       files

@@ -14,7 +14,7 @@ use Rattle.outcome.specs.file_owners.Owners.{owner_of_path}
 use Rattle.outcome.specs.path_clashes.Clash.{HasNoClash}
 use Rattle.report_core.specs.declared.refusal.Refusal.{Refusal}
 use Rattle.report_core.specs.declared.refusal.Refusal.TheVariants.{Owned, PathClash, ResultTooLarge, TriggerNeeded}
-use Rattle.refusal_laws.specs.ChangeFaults.{IsWatchedFor}
+use Rattle.refusal_laws.specs.ChangeFaults.{HasPatternOfTouchedFolder}
 
 -- no added package lists a path that apk keeps for itself
 abbrev pub AreAddedPathsUnreserved : List Member → Type 0
@@ -28,24 +28,25 @@ EachListedPathHasOwner members =
     → is_some (owner_of_path members l.path) ≡ true
 
 -- no trigger of a package is due, or scripts are skipped
-abbrev pub HasNoTrigger : ChangeWishes → FileChange → Files → Type 0
-HasNoTrigger wishes change files =
+abbrev pub HasNoDueTrigger : ChangeWishes → FileChange → Files → Type 0
+HasNoDueTrigger wishes change files =
     wishes.no_scripts ≡ false → (m : Member) → IsIn m change.members
-    → has_script_of m.pkg TRIGGER_SCRIPT ≡ true → IsWatchedFor change files m.pkg → ⊥
+    → has_script_of m.pkg TRIGGER_SCRIPT ≡ true → HasPatternOfTouchedFolder change files m.pkg → ⊥
 
 -- the first two tests of files passed: no path is reserved and no name clashes
 abbrev pub PassesNameTests : FileChange → Files → Type 0
 PassesNameTests change files =
     AreAddedPathsUnreserved change.members × HasNoClash (name_change change files) files
 
--- all three tests of files passed: nor is a path contested
+-- all three tests of files passed: those of *PassesNameTests*, and that each listed path has an owner
 abbrev pub PassesFileTests : FileChange → Files → Type 0
 PassesFileTests change files = PassesNameTests change files × EachListedPathHasOwner change.members
 
 -- a change has none of the faults for which its files would be refused, except for the limits of what
 -- is written
-abbrev pub PassesChangeTests : ChangeWishes → FileChange → Files → Type 0
-PassesChangeTests wishes change files = PassesFileTests change files × HasNoTrigger wishes change files
+abbrev pub PassesChangeTestsExceptLimits : ChangeWishes → FileChange → Files → Type 0
+PassesChangeTestsExceptLimits wishes change files =
+    PassesFileTests change files × HasNoDueTrigger wishes change files
 
 -- what is tested before this refusal of a change's files
 abbrev pub HasPassedBefore : ChangeWishes → FileChange → Files → Refusal → Type 0
@@ -53,5 +54,5 @@ HasPassedBefore wishes change files (PathClash path other) = AreAddedPathsUnrese
 HasPassedBefore wishes change files (Owned path first second) = PassesNameTests change files
 HasPassedBefore wishes change files (TriggerNeeded name) = PassesFileTests change files
 HasPassedBefore wishes change files (ResultTooLarge bytes values) =
-    PassesChangeTests wishes change files
+    PassesChangeTestsExceptLimits wishes change files
 HasPassedBefore wishes change files other = Unit {0}

@@ -5,17 +5,17 @@
 ghost use Rattle.std.specs.Prelude.{◌≡◌, ℕ, false, true, Err, List, None, Ok, Option, Some};
 ghost use Rattle.base_core.specs.Files.{Files};
 ghost use Rattle.outcome.specs.change_inputs.Inputs.{Inputs, inputs_of};
-ghost use Rattle.outcome.specs.change_outcome.ChangeOutcome.{ChangeDone, ChangeWishes, IsClashOfChange, change_members, change_or_refusal, file_change};
+ghost use Rattle.outcome.specs.change_outcome.ChangeOutcome.{ChangeDone, ChangeWishes, IsClashOfChange, members_after_change, change_or_refusal, file_change};
 ghost use Rattle.outcome.specs.change_outcome.MembersAfter.{MemberFound};
 ghost use Rattle.command_core.specs.Command.{CommandLine};
-ghost use Rattle.outcome.specs.engine_core.Changed.{IsClashFor, change_of_command, selected_of_inputs};
+ghost use Rattle.outcome.specs.engine_core.Changed.{IsClashOfCommand, change_of_command, selected_of_inputs};
 ghost use Rattle.outcome.specs.engine_core.Choice.{IsChoiceFrom};
 ghost use Rattle.outcome.specs.engine_core.Selecting.{pool_of_command};
 ghost use Rattle.outcome.specs.installed_info.declared.telling.ReportAndRefusal.{ReportAndRefusal};
 ghost use Rattle.outcome.specs.make_info.Reads.{Reads};
 ghost use Rattle.outcome.specs.make_info.declared.fault.MakeFault.TheVariants.{TooLarge};
 ghost use Rattle.outcome.specs.make_package.Making.{made_package};
-ghost use Rattle.outcome.specs.Commands.{IsOutcomeAfterRecovery};
+ghost use Rattle.outcome.specs.Commands.{IsOutcomeOverRecoveredFiles};
 ghost use Rattle.outcome.specs.Effect.{Changes, effect_of};
 ghost use Rattle.outcome.specs.Outcome.{Outcome};
 ghost use Rattle.outcome.specs.Words.{IsOutcome};
@@ -29,12 +29,12 @@ ghost use Rattle.refusal_laws.specs.InfoFaults.{AreOperandsFound, IsFaultOfDatab
 ghost use Rattle.refusal_laws.specs.InputFaults.{IsFaultOfInput};
 ghost use Rattle.refusal_laws.specs.MadeTooLarge.{IsPackageTooLarge};
 ghost use Rattle.refusal_laws.specs.OperandsKnown.{HasPassedBeforeSelection};
-ghost use Rattle.refusal_laws.specs.PackagesAfter.{AreSelectedOnes};
+ghost use Rattle.refusal_laws.specs.PackagesAfter.{AreSelectedMembers};
 ghost use Rattle.refusal_laws.specs.QueryFaults.{IsFaultOfQuery};
 ghost use Rattle.refusal_laws.specs.ReadBefore.{HasReadBefore};
 ghost use Rattle.refusal_laws.specs.RunFaults.{IsFaultOfRun, IsFaultOfCommandOver};
-ghost use Rattle.refusal_laws.specs.RunMade.{HasFirstSelection};
-ghost use Rattle.refusal_laws.specs.TestsPassed.{HasPassedBefore, PassesChangeTests};
+ghost use Rattle.refusal_laws.specs.RunMade.{HasFaultlessFirstPreferredSelection};
+ghost use Rattle.refusal_laws.specs.TestsPassed.{HasPassedBefore, PassesChangeTestsExceptLimits};
 ghost use Rattle.outcome.specs.tell_core.AuditResult.{audit_result, manifest_result};
 ghost use Rattle.outcome.specs.tell_core.InfoResult.{info_result};
 ghost use Rattle.outcome.specs.tell_core.QueryResult.{query_result};
@@ -107,7 +107,7 @@ pub fn a_refused_change_has_its_fault()
 pub fn a_refused_run_has_its_fault()
     // Of a command over the files on which it works.
     ensures over { (command : CommandLine) (files : Files) (o : Outcome) (refusal : Refusal)
-        → effect_of command.applet ≡ Changes → IsOutcomeAfterRecovery command files o
+        → effect_of command.applet ≡ Changes → IsOutcomeOverRecoveredFiles command files o
         → o.refusal ≡ Some refusal → IsFaultOfCommandOver command files refusal }
     // Of a run, over the files in which it begins.
     ensures words { (words : List (List ℕ)) (command : CommandLine) (files : Files) (o : Outcome)
@@ -125,7 +125,7 @@ pub fn a_refused_command_has_its_fault()
         (clash : Option NamePair) (refusal : Refusal)
         → change_of_command command read files chosen clash ≡ Err refusal
         → IsChoiceFrom (pool_of_command command read) chosen
-        → IsClashFor command read files chosen clash
+        → IsClashOfCommand command read files chosen clash
         → IsFaultOfCommand command read files chosen refusal }
 {}
 
@@ -144,7 +144,7 @@ pub fn a_refused_selection_has_passed_the_tests_before()
 pub fn a_refused_change_has_passed_the_tests_before()
     ensures { (inputs : Inputs) (r : Replacement) (wishes : ChangeWishes) (read : Reads)
         (clash : Option NamePair) (files : Files) (found : List MemberFound) (refusal : Refusal)
-        → change_members inputs r wishes read ≡ Ok found
+        → members_after_change inputs r wishes read ≡ Ok found
         → change_or_refusal inputs r wishes read clash files ≡ Err refusal
         → IsClashOfChange inputs r wishes read files clash
         → HasPassedBefore wishes (file_change inputs wishes found) files refusal }
@@ -157,22 +157,22 @@ pub fn a_change_that_is_made_has_no_fault()
     // Of the added and removed packages.
     ensures packages { (inputs : Inputs) (r : Replacement) (wishes : ChangeWishes) (read : Reads)
         (found : List MemberFound) (refusal : Refusal)
-        → change_members inputs r wishes read ≡ Ok found
+        → members_after_change inputs r wishes read ≡ Ok found
         → IsFaultOfPackage inputs r wishes read refusal → ⊥ }
     // Of the files that they leave.
     ensures files { (inputs : Inputs) (r : Replacement) (wishes : ChangeWishes) (read : Reads)
         (clash : Option NamePair) (files : Files) (done : ChangeDone)
         → change_or_refusal inputs r wishes read clash files ≡ Ok done
         → IsClashOfChange inputs r wishes read files clash
-        → (found : List MemberFound) × (change_members inputs r wishes read ≡ Ok found)
-        × PassesChangeTests wishes (file_change inputs wishes found) files }
+        → (found : List MemberFound) × (members_after_change inputs r wishes read ≡ Ok found)
+        × PassesChangeTestsExceptLimits wishes (file_change inputs wishes found) files }
 {}
 
 /// If an added or removed package is refused, it is the first one with a fault, in byte order of
 /// names, and it has no other fault.
 pub fn a_refused_package_is_the_first_with_a_fault()
     ensures { (inputs : Inputs) (r : Replacement) (wishes : ChangeWishes) (read : Reads)
-        (refusal : Refusal) → change_members inputs r wishes read ≡ Err refusal
+        (refusal : Refusal) → members_after_change inputs r wishes read ≡ Err refusal
         → IsFirstRefused inputs r wishes read refusal }
 {}
 
@@ -181,16 +181,17 @@ pub fn a_refused_package_is_the_first_with_a_fault()
 /// in byte order of names, each once.
 pub fn the_packages_after_a_change_are_the_selected_ones()
     ensures { (inputs : Inputs) (r : Replacement) (wishes : ChangeWishes) (read : Reads)
-        (found : List MemberFound) → change_members inputs r wishes read ≡ Ok found
-        → AreSelectedOnes inputs r read found }
+        (found : List MemberFound) → members_after_change inputs r wishes read ≡ Ok found
+        → AreSelectedMembers inputs r read found }
 {}
 
 /// The packages after a run that is neither refused nor simulated are those of the first preferred
 /// selection (the preferred solution).
 pub fn the_packages_after_a_run_are_those_of_the_first_selection()
     ensures { (command : CommandLine) (files : Files) (o : Outcome)
-        → effect_of command.applet ≡ Changes → IsOutcomeAfterRecovery command files o → o.refusal ≡ None
-        → command.flags.simulate ≡ false → HasFirstSelection command files }
+        → effect_of command.applet ≡ Changes → IsOutcomeOverRecoveredFiles command files o
+        → o.refusal ≡ None
+        → command.flags.simulate ≡ false → HasFaultlessFirstPreferredSelection command files }
 {
     a_change_takes_the_first_selection_or_is_refused();
 }

@@ -1,13 +1,13 @@
 -- A text behind another on a sink.
 use Rattle.std.proofs.Common.{◌≡◌, ◌∙◌, ℕ, List, ◌++◌, Option, Result, Ok, Err, subst, refl, sym, codes, append_assoc}
-use Rattle.base_core.specs.Faults.{Counts, CountsOnlyRise, IsNoFault}
+use Rattle.base_core.specs.Faults.{Counts, CountsOnlyRise, CountsNoNewFault}
 use Rattle.base_core.specs.Sink.{Adds, SinkBeforeAndAfter}
 use Rattle.base_core.specs.Write.{Writes}
 use Rattle.base_core.proofs.Counting.{goes_on_twice, no_fault_twice}
 use Rattle.base_core.proofs.Added.{Adds-more}
 use Rattle.report_core.specs.Texts.{package_refusal_text}
 use Rattle.report_core.proofs.Counting.{fails_after}
-use Rattle.report_core.proofs.Fronts.{AddsPrefix-grows, AddsPrefix-after}
+use Rattle.report_core.proofs.Fronts.{AddsPrefixToSink-grows, AddsPrefixToSink-after}
 
 -- what a sink makes of a call, from one moment to another
 abbrev pub Between : Option (List ℕ) → Counts → Option (List ℕ) → Counts → SinkBeforeAndAfter
@@ -17,7 +17,7 @@ Between told before told_then after = record { bytes_before = told; bytes_after 
 pub record IsDone (text : List ℕ) (sink : SinkBeforeAndAfter) : Type 0 where
   pub added : Adds sink.bytes_before sink.bytes_after text
   pub goes_on : CountsOnlyRise sink.before sink.after
-  pub kept : IsNoFault sink.before sink.after
+  pub kept : CountsNoNewFault sink.before sink.after
   pub proper : sink.after.misuses ≡ sink.before.misuses
 
 pub done_by : {T E : Type 0} (text : List ℕ) (sink : SinkBeforeAndAfter) (x : T) → Writes {T = T} {E = E} text sink (Ok x) → IsDone text sink
@@ -33,11 +33,11 @@ written_behind a b t0 t1 t2 c0 c1 c2 (Ok x) h k = record {
   err = tt;
   cause = record { goes_on = goes_on_twice c0 c1 c2 h.goes_on k.cause.goes_on; cause = tt; kept = no_fault_twice c0 c1 c2 h.kept k.cause.kept; proper = k.cause.proper ∙ h.proper };
 }
-written_behind a b t0 t1 t2 c0 c1 c2 (Err e) h k = record { ok = tt; err = AddsPrefix-after t0 t1 t2 a b h.added k.err; cause = fails_after c0 c1 c2 e h.goes_on h.proper k.cause }
+written_behind a b t0 t1 t2 c0 c1 c2 (Err e) h k = record { ok = tt; err = AddsPrefixToSink-after t0 t1 t2 a b h.added k.err; cause = fails_after c0 c1 c2 e h.goes_on h.proper k.cause }
 
 -- more might have followed
 pub cut_short : {T U E F : Type 0} (a b : List ℕ) (sink : SinkBeforeAndAfter) (e : E) (f : F) → Writes {T = T} a sink (Err e) → Writes {T = U} (a ++ b) sink (Err f)
-cut_short a b sink e f w = record { ok = tt; err = AddsPrefix-grows sink.bytes_before sink.bytes_after a b w.err; cause = record { goes_on = w.cause.goes_on; cause = w.cause.cause; kept = tt; proper = w.cause.proper } }
+cut_short a b sink e f w = record { ok = tt; err = AddsPrefixToSink-grows sink.bytes_before sink.bytes_after a b w.err; cause = record { goes_on = w.cause.goes_on; cause = w.cause.cause; kept = tt; proper = w.cause.proper } }
 
 pub writes_same : {T E : Type 0} (a b : List ℕ) (sink : SinkBeforeAndAfter) (result : Result T E) → a ≡ b → Writes a sink result → Writes b sink result
 writes_same a b sink result same writes = subst (λ (bytes : List ℕ). Writes bytes sink result) same writes

@@ -1,19 +1,19 @@
 -- A front of several texts.
 use Rattle.std.proofs.Common.{◌≡◌, ◌<◌, ◌+◌, ◌/◌, ◌%◌, ℕ, List, [], ◌∷◌, ◌++◌, length, take, drop, get_or, slice_index, Option, Some, None, refl, sym, ap, ◌∙◌, append_assoc, append-nil, take-append-drop, subst}
 use Rattle.std.proofs.lemmas.List.{take_more}
-use Rattle.base_core.specs.Sink.{Adds, AddsPrefix}
+use Rattle.base_core.specs.Sink.{Adds, AddsPrefixToSink}
 use Rattle.hex.specs.Hex.{encode_with, encode_lower, lower_digits}
 use Rattle.base_core.proofs.Added.{Adds-more}
 use Rattle.report_core.specs.Pieces.{piece_text, pieces_text}
 use Rattle.report_core.specs.declared.lines.Piece.{Piece}
 
 -- more might have followed
-pub AddsPrefix-grows : (old new : Option (List ℕ)) (bytes more : List ℕ) → AddsPrefix old new bytes → AddsPrefix old new (bytes ++ more)
-AddsPrefix-grows old new bytes more h = record { front = h.front; rest = h.rest ++ more; whole = ap (λ b. b ++ more) h.whole ∙ append_assoc h.front h.rest more; added = h.added }
+pub AddsPrefixToSink-grows : (old new : Option (List ℕ)) (bytes more : List ℕ) → AddsPrefixToSink old new bytes → AddsPrefixToSink old new (bytes ++ more)
+AddsPrefixToSink-grows old new bytes more h = record { front = h.front; rest = h.rest ++ more; whole = ap (λ b. b ++ more) h.whole ∙ append_assoc h.front h.rest more; added = h.added }
 
 -- something came before
-pub AddsPrefix-after : (old mid new : Option (List ℕ)) (a b : List ℕ) → Adds old mid a → AddsPrefix mid new b → AddsPrefix old new (a ++ b)
-AddsPrefix-after old mid new a b h k = record { front = a ++ k.front; rest = k.rest; whole = ap (λ x. a ++ x) k.whole ∙ sym (append_assoc a k.front k.rest); added = Adds-more old mid new a k.front h k.added }
+pub AddsPrefixToSink-after : (old mid new : Option (List ℕ)) (a b : List ℕ) → Adds old mid a → AddsPrefixToSink mid new b → AddsPrefixToSink old new (a ++ b)
+AddsPrefixToSink-after old mid new a b h k = record { front = a ++ k.front; rest = k.rest; whole = ap (λ x. a ++ x) k.whole ∙ sym (append_assoc a k.front k.rest); added = Adds-more old mid new a k.front h k.added }
 
 -- ---- a text of a list, which has the texts of its entries one behind another
 
@@ -32,13 +32,13 @@ added-more text chains old mid new xs i d bytes is lt h k =
     subst (Adds old new) (ap (λ b. text (take i xs) ++ b) is ∙ sym (text-more text chains xs i d lt)) (Adds-more old mid new (text (take i xs)) bytes h k)
 
 pub front-more : {A : Type 0} (text : List A → List ℕ) → Chains text → (old mid new : Option (List ℕ)) (xs : List A) (i : ℕ) (d : A) (bytes : List ℕ) → bytes ≡ text (get_or xs i d ∷ [])
-    → i < length xs → Adds old mid (text (take i xs)) → AddsPrefix mid new bytes → AddsPrefix old new (text xs)
+    → i < length xs → Adds old mid (text (take i xs)) → AddsPrefixToSink mid new bytes → AddsPrefixToSink old new (text xs)
 front-more text chains old mid new xs i d bytes is lt h k =
     let e : (text (take i xs) ++ bytes) ++ text (drop (i + 1) xs) ≡ text xs =
     ap (λ (b : List ℕ). (text (take i xs) ++ b) ++ text (drop (i + 1) xs)) is
     ∙ ap (λ (b : List ℕ). b ++ text (drop (i + 1) xs)) (sym (text-more text chains xs i d lt))
     ∙ sym (text-split text chains xs (i + 1)) in
-    subst (AddsPrefix old new) e (AddsPrefix-grows old new (text (take i xs) ++ bytes) (text (drop (i + 1) xs)) (AddsPrefix-after old mid new (text (take i xs)) bytes h k))
+    subst (AddsPrefixToSink old new) e (AddsPrefixToSink-grows old new (text (take i xs) ++ bytes) (text (drop (i + 1) xs)) (AddsPrefixToSink-after old mid new (text (take i xs)) bytes h k))
 
 -- ---- the two texts
 

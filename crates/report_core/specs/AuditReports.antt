@@ -25,5 +25,5 @@ named_digest digest =
     else codes "none"
 
 -- the line of a listed file: its digest, two spaces and its path
-abbrev pub manifest_text : List ℕ → List ℕ → List ℕ
-manifest_text digest path = named_digest digest ++ codes "  " ++ path
+abbrev pub digest_and_path_text : List ℕ → List ℕ → List ℕ
+digest_and_path_text digest path = named_digest digest ++ codes "  " ++ path

@@ -3,7 +3,7 @@
 use Rattle.std.specs.Prelude.{ℕ, List, [], ◌∷◌, ◌++◌, Option, Some, None}
 use Rattle.std.specs.Fmt.{decimal}
 use Rattle.hex.specs.Hex.{encode_lower}
-use Rattle.report_core.specs.Texts.{hex_number, digest_bytes, position_text, cause_text}
+use Rattle.report_core.specs.Texts.{eight_hex_digits, digest_bytes, folder_and_file_position_text, cause_text}
 use Rattle.report_core.specs.declared.sentence.Sentence.{Sentence}
 use Rattle.base_core.specs.declared.cause.Cause.{Cause}
 use Rattle.report_core.specs.declared.lines.Piece.{Piece}
@@ -13,10 +13,10 @@ use Rattle.report_core.specs.declared.lines.Piece.TheVariants.{Bytes, Number, He
 abbrev pub piece_text : Piece → List ℕ
 piece_text (Bytes bytes) = bytes.now
 piece_text (Number number) = decimal number
-piece_text (HexNumber number) = hex_number number
+piece_text (HexNumber number) = eight_hex_digits number
 piece_text (Hex bytes) = encode_lower bytes.now
 piece_text (Digest digest) = encode_lower (digest_bytes digest)
-piece_text (Position folder file) = position_text folder file
+piece_text (Position folder file) = folder_and_file_position_text folder file
 piece_text Nothing = []
 
 -- the texts of pieces, one after another

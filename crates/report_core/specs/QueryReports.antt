@@ -6,11 +6,11 @@ use Rattle.report_core.specs.Reports.{name_dash_version, report_line}
 -- ---- `list` and `search`
 
 -- a text between two others; nothing if the text is empty
-abbrev pub text_between : List ℕ → List ℕ → List ℕ → List ℕ
-text_between before [] after = []
-text_between before (b ∷ bytes) after = before ++ (b ∷ bytes) ++ after
+abbrev pub text_between_unless_empty : List ℕ → List ℕ → List ℕ → List ℕ
+text_between_unless_empty before [] after = []
+text_between_unless_empty before (b ∷ bytes) after = before ++ (b ∷ bytes) ++ after
 
--- the mark of a package that is installed
+-- the mark of a package that is installed; nothing for one that is not
 abbrev pub installed_mark : Bool → List ℕ
 installed_mark true = codes " [installed]"
 installed_mark false = []
@@ -19,9 +19,9 @@ installed_mark false = []
 -- the parts that are empty
 abbrev pub list_line : List ℕ → List ℕ → List ℕ → List ℕ → List ℕ → Bool → List ℕ
 list_line name version arch origin license installed =
-    report_line (name_dash_version name version ++ text_between (codes " ") arch []
-    ++ text_between (codes " {") origin (codes "}")
-    ++ text_between (codes " (") license (codes ")") ++ installed_mark installed)
+    report_line (name_dash_version name version ++ text_between_unless_empty (codes " ") arch []
+    ++ text_between_unless_empty (codes " {") origin (codes "}")
+    ++ text_between_unless_empty (codes " (") license (codes ")") ++ installed_mark installed)
 
 -- the line of `search` for a package
 abbrev pub search_line : List ℕ → List ℕ → List ℕ
@@ -29,7 +29,7 @@ search_line name version = report_line (name_dash_version name version)
 
 -- ---- `policy`
 
--- the first line for a name
+-- the first line of `policy` for a package name
 abbrev pub policy_heading : List ℕ → List ℕ
 policy_heading name = report_line (name ++ codes " policy:")
 
@@ -38,14 +38,14 @@ abbrev pub version_heading : List ℕ → List ℕ
 version_heading version = report_line (codes "  " ++ version ++ codes ":")
 
 -- a line below a version: where the package with this version is
-abbrev pub policy_origin_line : List ℕ → List ℕ
-policy_origin_line text = report_line (codes "    " ++ text)
+abbrev pub policy_line_with_origin_text : List ℕ → List ℕ
+policy_line_with_origin_text text = report_line (codes "    " ++ text)
 
 -- the line of the database of installed packages
 abbrev pub policy_database_line : List ℕ
-policy_database_line = policy_origin_line (codes "lib/apk/db/installed")
+policy_database_line = policy_line_with_origin_text (codes "lib/apk/db/installed")
 
 -- the line of a repository, by its tag, if it has one, and the path of its index
 abbrev pub repository_line : Option (List ℕ) → List ℕ → List ℕ
-repository_line None path = policy_origin_line path
-repository_line (Some tag) path = policy_origin_line (codes "@" ++ tag ++ codes " " ++ path)
+repository_line None path = policy_line_with_origin_text path
+repository_line (Some tag) path = policy_line_with_origin_text (codes "@" ++ tag ++ codes " " ++ path)

@@ -77,17 +77,17 @@ still_needed_text name (first ∷ others) =
     name ++ codes " stays; required by:" ++ with_spaces_before (first ∷ others)
 
 -- the folder of a due trigger as a path from the root on: a folder without a name is the root
-abbrev pub folder_text : List ℕ → List ℕ
-folder_text [] = codes "/"
-folder_text (b ∷ bytes) = b ∷ bytes
+abbrev pub trigger_folder_text : List ℕ → List ℕ
+trigger_folder_text [] = codes "/"
+trigger_folder_text (b ∷ bytes) = b ∷ bytes
 
 -- the report on a trigger that is due for a folder
-abbrev pub trigger_text : List ℕ → List ℕ → List ℕ
-trigger_text name folder = name ++ codes ": trigger due for " ++ folder_text folder
+abbrev pub trigger_due_text : List ℕ → List ℕ → List ℕ
+trigger_due_text name folder = name ++ codes ": trigger due for " ++ trigger_folder_text folder
 
 -- the last line of a change: the sum of the installed sizes, and how many packages there are
-abbrev pub sum_text : ℕ → ℕ → List ℕ
-sum_text bytes packages =
+abbrev pub bytes_and_package_count_text : ℕ → ℕ → List ℕ
+bytes_and_package_count_text bytes packages =
     codes "OK: " ++ decimal bytes ++ codes " bytes in " ++ decimal packages ++ codes " packages"
 
 -- ---- `info`: a heading, its text, and an empty line

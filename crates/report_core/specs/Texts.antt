@@ -12,9 +12,9 @@ use Rattle.report_core.specs.Numbers.{HASHES_FIELD, TRIGGER_SCRIPT, PRE_INSTALL_
 use Rattle.report_core.specs.declared.refusal.Refusal.{Refusal}
 use Rattle.report_core.specs.declared.refusal.Refusal.TheVariants.{Usage, IntentBad, FileMissing, FileBad, TextBad, VersionBad, InfoBad, NoDatabase, DatabaseBad, WorldBad, RepositoriesBad, Untrusted, IndexMissing, IndexBad, TooMany, NotInstalled, Unsatisfied, PackageMissing, PackageBad, PackageDiffers, ScriptNeeded, Reserved, PathClash, Owned, TriggerNeeded, ResultTooLarge}
 
--- a number of 32 bits, a value's word or a schema, in eight lower-case hexadecimal digits
-abbrev pub hex_number : ℕ → List ℕ
-hex_number number = encode_lower (to_be_bytes w32 number)
+-- a 32-bit number, which is an encoded value or a schema, in eight lower-case hexadecimal digits
+abbrev pub eight_hex_digits : ℕ → List ℕ
+eight_hex_digits number = encode_lower (to_be_bytes w32 number)
 
 -- the bytes of a digest, of which the digits are printed
 abbrev pub digest_bytes : Digest → List ℕ
@@ -25,8 +25,8 @@ digest_bytes (Sha512 bytes) = bytes
 -- ---- causes
 
 -- the positions of a folder in a package and of a file in it, counted from 1, with a dot between
-abbrev pub position_text : ℕ → ℕ → List ℕ
-position_text folder file = decimal folder ++ codes "." ++ decimal file
+abbrev pub folder_and_file_position_text : ℕ → ℕ → List ℕ
+folder_and_file_position_text folder file = decimal folder ++ codes "." ++ decimal file
 
 -- the text of a cause
 abbrev pub cause_text : Cause → List ℕ
@@ -35,17 +35,17 @@ cause_text Compressed = codes "compressed ADB file"
 cause_text (Truncated at) = codes "truncated at " ++ decimal at
 cause_text (BlockOrder at) = codes "block out of order at " ++ decimal at
 cause_text CompatVersion = codes "incompatible version"
-cause_text (WrongSchema found) = codes "wrong schema " ++ hex_number found
-cause_text (Outside word) = codes "value " ++ hex_number word ++ codes " points outside"
-cause_text (WrongKind word) = codes "value " ++ hex_number word ++ codes " has the wrong kind"
+cause_text (WrongSchema found) = codes "wrong schema " ++ eight_hex_digits found
+cause_text (Outside word) = codes "value " ++ eight_hex_digits word ++ codes " points outside"
+cause_text (WrongKind word) = codes "value " ++ eight_hex_digits word ++ codes " has the wrong kind"
 cause_text (TooLarge count) = decimal count ++ codes " values are too many"
 cause_text (BadText place) = codes "bad field " ++ decimal place
 cause_text (Repeated place first second) =
     codes "field " ++ decimal place ++ codes " repeated at " ++ decimal first ++ codes " and "
     ++ decimal second
 cause_text (DataOrder expected found) =
-    codes "contents " ++ position_text found.0 found.1
-    ++ codes " where " ++ position_text expected.0 expected.1 ++ codes " was expected"
+    codes "contents " ++ folder_and_file_position_text found.0 found.1
+    ++ codes " where " ++ folder_and_file_position_text expected.0 expected.1 ++ codes " was expected"
 cause_text (DataSize wanted found) =
     codes "contents of " ++ decimal found ++ codes " bytes where " ++ decimal wanted
     ++ codes " were expected"
@@ -131,7 +131,7 @@ error_line text = codes "ERROR: " ++ text ++ codes "\n"
 abbrev pub refusal_line : Refusal → List ℕ
 refusal_line refusal = error_line (refusal_text refusal)
 
--- the error line of a failed tree
+-- the error line of an I/O error of the file tree
 abbrev pub tree_failure_line : List ℕ
 tree_failure_line = error_line (codes "the tree failed")
 

@@ -8,7 +8,7 @@ ghost use Rattle.base_core.specs.Sink.{sink_before_and_after};
 ghost use Rattle.base_core.specs.Write.{Writes};
 ghost use Rattle.hex.specs.Hex.{encode_lower};
 ghost use Rattle.report_core.specs.Pieces.{cause_text_if_any, piece_text, pieces_text, sentence_text};
-ghost use Rattle.report_core.specs.Texts.{digest_bytes, position_text, refusal_line};
+ghost use Rattle.report_core.specs.Texts.{digest_bytes, folder_and_file_position_text, refusal_line};
 
 use crate::refusal::Refusal;
 use crate::sentence::{Sentence, cause_pieces, sentence_of};
@@ -39,7 +39,8 @@ fn write_sentence<E: Sink>(sentence: &Sentence<'_>, err: &mut E) -> Result<(), S
 
 /// Writes a cause, if there is one.
 fn write_cause<E: Sink>(cause: Option<Cause>, err: &mut E) -> Result<(), SinkFault>
-    ensures { Writes (cause_text_if_any cause) (sink_before_and_after E.bytes E.counts err.old err.new) result }
+    ensures { Writes (cause_text_if_any cause)
+        (sink_before_and_after E.bytes E.counts err.old err.new) result }
 {
     match cause {
         Some(cause) => write_pieces(&cause_pieces(cause), err),
@@ -54,7 +55,7 @@ pub(crate) enum Piece<'a> {
     Bytes(&'a [u8]),
     /// A number, in decimal digits.
     Number(u64),
-    /// A number of 32 bits, a value's word or a schema, in eight hexadecimal digits.
+    /// A 32-bit number, which is an encoded value or a schema, in eight hexadecimal digits.
     HexNumber(u32),
     /// Bytes, in two hexadecimal digits each.
     Hex(&'a [u8]),
@@ -69,7 +70,7 @@ pub(crate) enum Piece<'a> {
 /// The pieces of a text: seven, the most that a refusal has; unused ones are empty.
 pub(crate) type Pieces<'a> = [Piece<'a>; 7];
 
-/// Writes all the pieces, in order. After a fault a front of their text was written.
+/// Writes all the pieces, in order. If the sink fails, a prefix of their text was written.
 pub(crate) fn write_pieces<S: Sink>(pieces: &[Piece<'_>], sink: &mut S) -> Result<(), SinkFault>
     ensures { Writes (pieces_text pieces.now)
         (sink_before_and_after S.bytes S.counts sink.old sink.new) result }
@@ -98,7 +99,7 @@ fn write_piece<S: Sink>(piece: &Piece<'_>, sink: &mut S) -> Result<(), SinkFault
 
 /// Writes the positions of a folder and of a file in it, with a dot between.
 fn write_position<S: Sink>(folder: u64, file: u64, sink: &mut S) -> Result<(), SinkFault>
-    ensures { Writes (position_text folder file)
+    ensures { Writes (folder_and_file_position_text folder file)
         (sink_before_and_after S.bytes S.counts sink.old sink.new) result }
 {
     write_number(folder, sink)?;
@@ -108,7 +109,8 @@ fn write_position<S: Sink>(folder: u64, file: u64, sink: &mut S) -> Result<(), S
 
 /// Writes a number in decimal.
 fn write_number<S: Sink>(number: u64, sink: &mut S) -> Result<(), SinkFault>
-    ensures { Writes (decimal number) (sink_before_and_after S.bytes S.counts sink.old sink.new) result }
+    ensures { Writes (decimal number)
+        (sink_before_and_after S.bytes S.counts sink.old sink.new) result }
 {
     let mut digits = Buffer::new();
     write_all(sink, digits.format(number).as_bytes())
@@ -121,7 +123,7 @@ fn write_hex<S: Sink>(bytes: &[u8], sink: &mut S) -> Result<(), SinkFault>
 {
     for byte in bytes {
         let mut digits = [0; 2];
-        // A byte has two digits, which fit.
+        // A byte has two hexadecimal digits, as many as `digits` has room for.
         let _ = hex::encode_to_slice([*byte], &mut digits);
         write_all(sink, &digits)?;
     }
@@ -163,7 +165,7 @@ impl Report {
         }
     }
 
-    /// Appends bytes. Without memory nothing changes.
+    /// Appends bytes. If memory runs out, nothing changes.
     pub fn push(&mut self, piece: &[u8]) -> Result<(), AllocError>
         ensures ok { OnOk result (self.new ≡ self.old ++ piece.now) }
         ensures err { OnErr result (self.new ≡ self.old) }
@@ -172,7 +174,7 @@ impl Report {
         Ok(())
     }
 
-    /// Appends a number in decimal digits. Without memory nothing changes.
+    /// Appends a number in decimal digits. If memory runs out, nothing changes.
     pub fn number(&mut self, n: u128) -> Result<(), AllocError>
         ensures ok { OnOk result (self.new ≡ self.old ++ decimal n) }
         ensures err { OnErr result (self.new ≡ self.old) }

@@ -12,7 +12,7 @@ pub enum Refusal {
     Usage {
         place: u32,
     },
-    /// The intent of a change that was cut off is no sound container.
+    /// The intent (`lib/apk/intent`) of an interrupted change is no sound container.
     IntentBad {
         cause: Cause,
     },

@@ -2,7 +2,7 @@
 use Rattle.std.proofs.Common.{◌≡◌, ◌∙◌, ℕ, Bool, false, List, Some, None, Ok, ap}
 use Rattle.make_index.specs.adb_fields.Repeated.{entries_at, list_of}
 use Rattle.make_index.specs.adb_schema.SoundContainers.{IsSoundContainer}
-use Rattle.make_index.specs.adb_schema.Soundness.{first_fault, payload_in, root_value}
+use Rattle.make_index.specs.adb_schema.Soundness.{container_fault_except_contents, payload_in, root_value}
 use Rattle.engine_core.specs.adb_sound.Root.{IsRootOf}
 use Rattle.adb_view.specs.declared.tables.Which.TheVariants.{Idb}
 use Rattle.adb_view.specs.Plain.{Plain}
@@ -32,6 +32,6 @@ pub database_left : WrittenLaws → (members : List Member) (bytes : List ℕ) �
 database_left laws members bytes sound order free written =
     let root : IsRootOf Idb (database_value members (owned_flags_of members)) =
     laws.root members (owned_flags_of members) bytes sound order (may_be_listed members (owned_flags_of members) (laws.one_owner members) sound free) written in
-    let passes : first_fault Idb bytes ≡ None = laws.sound members (owned_flags_of members) bytes root written in
+    let passes : container_fault_except_contents Idb bytes ≡ None = laws.sound members (owned_flags_of members) bytes root written in
     ap (λ o. unless_cause DatabaseBad o (database_from_parts (entries_at 0 (root_value Idb (payload_in bytes))) (Some bytes) false)) passes
     ∙ ap (λ (pkgs : List Plain). Ok (database_from_parts pkgs (Some bytes) false)) (laws.packages members (owned_flags_of members) bytes root written)

@@ -9,7 +9,7 @@ use Rattle.make_index.specs.adb_fields.FirstPair.{IsIn}
 use Rattle.make_index.specs.adb_fields.Repeated.{package_name}
 use Rattle.make_index.specs.adb_schema.Rules.{is_digest_length}
 use Rattle.make_index.specs.adb_schema.SoundContainers.{IsSoundContainer}
-use Rattle.make_index.specs.adb_schema.Soundness.{first_fault, payload_in, root_value}
+use Rattle.make_index.specs.adb_schema.Soundness.{container_fault_except_contents, payload_in, root_value}
 use Rattle.adb_view.specs.declared.tables.Which.TheVariants.{Package}
 use Rattle.adb_view.specs.Plain.{Plain}
 use Rattle.base_core.specs.declared.cause.Cause.{Cause}
@@ -17,20 +17,20 @@ use Rattle.base_core.proofs.Rising as Names
 use Rattle.base_core.proofs.Causes.{first_none}
 use Rattle.engine_core.proofs.change_files.InOrder.{order_rises}
 use Rattle.engine_core.specs.change_inputs.Chains.{and_then}
-use Rattle.engine_core.specs.change_inputs.Inputs.{first_index_read}
+use Rattle.engine_core.specs.change_inputs.Inputs.{first_index_read_number}
 use Rattle.engine_core.proofs.change_outcome.Made.{and_then_ok}
-use Rattle.engine_core.specs.change_outcome.MembersAfter.{MemberFound, added_package_by_path, added_member_found, members_after, found_members, name_after, name_by_change, name_by_selected, member_of_added_name, member_of_removed_name, names_after, kept_member_found}
-use Rattle.engine_core.specs.change_outcome.PackageFiles.{AddedPackage, package_file_of, added_package_or_refusal, package_in_file, scripts_of_change, unless_different, unless_script_number, unless_package_bad, unless_script, first_script_of}
+use Rattle.engine_core.specs.change_outcome.MembersAfter.{MemberFound, added_package_by_path, added_member_found, members_after, found_members, member_of_name_after, member_of_name_by_change, member_of_name_by_selected, member_of_added_name, member_of_removed_name, names_after, kept_member_found}
+use Rattle.engine_core.specs.change_outcome.PackageFiles.{AddedPackage, package_file_of, added_package_or_refusal, package_in_file, scripts_of_change, unless_different, unless_script_number, unless_package_bad, unless_script_needed, first_script_of}
 use Rattle.engine_core.specs.db_core.Members.{AreInOrder, Member, member_name}
 use Rattle.engine_core.specs.db_core.Packages.{is_package_named}
 use Rattle.engine_core.specs.db_core.SoundMembers.{AreOfSoundContainers, IsOfSoundContainer}
 use Rattle.dep_core.specs.Repositories.{Repository}
-use Rattle.engine_core.specs.file_owners.Replaces.{version_text}
+use Rattle.engine_core.specs.file_owners.Replaces.{package_version_text}
 use Rattle.make_index.proofs.IndexSound.{payload_all}
 use Rattle.make_index.specs.make_info.Reads.{Reads}
-use Rattle.engine_core.specs.package_changes.Changes.{Replacement, change_of_name, is_selected_named, names_before_and_selected, selected_version}
+use Rattle.engine_core.specs.package_changes.Changes.{Replacement, change_of_name, is_candidate_named, names_before_and_selected, candidate_version_text}
 use Rattle.make_index.specs.pkg_core.Contents.{fault_of_files_read}
-use Rattle.make_index.specs.pkg_core.Whole.{files_in_file, package_fault, package_id}
+use Rattle.make_index.specs.pkg_core.Whole.{files_read_from_package, package_fault, package_id}
 use Rattle.engine_core.specs.candidate_core.Candidates.{Candidate, is_same_id}
 use Rattle.report_core.specs.Reports.{Change}
 use Rattle.report_core.specs.declared.refusal.Refusal.{Refusal}
@@ -42,7 +42,7 @@ abbrev pub FilesMayCome : Type 0
 FilesMayCome = (file id : List ℕ) → IsSoundContainer Package file → All (λ b. b < 256) (payload_in file) → is_digest_length (length id) ≡ true → IsOfSoundContainer (root_value Package (payload_in file)) (Some id)
 
 abbrev pub PackagesAreTested : Type 0
-PackagesAreTested = (file : List ℕ) → package_fault file ≡ option_or (first_fault Package file) (fault_of_files_read (files_in_file file))
+PackagesAreTested = (file : List ℕ) → package_fault file ≡ option_or (container_fault_except_contents Package file) (fault_of_files_read (files_read_from_package file))
 
 -- ---- one package
 
@@ -74,7 +74,7 @@ kept_found o = Ok o
 module _ (come : FilesMayCome) (tested : PackagesAreTested) (read : Reads) (bytes : FindBytes read) where
   -- its name and its version are the candidate's
   different_ok : (c : Candidate) (pkg p : AddedPackage) → unless_different c pkg ≡ Ok p → (p ≡ pkg) × (package_name pkg.value ≡ c.name)
-  different_ok c pkg p e = by_tests _ _ _ (is_same_id c.id pkg.id) (bytes_eq c.name (package_name pkg.value)) (bytes_eq (selected_version c) (version_text pkg.value)) refl e
+  different_ok c pkg p e = by_tests _ _ _ (is_same_id c.id pkg.id) (bytes_eq c.name (package_name pkg.value)) (bytes_eq (candidate_version_text c) (package_version_text pkg.value)) refl e
     where
       by_tests : (x y z : Refusal) (a b v : Bool) → bytes_eq c.name (package_name pkg.value) ≡ b
           → kept_package (if not a then Err x else if not b then Err y else if not v then Err z else Ok pkg) ≡ Ok p → (p ≡ pkg) × (package_name pkg.value ≡ c.name)
@@ -91,7 +91,7 @@ module _ (come : FilesMayCome) (tested : PackagesAreTested) (read : Reads) (byte
           let is = different_ok c (package_in_file file) pkg e in
           subst (λ (p : AddedPackage). IsFoundAs c.name (added_member_found p).member) (sym is.0)
           (record {
-            sound = come file (package_id file) (first_none (first_fault Package file) (fault_of_files_read (files_in_file file)) (sym (tested file) ∙ sound))
+            sound = come file (package_id file) (first_none (container_fault_except_contents Package file) (fault_of_files_read (files_read_from_package file)) (sym (tested file) ∙ sound))
                 (payload_all (λ b. b < 256) file small) (ap is_digest_length (length-sha256 (payload_in file)));
             named = is.1;
           })
@@ -105,7 +105,7 @@ module _ (come : FilesMayCome) (tested : PackagesAreTested) (read : Reads) (byte
       by_read None is e = absurd (cc (e))
       by_read (Some file) is e = file_ok c file pkg (bytes n path file is) e
 
-  script_ok : {A : Type 0} (no_scripts : Bool) (name : List ℕ) (pkg : Plain) (numbers : List ℕ) (a b : A) → unless_script no_scripts name pkg numbers a ≡ Ok b → a ≡ b
+  script_ok : {A : Type 0} (no_scripts : Bool) (name : List ℕ) (pkg : Plain) (numbers : List ℕ) (a b : A) → unless_script_needed no_scripts name pkg numbers a ≡ Ok b → a ≡ b
   script_ok true name pkg numbers a b e = (cc (e))
   script_ok false name pkg numbers a b e = by_number (first_script_of pkg numbers) e
     where
@@ -117,7 +117,7 @@ module _ (come : FilesMayCome) (tested : PackagesAreTested) (read : Reads) (byte
       → member_of_added_name read repositories no_scripts n name change c ≡ Ok o → IfFound name o
   comes_ok repositories no_scripts n name change c o named e =
       let pkg = and_then_ok (added_package_by_path read n c (package_file_of repositories c)) (λ pkg.
-      unless_script no_scripts name pkg.value (scripts_of_change change) (Some (added_member_found pkg))) o e in
+      unless_script_needed no_scripts name pkg.value (scripts_of_change change) (Some (added_member_found pkg))) o e in
       subst (IfFound name) (script_ok no_scripts name pkg.0.value (scripts_of_change change) (Some (added_member_found pkg.0)) o pkg.2)
       (subst (λ (q : List ℕ). IsFoundAs q (added_member_found pkg.0).member) named (path_ok n c (package_file_of repositories c) pkg.0 pkg.1))
 
@@ -133,18 +133,18 @@ module _ (come : FilesMayCome) (tested : PackagesAreTested) (read : Reads) (byte
         let here = found_in (is_package_named name) r.before pkg is in
         subst (IfFound name) same (record { sound = before pkg here.0; named = (bytes_eq-Decides (package_name pkg) name).0 here.1 })
 
-    selected_ok : (n : ℕ) (name : List ℕ) (change : Change) (old : Option Plain) (new : Option Candidate) (o : Option MemberFound) → find (is_selected_named name) r.selected ≡ new
-        → name_by_selected read repositories no_scripts n name change old new ≡ Ok o → IfFound name o
+    selected_ok : (n : ℕ) (name : List ℕ) (change : Change) (old : Option Plain) (new : Option Candidate) (o : Option MemberFound) → find (is_candidate_named name) r.selected ≡ new
+        → member_of_name_by_selected read repositories no_scripts n name change old new ≡ Ok o → IfFound name o
     selected_ok n name change old None o is e = goes_ok no_scripts name change old o e
     selected_ok n name change old (Some c) o is e =
-        comes_ok repositories no_scripts n name change c o ((bytes_eq-Decides c.name name).0 (found_in (is_selected_named name) r.selected c is).1) e
+        comes_ok repositories no_scripts n name change c o ((bytes_eq-Decides c.name name).0 (found_in (is_candidate_named name) r.selected c is).1) e
 
     changed_ok : (n : ℕ) (name : List ℕ) (change : Option Change) (o : Option MemberFound)
-        → name_by_change read repositories no_scripts n name change (find (is_package_named name) r.before) (find (is_selected_named name) r.selected) ≡ Ok o → IfFound name o
+        → member_of_name_by_change read repositories no_scripts n name change (find (is_package_named name) r.before) (find (is_candidate_named name) r.selected) ≡ Ok o → IfFound name o
     changed_ok n name None o e = stays_ok name (find (is_package_named name) r.before) o refl e
-    changed_ok n name (Some change) o e = selected_ok n name change (find (is_package_named name) r.before) (find (is_selected_named name) r.selected) o refl e
+    changed_ok n name (Some change) o e = selected_ok n name change (find (is_package_named name) r.before) (find (is_candidate_named name) r.selected) o refl e
 
-    name_ok : (n : ℕ) (name : List ℕ) (o : Option MemberFound) → name_after r read repositories no_scripts n name ≡ Ok o → IfFound name o
+    name_ok : (n : ℕ) (name : List ℕ) (o : Option MemberFound) → member_of_name_after r read repositories no_scripts n name ≡ Ok o → IfFound name o
     name_ok n name o e = changed_ok n name (change_of_name r name) o e
 
     -- ---- all of them
@@ -168,7 +168,7 @@ module _ (come : FilesMayCome) (tested : PackagesAreTested) (read : Reads) (byte
     names_ok : (n : ℕ) (names : List (List ℕ)) (fs : List MemberFound) → Names.Rises names → names_after r read repositories no_scripts n names ≡ Ok fs → AreFoundOf names fs
     names_ok n [] fs rises e = let same : [] ≡ fs = cc in subst (AreFoundOf []) same (tt, (λ q here. absurd here), tt)
     names_ok n (name ∷ names) fs rises e =
-        let first = and_then_ok (name_after r read repositories no_scripts n name) (λ first.
+        let first = and_then_ok (member_of_name_after r read repositories no_scripts n name) (λ first.
         and_then (names_after r read repositories no_scripts (suc n) names) (λ others.
         Ok (cons_option first others))) fs e in
         let others = and_then_ok (names_after r read repositories no_scripts (suc n) names) (λ others. Ok (cons_option first.0 others)) fs first.2 in
@@ -179,5 +179,5 @@ module _ (come : FilesMayCome) (tested : PackagesAreTested) (read : Reads) (byte
     pub members_ok : (fs : List MemberFound) → members_after r read repositories no_scripts ≡ Ok fs → AreOfSoundContainers (found_members fs) × AreInOrder (found_members fs)
     unfolding members_after
     members_ok fs e =
-        let are = names_ok (first_index_read + length repositories) (names_before_and_selected r) fs (order_rises _) e in
+        let are = names_ok (first_index_read_number + length repositories) (names_before_and_selected r) fs (order_rises _) e in
         (are.0, Names.pairs_from_rises (map member_name (found_members fs)) are.2)

@@ -2,7 +2,7 @@
 use Rattle.std.proofs.Common.{◌≡◌, ℕ, List, [], ◌∷◌, Option, Some, None, Result, Ok, Err, refl, ap}
 use Rattle.base_core.specs.Files.{Files}
 use Rattle.engine_core.specs.change_files.FileChange.{FileChange}
-use Rattle.engine_core.specs.change_files.FilesAfter.{DatabaseAndWorldAfter, changed_files, world_bytes_after, world_name}
+use Rattle.engine_core.specs.change_files.FilesAfter.{DatabaseAndWorldAfter, files_after_change, world_bytes_after, world_name}
 use Rattle.engine_core.specs.change_inputs.Chains.{refused_as}
 use Rattle.engine_core.specs.change_inputs.World.{new_world, root_world, found_text_or_empty, world_with_operand, world_with_operands, world_without_operands}
 use Rattle.command_core.specs.declared.command.Applet.{Applet}
@@ -62,6 +62,6 @@ text_of_world [] None = refl
 text_of_world [] (Some old) = refl
 text_of_world (b ∷ bytes) old = refl
 
-pub world_text_left : (change : FileChange) (bytes_of : Listing → List ℕ) (records : DatabaseAndWorldAfter) (files : Files) → found_text_or_empty (changed_files change bytes_of records files world_name) ≡ records.world
-unfolding changed_files
+pub world_text_left : (change : FileChange) (bytes_of : Listing → List ℕ) (records : DatabaseAndWorldAfter) (files : Files) → found_text_or_empty (files_after_change change bytes_of records files world_name) ≡ records.world
+unfolding files_after_change
 world_text_left change bytes_of records files = text_of_world records.world (files world_name)

@@ -1,13 +1,13 @@
 -- What a command begins with that reads the root which a change has left.
 use Rattle.std.proofs.Common.{◌≡◌, ℕ, ◌+◌, Bool, true, false, List, [], ◌∷◌, Option, Some, None, Result, Ok, Err, sym, subst}
-use Rattle.make_index.specs.adb_schema.Soundness.{first_fault, payload_in, root_value}
+use Rattle.make_index.specs.adb_schema.Soundness.{container_fault_except_contents, payload_in, root_value}
 use Rattle.adb_view.specs.declared.tables.Which.TheVariants.{Index}
 use Rattle.adb_view.specs.Plain.{Plain}
 use Rattle.base_core.specs.declared.cause.Cause.{Cause}
 use Rattle.engine_core.specs.change_inputs.Chains.{and_then, refused_as, unless_cause}
 use Rattle.engine_core.specs.change_inputs.Database.{Database}
 use Rattle.engine_core.specs.change_inputs.Indexes.{index_file, index_files_from, index_in_file, indexes_in_files, root_indexes}
-use Rattle.engine_core.specs.change_inputs.Inputs.{Inputs, Root, database_for, index_reads_from, first_index_read, indexes_of, inputs_from_parts, inputs_of, repositories_read, root_by, root_for, world_read}
+use Rattle.engine_core.specs.change_inputs.Inputs.{Inputs, Root, database_for, index_reads_from, first_index_read_number, indexes_of, inputs_from_parts, inputs_of, repositories_read_number, root_from_parts, root_for, world_read_number}
 use Rattle.engine_core.specs.change_inputs.Repositories.{if_untrusted_allowed, root_repositories}
 use Rattle.engine_core.specs.change_inputs.World.{root_world, found_text_or_empty}
 use Rattle.engine_core.specs.change_outcome.ChangeOutcome.{ChangeDone}
@@ -35,7 +35,7 @@ begins command later read next chosen done left inputs reads e =
     let is = inputs_parts later next inputs e in
     record {
       database = one_answer (database_for later next) inputs.root.database (database_of_members (found_members left.found) left.bytes) is.database (left.database later next reads);
-      world = one_answer (root_world (found_text_or_empty (next world_read world_name))) inputs.root.world left.selected.inputs.root.new_world is.world (left.world next reads);
+      world = one_answer (root_world (found_text_or_empty (next world_read_number world_name))) inputs.root.world left.selected.inputs.root.new_world is.world (left.world next reads);
     }
 
 -- ---- refusals
@@ -81,30 +81,30 @@ index_fails n (Some cause) index = tt
 indexes_fail : (n : ℕ) (files : List (List ℕ)) → FailsOfRepositories (indexes_in_files n files)
 indexes_fail n [] = tt
 indexes_fail n (file ∷ files) =
-    then_fails (index_in_file n file) (λ index. and_then (indexes_in_files (n + 1) files) (λ indexes. Ok (index ∷ indexes))) (index_fails n (first_fault Index file) (root_value Index (payload_in file)))
+    then_fails (index_in_file n file) (λ index. and_then (indexes_in_files (n + 1) files) (λ indexes. Ok (index ∷ indexes))) (index_fails n (container_fault_except_contents Index file) (root_value Index (payload_in file)))
     (λ index. then_fails (indexes_in_files (n + 1) files) (λ indexes. Ok (index ∷ indexes)) (indexes_fail (n + 1) files) (λ indexes. tt))
 
 found_fail : (found : List (Option (List ℕ))) → FailsOfRepositories (root_indexes found)
 found_fail found = then_fails (index_files_from 1 found) (indexes_in_files 1) (files_fail 1 found) (indexes_fail 1)
 
 module _ (later : CommandLine) (next : Reads) (database : Database) (world : List Dependency)
-    (has_database : database_for later next ≡ Ok database) (has_world : root_world (found_text_or_empty (next world_read world_name)) ≡ Ok world) where
+    (has_database : database_for later next ≡ Ok database) (has_world : root_world (found_text_or_empty (next world_read_number world_name)) ≡ Ok world) where
   root_fails : FailsOfRepositories (root_for later next)
   root_fails =
-      let text : List ℕ = found_text_or_empty (next world_read world_name) in
-      let lines : List ℕ = found_text_or_empty (next repositories_read repositories_name) in
-      let after_world : List Dependency → Result Root Refusal = λ world. and_then (root_repositories later.flags.allow_untrusted lines) (λ repositories. Ok (root_by later database text world repositories)) in
+      let text : List ℕ = found_text_or_empty (next world_read_number world_name) in
+      let lines : List ℕ = found_text_or_empty (next repositories_read_number repositories_name) in
+      let after_world : List Dependency → Result Root Refusal = λ world. and_then (root_repositories later.flags.allow_untrusted lines) (λ repositories. Ok (root_from_parts later database text world repositories)) in
       let after_database : Database → Result Root Refusal = λ database.
-      and_then (root_world text) (λ world. and_then (root_repositories later.flags.allow_untrusted lines) (λ repositories. Ok (root_by later database text world repositories))) in
+      and_then (root_world text) (λ world. and_then (root_repositories later.flags.allow_untrusted lines) (λ repositories. Ok (root_from_parts later database text world repositories))) in
       known_fails (database_for later next) after_database database has_database
       (known_fails (root_world text) after_world world has_world
-      (then_fails (root_repositories later.flags.allow_untrusted lines) (λ repositories. Ok (root_by later database text world repositories)) (repositories_fail later.flags.allow_untrusted lines) (λ repositories. tt)))
+      (then_fails (root_repositories later.flags.allow_untrusted lines) (λ repositories. Ok (root_from_parts later database text world repositories)) (repositories_fail later.flags.allow_untrusted lines) (λ repositories. tt)))
 
   inputs_fail : FailsOfRepositories (inputs_of later next)
   unfolding inputs_of
   inputs_fail =
       then_fails (root_for later next) (λ root. and_then (indexes_of next root.repositories) (λ indexes. Ok (inputs_from_parts root indexes))) root_fails
-      (λ root. then_fails (indexes_of next root.repositories) (λ indexes. Ok (inputs_from_parts root indexes)) (found_fail (index_reads_from next first_index_read root.repositories)) (λ indexes. tt))
+      (λ root. then_fails (indexes_of next root.repositories) (λ indexes. Ok (inputs_from_parts root indexes)) (found_fail (index_reads_from next first_index_read_number root.repositories)) (λ indexes. tt))
 
 pub refused : (command later : CommandLine) (read next : Reads) (chosen : Option (List ℕ)) (done : ChangeDone) → IsRootLeft command read chosen done → (refusal : Refusal)
     → ReadsRoot done.files next → inputs_of later next ≡ Err refusal → IsOfRepositories refusal

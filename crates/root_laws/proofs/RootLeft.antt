@@ -6,7 +6,7 @@ use Rattle.engine_core.specs.change_files.FileChange.{FileChange}
 use Rattle.engine_core.specs.change_files.FilesAfter.{DatabaseAndWorldAfter, listing_bytes}
 use Rattle.engine_core.proofs.change_files.RecordNames.{database_after}
 use Rattle.engine_core.specs.change_inputs.Database.{root_database}
-use Rattle.engine_core.specs.change_inputs.Inputs.{Inputs, inputs_of, text_database_read}
+use Rattle.engine_core.specs.change_inputs.Inputs.{Inputs, inputs_of, text_database_read_number}
 use Rattle.engine_core.specs.change_inputs.World.{root_world, found_text_or_empty}
 use Rattle.engine_core.specs.change_outcome.Made.{IsChangeMade}
 use Rattle.engine_core.proofs.change_outcome.Made.{and_then_ok, made}
@@ -89,7 +89,7 @@ module _ (laws : Laws) (command : CommandLine) (read : Reads) (files : Files) (c
         members = m.members;
         bytes = m.database;
         database = λ later next finds.
-            ap (λ (o : Option (List ℕ)). root_database later.flags.initdb o (next text_database_read text_database_name)) (finds.database ∙ database_there)
+            ap (λ (o : Option (List ℕ)). root_database later.flags.initdb o (next text_database_read_number text_database_name)) (finds.database ∙ database_there)
             ∙ database_left laws.written (found_members m.found) m.database members.0 members.1 m.unreserved m.new_database;
         world = λ next finds.
             ap root_world (ap found_text_or_empty finds.world ∙ world_there)

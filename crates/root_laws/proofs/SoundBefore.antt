@@ -5,13 +5,13 @@ use Rattle.make_index.specs.adb_fields.FirstPair.{IsIn}
 use Rattle.make_index.specs.adb_fields.Repeated.{entries_at}
 use Rattle.make_index.specs.adb_schema.SoundContainers.{IsSoundContainer}
 use Rattle.make_index.proofs.adb_schema.Sound as Values
-use Rattle.make_index.specs.adb_schema.Soundness.{first_fault, payload_in, root_value}
+use Rattle.make_index.specs.adb_schema.Soundness.{container_fault_except_contents, payload_in, root_value}
 use Rattle.adb_view.specs.declared.tables.Which.TheVariants.{Idb}
 use Rattle.adb_view.specs.Plain.{Plain}
 use Rattle.base_core.specs.declared.cause.Cause.{Cause}
 use Rattle.engine_core.specs.change_inputs.Chains.{and_then, unless_cause}
 use Rattle.engine_core.specs.change_inputs.Database.{Database, container_database, database_from_parts, payload_database, root_database}
-use Rattle.engine_core.specs.change_inputs.Inputs.{Inputs, Root, database_for, database_read, indexes_of, inputs_from_parts, inputs_of, repositories_read, root_by, root_for, text_database_read, world_read}
+use Rattle.engine_core.specs.change_inputs.Inputs.{Inputs, Root, database_for, database_read_number, indexes_of, inputs_from_parts, inputs_of, repositories_read_number, root_from_parts, root_for, text_database_read_number, world_read_number}
 use Rattle.engine_core.specs.change_inputs.Repositories.{root_repositories}
 use Rattle.engine_core.specs.change_inputs.World.{new_world, root_world, found_text_or_empty}
 use Rattle.engine_core.proofs.change_outcome.Made.{and_then_ok}
@@ -60,9 +60,9 @@ same_sound : (d database : Database) → AllSound d.packages → kept d ≡ kept
 same_sound d database sound e = let same : d ≡ database = cc in subst (λ (x : Database). AllSound x.packages) same sound
 
 container_sound : FilesMayStay → (file : List ℕ) (database : Database) → All (λ b. b < 256) file → container_database file ≡ Ok database → AllSound database.packages
-container_sound stay file database bytes e = by_fault (first_fault Idb file) refl e
+container_sound stay file database bytes e = by_fault (container_fault_except_contents Idb file) refl e
   where
-    by_fault : (fault : Option Cause) → first_fault Idb file ≡ fault → unless_cause DatabaseBad fault (database_from_parts (entries_at 0 (root_value Idb (payload_in file))) (Some file) false) ≡ Ok database → AllSound database.packages
+    by_fault : (fault : Option Cause) → container_fault_except_contents Idb file ≡ fault → unless_cause DatabaseBad fault (database_from_parts (entries_at 0 (root_value Idb (payload_in file))) (Some file) false) ≡ Ok database → AllSound database.packages
     by_fault None sound e =
         same_sound (database_from_parts (entries_at 0 (root_value Idb (payload_in file))) (Some file) false) database
         (λ pkg here. stay file pkg sound (payload_all (λ b. b < 256) file bytes) here) e
@@ -90,25 +90,25 @@ database_sound stay texts false None None database h e = absurd (cc (e))
 
 pub record IsRootFor (command : CommandLine) (read : Reads) (root : Root) : Type 0 where
   pub database : database_for command read ≡ Ok root.database
-  pub world : root_world (found_text_or_empty (read world_read world_name)) ≡ Ok root.world
+  pub world : root_world (found_text_or_empty (read world_read_number world_name)) ≡ Ok root.world
   pub new : root.new_world ≡ new_world command.applet command.operands root.world
 
 module _ (command : CommandLine) (read : Reads) (root : Root) (e : root_for command read ≡ Ok root) where
   root_parts : IsRootFor command read root
   root_parts =
-      let text : List ℕ = found_text_or_empty (read world_read world_name) in
+      let text : List ℕ = found_text_or_empty (read world_read_number world_name) in
       let after_database : Database → Result Root Refusal = λ database.
       and_then (root_world text) (λ world.
-      and_then (root_repositories command.flags.allow_untrusted (found_text_or_empty (read repositories_read repositories_name))) (λ repositories.
-      Ok (root_by command database text world repositories))) in
+      and_then (root_repositories command.flags.allow_untrusted (found_text_or_empty (read repositories_read_number repositories_name))) (λ repositories.
+      Ok (root_from_parts command database text world repositories))) in
       let database = and_then_ok (database_for command read) after_database root e in
       let after_world : List Dependency → Result Root Refusal = λ world.
-      and_then (root_repositories command.flags.allow_untrusted (found_text_or_empty (read repositories_read repositories_name))) (λ repositories.
-      Ok (root_by command database.0 text world repositories)) in
+      and_then (root_repositories command.flags.allow_untrusted (found_text_or_empty (read repositories_read_number repositories_name))) (λ repositories.
+      Ok (root_from_parts command database.0 text world repositories)) in
       let world = and_then_ok (root_world text) after_world root database.2 in
-      let after_repositories : List Repository → Result Root Refusal = λ repositories. Ok (root_by command database.0 text world.0 repositories) in
-      let repositories = and_then_ok (root_repositories command.flags.allow_untrusted (found_text_or_empty (read repositories_read repositories_name))) after_repositories root world.2 in
-      let same : root_by command database.0 text world.0 repositories.0 ≡ root = (let last = repositories.2 in cc) in
+      let after_repositories : List Repository → Result Root Refusal = λ repositories. Ok (root_from_parts command database.0 text world.0 repositories) in
+      let repositories = and_then_ok (root_repositories command.flags.allow_untrusted (found_text_or_empty (read repositories_read_number repositories_name))) after_repositories root world.2 in
+      let same : root_from_parts command database.0 text world.0 repositories.0 ≡ root = (let last = repositories.2 in cc) in
       record {
         database = database.1 ∙ ap (λ (x : Root). Ok x.database) same;
         world = world.1 ∙ ap (λ (x : Root). Ok x.world) same;
@@ -125,9 +125,9 @@ inputs_parts command read inputs e =
 
 pub before_sound : FilesMayStay → TextsAreSound → (command : CommandLine) (read : Reads) (root : Root) → FindBytes read → IsRootFor command read root → AllSound root.database.packages
 before_sound stay texts command read root bytes is =
-    database_sound stay texts command.flags.initdb (read database_read database_name) (read text_database_read text_database_name) root.database
-    (bytes database_read database_name) is.database
+    database_sound stay texts command.flags.initdb (read database_read_number database_name) (read text_database_read_number text_database_name) root.database
+    (bytes database_read_number database_name) is.database
 
 pub new_world_sound : (command : CommandLine) (read : Reads) (root : Root) → IsRootFor command read root → IsWorld root.new_world
 new_world_sound command read root is =
-    subst IsWorld (sym is.new) (new_world_is command.applet command.operands root.world (read_world_is (found_text_or_empty (read world_read world_name)) root.world is.world))
+    subst IsWorld (sym is.new) (new_world_is command.applet command.operands root.world (read_world_is (found_text_or_empty (read world_read_number world_name)) root.world is.world))

@@ -29,7 +29,7 @@ use Rattle.engine_core.specs.v2_core.Database.{array_of, object_of}
 use Rattle.engine_core.specs.v2_core.Records.{InfoLine, info_line_from_parts}
 use Rattle.engine_core.specs.v2_lines.Accesses.{Access, access_from_parts, access_in, before_colon, after_colon, is_uid_or_gid, is_octal, octal_number}
 use Rattle.engine_core.specs.v2_lines.InfoFields.{field_of_letter, grammar_of}
-use Rattle.engine_core.specs.v2_lines.InfoValues.{commit_values, single_number_value, single_text_value, sha1_of, values_under_grammar}
+use Rattle.engine_core.specs.v2_lines.InfoValues.{commit_values, single_number_value, single_text_value, sha1_in_text, values_under_grammar}
 use Rattle.engine_core.specs.v2_lines.Lines.{RecordLine, info_line, folder_line, folder_access_line, file_line, file_access_line, file_hash_line, other_line, file_line_if_one_part, folder_line_if_path, info_record_line, record_line_of_letter, record_line_of}
 use Rattle.engine_core.specs.v2_lines.declared.field.Grammar.{Grammar}
 use Rattle.engine_core.specs.v2_lines.declared.field.Grammar.TheVariants as Grammars
@@ -200,7 +200,7 @@ needs_good (part ∷ parts) = both (untagged_dependency_in part) (dependency_val
 
 values_good : (g : Grammar) (value : List ℕ) → IfSome (values_under_grammar g value) (EachIn (IsOfGrammar g))
 values_good Grammars.Sha1Text value =
-    map_some (λ b. IsFit hash_shape (blob_or_null b)) (EachIn (IsOfGrammar Grammars.Sha1Text)) single_text_value (sha1_of value) (λ b h. (h, tt)) (any (λ b. IsFit hash_shape (blob_or_null b)) (sha1_of value) hash_fit)
+    map_some (λ b. IsFit hash_shape (blob_or_null b)) (EachIn (IsOfGrammar Grammars.Sha1Text)) single_text_value (sha1_in_text value) (λ b h. (h, tt)) (any (λ b. IsFit hash_shape (blob_or_null b)) (sha1_in_text value) hash_fit)
 values_good Grammars.PackageName value = text_good (is_package_name value) value
 values_good Grammars.PackageVersion value = text_good (is_version value) value
 values_good Grammars.AnyText value = text_good true value
@@ -252,7 +252,7 @@ abbrev line_by_other : ℕ → List ℕ → Option RecordLine
 line_by_other letter value = info_record_line (field_of_letter letter) value
 
 abbrev line_by_hash : ℕ → List ℕ → Option RecordLine
-line_by_hash letter value = if letter == 90 then option_map file_hash_line (sha1_of value) else line_by_other letter value
+line_by_hash letter value = if letter == 90 then option_map file_hash_line (sha1_in_text value) else line_by_other letter value
 
 abbrev line_by_file_access : ℕ → List ℕ → Option RecordLine
 line_by_file_access letter value = if letter == 97 then option_map file_access_line (access_in value) else line_by_hash letter value
@@ -270,7 +270,7 @@ by_letter_good letter value =
     (if_each IsGoodIfAny (letter == 77) (option_map folder_access_line (access_in value)) (line_by_file letter value) (map_some IsGoodAccess IsGoodRecordLine folder_access_line (access_in value) (λ a h. h) (access_good value))
     (if_each IsGoodIfAny (letter == 82) (file_line_if_one_part value) (line_by_file_access letter value) (if_each IsGoodIfAny (is_one_part value) (Some (file_line value)) None tt tt)
     (if_each IsGoodIfAny (letter == 97) (option_map file_access_line (access_in value)) (line_by_hash letter value) (map_some IsGoodAccess IsGoodRecordLine file_access_line (access_in value) (λ a h. h) (access_good value))
-    (if_each IsGoodIfAny (letter == 90) (option_map file_hash_line (sha1_of value)) (line_by_other letter value) (map_some (λ b. Unit {0}) IsGoodRecordLine file_hash_line (sha1_of value) (λ b h. tt) (any (λ b. Unit {0}) (sha1_of value) (λ b. tt)))
+    (if_each IsGoodIfAny (letter == 90) (option_map file_hash_line (sha1_in_text value)) (line_by_other letter value) (map_some (λ b. Unit {0}) IsGoodRecordLine file_hash_line (sha1_in_text value) (λ b h. tt) (any (λ b. Unit {0}) (sha1_in_text value) (λ b. tt)))
     (info_good (field_of_letter letter) value)))))
 
 pub line_good : (line : List ℕ) → IsGoodIfAny (record_line_of line)

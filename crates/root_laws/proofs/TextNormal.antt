@@ -7,7 +7,7 @@ use Rattle.adb_view.specs.Schema.{shape_of}
 use Rattle.adb_view.specs.Values.{value_at}
 use Rattle.adb_view.specs.declared.tables.Kind.TheVariants.{Obj}
 use Rattle.adb_view.specs.declared.tables.Which.TheVariants as Tables
-use Rattle.adb_view.specs.Head.{root_of}
+use Rattle.adb_view.specs.Head.{root_word_of_payload}
 use Rattle.adb_view.specs.Plain.{IsNormal, Plain, Shape, null, plain_of, value_of}
 use Rattle.adb_view.specs.Shaped.{HasShape}
 use Rattle.make_index.specs.adb_write.Canonical.{MOST_BYTES, PayloadCounts, canonical, exceeds_a_limit, or_overflow, overflow_of, payload_or_overflow}
@@ -15,7 +15,7 @@ use Rattle.make_index.specs.adb_write.Size.{size_of, value_count}
 use Rattle.base_core.specs.declared.cause.Cause.{Cause}
 use Rattle.base_core.proofs.Booleans.{neither_first}
 use Rattle.engine_core.specs.v2_core.Database.{value_of_records}
-use Rattle.engine_core.specs.v2_core.Payload.{or_too_large, payload_of_text, payload_if_sound, unless_bad, written_payload}
+use Rattle.engine_core.specs.v2_core.Payload.{or_too_large, payload_of_text, payload_if_sound, payload_unless_fault, payload_of_records}
 use Rattle.engine_core.specs.v2_core.Reading.{records_of}
 use Rattle.engine_core.specs.v2_core.Records.{Record}
 use Rattle.engine_core.specs.v2_core.declared.read.V2Fault.{V2Fault}
@@ -34,7 +34,7 @@ Exact = (v : Plain) → IsNormal v → is_some (overflow_of v) ≡ exceeds_a_lim
 abbrev kept : List ℕ → Result (List ℕ) V2Fault
 kept payload = Ok payload
 
-tested_ok : (p payload : List ℕ) (fault : Option Cause) → unless_bad p fault ≡ kept payload → p ≡ payload
+tested_ok : (p payload : List ℕ) (fault : Option Cause) → payload_unless_fault p fault ≡ kept payload → p ≡ payload
 tested_ok p payload None e = (cc (e))
 tested_ok p payload (Some cause) e = absurd (cc (e))
 
@@ -42,7 +42,7 @@ written_ok : (v : Plain) (o : Option PayloadCounts) (payload : List ℕ) → pay
 written_ok v None payload e = (refl, tested_ok (canonical v) payload (payload_fault Tables.Idb (canonical v)) e)
 written_ok v (Some counts) payload e = absurd (cc (e))
 
-value_is : (k : Shape) (payload : List ℕ) (v : Plain) → value_of payload k ≡ Some v → unwrap_or (plain_of payload k (root_of payload)) null ≡ v
+value_is : (k : Shape) (payload : List ℕ) (v : Plain) → value_of payload k ≡ Some v → unwrap_or (plain_of payload k (root_word_of_payload payload)) null ≡ v
 value_is k payload v e = ap (λ (o : Option Plain). unwrap_or o null) e
 
 root_is : (payload : List ℕ) (v : Plain) → value_of payload (shape_of (Obj Tables.Idb)) ≡ Some v → root_value Tables.Idb payload ≡ v
@@ -58,7 +58,7 @@ module _ (back : ReadBack) (exact : Exact) where
       subst (λ (p : List ℕ). IsNormal (root_value Tables.Idb p)) written.1
       (subst IsNormal (sym (root_is (canonical v) v (back (shape_of (Obj Tables.Idb)) v fit.0 fit.1 few))) fit.0)
 
-  read_normal : (read : Result (List Record) ℕ) (payload : List ℕ) → AreGoodIfRead read → payload_if_sound (written_payload read) ≡ kept payload → IsNormal (root_value Tables.Idb payload)
+  read_normal : (read : Result (List Record) ℕ) (payload : List ℕ) → AreGoodIfRead read → payload_if_sound (payload_of_records read) ≡ kept payload → IsNormal (root_value Tables.Idb payload)
   read_normal (Ok records) payload good e = written_normal (value_of_records records) payload (records_fit records good) e
   read_normal (Err line) payload good e = absurd (cc (e))
 

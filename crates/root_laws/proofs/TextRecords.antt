@@ -12,9 +12,9 @@ use Rattle.engine_core.proofs.db_write.RootParts.{EachIn}
 use Rattle.dep_core.specs.World.{lines_of}
 use Rattle.make_index.specs.make_info.Fields.{FieldValue}
 use Rattle.make_index.specs.make_info.Information.{plain_value}
-use Rattle.engine_core.specs.v2_core.Database.{array_of, array_of_field_values, listed_access_value, listed_file_value, listed_folder_value, listed_hash_value, record_info_value, record_value, value_of_single_line_field, value_of_first_or_null, value_of_line, value_of_records, values_for}
+use Rattle.engine_core.specs.v2_core.Database.{array_of, array_of_field_values, listed_access_value, listed_file_value, listed_folder_value, listed_hash_value, record_info_value, record_value, value_of_single_line_field, value_of_first_or_null, value_of_line, value_of_records, values_if_line_of_field}
 use Rattle.engine_core.specs.v2_core.Reading.{records_from_record_end, records_from, records_of, with_records, record_with_text_line}
-use Rattle.engine_core.specs.v2_core.Records.{InfoLine, ListedFile, ListedFolder, Record, empty_record, listed_file_from_parts, file_with_access, file_with_hash, listed_folder_from_parts, folder_with_access, folder_with_file, folder_with_files, folder_with_last, has_line_of, info_line_from_parts, is_line_of, lacks_needed_line, record_if_both_parts, with_info_line, with_last_changed, with_path_line, with_record_line}
+use Rattle.engine_core.specs.v2_core.Records.{InfoLine, ListedFile, ListedFolder, Record, empty_record, listed_file_from_parts, file_with_access, file_with_hash, listed_folder_from_parts, folder_with_access, folder_with_file, folder_with_files, folder_with_last_file_changed, has_line_of, info_line_from_parts, is_line_of, lacks_needed_line, record_if_both_parts, with_info_line, list_with_last_changed, with_path_line, with_record_line}
 use Rattle.engine_core.specs.v2_lines.Accesses.{Access}
 use Rattle.engine_core.specs.v2_lines.InfoFields.{is_list_info_field, grammar_of, info_field_among, info_fields, letter_of}
 use Rattle.engine_core.specs.v2_lines.Lines.{RecordLine, info_line, folder_line, folder_access_line, file_line, file_access_line, file_hash_line, other_line, record_line_of}
@@ -42,10 +42,10 @@ each_behind : {A : Type 0} (P : A → Type 0) (xs : List A) (x : A) → EachIn P
 each_behind P [] x h g = (g, tt)
 each_behind P (y ∷ xs) x h g = (h.0, each_behind P xs x h.1 g)
 
-last_good : {A : Type 0} (P : A → Type 0) (change : A → Option A) → ((a : A) → P a → IfSome (change a) P) → (xs : List A) → EachIn P xs → IfSome (with_last_changed change xs) (EachIn P)
+last_good : {A : Type 0} (P : A → Type 0) (change : A → Option A) → ((a : A) → P a → IfSome (change a) P) → (xs : List A) → EachIn P xs → IfSome (list_with_last_changed change xs) (EachIn P)
 last_good P change f [] h = tt
 last_good P change f (x ∷ []) h = map_some P (EachIn P) (λ y. y ∷ []) (change x) (λ y g. (g, tt)) (f x h.0)
-last_good P change f (x ∷ y ∷ rest) h = map_some (EachIn P) (EachIn P) (λ rest. x ∷ rest) (with_last_changed change (y ∷ rest)) (λ ys g. (h.0, g)) (last_good P change f (y ∷ rest) h.1)
+last_good P change f (x ∷ y ∷ rest) h = map_some (EachIn P) (EachIn P) (λ rest. x ∷ rest) (list_with_last_changed change (y ∷ rest)) (λ ys g. (h.0, g)) (last_good P change f (y ∷ rest) h.1)
 
 file_access_good : (a : Access) → IsGoodAccess a → (file : ListedFile) → IsGoodFile file → IfSome (file_with_access a file) IsGoodFile
 file_access_good a h file g = if_each (λ o. IfSome o IsGoodFile) (is_some file.access) None (Some (listed_file_from_parts file.name (Some a) file.hash)) tt h
@@ -59,17 +59,17 @@ folder_access_good a h folder g = if_each (λ o. IfSome o IsGoodFolder) (is_some
 folder_file_good : (name : List ℕ) (folder : ListedFolder) → IsGoodFolder folder → IfSome (folder_with_file name folder) IsGoodFolder
 folder_file_good name folder g = (g.0, each_behind IsGoodFile folder.files (listed_file_from_parts name None None) g.1 tt)
 
-folder_last_good : (change : ListedFile → Option ListedFile) → ((file : ListedFile) → IsGoodFile file → IfSome (change file) IsGoodFile) → (folder : ListedFolder) → IsGoodFolder folder → IfSome (folder_with_last change folder) IsGoodFolder
+folder_last_good : (change : ListedFile → Option ListedFile) → ((file : ListedFile) → IsGoodFile file → IfSome (change file) IsGoodFile) → (folder : ListedFolder) → IsGoodFolder folder → IfSome (folder_with_last_file_changed change folder) IsGoodFolder
 folder_last_good change f folder g =
-    map_some (EachIn IsGoodFile) IsGoodFolder (folder_with_files folder) (with_last_changed change folder.files) (λ files h. (g.0, h)) (last_good IsGoodFile change f folder.files g.1)
+    map_some (EachIn IsGoodFile) IsGoodFolder (folder_with_files folder) (list_with_last_changed change folder.files) (λ files h. (g.0, h)) (last_good IsGoodFile change f folder.files g.1)
 
 paths_good : (line : RecordLine) (folders : List ListedFolder) → IsGoodRecordLine line → EachIn IsGoodFolder folders → IfSome (with_path_line line folders) (EachIn IsGoodFolder)
 paths_good (info_line f values) folders h g = g
 paths_good (folder_line name) folders h g = each_behind IsGoodFolder folders (listed_folder_from_parts name None []) g (tt, tt)
 paths_good (folder_access_line a) folders h g = last_good IsGoodFolder (folder_with_access a) (folder_access_good a h) folders g
 paths_good (file_line name) folders h g = last_good IsGoodFolder (folder_with_file name) (folder_file_good name) folders g
-paths_good (file_access_line a) folders h g = last_good IsGoodFolder (folder_with_last (file_with_access a)) (folder_last_good (file_with_access a) (file_access_good a h)) folders g
-paths_good (file_hash_line hash) folders h g = last_good IsGoodFolder (folder_with_last (file_with_hash hash)) (folder_last_good (file_with_hash hash) (file_hash_good hash)) folders g
+paths_good (file_access_line a) folders h g = last_good IsGoodFolder (folder_with_last_file_changed (file_with_access a)) (folder_last_good (file_with_access a) (file_access_good a h)) folders g
+paths_good (file_hash_line hash) folders h g = last_good IsGoodFolder (folder_with_last_file_changed (file_with_hash hash)) (folder_last_good (file_with_hash hash) (file_hash_good hash)) folders g
 paths_good other_line folders h g = g
 
 infos_good : (line : RecordLine) (info : List InfoLine) → IsGoodRecordLine line → EachIn IsGoodLine info → IfSome (with_info_line line info) (EachIn IsGoodLine)
@@ -180,17 +180,17 @@ each_plain : (g : Grammar) (values : List FieldValue) → EachIn (IsOfGrammar g)
 each_plain g [] h = tt
 each_plain g (v ∷ vs) h = (h.0, each_plain g vs h.1)
 
-all_values : (f : InfoField) (info : List InfoLine) → EachIn IsGoodLine info → EachIn (IsOfGrammar (grammar_of f)) (flat_map (values_for f) info)
+all_values : (f : InfoField) (info : List InfoLine) → EachIn IsGoodLine info → EachIn (IsOfGrammar (grammar_of f)) (flat_map (values_if_line_of_field f) info)
 all_values f [] h = tt
 all_values f (line ∷ info) h =
-    each_append (IsOfGrammar (grammar_of f)) (values_for f line) (flat_map (values_for f) info) (by_test (is_line_of f line) refl) (all_values f info h.1)
+    each_append (IsOfGrammar (grammar_of f)) (values_if_line_of_field f line) (flat_map (values_if_line_of_field f) info) (by_test (is_line_of f line) refl) (all_values f info h.1)
   where
     by_test : (b : Bool) → is_line_of f line ≡ b → EachIn (IsOfGrammar (grammar_of f)) (if b then line.values else [])
     by_test true e = line_fit f line e h.0
     by_test false e = tt
 
 joined_fit : (f : InfoField) (info : List InfoLine) → EachIn IsGoodLine info → IsFit (array (shape_for (grammar_of f))) (array_of_field_values f info)
-joined_fit f info h = array_fit (shape_for (grammar_of f)) (map plain_value (flat_map (values_for f) info)) (each_plain (grammar_of f) (flat_map (values_for f) info) (all_values f info h))
+joined_fit f info h = array_fit (shape_for (grammar_of f)) (map plain_value (flat_map (values_if_line_of_field f) info)) (each_plain (grammar_of f) (flat_map (values_if_line_of_field f) info) (all_values f info h))
 
 info_fit : (info : List InfoLine) → EachIn IsGoodLine info → IsFit (shape_of (Obj Tables.PkgInfo)) (record_info_value info)
 unfolding shape_of record_info_value

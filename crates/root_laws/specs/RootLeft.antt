@@ -4,9 +4,9 @@ use Rattle.std.specs.Prelude.{◌≡◌, ℕ, ◌<◌, false, List, All, Option,
 use Rattle.make_index.specs.adb_fields.Repeated.{list_of}
 use Rattle.base_core.specs.Files.{Files}
 use Rattle.engine_core.specs.change_inputs.Database.{Database, database_from_parts}
-use Rattle.engine_core.specs.change_inputs.Inputs.{database_for, database_read, world_read}
+use Rattle.engine_core.specs.change_inputs.Inputs.{database_for, database_read_number, world_read_number}
 use Rattle.engine_core.specs.change_inputs.World.{root_world, found_text_or_empty}
-use Rattle.engine_core.specs.change_outcome.ChangeOutcome.{ChangeDone, change_members}
+use Rattle.engine_core.specs.change_outcome.ChangeOutcome.{ChangeDone, members_after_change}
 use Rattle.engine_core.specs.change_outcome.MembersAfter.{MemberFound, found_members}
 use Rattle.command_core.specs.Command.{CommandLine}
 use Rattle.engine_core.specs.db_core.Members.{Member}
@@ -25,13 +25,14 @@ FindBytes read =
 
 -- reads find the database and world of these files
 pub record ReadsRoot (files : Files) (read : Reads) : Type 0 where
-  pub database : read database_read database_name ≡ files database_name
-  pub world : read world_read world_name ≡ files world_name
+  pub database : read database_read_number database_name ≡ files database_name
+  pub world : read world_read_number world_name ≡ files world_name
 
 -- the database of packages, each with the files that it owns, in a container of these bytes
 abbrev pub database_of_members : List Member → List ℕ → Database
 database_of_members members bytes =
-    database_from_parts (list_of (packages_in_new_database members (owned_flags_of members))) (Some bytes) false
+    database_from_parts (list_of (packages_in_new_database members (owned_flags_of members)))
+    (Some bytes) false
 
 -- A change leaves a root in which each later command finds a database with the packages after the
 -- change, and the world that the change was made for.
@@ -40,12 +41,13 @@ pub record IsRootLeft (command : CommandLine) (read : Reads) (chosen : Option (L
   pub selected : InputsAndReplacement
   pub is_selected : selected_for command read chosen ≡ Ok selected
   pub found : List MemberFound
-  pub members : change_members selected.inputs selected.replacement (wishes_of command) read
+  pub members : members_after_change selected.inputs selected.replacement (wishes_of command) read
       ≡ Ok found
   pub bytes : List ℕ
   pub database : (later : CommandLine) (next : Reads) → ReadsRoot done.files next
       → database_for later next ≡ Ok (database_of_members (found_members found) bytes)
   pub world : (next : Reads) → ReadsRoot done.files next
-      → root_world (found_text_or_empty (next world_read world_name)) ≡ Ok selected.inputs.root.new_world
+      → root_world (found_text_or_empty (next world_read_number world_name))
+      ≡ Ok selected.inputs.root.new_world
   pub text : (next : Reads) → ReadsRoot done.files next
-      → found_text_or_empty (next world_read world_name) ≡ world_text selected.inputs.root.new_world
+      → found_text_or_empty (next world_read_number world_name) ≡ world_text selected.inputs.root.new_world

@@ -22,5 +22,5 @@ abbrev pub package_path : List ℕ → List ℕ → List ℕ → List ℕ
 package_path index name version = folder_prefix_of index ++ package_file_name name version
 
 -- a path, if it is a name: one of more than 1,024 bytes, for example, is none, and has no file
-abbrev pub path_if_name : List ℕ → Option (List ℕ)
-path_if_name path = if is_name path then Some path else None
+abbrev pub path_if_valid_name : List ℕ → Option (List ℕ)
+path_if_valid_name path = if is_name path then Some path else None

@@ -1,7 +1,7 @@
 //! The path of a package's file: `NAME-VERSION.apk`, beside the index that has the package.
 //! The rule is in `docs/commands.md`, "`add` and `del`", **What is read**; which bytes are a name,
 //! in "Words" there.
-ghost use Rattle.root_names.specs.PackagePath.{folder_prefix_of, path_if_name, package_path};
+ghost use Rattle.root_names.specs.PackagePath.{folder_prefix_of, path_if_valid_name, package_path};
 ghost use Rattle.std.specs.Prelude.{◌≡◌, IfOk};
 
 use base_core::Name;
@@ -14,7 +14,8 @@ pub fn package_file_beside(
     name: &[u8],
     version: &[u8],
 ) -> Result<Option<Name>, AllocError>
-    ensures { IfOk result (λ file. file ≡ path_if_name (package_path index.now name.now version.now)) }
+    ensures { IfOk result (λ file. file
+        ≡ path_if_valid_name (package_path index.now name.now version.now)) }
 {
     let path = package_path(alloc, index.as_bytes(), name, version)?;
     Name::read(alloc, &path)

@@ -10,8 +10,8 @@ use Rattle.base_core.specs.Tree.{TreeState, files_of}
 use Rattle.apk_front.specs.journal_core.Quiet.{EachCrashLeavesOld}
 use Rattle.apk_front.specs.journal_core.Recovery.{EachCrashLeaves, StateDependsOn, intent_name}
 use Rattle.apk_front.specs.outcome.Effect.{output}
-use Rattle.run_lists.specs.Events.{Crashes, Edits, Ends, RootEvent, HasNoPendingRun, Reaches, ReachesOneState, IsAllSynced, IsRunWithoutCommit, IsMomentOf, IsRunFrom, DiffersOnlyInUnsyncedBytes, KeepsOneStateAfterCrash, IsTransition, LeavesOneStateAfterCrash, Run, Stops, Touches, ignored_after, ignored_after_answer, ignored_during_run, nothing_ignored, ignored_with_scratch, ignored_with_touched}
-use Rattle.run_lists.specs.Safety.{IsAtomic, IsSafeRun, LeavesOutcome}
+use Rattle.run_lists.specs.Events.{Crashes, Edits, Ends, RootEvent, HasNoUnfinishedRunSinceCrash, Reaches, ReachesOneCrashState, IsAllSynced, IsRunWithoutCommit, IsMomentOf, IsRunFrom, DiffersOnlyInUnsyncedBytes, PreservesOneCrashState, IsTransition, EnsuresOneCrashState, Run, Stops, Touches, ignored_after, ignored_after_answer, ignored_during_run, nothing_ignored, ignored_with_scratch, ignored_with_touched}
+use Rattle.run_lists.specs.Safety.{IsAtomic, IsSafeRun, LeavesFilesOfAnsweredOutcome}
 use Rattle.run_lists.proofs.AtMoments.{now_at}
 use Rattle.run_lists.proofs.Ending.{Resting, ends_at_rest, ends_so}
 use Rattle.run_lists.proofs.Facts.{Facts, Ignored}
@@ -97,11 +97,11 @@ module _ (facts : Facts) (ignored : Ignored) (v : TreeState) (run : Run) (is_run
   abbrev One : Ignored → Type 0
   One names = EachCrashLeaves names (files_of w) w
 
-  pub made_one : HoldsNow run.now (λ u. u ≡ w) → LeavesOneStateAfterCrash v (Ends run) → One (ignored_after_answer run.answer run ignored)
+  pub made_one : HoldsNow run.now (λ u. u ≡ w) → EnsuresOneCrashState v (Ends run) → One (ignored_after_answer run.answer run ignored)
   made_one ends (answers, inl commit) =
       ends_at_rest facts ignored v run is_run hidden is_durable HasOne (one_rests facts) w ends answers commit
   made_one ends (answers, inr (none, can)) =
-      let l = now_at run.now (LeavesOutcome ignored v run) w (answered facts ignored v run is_run hidden is_durable answers) ends in
+      let l = now_at run.now (LeavesFilesOfAnsweredOutcome ignored v run) w (answered facts ignored v run is_run hidden is_durable answers) ends in
       by_no_output One ignored run run.answer answers none (own_settled facts (ignored_during_run run ignored) l.outcome.files w (l.settled (inr can)))
 
   module _ (settled : EachCrashLeaves ignored (files_of v) v) where
@@ -110,7 +110,7 @@ module _ (facts : Facts) (ignored : Ignored) (v : TreeState) (run : Run) (is_run
         facts.more_settled ignored (ignored_during_run run ignored) (files_of w) w (scratch_more (output run.words) ignored)
         (own_settled facts ignored (files_of v) w (settled_on ignored (files_of v) v w settled quiet))
 
-    pub kept_one : HoldsNow run.now (λ u. u ≡ w) → KeepsOneStateAfterCrash v (Ends run) → One (ignored_after_answer run.answer run ignored)
+    pub kept_one : HoldsNow run.now (λ u. u ≡ w) → PreservesOneCrashState v (Ends run) → One (ignored_after_answer run.answer run ignored)
     kept_one ends keeps =
         ends_so facts ignored v run is_run hidden is_durable HasOne (one_rests facts) w ends
         (λ is_unchanged. own_settled facts ignored (files_of v) w (settled_on ignored (files_of v) v w settled is_unchanged.quiet))
@@ -120,12 +120,12 @@ module _ (facts : Facts) (ignored : Ignored) (v : TreeState) (run : Run) (is_run
     stopped_one m moment torn idle = idle_one (torn_quiet m w torn ignored v (idle_moment ignored v run is_run is_durable idle m moment).quiet)
 
 module _ (facts : Facts) (start : Ignored) (off : start intent_name ≡ false) (first : TreeState) (rest : IsDurableState start (files_of first) first) where
-  pub seen_of : (v : TreeState) (events : List RootEvent) → ReachesOneState first events v → Reaches first events v
+  pub seen_of : (v : TreeState) (events : List RootEvent) → ReachesOneCrashState first events v → Reaches first events v
   seen_of v [] is = is
   seen_of v (event ∷ earlier) (u, leads, inl (seen, makes)) = (u, seen, leads)
   seen_of v (event ∷ earlier) (u, leads, inr (seen, keeps)) = (u, seen_of u earlier seen, leads)
 
-  led_made : (event : RootEvent) (earlier : List RootEvent) (v w : TreeState) → IsDurable (StateDependsOn (ignored_after start earlier)) v → LeavesOneStateAfterCrash v event → IsTransition v event w → EachCrashLeaves (ignored_after start (event ∷ earlier)) (files_of w) w
+  led_made : (event : RootEvent) (earlier : List RootEvent) (v w : TreeState) → IsDurable (StateDependsOn (ignored_after start earlier)) v → EnsuresOneCrashState v event → IsTransition v event w → EachCrashLeaves (ignored_after start (event ∷ earlier)) (files_of w) w
   led_made (Ends run) earlier v w is_durable makes (is_run, ends) =
       made_one facts (ignored_after start earlier) v run is_run (after_hides start off earlier) is_durable w ends makes
   led_made (Stops run) earlier v w is_durable makes leads = absurd makes
@@ -133,7 +133,7 @@ module _ (facts : Facts) (start : Ignored) (off : start intent_name ≡ false) (
   led_made Edits earlier v w is_durable makes synced = facts.crash_settled nothing_ignored w w (as_crash facts w synced)
   led_made (Touches theirs) earlier v w is_durable makes touch = absurd makes
 
-  led_kept : (event : RootEvent) (earlier : List RootEvent) (v w : TreeState) → IsDurable (StateDependsOn (ignored_after start earlier)) v → EachCrashLeaves (ignored_after start earlier) (files_of v) v → KeepsOneStateAfterCrash v event → IsTransition v event w
+  led_kept : (event : RootEvent) (earlier : List RootEvent) (v w : TreeState) → IsDurable (StateDependsOn (ignored_after start earlier)) v → EachCrashLeaves (ignored_after start earlier) (files_of v) v → PreservesOneCrashState v event → IsTransition v event w
       → EachCrashLeaves (ignored_after start (event ∷ earlier)) (files_of w) w
   led_kept (Ends run) earlier v w is_durable one keeps (is_run, ends) =
       kept_one facts (ignored_after start earlier) v run is_run (after_hides start off earlier) is_durable w one ends keeps
@@ -150,22 +150,22 @@ module _ (facts : Facts) (start : Ignored) (off : start intent_name ≡ false) (
   order_of : (v : TreeState) (events : List RootEvent) → Reaches first events v → IsDurable (StateDependsOn (ignored_after start events)) v
   order_of v events seen = seen_durable facts start off first v events rest.is_durable seen
 
-  seen_settled : (v : TreeState) (events : List RootEvent) → ReachesOneState first events v → EachCrashLeaves (ignored_after start events) (files_of v) v
+  seen_settled : (v : TreeState) (events : List RootEvent) → ReachesOneCrashState first events v → EachCrashLeaves (ignored_after start events) (files_of v) v
   seen_settled v [] is = subst (λ (u : TreeState). EachCrashLeaves start (files_of u) u) (sym is) rest.settled
   seen_settled v (event ∷ earlier) (u, leads, inl (seen, makes)) = led_made event earlier u v (order_of u earlier seen) makes leads
   seen_settled v (event ∷ earlier) (u, leads, inr (seen, keeps)) =
       led_kept event earlier u v (order_of u earlier (seen_of u earlier seen)) (seen_settled u earlier seen) keeps leads
 
-  pub seen_one : (v : TreeState) (events : List RootEvent) → ReachesOneState first events v → IsDurableState (ignored_after start events) (files_of v) v
+  pub seen_one : (v : TreeState) (events : List RootEvent) → ReachesOneCrashState first events v → IsDurableState (ignored_after start events) (files_of v) v
   seen_one v events seen = record { is_durable = order_of v events (seen_of v events seen); settled = seen_settled v events seen }
 
-  pub seen_atomic : (v : TreeState) (events : List RootEvent) → ReachesOneState first events v → (run : Run) → IsRunFrom v run → IsAtomic (ignored_after start events) v run
+  pub seen_atomic : (v : TreeState) (events : List RootEvent) → ReachesOneCrashState first events v → (run : Run) → IsRunFrom v run → IsAtomic (ignored_after start events) v run
   seen_atomic v events seen run is_run =
       let here = seen_one v events seen in
       atomic facts (ignored_after start events) v run is_run (after_hides start off events) here.is_durable here.settled
 
 -- a list whose runs end, or are cut off by a crash, keeps one state
-pub unbroken : (first v : TreeState) (events : List RootEvent) → Reaches first events v → HasNoPendingRun events → ReachesOneState first events v
+pub unbroken : (first v : TreeState) (events : List RootEvent) → Reaches first events v → HasNoUnfinishedRunSinceCrash events → ReachesOneCrashState first events v
 unbroken first v [] is none = is
 unbroken first v (Ends run ∷ earlier) (u, seen, leads) (fault, before) = (u, leads, inr (unbroken first u earlier seen before, inl fault))
 unbroken first v (Stops run ∷ earlier) seen none = absurd none

@@ -16,7 +16,7 @@ use Rattle.command_core.specs.declared.command.Applet.TheVariants.{Demo, Mkndx, 
 use Rattle.apk_front.specs.engine_core.Changed.{InputsAndReplacement, change_of_selected, change_of_command, selected_for, simulated_change}
 use Rattle.apk_front.specs.engine_core.Wishes.{wishes_of}
 use Rattle.apk_front.specs.journal_core.Recovery.{intent_name}
-use Rattle.apk_front.specs.journal_core.Replacing.{replaced_files, scratch_of}
+use Rattle.apk_front.specs.journal_core.Replacing.{replaced_files, scratch_name_of}
 use Rattle.apk_front.specs.journal_core.Staged.{unstaged_files}
 use Rattle.apk_front.specs.make_index.Index.{made_index}
 use Rattle.apk_front.specs.make_info.Output.{output_name}
@@ -36,10 +36,10 @@ use Rattle.apk_front.specs.outcome.Changing.{change_outcome}
 use Rattle.apk_front.specs.outcome.Commands.{IsOutcomeWithoutDemo, IsOutcomeUnlessBadIntent, effect_outcome, reads_in}
 use Rattle.apk_front.specs.outcome.Effect.{Effect, Computes, OnlyReadsFiles, AsksRoot, Makes, Changes, effect_of_arguments, effect_of, reads_only}
 use Rattle.apk_front.specs.outcome.Given.{Given}
-use Rattle.apk_front.specs.outcome.Make.{files_with_output, index_line, make_outcome, unless_reserved}
+use Rattle.apk_front.specs.outcome.Make.{files_with_output, index_report_line, make_outcome, unless_reserved}
 use Rattle.apk_front.specs.outcome.Outcome.{Outcome, commit_report, just_refusal}
 use Rattle.apk_front.specs.outcome.Words.{IsOutcome, IsOutcomeOfApplet}
-use Rattle.apk_front.specs.outcome.Work.{recovery_fault, work_files}
+use Rattle.apk_front.specs.outcome.Work.{recovery_fault, files_recovered_if_needed}
 use Rattle.run_lists.proofs.BadIntent.{only_reads}
 use Rattle.apk_front.proofs.file_replacement.Suffix.{intent_is_no_scratch}
 
@@ -85,8 +85,8 @@ not_reserved name free is = false≢true (sym free ∙ ap is_reserved (sym is))
 
 with_other : (name bytes : List ℕ) (files : Files) → is_reserved name ≡ false → replaced_files name bytes files intent_name ≡ files intent_name
 with_other name bytes files free =
-    ap (λ (b : Bool). if b then Some bytes else (if bytes_eq intent_name (scratch_of name) then None else files intent_name)) (other_bytes intent_name name (not_reserved name free))
-    ∙ ap (λ (b : Bool). if b then None else files intent_name) (other_bytes intent_name (scratch_of name) (intent_is_no_scratch name))
+    ap (λ (b : Bool). if b then Some bytes else (if bytes_eq intent_name (scratch_name_of name) then None else files intent_name)) (other_bytes intent_name name (not_reserved name free))
+    ∙ ap (λ (b : Bool). if b then None else files intent_name) (other_bytes intent_name (scratch_name_of name) (intent_is_no_scratch name))
 
 made_by : (name bytes report : List ℕ) (files : Files) → files intent_name ≡ None → (b : Bool) → is_reserved name ≡ b
     → Brings (if b then just_refusal files (Reserved name) else commit_report (files_with_output (Some name) bytes files) report)
@@ -116,7 +116,7 @@ made_none output report files none (Err Memory) commits = absurd (false≢true c
 
 maker_none : (applet : Applet) (command : CommandLine) (given : Given) (files : Files) → effect_of applet ≡ Makes → files intent_name ≡ None → Brings (effect_outcome (effect_of applet) applet command given (reads_in files) files)
 maker_none Mkpkg command given files makes none = made_none (output_name command) [] files none (made_package command given.names (reads_in files))
-maker_none Mkndx command given files makes none = made_none (output_name command) (index_line (length command.operands)) files none (made_index command (reads_in files))
+maker_none Mkndx command given files makes none = made_none (output_name command) (index_report_line (length command.operands)) files none (made_index command (reads_in files))
 maker_none other command given files makes none = absurd (cc (makes))
 
 -- ---- by the words
@@ -133,18 +133,18 @@ module _ (gone : BringsNoIntent) (sound : ReadSound) where
   makes_none : (fault : Option Cause) (command : CommandLine) (files : Files) (o : Outcome) → effect_of command.applet ≡ Makes → recovery_fault (effect_of command.applet) files ≡ fault → IsOutcomeUnlessBadIntent fault command files o → Brings o
   makes_none (Some cause) command files o makes at is commits = absurd (false≢true (sym (ap (λ (p : Outcome). p.commits) is) ∙ commits))
   makes_none None command files o makes at (given, are, is) commits =
-      let work : work_files (effect_of command.applet) files ≡ unstaged_files files = ap (λ (e : Effect). work_files e files) makes in
+      let work : files_recovered_if_needed (effect_of command.applet) files ≡ unstaged_files files = ap (λ (e : Effect). files_recovered_if_needed e files) makes in
       let good = subst (λ (e : Effect). recovery_fault e files ≡ None) makes at in
       let absent = ap (λ (f : Files). f intent_name) work ∙ intent_gone sound files (files intent_name) refl good in
-      subst Brings (sym is) (maker_none command.applet command given (work_files (effect_of command.applet) files) makes absent) commits
+      subst Brings (sym is) (maker_none command.applet command given (files_recovered_if_needed (effect_of command.applet) files) makes absent) commits
 
   changes_none : (fault : Option Cause) (command : CommandLine) (files : Files) (o : Outcome) → effect_of command.applet ≡ Changes → recovery_fault (effect_of command.applet) files ≡ fault → IsOutcomeUnlessBadIntent fault command files o → Brings o
   changes_none (Some cause) command files o changes at is commits = absurd (false≢true (sym (ap (λ (p : Outcome). p.commits) is) ∙ commits))
   changes_none None command files o changes at (given, are, is) commits =
-      let work : work_files (effect_of command.applet) files ≡ unstaged_files files = ap (λ (e : Effect). work_files e files) changes in
+      let work : files_recovered_if_needed (effect_of command.applet) files ≡ unstaged_files files = ap (λ (e : Effect). files_recovered_if_needed e files) changes in
       let good = subst (λ (e : Effect). recovery_fault e files ≡ None) changes at in
       let absent = ap (λ (f : Files). f intent_name) work ∙ intent_gone sound files (files intent_name) refl good in
-      let here = work_files (effect_of command.applet) files in
+      let here = files_recovered_if_needed (effect_of command.applet) files in
       subst Brings (change_is command.applet command given (reads_in here) here changes ∙ sym is)
       (change_none gone command here given.chosen given.clash (change_of_command command (reads_in here) here given.chosen given.clash) refl absent) commits
 

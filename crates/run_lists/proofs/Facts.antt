@@ -1,6 +1,6 @@
 -- The laws of the crates below that the proofs take.
 use Rattle.std.specs.Prelude.{◌≡◌, ℕ, Bool, true, List, is_some, not}
-use Rattle.apk_front.specs.Moments.{AreOldOrLeadToOutcome}
+use Rattle.apk_front.specs.Moments.{AreStatesOldOrLeadToOutcome}
 use Rattle.base_core.specs.Crash.{Since}
 use Rattle.base_core.specs.Files.{Files}
 use Rattle.base_core.specs.Undone.{IsAfterCrash, IsDurable, IsCrashImage}
@@ -27,5 +27,5 @@ pub record Facts : Type 0 where
   pub unique : (words : List (List ℕ)) (files : Files) (a b : Outcome) → IsOutcome (command_of words) files a → IsOutcome (command_of words) files b → a ≡ b
   pub making : (words : List (List ℕ)) (files : Files) (o : Outcome) → effect_of_arguments (command_of words) ≡ Makes → IsOutcome (command_of words) files o → o.commits ≡ not (is_some o.refusal)
   pub safe : (words : List (List ℕ)) (ignored : Ignored) (v : TreeState) (outcome : Outcome) (old now : List TreeState)
-      → AreOldOrLeadToOutcome (IsOutcome (command_of words) (files_of v)) (is_some (output words)) ignored v old now
+      → AreStatesOldOrLeadToOutcome (IsOutcome (command_of words) (files_of v)) (is_some (output words)) ignored v old now
       → IsOutcome (command_of words) (files_of v) outcome → Since (IsMomentOfReplacing ignored outcome.files v) old now

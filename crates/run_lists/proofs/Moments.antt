@@ -3,7 +3,7 @@ use Rattle.std.proofs.Common.{◌≡◌, ◌⊎◌, inl, inr, ⊎_elim, ℕ, Boo
 use Rattle.std.specs.Prelude.{IsSome}
 use Rattle.std.specs.Str.{bytes_eq}
 use Rattle.std.proofs.lemmas.Bool.{false≢true, or_from}
-use Rattle.apk_front.specs.Moments.{AreReadDuringRun, IsRecoveringOrNext, HasFilesExceptDrafts, IsStateDuringRun, NamesAreDurableWithoutIntentExcept, is_draft_name, output_names}
+use Rattle.apk_front.specs.Moments.{AreFilesReadDuringRun, IsRecoveringOrNext, HasFilesExceptTemporaryOnes, IsStateDuringRun, NamesAreDurableWithoutIntentExcept, is_temporary_name, output_names}
 use Rattle.base_core.specs.Calls.{HoldsNow}
 use Rattle.base_core.specs.Files.{Files, NameMap}
 use Rattle.base_core.specs.Tree.{File, TreeState, bytes_of_file_number, files_of}
@@ -12,13 +12,13 @@ use Rattle.base_core.proofs.NameParts.{other_bytes}
 use Rattle.base_core.proofs.Left.{left_as_read as synced_as_read}
 use Rattle.apk_front.specs.journal_core.Kept.{IsJournalName}
 use Rattle.apk_front.specs.journal_core.Recovery.{StateDependsOn, intent_in_file, intent_name, intent_of, is_staged}
-use Rattle.apk_front.specs.journal_core.Replacing.{scratch_of}
+use Rattle.apk_front.specs.journal_core.Replacing.{scratch_name_of}
 use Rattle.apk_front.specs.journal_core.Staged.{unstaged_files}
 use Rattle.apk_front.proofs.journal_core.Lasting.{some_none}
 use Rattle.apk_front.specs.journal_intent.FreeNames.{IsNoneOf}
 use Rattle.apk_front.specs.outcome.Effect.{Effect, Computes, OnlyReadsFiles, AsksRoot, Makes, Changes, does_recover, effect_of_arguments, output}
 use Rattle.apk_front.specs.outcome.Outcome.{Outcome}
-use Rattle.apk_front.specs.outcome.Work.{work_files}
+use Rattle.apk_front.specs.outcome.Work.{files_recovered_if_needed}
 use Rattle.apk_front.specs.words_core.Grammar.{command_of}
 use Rattle.run_lists.specs.Events.{Crashes, Edits, Ends, RootEvent, Reaches, IsMomentOf, IsOutcomeFrom, IsRunFrom, IsTransition, Run, Stops, Touches, ignored_after, ignored_during_run, ignored_with_scratch}
 use Rattle.run_lists.specs.Reading.{HasOldRecoveredOrOutcomeBytes, HasOutcomeBytes, ReachesByRuns, IsDurablyDone, IsOrdinaryName, IsNoJournalOrDraftName, IsRunWith, IsTrueAt, LeavesTrueAt}
@@ -34,12 +34,12 @@ use Rattle.run_lists.proofs.Unstaged.{none_found, not_staged, plain_at}
 -- ---- drafts
 
 -- the intent is no draft
-intent_no_draft : (effect : Effect) (o : Option (List ℕ)) → is_draft_name effect o intent_name ≡ false
+intent_no_draft : (effect : Effect) (o : Option (List ℕ)) → is_temporary_name effect o intent_name ≡ false
 intent_no_draft Computes o = refl
 intent_no_draft OnlyReadsFiles o = refl
 intent_no_draft AsksRoot o = refl
 intent_no_draft Makes None = refl
-intent_no_draft Makes (Some name) = other_bytes intent_name (scratch_of name) (intent_is_no_scratch name)
+intent_no_draft Makes (Some name) = other_bytes intent_name (scratch_name_of name) (intent_is_no_scratch name)
 intent_no_draft Changes o = refl
 
 -- ---- a moment
@@ -49,7 +49,7 @@ module _ (v : TreeState) (run : Run) (m : TreeState) where
   Act = effect_of_arguments (command_of run.words)
 
   abbrev Work : Files
-  Work = work_files Act (files_of v)
+  Work = files_recovered_if_needed Act (files_of v)
 
   -- where a moment stands: at the start, in a recovery, at work without a commit, or on the way to
   -- an outcome's files
@@ -60,14 +60,14 @@ module _ (v : TreeState) (run : Run) (m : TreeState) where
   pub located : IsRunFrom v run → IsMomentOf run m → Stands
   located is_run moment = by is_run.reads
     where
-      by : AreReadDuringRun (IsOutcomeFrom v run) Act (output run.words) v run.old run.now → Stands
+      by : AreFilesReadDuringRun (IsOutcomeFrom v run) Act (output run.words) v run.old run.now → Stands
       by (inl since) = ⊎_elim inl (λ p. inr (inl p)) (start_or_made (IsRecoveringOrNext Act (λ w. files_of w ≡ Work) v) run v m is_run.begins since moment)
       by (inr (o, one, commits, since)) =
           ⊎_elim inl (λ p. inr (inr (o, one, commits, p))) (start_or_made (IsRecoveringOrNext Act (IsStateDuringRun Act (output run.words) o.files Work) v) run v m is_run.begins since moment)
 
   -- ---- the bytes of a name
 
-  worked : (effect : Effect) (q : List ℕ) → files_of m q ≡ work_files effect (files_of v) q
+  worked : (effect : Effect) (q : List ℕ) → files_of m q ≡ files_recovered_if_needed effect (files_of v) q
       → (files_of m q ≡ files_of v q) ⊎ ((does_recover effect ≡ true) × (files_of m q ≡ unstaged_files (files_of v) q))
   worked Computes q is = inl is
   worked OnlyReadsFiles q is = inl is
@@ -111,18 +111,18 @@ module _ (no_intent : CommitsNoIntent) (test : Option (List ℕ) → Bool) (q : 
   unstaged_true : (files : Files) → At files → At (unstaged_files files)
   unstaged_true files at = plain (unstaged_files files) (none_found files) at.recovered
 
-  work_true : (effect : Effect) (files : Files) → At files → At (work_files effect files)
+  work_true : (effect : Effect) (files : Files) → At files → At (files_recovered_if_needed effect files)
   work_true Computes files at = at
   work_true OnlyReadsFiles files at = at
   work_true AsksRoot files at = unstaged_true files at
   work_true Makes files at = unstaged_true files at
   work_true Changes files at = unstaged_true files at
 
-  drafted : (effect : Effect) (o : Option (List ℕ)) (files : Files) (m : TreeState) → HasFilesExceptDrafts effect o (unstaged_files files) m → is_draft_name effect o q ≡ false → At files → At (files_of m)
+  drafted : (effect : Effect) (o : Option (List ℕ)) (files : Files) (m : TreeState) → HasFilesExceptTemporaryOnes effect o (unstaged_files files) m → is_temporary_name effect o q ≡ false → At files → At (files_of m)
   drafted effect o files m drafting no_draft at =
       plain (files_of m) (ap intent_in_file (drafting intent_name (intent_no_draft effect o)) ∙ none_found files) (subst Passes (sym (drafting q no_draft)) at.recovered)
 
-  draft_true : (effect : Effect) (o : Option (List ℕ)) (files : Files) (m : TreeState) → HasFilesExceptDrafts effect o (work_files effect files) m → is_draft_name effect o q ≡ false → At files → At (files_of m)
+  draft_true : (effect : Effect) (o : Option (List ℕ)) (files : Files) (m : TreeState) → HasFilesExceptTemporaryOnes effect o (files_recovered_if_needed effect files) m → is_temporary_name effect o q ≡ false → At files → At (files_of m)
   draft_true Computes o files m drafting no_draft at = subst At (λ i p. sym (drafting p refl) i) at
   draft_true OnlyReadsFiles o files m drafting no_draft at = subst At (λ i p. sym (drafting p refl) i) at
   draft_true AsksRoot o files m drafting no_draft at = drafted AsksRoot o files m drafting no_draft at
@@ -140,7 +140,7 @@ module _ (no_intent : CommitsNoIntent) (test : Option (List ℕ) → Bool) (q : 
       recovered = subst Passes (sym (ap (λ (f : Files). f q) r)) at.recovered;
     }
 
-    worked_at : At (work_files (effect_of_arguments (command_of run.words)) (files_of v))
+    worked_at : At (files_recovered_if_needed (effect_of_arguments (command_of run.words)) (files_of v))
     worked_at = work_true (effect_of_arguments (command_of run.words)) (files_of v) at
 
     pub stands_true : Stands v run m → At (files_of m)
@@ -151,7 +151,7 @@ module _ (no_intent : CommitsNoIntent) (test : Option (List ℕ) → Bool) (q : 
     stands_true (inr (inr (o, one, commits, inr (inl drafting)))) =
         draft_true (effect_of_arguments (command_of run.words)) (output run.words) (files_of v) m drafting leaves.no_draft.drafts at
     stands_true (inr (inr (o, one, commits, inr (inr (inl p))))) = record {
-      read = one_of_two (work_files (effect_of_arguments (command_of run.words)) (files_of v) q) (o.files q) (files_of m q) worked_at.read (leaves.outcomes o one commits) (p.bytes q stays);
+      read = one_of_two (files_recovered_if_needed (effect_of_arguments (command_of run.words)) (files_of v) q) (o.files q) (files_of m q) worked_at.read (leaves.outcomes o one commits) (p.bytes q stays);
       recovered = subst Passes (sym (ap (λ (f : Files). f q) p.leads)) (leaves.outcomes o one commits);
     }
     stands_true (inr (inr (o, one, commits, inr (inr (inr is))))) = subst At (sym is) (plain o.files (ap intent_in_file (no_intent run.words (files_of v) o one commits)) (leaves.outcomes o one commits))
@@ -164,7 +164,7 @@ last_by run w (u ∷ added) is ends = inr (u ∷ added, is, (0, omega arith, sub
 pub last_moment : (run : Run) (v w : TreeState) → IsRunFrom v run → HoldsNow run.now (λ u. u ≡ w) → IsMomentOf run w
 last_moment run v w is_run ends = by is_run.reads
   where
-    by : AreReadDuringRun (IsOutcomeFrom v run) (effect_of_arguments (command_of run.words)) (output run.words) v run.old run.now → IsMomentOf run w
+    by : AreFilesReadDuringRun (IsOutcomeFrom v run) (effect_of_arguments (command_of run.words)) (output run.words) v run.old run.now → IsMomentOf run w
     by (inl since) = last_by run w since.added since.is ends
     by (inr (o, one, commits, since)) = last_by run w since.added since.is ends
 
@@ -188,14 +188,14 @@ second_of true b c is = absurd (false≢true (sym is))
 second_of false true c is = absurd (false≢true (sym is))
 second_of false false c is = refl
 
-no_scratch_name : (name q : List ℕ) → IsNoneOf q (output_names (Some name)) → bytes_eq q (scratch_of name) ≡ false
-no_scratch_name name q none = second_of (bytes_eq q name) (bytes_eq q (scratch_of name)) false none
+no_scratch_name : (name q : List ℕ) → IsNoneOf q (output_names (Some name)) → bytes_eq q (scratch_name_of name) ≡ false
+no_scratch_name name q none = second_of (bytes_eq q name) (bytes_eq q (scratch_name_of name)) false none
 
 counts_in : (o : Option (List ℕ)) (ignored : Ignored) (q : List ℕ) → IsNoneOf q (output_names o) → ignored q ≡ false → ignored_with_scratch o ignored q ≡ false
 counts_in None ignored q none counts = counts
-counts_in (Some name) ignored q none counts = or_from (bytes_eq q (scratch_of name)) (ignored q) (no_scratch_name name q none) counts
+counts_in (Some name) ignored q none counts = or_from (bytes_eq q (scratch_name_of name)) (ignored q) (no_scratch_name name q none) counts
 
-no_draft_by : (effect : Effect) (o : Option (List ℕ)) (q : List ℕ) → IsNoneOf q (output_names o) → is_staged q ≡ false → is_draft_name effect o q ≡ false
+no_draft_by : (effect : Effect) (o : Option (List ℕ)) (q : List ℕ) → IsNoneOf q (output_names o) → is_staged q ≡ false → is_temporary_name effect o q ≡ false
 no_draft_by Computes o q none unstaged = refl
 no_draft_by OnlyReadsFiles o q none unstaged = refl
 no_draft_by AsksRoot o q none unstaged = refl
@@ -227,17 +227,17 @@ module _ (v : TreeState) (run : Run) (m : TreeState) (there : IsSome (v.names in
     recovered_here : unstaged_files (files_of m) ≡ unstaged_files (files_of v) → Done
     recovered_here r = inl (sym (plain_at (files_of m) q none shown) ∙ ap (λ (f : Files). f q) r)
 
-    work_here : (effect : Effect) → files_of m intent_name ≡ work_files effect (files_of v) intent_name → files_of m q ≡ work_files effect (files_of v) q → Done
+    work_here : (effect : Effect) → files_of m intent_name ≡ files_recovered_if_needed effect (files_of v) intent_name → files_of m q ≡ files_recovered_if_needed effect (files_of v) q → Done
     work_here Computes at is = absurd (stood at)
     work_here OnlyReadsFiles at is = absurd (stood at)
     work_here AsksRoot at is = inl is
     work_here Makes at is = inl is
     work_here Changes at is = inl is
 
-    draft_here : (effect : Effect) (o : Option (List ℕ)) → is_draft_name effect o q ≡ false → HasFilesExceptDrafts effect o (work_files effect (files_of v)) m → Done
+    draft_here : (effect : Effect) (o : Option (List ℕ)) → is_temporary_name effect o q ≡ false → HasFilesExceptTemporaryOnes effect o (files_recovered_if_needed effect (files_of v)) m → Done
     draft_here effect o no_draft drafting = work_here effect (drafting intent_name (intent_no_draft effect o)) (drafting q no_draft)
 
-    pub done_here : is_draft_name (effect_of_arguments (command_of run.words)) (output run.words) q ≡ false → Stands v run m → Done
+    pub done_here : is_temporary_name (effect_of_arguments (command_of run.words)) (output run.words) q ≡ false → Stands v run m → Done
     done_here no_draft (inl is) = absurd (not_first is)
     done_here no_draft (inr (inl (inl (recovers, r)))) = recovered_here r.reads
     done_here no_draft (inr (inl (inr is))) = work_here (effect_of_arguments (command_of run.words)) (ap (λ (f : Files). f intent_name) is) (ap (λ (f : Files). f q) is)

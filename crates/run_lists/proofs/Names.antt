@@ -10,9 +10,9 @@ use Rattle.apk_front.specs.declared.answer.Answer.TheVariants.{Ok as Done, Refus
 use Rattle.apk_front.proofs.file_replacement.Suffix.{intent_is_no_scratch}
 use Rattle.command_core.specs.Command.{CommandLine}
 use Rattle.apk_front.specs.journal_core.Recovery.{intent_name}
-use Rattle.apk_front.specs.journal_core.Replacing.{scratch_of}
-use Rattle.apk_front.specs.outcome.Effect.{Effect, Computes, OnlyReadsFiles, AsksRoot, Makes, Changes, does_only_read, effect_of_arguments, effect_of, output, output_of_arguments, output_for_effect, reads_only}
-use Rattle.run_lists.specs.Events.{Crashes, Edits, Ends, RootEvent, HasNoPendingOutput, Run, Stops, Touches, ignored_after, ignored_after_answer, names_of_others, nothing_ignored, ignored_with_all_touched, ignored_with_scratch, ignored_with_touched}
+use Rattle.apk_front.specs.journal_core.Replacing.{scratch_name_of}
+use Rattle.apk_front.specs.outcome.Effect.{Effect, Computes, OnlyReadsFiles, AsksRoot, Makes, Changes, does_only_read, effect_of_arguments, effect_of, output, output_name_of_arguments, output_name_for_effect, reads_only}
+use Rattle.run_lists.specs.Events.{Crashes, Edits, Ends, RootEvent, HasNoUnfinishedOutputSinceSync, Run, Stops, Touches, ignored_after, ignored_after_answer, names_of_others, nothing_ignored, ignored_with_all_touched, ignored_with_scratch, ignored_with_touched}
 use Rattle.run_lists.proofs.Facts.{AreMore, Ignored}
 use Rattle.run_lists.proofs.Touched.{intent_off}
 
@@ -25,12 +25,12 @@ neither false b off is = is
 pub scratch_hides : (o : Option (List ℕ)) (ignored : Ignored) → ignored intent_name ≡ false → ignored_with_scratch o ignored intent_name ≡ false
 scratch_hides None ignored off = off
 scratch_hides (Some name) ignored off =
-    neither (bytes_eq intent_name (scratch_of name)) (ignored intent_name) (λ is. intent_is_no_scratch name ((bytes_eq-Decides intent_name (scratch_of name)).0 is)) off
+    neither (bytes_eq intent_name (scratch_name_of name)) (ignored intent_name) (λ is. intent_is_no_scratch name ((bytes_eq-Decides intent_name (scratch_name_of name)).0 is)) off
 
 pub hides : (o : Option (List ℕ)) (ignored : Ignored) → ignored intent_name ≡ false → IgnoresScratchOf o (ignored_with_scratch o ignored)
 hides None ignored off = tt
 hides (Some name) ignored off = record {
-  scratch = or_left (bytes_eq (scratch_of name) (scratch_of name)) (ignored (scratch_of name)) ((bytes_eq-Decides (scratch_of name) (scratch_of name)).1 refl);
+  scratch = or_left (bytes_eq (scratch_name_of name) (scratch_name_of name)) (ignored (scratch_name_of name)) ((bytes_eq-Decides (scratch_name_of name) (scratch_name_of name)).1 refl);
   intent = scratch_hides (Some name) ignored off;
 }
 
@@ -40,7 +40,7 @@ either_off false b off = off
 
 but_hides : (o : Option (List ℕ)) (ignored : Ignored) → ignored intent_name ≡ false → ignored_except_output o ignored intent_name ≡ false
 but_hides None ignored off = off
-but_hides (Some name) ignored off = either_off (bytes_eq intent_name name || bytes_eq intent_name (scratch_of name)) (ignored intent_name) off
+but_hides (Some name) ignored off = either_off (bytes_eq intent_name name || bytes_eq intent_name (scratch_name_of name)) (ignored intent_name) off
 
 by_hides : (answer : Answer) (run : Run) (ignored : Ignored) → ignored intent_name ≡ false → ignored_after_answer answer run ignored intent_name ≡ false
 by_hides Done run ignored off = but_hides (output run.words) ignored off
@@ -83,7 +83,7 @@ all_touched_more (Touches theirs ∷ earlier) ignored q is = touched_more theirs
 
 pub scratch_more : (o : Option (List ℕ)) (ignored : Ignored) → AreMore ignored (ignored_with_scratch o ignored)
 scratch_more None ignored q is = is
-scratch_more (Some name) ignored q is = or_right (bytes_eq q (scratch_of name)) (ignored q) is
+scratch_more (Some name) ignored q is = or_right (bytes_eq q (scratch_name_of name)) (ignored q) is
 
 less : (a b : Bool) → (if a then false else b) ≡ true → b ≡ true
 less true b is = absurd (false≢true is)
@@ -91,7 +91,7 @@ less false b is = is
 
 pub but_fewer : (o : Option (List ℕ)) (ignored : Ignored) → AreMore (ignored_except_output o ignored) ignored
 but_fewer None ignored q is = is
-but_fewer (Some name) ignored q is = less (bytes_eq q name || bytes_eq q (scratch_of name)) (ignored q) is
+but_fewer (Some name) ignored q is = less (bytes_eq q name || bytes_eq q (scratch_name_of name)) (ignored q) is
 
 same_less : (a b c : Bool) → (if a || b then false else (b || c)) ≡ true → (if a || b then false else c) ≡ true
 same_less true b c is = is
@@ -100,13 +100,13 @@ same_less false false c is = is
 
 pub but_same : (o : Option (List ℕ)) (ignored : Ignored) → AreMore (ignored_except_output o (ignored_with_scratch o ignored)) (ignored_except_output o ignored)
 but_same None ignored q is = is
-but_same (Some name) ignored q is = same_less (bytes_eq q name) (bytes_eq q (scratch_of name)) (ignored q) is
+but_same (Some name) ignored q is = same_less (bytes_eq q name) (bytes_eq q (scratch_name_of name)) (ignored q) is
 
 -- ---- an ordinary root
 
 but_off : (o : Option (List ℕ)) (ignored : Ignored) (q : List ℕ) → ignored q ≡ false → ignored_except_output o ignored q ≡ false
 but_off None ignored q off = off
-but_off (Some name) ignored q off = either_off (bytes_eq q name || bytes_eq q (scratch_of name)) (ignored q) off
+but_off (Some name) ignored q off = either_off (bytes_eq q name || bytes_eq q (scratch_name_of name)) (ignored q) off
 
 scratch_off : (o : Option (List ℕ)) (ignored : Ignored) (q : List ℕ) → o ≡ None → ignored q ≡ false → ignored_with_scratch o ignored q ≡ false
 scratch_off o ignored q none off = subst (λ (p : Option (List ℕ)). ignored_with_scratch p ignored q ≡ false) (sym none) off
@@ -118,7 +118,7 @@ by_off TreeFault run ignored q fault off = scratch_off (output run.words) ignore
 by_off OutFault run ignored q fault off = off
 by_off Memory run ignored q fault off = off
 
-pub none_ignored : (events : List RootEvent) (q : List ℕ) → HasNoPendingOutput events → ignored_after nothing_ignored events q ≡ false
+pub none_ignored : (events : List RootEvent) (q : List ℕ) → HasNoUnfinishedOutputSinceSync events → ignored_after nothing_ignored events q ≡ false
 none_ignored [] q written = refl
 none_ignored (Ends run ∷ earlier) q (fault, before) = by_off run.answer run (ignored_after nothing_ignored earlier) q fault (none_ignored earlier q before)
 none_ignored (Stops run ∷ earlier) q (none, before) = scratch_off (output run.words) (ignored_after nothing_ignored earlier) q none (none_ignored earlier q before)
@@ -128,18 +128,18 @@ none_ignored (Touches theirs ∷ earlier) q none = absurd none
 
 -- ---- commands with an output make
 
-effect_makes : (effect : Effect) (command : CommandLine) (name : List ℕ) → output_for_effect effect command ≡ Some name → effect ≡ Makes
+effect_makes : (effect : Effect) (command : CommandLine) (name : List ℕ) → output_name_for_effect effect command ≡ Some name → effect ≡ Makes
 effect_makes Computes command name is = cc
 effect_makes OnlyReadsFiles command name is = cc
 effect_makes AsksRoot command name is = cc
 effect_makes Makes command name is = refl
 effect_makes Changes command name is = cc
 
-pub output_makes : (command : Result CommandLine ℕ) (name : List ℕ) → output_of_arguments command ≡ Some name → effect_of_arguments command ≡ Makes
+pub output_makes : (command : Result CommandLine ℕ) (name : List ℕ) → output_name_of_arguments command ≡ Some name → effect_of_arguments command ≡ Makes
 output_makes (Ok command) name is = effect_makes (effect_of command.applet) command name is
 output_makes (Err place) name is = cc
 
-reader_effect : (effect : Effect) (command : CommandLine) → IsTrue (does_only_read effect) → output_for_effect effect command ≡ None
+reader_effect : (effect : Effect) (command : CommandLine) → IsTrue (does_only_read effect) → output_name_for_effect effect command ≡ None
 reader_effect Computes command reads = refl
 reader_effect OnlyReadsFiles command reads = refl
 reader_effect AsksRoot command reads = absurd (false≢true reads)
@@ -147,6 +147,6 @@ reader_effect Makes command reads = absurd (false≢true reads)
 reader_effect Changes command reads = absurd (false≢true reads)
 
 -- a command that only reads has none
-pub reader_output : (command : Result CommandLine ℕ) → IsTrue (reads_only command) → output_of_arguments command ≡ None
+pub reader_output : (command : Result CommandLine ℕ) → IsTrue (reads_only command) → output_name_of_arguments command ≡ None
 reader_output (Ok command) reads = reader_effect (effect_of command.applet) command reads
 reader_output (Err place) reads = refl

@@ -1,8 +1,8 @@
 -- A run from a durable tree is safe, and from one state it is all or nothing.
 use Rattle.std.proofs.Common.{◌≡◌, ◌⊎◌, inl, inr, ⊎_elim, ℕ, true, false, List, Option, refl, sym, subst, ◌∙◌, arith}
 use Rattle.std.specs.Prelude.{is_some}
-use Rattle.apk_front.specs.Answers.{IsAnswerOf, answer_of}
-use Rattle.apk_front.specs.Moments.{AnswersOutcome, AreOldOrLeadToOutcome, IgnoresScratchOf, IsDurableState, LeavesDurableState, LeavesDurableOnceAnswered, MustOutcomeBeDurable, ignored_except_output}
+use Rattle.apk_front.specs.Answers.{IsAnswerOfSomeOutcome, answer_of}
+use Rattle.apk_front.specs.Moments.{AnswersOutcome, AreStatesOldOrLeadToOutcome, IgnoresScratchOf, IsDurableState, LeavesDurableStateIfCommitted, LeavesDurableFilesOnceAnswered, MustOutcomeBeDurable, ignored_except_output}
 use Rattle.apk_front.specs.declared.answer.Answer.{Answer}
 use Rattle.apk_front.specs.declared.answer.Answer.TheVariants.{Ok as Done, Refused, TreeFault, OutFault, Memory}
 use Rattle.base_core.specs.Calls.{HoldsNow}
@@ -18,7 +18,7 @@ use Rattle.apk_front.specs.outcome.Effect.{Effect, effect_of_arguments, output}
 use Rattle.apk_front.specs.outcome.Outcome.{Outcome}
 use Rattle.apk_front.specs.words_core.Grammar.{command_of}
 use Rattle.run_lists.specs.Events.{HasCommit, IsRunWithoutCommit, IsMomentOf, IsOutcomeFrom, IsRunFrom, Run, ignored_during_run, ignored_with_scratch}
-use Rattle.run_lists.specs.Safety.{HasOldOrOutcome, IsAtomic, LeavesOldOrOutcome, IsSafeRun, LeavesOutcome}
+use Rattle.run_lists.specs.Safety.{HasStateAsReadOrOutcome, IsAtomic, LeavesOldOrOutcome, IsSafeRun, LeavesFilesOfAnsweredOutcome}
 use Rattle.run_lists.proofs.AtMoments.{History, at_last, at_moment, now_at, now_map, now_under, now_with}
 use Rattle.run_lists.proofs.Facts.{Facts, Ignored}
 use Rattle.run_lists.proofs.Names.{but_same, hides, scratch_more}
@@ -46,7 +46,7 @@ at_rest_fewer facts o ignored files w rest = record {
 -- ---- a run that commits nothing
 
 module _ (ignored : Ignored) (v : TreeState) (run : Run) (is_run : IsRunFrom v run) (is_durable : IsDurable (StateDependsOn ignored) v) where
-  uncommitted : (HasCommit v run → ⊥) → AreOldOrLeadToOutcome (IsOutcomeFrom v run) (is_some (output run.words)) ignored v run.old run.now → Since (StateIsUnchanged ignored v) run.old run.now
+  uncommitted : (HasCommit v run → ⊥) → AreStatesOldOrLeadToOutcome (IsOutcomeFrom v run) (is_some (output run.words)) ignored v run.old run.now → Since (StateIsUnchanged ignored v) run.old run.now
   uncommitted never (inl is_unchanged) = is_unchanged
   uncommitted never (inr (o, one, commits, way)) = absurd (never (o, one, commits))
 
@@ -66,7 +66,7 @@ abbrev pub Told : Answer → Outcome → Type 0
 Told answer outcome = (answer ≡ answer_of outcome) ⊎ (answer ≡ OutFault)
 
 module _ (IsOne : Outcome → Type 0) (unique : (a b : Outcome) → IsOne a → IsOne b → a ≡ b) where
-  pub told : (Leaves : Outcome → Type 0) (failed : Type 0) (answer : Answer) (out err : SinkBeforeAndAfter) → IsAnswerOf IsOne Leaves failed answer out err → AnswersOutcome answer
+  pub told : (Leaves : Outcome → Type 0) (failed : Type 0) (answer : Answer) (out err : SinkBeforeAndAfter) → IsAnswerOfSomeOutcome IsOne Leaves failed answer out err → AnswersOutcome answer
       → (o : Outcome) × IsOne o × Told answer o × Leaves o
   told Leaves failed Done out err is answers = (is.0, is.1, inl is.2.same, is.3)
   told Leaves failed (Refused r) out err is answers = (is.0, is.1, inl is.2.same, is.3)
@@ -78,14 +78,14 @@ module _ (IsOne : Outcome → Type 0) (unique : (a b : Outcome) → IsOne a → 
     lasts_for : (o p : Outcome) → o ≡ p → (MustOutcomeBeDurable effect ignored v o → HoldsNow now (EachCrashLeaves ignored o.files)) → MustOutcomeBeDurable effect ignored v p → HoldsNow now (EachCrashLeaves ignored p.files)
     lasts_for o p same last = subst (λ (x : Outcome). (MustOutcomeBeDurable effect ignored v x → HoldsNow now (EachCrashLeaves ignored x.files))) same last
 
-    pub lasts : (answer : Answer) → LeavesDurableOnceAnswered IsOne effect ignored v now answer → AnswersOutcome answer → (p : Outcome) → IsOne p → MustOutcomeBeDurable effect ignored v p → HoldsNow now (EachCrashLeaves ignored p.files)
+    pub lasts : (answer : Answer) → LeavesDurableFilesOnceAnswered IsOne effect ignored v now answer → AnswersOutcome answer → (p : Outcome) → IsOne p → MustOutcomeBeDurable effect ignored v p → HoldsNow now (EachCrashLeaves ignored p.files)
     lasts Done is answers p one = lasts_for is.0 p (unique is.0 p is.1 one) is.3
     lasts (Refused r) is answers p one = lasts_for is.0 p (unique is.0 p is.1 one) is.3
     lasts OutFault is answers p one = lasts_for is.0 p (unique is.0 p is.1 one) is.2
     lasts TreeFault is answers p one = absurd answers
     lasts Memory is answers p one = absurd answers
 
-  pub rests : (o : Option (List ℕ)) (ignored : Ignored) (now : History) → LeavesDurableState IsOne o ignored now → (p : Outcome) → IsOne p → p.commits ≡ true → HoldsNow now (IsDurableState (ignored_except_output o ignored) p.files)
+  pub rests : (o : Option (List ℕ)) (ignored : Ignored) (now : History) → LeavesDurableStateIfCommitted IsOne o ignored now → (p : Outcome) → IsOne p → p.commits ≡ true → HoldsNow now (IsDurableState (ignored_except_output o ignored) p.files)
   rests o ignored now is p one =
       subst (λ (x : Outcome). (x.commits ≡ true → HoldsNow now (IsDurableState (ignored_except_output o ignored) x.files))) (unique is.0 p is.1 one) is.2
 
@@ -107,7 +107,7 @@ module _ (facts : Facts) (ignored : Ignored) (v : TreeState) (run : Run) (is_run
   pub replacing : (o : Outcome) → IsOutcomeFrom v run o → Since (IsMomentOfReplacing Now o.files v) run.old run.now
   replacing o one = facts.safe run.words Now v o run.old run.now (is_run.crash Now now_durable now_hides) one
 
-  either : AreOldOrLeadToOutcome (IsOutcomeFrom v run) (is_some (output run.words)) Now v run.old run.now → (m : TreeState) → IsMomentOf run m → LeavesOldOrOutcome Now v run m
+  either : AreStatesOldOrLeadToOutcome (IsOutcomeFrom v run) (is_some (output run.words)) Now v run.old run.now → (m : TreeState) → IsMomentOf run m → LeavesOldOrOutcome Now v run m
   either (inl is_unchanged) m moment = inl (at_moment (StateIsUnchanged Now v) run v m is_run.begins (still_self Now v now_durable) is_unchanged moment).quiet
   either (inr (o, one, commits, way)) m moment =
       at_moment_either o one commits m moment
@@ -115,22 +115,22 @@ module _ (facts : Facts) (ignored : Ignored) (v : TreeState) (run : Run) (is_run
       at_moment_either : (o : Outcome) → IsOutcomeFrom v run o → o.commits ≡ true → (m : TreeState) → IsMomentOf run m → LeavesOldOrOutcome Now v run m
       at_moment_either o one commits m moment = inr (o, one, commits, (at_moment (IsMomentOfReplacing Now o.files v) run v m is_run.begins (record { is_durable = now_durable; old_or_new = λ image is. inl (image, is, refl); made = omega arith }) (replacing o one) moment).old_or_new)
 
-  pub durable_at : AreOldOrLeadToOutcome (IsOutcomeFrom v run) (is_some (output run.words)) Now v run.old run.now → (m : TreeState) → IsMomentOf run m → IsDurable (StateDependsOn Now) m
+  pub durable_at : AreStatesOldOrLeadToOutcome (IsOutcomeFrom v run) (is_some (output run.words)) Now v run.old run.now → (m : TreeState) → IsMomentOf run m → IsDurable (StateDependsOn Now) m
   durable_at (inl is_unchanged) m moment = (at_moment (StateIsUnchanged Now v) run v m is_run.begins (still_self Now v now_durable) is_unchanged moment).is_durable
   durable_at (inr (o, one, commits, way)) m moment =
       (at_moment (IsMomentOfReplacing Now o.files v) run v m is_run.begins (record { is_durable = now_durable; old_or_new = λ image is. inl (image, is, refl); made = omega arith }) (replacing o one) moment).is_durable
 
   -- the outcome that was answered, and what holds of the last state
-  pub answered : AnswersOutcome run.answer → HoldsNow run.now (LeavesOutcome ignored v run)
+  pub answered : AnswersOutcome run.answer → HoldsNow run.now (LeavesFilesOfAnsweredOutcome ignored v run)
   answered answers =
       let t = told (IsOutcomeFrom v run) ones _ _ run.answer run.out run.err is_run.stated answers in
       with_outcome t.0 t.1 t.2 t.3 answers
     where
-      with_outcome : (o : Outcome) → IsOutcomeFrom v run o → Told run.answer o → HoldsNow run.now (λ w. files_of w ≡ o.files) → AnswersOutcome run.answer → HoldsNow run.now (LeavesOutcome ignored v run)
+      with_outcome : (o : Outcome) → IsOutcomeFrom v run o → Told run.answer o → HoldsNow run.now (λ w. files_of w ≡ o.files) → AnswersOutcome run.answer → HoldsNow run.now (LeavesFilesOfAnsweredOutcome ignored v run)
       with_outcome o one was reads answers =
           now_with run.now (λ w. files_of w ≡ o.files)
           (λ w. (MustOutcomeBeDurable (effect_of_arguments (command_of run.words)) Now v o → EachCrashLeaves Now o.files w) × (o.commits ≡ true → IsDurableState (ignored_except_output (output run.words) ignored) o.files w))
-          (LeavesOutcome ignored v run)
+          (LeavesFilesOfAnsweredOutcome ignored v run)
           (λ w read last. record { outcome = o; is_outcome = one; answered = was; reads = read; settled = last.0; durable_state = last.1 })
           reads
           (now_with run.now
@@ -158,7 +158,7 @@ module _ (facts : Facts) (ignored : Ignored) (v : TreeState) (run : Run) (is_run
     now_settled : EachCrashLeaves Now (files_of v) v
     now_settled = facts.more_settled ignored Now (files_of v) v (scratch_more (output run.words) ignored) settled
 
-    one_of_two : (m : TreeState) → LeavesOldOrOutcome Now v run m → (image : Files) → IsCrashImage m image → HasOldOrOutcome Now v run image
+    one_of_two : (m : TreeState) → LeavesOldOrOutcome Now v run m → (image : Files) → IsCrashImage m image → HasStateAsReadOrOutcome Now v run image
     one_of_two m (inl quiet) image is = inl (settled_on Now (files_of v) v m now_settled quiet image is)
     one_of_two m (inr (o, one, commits, old_or_new)) image is =
         ⊎_elim (λ was. inl (was.2 ∙ now_settled was.0 was.1)) (λ new. inr (o, one, commits, new)) (old_or_new image is)

@@ -1,7 +1,7 @@
 -- No list leaves a bad intent, and a run that was stopped is recovered by the next one.
 use Rattle.std.proofs.Common.{◌≡◌, inl, inr, ⊎_elim, ℕ, Bool, true, false, cond, ◌||◌, List, [], ◌∷◌, Option, Some, None, refl, sym, ap, subst, ◌∙◌}
 use Rattle.std.specs.Prelude.{if◌then◌else◌}
-use Rattle.apk_front.specs.adb_schema.Soundness.{first_fault}
+use Rattle.apk_front.specs.adb_schema.Soundness.{container_fault_except_contents}
 use Rattle.adb_view.specs.declared.tables.Which.TheVariants.{Intent as IntentTable}
 use Rattle.apk_front.specs.Answers.{answer_for_refusal}
 use Rattle.apk_front.specs.Moments.{AnswersOutcome, HasOutcomeWithoutCommit}
@@ -25,8 +25,8 @@ use Rattle.report_core.specs.declared.refusal.Refusal.TheVariants.{IntentBad}
 use Rattle.apk_front.specs.words_core.Grammar.{command_of}
 use Rattle.run_lists.specs.Events.{Crashes, Edits, Ends, RootEvent, Reaches, ReachesWithoutCommit, IsEventWithoutCommit, IsMomentOf, IsOutcomeFrom, IsRunFrom, IsPossibleStop, IsTransition, Run, Stops, Touches, ignored_after, ignored_during_run, nothing_ignored, ignored_with_all_touched, ignored_with_touched}
 use Rattle.run_lists.specs.Reading.{HasBadIntent}
-use Rattle.run_lists.specs.Recovered.{ReachesWithoutBadIntent, HasStateBefore, HasStateBeforeOrOutcome, HasSameState, IsRecoveredBy, IsNotRefusedForIntent, LeavesNoBadIntent, PutsNoBadIntent}
-use Rattle.run_lists.specs.Safety.{HasOldOrOutcome, LeavesOldOrOutcome}
+use Rattle.run_lists.specs.Recovered.{ReachesWithoutBadIntent, HasStateOfSomeCrashBefore, HasStateOfCrashBeforeOrOutcome, HasSameState, IsRecoveredBy, IsNotRefusedForIntent, LeavesNoBadIntent, PutsNoBadIntent}
+use Rattle.run_lists.specs.Safety.{HasStateAsReadOrOutcome, LeavesOldOrOutcome}
 use Rattle.run_lists.proofs.Along.{as_crash, seen_durable}
 use Rattle.apk_front.proofs.outcome.NextRoom.{intent_gone}
 use Rattle.apk_front.proofs.outcome.Recovered.{ReadSound}
@@ -57,13 +57,13 @@ none_bad files none (cause, (file, is, bad)) = cc (none, is)
 good_fault : (files : Files) → (HasBadIntent files → ⊥) → fault_of_intent (files intent_name) ≡ None
 good_fault files good = by (files intent_name) refl
   where
-    by_fault : (file : List ℕ) (fault : Option Cause) → files intent_name ≡ Some file → first_fault IntentTable file ≡ fault → fault ≡ None
+    by_fault : (file : List ℕ) (fault : Option Cause) → files intent_name ≡ Some file → container_fault_except_contents IntentTable file ≡ fault → fault ≡ None
     by_fault file None is at = refl
     by_fault file (Some cause) is at = absurd (good (cause, (file, is, at)))
 
     by : (found : Option (List ℕ)) → files intent_name ≡ found → fault_of_intent found ≡ None
     by None is = refl
-    by (Some file) is = by_fault file (first_fault IntentTable file) is refl
+    by (Some file) is = by_fault file (container_fault_except_contents IntentTable file) is refl
 
 no_fault : (effect : Effect) (files : Files) → (HasBadIntent files → ⊥) → recovery_fault effect files ≡ None
 no_fault Computes files good = refl
@@ -163,24 +163,24 @@ state_again ignored files i q = by (ignored q) refl i
     by false shown = state_read ignored (unstaged_files files) q shown ∙ (again (is_staged q) refl ∙ sym (state_read ignored files q shown))
 
 module _ (names : Ignored) (v : TreeState) (run : Run) where
-  pub state_on : (a b : Files) → state_of names a ≡ state_of names b → HasStateBeforeOrOutcome names v run b → HasStateBeforeOrOutcome names v run a
+  pub state_on : (a b : Files) → state_of names a ≡ state_of names b → HasStateOfCrashBeforeOrOutcome names v run b → HasStateOfCrashBeforeOrOutcome names v run a
   state_on a b is (inl (was, left, same)) = inl (was, left, is ∙ same)
   state_on a b is (inr (o, one, commits, same)) = inr (o, one, commits, is ∙ same)
 
-  pub left_state : (m : TreeState) → LeavesOldOrOutcome names v run m → (image : Files) → IsCrashImage m image → HasStateBeforeOrOutcome names v run image
+  pub left_state : (m : TreeState) → LeavesOldOrOutcome names v run m → (image : Files) → IsCrashImage m image → HasStateOfCrashBeforeOrOutcome names v run image
   left_state m (inl quiet) image is = let was = quiet image is in inl (was.0, was.1, was.2)
   left_state m (inr (o, one, commits, old_or_new)) image is =
       ⊎_elim (λ was. inl (was.0, was.1, was.2)) (λ new. inr (o, one, commits, new)) (old_or_new image is)
 
 -- what holds of a state without some names holds without more of them
-pub before_more : (few many : Ignored) (v : TreeState) → AreMore few many → (files : Files) → HasStateBefore few v files → HasStateBefore many v files
+pub before_more : (few many : Ignored) (v : TreeState) → AreMore few many → (files : Files) → HasStateOfSomeCrashBefore few v files → HasStateOfSomeCrashBefore many v files
 before_more few many v more files (was, left, same) = (was, left, states_same few many more files was same)
 
-pub before_or_outcome_more : (few many : Ignored) (v : TreeState) (run : Run) → AreMore few many → (files : Files) → HasStateBeforeOrOutcome few v run files → HasStateBeforeOrOutcome many v run files
+pub before_or_outcome_more : (few many : Ignored) (v : TreeState) (run : Run) → AreMore few many → (files : Files) → HasStateOfCrashBeforeOrOutcome few v run files → HasStateOfCrashBeforeOrOutcome many v run files
 before_or_outcome_more few many v run more files (inl before) = inl (before_more few many v more files before)
 before_or_outcome_more few many v run more files (inr (o, one, commits, same)) = inr (o, one, commits, states_same few many more files o.files same)
 
-pub one_of_two : (names : Ignored) (v : TreeState) (run : Run) (files : Files) → EachCrashLeaves names (files_of v) v → HasStateBeforeOrOutcome names v run files → HasOldOrOutcome names v run files
+pub one_of_two : (names : Ignored) (v : TreeState) (run : Run) (files : Files) → EachCrashLeaves names (files_of v) v → HasStateOfCrashBeforeOrOutcome names v run files → HasStateAsReadOrOutcome names v run files
 one_of_two names v run files settled (inl (was, left, same)) = inl (same ∙ settled was left)
 one_of_two names v run files settled (inr (o, one, commits, same)) = inr (o, one, commits, same)
 
@@ -271,12 +271,12 @@ module _ (facts : Facts) (same : HasSameBadIntent) (committed : CommitsNoIntent)
       (torn_durable at m torn (ignored_during_run run names) order) (torn_good at m torn is_good) idly is_next recovers
 
   pub stopped_recovers : (v m w : TreeState) (events later : List RootEvent) (run next : Run) → ReachesWithoutBadIntent first events v → IsRunFrom v run → IsPossibleStop run m → ReachesWithoutCommit m later w
-      → IsRunFrom w next → does_recover (effect_of_arguments (command_of next.words)) ≡ true → IsRecoveredBy (HasStateBeforeOrOutcome (ignored_with_all_touched later (ignored_during_run run (ignored_after start events))) v run) w next
+      → IsRunFrom w next → does_recover (effect_of_arguments (command_of next.words)) ≡ true → IsRecoveredBy (HasStateOfCrashBeforeOrOutcome (ignored_with_all_touched later (ignored_during_run run (ignored_after start events))) v run) w next
   stopped_recovers v m w events later run next seen is_run (at, moment, torn) idly is_next recovers =
       let few = ignored_during_run run (ignored_after start events) in
       let names = ignored_with_all_touched later few in
       let left = stopped_left v m w events later run next seen is_run (at, moment, torn) idly is_next recovers in
       let either = (safe facts (ignored_after start events) v run is_run (after_hides start off events) (seen_durable facts start off first v events is_durable (seen_plainly first v events seen))).moments at moment in
       let had = left_state few v run at either left.0 (torn_image at m torn left.0 left.1) in
-      recovered_as (HasSameState names left.0) (HasStateBeforeOrOutcome names v run)
+      recovered_as (HasSameState names left.0) (HasStateOfCrashBeforeOrOutcome names v run)
       (λ files same. state_on names v run files left.0 same (before_or_outcome_more few names v run (all_touched_more later few) left.0 had)) w next left.2

@@ -3,20 +3,20 @@
 -- *event*.
 use Rattle.std.specs.Prelude.{◌≡◌, ◌≢◌, ◌⊎◌, ◌++◌, ◌||◌, ℕ, Bool, true, false, if◌then◌else◌, List, [], ◌∷◌, Option, Some, None, Contains, IsSome, IsTrue, is_some}
 use Rattle.std.specs.Str.{bytes_eq}
-use Rattle.apk_front.specs.Answers.{IsAnswerOf, LeavesFiles}
-use Rattle.apk_front.specs.Moments.{AnswersOutcome, AreReadDuringRun, AreOldOrLeadToOutcome, CanRecover, CommitsNothing, HasNothingToRecover, IgnoresScratchOf, LeavesDurableState, LeavesDurableOnceAnswered, NamesAreDurableWithoutIntentExcept, ignored_except_output}
+use Rattle.apk_front.specs.Answers.{IsAnswerOfSomeOutcome, LeavesFiles}
+use Rattle.apk_front.specs.Moments.{AnswersOutcome, AreFilesReadDuringRun, AreStatesOldOrLeadToOutcome, CanRecover, IsRefusedOrCommitsNothing, HasNothingToRecover, IgnoresScratchOf, LeavesDurableStateIfCommitted, LeavesDurableFilesOnceAnswered, NamesAreDurableWithoutIntentExcept, ignored_except_output}
 use Rattle.apk_front.specs.declared.answer.Answer.{Answer}
 use Rattle.apk_front.specs.declared.answer.Answer.TheVariants.{Ok, TreeFault}
 use Rattle.base_core.specs.Calls.{HoldsNow}
 use Rattle.base_core.specs.Crash.{Since}
-use Rattle.base_core.specs.Faults.{Counts, HasCause}
+use Rattle.base_core.specs.Faults.{Counts, IsFaultCountedWithCause}
 use Rattle.base_core.specs.Sink.{SinkBeforeAndAfter}
 use Rattle.base_core.specs.Files.{NameMap}
 use Rattle.base_core.specs.Tree.{TreeState, files_of}
 use Rattle.base_core.specs.Undone.{IsAfterCrash, IsDurable, IsCrashMap}
 use Rattle.apk_front.specs.journal_core.Quiet.{StateIsUnchanged}
 use Rattle.apk_front.specs.journal_core.Recovery.{StateDependsOn, intent_name, is_staged}
-use Rattle.apk_front.specs.journal_core.Replacing.{scratch_of}
+use Rattle.apk_front.specs.journal_core.Replacing.{scratch_name_of}
 use Rattle.apk_front.specs.outcome.Effect.{effect_of_arguments, output, reads_only}
 use Rattle.apk_front.specs.outcome.Outcome.{Outcome}
 use Rattle.apk_front.specs.outcome.Words.{IsOutcome}
@@ -34,7 +34,7 @@ pub record Run : Type 0 where
   -- the tree's counts before it and after it
   pub before : Counts
   pub after : Counts
-  -- what the two sinks got
+  -- standard output and standard error, before the run and after it
   pub out : SinkBeforeAndAfter
   pub err : SinkBeforeAndAfter
   pub answer : Answer
@@ -51,35 +51,36 @@ HasCommit v run =
 -- A run that begins in the state v: what the contract of `apk` says of it, clause by clause.
 pub record IsRunFrom (v : TreeState) (run : Run) : Type 0 where
   pub begins : HoldsNow run.old (λ u. u ≡ v)
-  pub stated : IsAnswerOf (IsOutcomeFrom v run) (LeavesFiles run.now)
-      (HasCause run.before run.after) run.answer run.out run.err
+  pub stated : IsAnswerOfSomeOutcome (IsOutcomeFrom v run) (LeavesFiles run.now)
+      (IsFaultCountedWithCause run.before run.after) run.answer run.out run.err
   pub same : IsTrue (reads_only (command_of run.words)) → run.now ≡ run.old
-  pub idle : CommitsNothing (IsOutcomeFrom v run) run.answer
+  pub idle : IsRefusedOrCommitsNothing (IsOutcomeFrom v run) run.answer
       → HasNothingToRecover (effect_of_arguments (command_of run.words)) v → run.now ≡ run.old
   pub bad_intent : IsSome (recovery_fault (effect_of_arguments (command_of run.words)) (files_of v))
       → run.now ≡ run.old
-  pub reads : AreReadDuringRun (IsOutcomeFrom v run) (effect_of_arguments (command_of run.words))
+  pub reads : AreFilesReadDuringRun (IsOutcomeFrom v run) (effect_of_arguments (command_of run.words))
       (output run.words) v run.old run.now
   pub last : IsSome (v.names intent_name)
       → Since (NamesAreDurableWithoutIntentExcept (output run.words)) run.old run.now
-  pub left : CommitsNothing (IsOutcomeFrom v run) run.answer → (ignored : List ℕ → Bool)
+  pub left : IsRefusedOrCommitsNothing (IsOutcomeFrom v run) run.answer → (ignored : List ℕ → Bool)
       → IsDurable (StateDependsOn ignored) v → Since (StateIsUnchanged ignored v) run.old run.now
   pub crash : (ignored : List ℕ → Bool)
       → IsDurable (StateDependsOn ignored) v → IgnoresScratchOf (output run.words) ignored
-      → AreOldOrLeadToOutcome (IsOutcomeFrom v run) (is_some (output run.words)) ignored v run.old
+      → AreStatesOldOrLeadToOutcome (IsOutcomeFrom v run) (is_some (output run.words)) ignored v run.old
       run.now
   pub is_durable : (ignored : List ℕ → Bool)
       → IsDurable (StateDependsOn ignored) v → IgnoresScratchOf (output run.words) ignored
       → HoldsNow run.now (IsDurable (StateDependsOn ignored))
   pub settled : (ignored : List ℕ → Bool)
       → IsDurable (StateDependsOn ignored) v → IgnoresScratchOf (output run.words) ignored
-      → LeavesDurableOnceAnswered (IsOutcomeFrom v run) (effect_of_arguments (command_of run.words)) ignored v
+      → LeavesDurableFilesOnceAnswered (IsOutcomeFrom v run)
+      (effect_of_arguments (command_of run.words)) ignored v
       run.now
       run.answer
   pub durable_state : (ignored : List ℕ → Bool)
       → IsDurable (StateDependsOn ignored) v → IgnoresScratchOf (output run.words) ignored
       → AnswersOutcome run.answer
-      → LeavesDurableState (IsOutcomeFrom v run) (output run.words) ignored run.now
+      → LeavesDurableStateIfCommitted (IsOutcomeFrom v run) (output run.words) ignored run.now
 
 -- a moment of a run: the state in which it begins, or one that it made
 abbrev pub IsMomentOf : Run → TreeState → Type 0
@@ -121,13 +122,15 @@ IsPossibleStop run w = (m : TreeState) × IsMomentOf run m × DiffersOnlyInUnsyn
 abbrev pub names_of_others : (List ℕ → Bool) → List ℕ → Bool
 names_of_others theirs q = if bytes_eq q intent_name || is_staged q then false else theirs q
 
--- two maps of names agree, but for the names of others, and each other name leads to the same file
+-- the map `map` of w agrees with the map `was` of v on each name that others may not touch. The file to
+-- which such a name leads is the same in v and w
 abbrev pub IsSameExcept : (List ℕ → Bool) → TreeState → NameMap → TreeState → NameMap → Type 0
 IsSameExcept theirs v was w map =
     (q : List ℕ) → names_of_others theirs q ≡ false
     → (map q ≡ was q) × ((n : ℕ) → was q ≡ Some n → w.files n ≡ v.files n)
 
--- others have changed only files under their names: each map of names is one from before but for these
+-- others have changed only files under their names. Each map of names that a crash in w may leave is,
+-- apart from those names, one that a crash in v may leave
 abbrev pub IsChangeByOthers : (List ℕ → Bool) → TreeState → TreeState → Type 0
 IsChangeByOthers theirs v w =
     (map : NameMap) → IsCrashMap w map → (was : NameMap) × IsCrashMap v was
@@ -138,7 +141,7 @@ abbrev pub IsTransition : TreeState → RootEvent → TreeState → Type 0
 IsTransition v (Ends run) w = IsRunFrom v run × HoldsNow run.now (λ u. u ≡ w)
 IsTransition v (Stops run) w = IsRunFrom v run × IsPossibleStop run w
 IsTransition v Crashes w = IsAfterCrash v w
--- others may lead to any files of the tree, once these are synced
+-- an edit by others may leave any tree in which all files are synced
 IsTransition v Edits w = IsAllSynced w
 IsTransition v (Touches theirs) w = IsChangeByOthers theirs v w
 
@@ -154,7 +157,7 @@ Reaches first (event ∷ earlier) w =
 -- it has no output, and no outcome that commits
 abbrev pub IsRunWithoutCommit : TreeState → Run → Type 0
 IsRunWithoutCommit v run =
-    CommitsNothing (IsOutcomeFrom v run) run.answer
+    IsRefusedOrCommitsNothing (IsOutcomeFrom v run) run.answer
     ⊎ ((output run.words ≡ None) × (HasCommit v run → ⊥))
 
 -- an event is a crash, a run that commits nothing, or a touch by others
@@ -176,43 +179,44 @@ ReachesWithoutCommit first (event ∷ earlier) w =
 
 -- After the event each crash leaves one state: it is no run; or a run that answers its outcome, and
 -- this commits, or the run has no output and found an intent.
-abbrev pub LeavesOneStateAfterCrash : TreeState → RootEvent → Type 0
-LeavesOneStateAfterCrash v (Ends run) =
+abbrev pub EnsuresOneCrashState : TreeState → RootEvent → Type 0
+EnsuresOneCrashState v (Ends run) =
     AnswersOutcome run.answer
     × (HasCommit v run
     ⊎ ((output run.words ≡ None) × CanRecover (effect_of_arguments (command_of run.words)) v))
-LeavesOneStateAfterCrash v (Stops run) = ⊥
-LeavesOneStateAfterCrash v Crashes = Unit {0}
-LeavesOneStateAfterCrash v Edits = Unit {0}
-LeavesOneStateAfterCrash v (Touches theirs) = ⊥
+EnsuresOneCrashState v (Stops run) = ⊥
+EnsuresOneCrashState v Crashes = Unit {0}
+EnsuresOneCrashState v Edits = Unit {0}
+EnsuresOneCrashState v (Touches theirs) = ⊥
 
 -- after the event each crash leaves one state if it did before: it is no run; or a run that commits
 -- nothing, or that ends without an I/O error of the tree
-abbrev pub KeepsOneStateAfterCrash : TreeState → RootEvent → Type 0
-KeepsOneStateAfterCrash v (Ends run) = (run.answer ≢ TreeFault) ⊎ IsRunWithoutCommit v run
-KeepsOneStateAfterCrash v (Stops run) = IsRunWithoutCommit v run
-KeepsOneStateAfterCrash v Crashes = Unit {0}
-KeepsOneStateAfterCrash v Edits = Unit {0}
-KeepsOneStateAfterCrash v (Touches theirs) = Unit {0}
+abbrev pub PreservesOneCrashState : TreeState → RootEvent → Type 0
+PreservesOneCrashState v (Ends run) = (run.answer ≢ TreeFault) ⊎ IsRunWithoutCommit v run
+PreservesOneCrashState v (Stops run) = IsRunWithoutCommit v run
+PreservesOneCrashState v Crashes = Unit {0}
+PreservesOneCrashState v Edits = Unit {0}
+PreservesOneCrashState v (Touches theirs) = Unit {0}
 
 -- a root has seen events, and each crash leaves one state: an event made it so, or it was so at first,
 -- and the events after that kept it
-abbrev pub ReachesOneState : TreeState → List RootEvent → TreeState → Type 0
-ReachesOneState first [] w = w ≡ first
-ReachesOneState first (event ∷ earlier) w =
+abbrev pub ReachesOneCrashState : TreeState → List RootEvent → TreeState → Type 0
+ReachesOneCrashState first [] w = w ≡ first
+ReachesOneCrashState first (event ∷ earlier) w =
     (v : TreeState)
     × IsTransition v event w
-    × ((Reaches first earlier v × LeavesOneStateAfterCrash v event)
-    ⊎ (ReachesOneState first earlier v × KeepsOneStateAfterCrash v event))
+    × ((Reaches first earlier v × EnsuresOneCrashState v event)
+    ⊎ (ReachesOneCrashState first earlier v × PreservesOneCrashState v event))
 
 -- since the last crash, or change by others, no run was stopped, and none ended by a fault of the tree
-abbrev pub HasNoPendingRun : List RootEvent → Type 0
-HasNoPendingRun [] = Unit {0}
-HasNoPendingRun (Ends run ∷ earlier) = (run.answer ≢ TreeFault) × HasNoPendingRun earlier
-HasNoPendingRun (Stops run ∷ earlier) = ⊥
-HasNoPendingRun (Crashes ∷ earlier) = Unit {0}
-HasNoPendingRun (Edits ∷ earlier) = Unit {0}
-HasNoPendingRun (Touches theirs ∷ earlier) = HasNoPendingRun earlier
+abbrev pub HasNoUnfinishedRunSinceCrash : List RootEvent → Type 0
+HasNoUnfinishedRunSinceCrash [] = Unit {0}
+HasNoUnfinishedRunSinceCrash (Ends run ∷ earlier) =
+    (run.answer ≢ TreeFault) × HasNoUnfinishedRunSinceCrash earlier
+HasNoUnfinishedRunSinceCrash (Stops run ∷ earlier) = ⊥
+HasNoUnfinishedRunSinceCrash (Crashes ∷ earlier) = Unit {0}
+HasNoUnfinishedRunSinceCrash (Edits ∷ earlier) = Unit {0}
+HasNoUnfinishedRunSinceCrash (Touches theirs ∷ earlier) = HasNoUnfinishedRunSinceCrash earlier
 
 -- ---- the names that are ignored
 
@@ -223,7 +227,7 @@ nothing_ignored q = false
 -- ignored names and the scratch name of an output
 abbrev pub ignored_with_scratch : Option (List ℕ) → (List ℕ → Bool) → List ℕ → Bool
 ignored_with_scratch None ignored q = ignored q
-ignored_with_scratch (Some name) ignored q = bytes_eq q (scratch_of name) || ignored q
+ignored_with_scratch (Some name) ignored q = bytes_eq q (scratch_name_of name) || ignored q
 
 -- the names that are ignored during a run, by those that are ignored when it begins
 abbrev pub ignored_during_run : Run → (List ℕ → Bool) → List ℕ → Bool
@@ -268,12 +272,12 @@ ignored_after ignored (Touches theirs ∷ earlier) =
 
 -- since all was synced no run with an output was stopped, or ended by a fault of the tree, and others
 -- touched nothing
-abbrev pub HasNoPendingOutput : List RootEvent → Type 0
-HasNoPendingOutput [] = Unit {0}
-HasNoPendingOutput (Ends run ∷ earlier) =
-    (run.answer ≡ TreeFault → output run.words ≡ None) × HasNoPendingOutput earlier
-HasNoPendingOutput (Stops run ∷ earlier) =
-    (output run.words ≡ None) × HasNoPendingOutput earlier
-HasNoPendingOutput (Crashes ∷ earlier) = Unit {0}
-HasNoPendingOutput (Edits ∷ earlier) = Unit {0}
-HasNoPendingOutput (Touches theirs ∷ earlier) = ⊥
+abbrev pub HasNoUnfinishedOutputSinceSync : List RootEvent → Type 0
+HasNoUnfinishedOutputSinceSync [] = Unit {0}
+HasNoUnfinishedOutputSinceSync (Ends run ∷ earlier) =
+    (run.answer ≡ TreeFault → output run.words ≡ None) × HasNoUnfinishedOutputSinceSync earlier
+HasNoUnfinishedOutputSinceSync (Stops run ∷ earlier) =
+    (output run.words ≡ None) × HasNoUnfinishedOutputSinceSync earlier
+HasNoUnfinishedOutputSinceSync (Crashes ∷ earlier) = Unit {0}
+HasNoUnfinishedOutputSinceSync (Edits ∷ earlier) = Unit {0}
+HasNoUnfinishedOutputSinceSync (Touches theirs ∷ earlier) = ⊥

@@ -1,7 +1,7 @@
 -- What is read at each moment of a run, and the files after runs that follow each other without a
 -- crash. The rules are in `docs/crash-safety.md`, "Recovery", its last two paragraphs.
 use Rattle.std.specs.Prelude.{◌≡◌, ◌⊎◌, ℕ, Bool, true, false, List, [], ◌∷◌, Option}
-use Rattle.apk_front.specs.Moments.{is_draft_name, output_names}
+use Rattle.apk_front.specs.Moments.{is_temporary_name, output_names}
 use Rattle.base_core.specs.Undone.{IsCrashImage}
 use Rattle.base_core.specs.Files.{Files}
 use Rattle.base_core.specs.Tree.{TreeState, files_of}
@@ -20,7 +20,7 @@ use Rattle.run_lists.specs.Events.{Crashes, Edits, Ends, RootEvent, IsMomentOf, 
 -- file
 pub record IsNoJournalOrDraftName (run : Run) (q : List ℕ) : Type 0 where
   pub waits : IsJournalName q → ⊥
-  pub drafts : is_draft_name (effect_of_arguments (command_of run.words)) (output run.words) q ≡ false
+  pub drafts : is_temporary_name (effect_of_arguments (command_of run.words)) (output run.words) q ≡ false
 
 -- at a moment of a run a name has the bytes of an outcome of the run that commits
 abbrev pub HasOutcomeBytes : TreeState → Run → TreeState → List ℕ → Type 0
@@ -69,7 +69,8 @@ pub record IsTrueAt (test : Option (List ℕ) → Bool) (q : List ℕ) (files : 
   pub read : test (files q) ≡ true
   pub recovered : test (unstaged_files files q) ≡ true
 
--- a name is no draft of the run, and the test holds of what each outcome that commits leaves there
+-- A name is none of the journal or of a new file of the run. The test holds of what each outcome that
+-- commits leaves there.
 pub record LeavesTrueAt (test : Option (List ℕ) → Bool) (q : List ℕ) (v : TreeState)
     (run : Run) : Type 0 where
   pub no_draft : IsNoJournalOrDraftName run q

@@ -24,7 +24,7 @@ use Rattle.run_lists.specs.Reading.{HasBadIntent}
 abbrev pub LeavesNoBadIntent : TreeState → Type 0
 LeavesNoBadIntent v = (image : Files) → IsCrashImage v image → HasBadIntent image → ⊥
 
--- when others change files, they put no bad intent there
+-- if the event is an edit of files by others, no bad intent is in the files after it
 abbrev pub PutsNoBadIntent : RootEvent → TreeState → Type 0
 PutsNoBadIntent (Ends run) w = Unit {0}
 PutsNoBadIntent (Stops run) w = Unit {0}
@@ -52,19 +52,20 @@ abbrev pub HasSameState : (List ℕ → Bool) → Files → Files → Type 0
 HasSameState ignored others files = state_of ignored files ≡ state_of ignored others
 
 -- files have a state that a crash might have left when the run began
-abbrev pub HasStateBefore : (List ℕ → Bool) → TreeState → Files → Type 0
-HasStateBefore ignored v files = (was : Files) × IsCrashImage v was × HasSameState ignored was files
+abbrev pub HasStateOfSomeCrashBefore : (List ℕ → Bool) → TreeState → Files → Type 0
+HasStateOfSomeCrashBefore ignored v files =
+    (was : Files) × IsCrashImage v was × HasSameState ignored was files
 
 -- files have a state from before the run, or that of an outcome of the run, which commits
-abbrev pub HasStateBeforeOrOutcome : (List ℕ → Bool) → TreeState → Run → Files → Type 0
-HasStateBeforeOrOutcome ignored v run files =
-    HasStateBefore ignored v files
+abbrev pub HasStateOfCrashBeforeOrOutcome : (List ℕ → Bool) → TreeState → Run → Files → Type 0
+HasStateOfCrashBeforeOrOutcome ignored v run files =
+    HasStateOfSomeCrashBefore ignored v files
     ⊎ ((outcome : Outcome)
     × IsOutcomeFrom v run outcome
     × (outcome.commits ≡ true)
     × HasSameState ignored outcome.files files)
 
--- nothing is left to do in files, and they have such a state
+-- files are recovered: there is no intent, the staging area is empty, and the files have this state
 pub record AreRecovered (HasState : Files → Type 0) (files : Files) : Type 0 where
   pub intent : files intent_name ≡ None
   pub stage : IsEmptyStage files

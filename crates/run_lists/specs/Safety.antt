@@ -13,7 +13,7 @@ use Rattle.apk_front.specs.journal_core.Recovery.{EachCrashLeavesOldOrNew, EachC
 use Rattle.apk_front.specs.outcome.Effect.{effect_of_arguments, output}
 use Rattle.apk_front.specs.outcome.Outcome.{Outcome}
 use Rattle.apk_front.specs.words_core.Grammar.{command_of}
-use Rattle.run_lists.specs.Events.{RootEvent, Reaches, ReachesOneState, IsRunWithoutCommit, IsMomentOf, IsOutcomeFrom, Run, ignored_after, ignored_during_run}
+use Rattle.run_lists.specs.Events.{RootEvent, Reaches, ReachesOneCrashState, IsRunWithoutCommit, IsMomentOf, IsOutcomeFrom, Run, ignored_after, ignored_during_run}
 
 -- ---- from any states that a crash might have left before the run
 
@@ -27,13 +27,14 @@ LeavesOldOrOutcome ignored v run m =
     × (outcome.commits ≡ true)
     × EachCrashLeavesOldOrNew ignored v outcome.files m)
 
--- at a moment of a run a crash leaves a state from before, and the files as read have the old one
-pub record KeepsState (ignored : List ℕ → Bool) (v m : TreeState) : Type 0 where
+-- At the moment m of a run that began in v, a crash leaves a state from before the run. The files as read
+-- have the state of v.
+pub record KeepsStateFromBefore (ignored : List ℕ → Bool) (v m : TreeState) : Type 0 where
   pub quiet : EachCrashLeavesOld ignored v m
   pub reads : state_of ignored (files_of m) ≡ state_of ignored (files_of v)
 
 -- the run's outcome was answered, or a sink's fault in its place, and its files are read
-pub record LeavesOutcome (ignored : List ℕ → Bool) (v : TreeState) (run : Run)
+pub record LeavesFilesOfAnsweredOutcome (ignored : List ℕ → Bool) (v : TreeState) (run : Run)
     (w : TreeState) : Type 0 where
   pub outcome : Outcome
   pub is_outcome : IsOutcomeFrom v run outcome
@@ -41,7 +42,8 @@ pub record LeavesOutcome (ignored : List ℕ → Bool) (v : TreeState) (run : Ru
   pub reads : files_of w ≡ outcome.files
   -- each crash leaves them, if it commits, if each left the old ones before, or if an intent was found
   -- and completed
-  pub settled : MustOutcomeBeDurable (effect_of_arguments (command_of run.words)) (ignored_during_run run ignored) v outcome
+  pub settled : MustOutcomeBeDurable (effect_of_arguments (command_of run.words))
+      (ignored_during_run run ignored) v outcome
       → EachCrashLeaves (ignored_during_run run ignored) outcome.files w
   -- if it commits, under its output and the scratch name too
   pub durable_state : outcome.commits ≡ true
@@ -52,15 +54,15 @@ pub record LeavesOutcome (ignored : List ℕ → Bool) (v : TreeState) (run : Ru
 pub record IsSafeRun (ignored : List ℕ → Bool) (v : TreeState) (run : Run) : Type 0 where
   pub moments : (m : TreeState) → IsMomentOf run m
       → LeavesOldOrOutcome (ignored_during_run run ignored) v run m
-  pub answered : AnswersOutcome run.answer → HoldsNow run.now (LeavesOutcome ignored v run)
+  pub answered : AnswersOutcome run.answer → HoldsNow run.now (LeavesFilesOfAnsweredOutcome ignored v run)
   pub left : IsRunWithoutCommit v run
-      → (m : TreeState) → IsMomentOf run m → KeepsState ignored v m
+      → (m : TreeState) → IsMomentOf run m → KeepsStateFromBefore ignored v m
 
 -- ---- from one state
 
 -- what a crash leaves has the old state; or that of an outcome of the run, which commits
-abbrev pub HasOldOrOutcome : (List ℕ → Bool) → TreeState → Run → Files → Type 0
-HasOldOrOutcome ignored v run image =
+abbrev pub HasStateAsReadOrOutcome : (List ℕ → Bool) → TreeState → Run → Files → Type 0
+HasStateAsReadOrOutcome ignored v run image =
     (state_of ignored image ≡ state_of ignored (files_of v))
     ⊎ ((outcome : Outcome)
     × IsOutcomeFrom v run outcome
@@ -71,7 +73,7 @@ HasOldOrOutcome ignored v run image =
 -- answered a crash leaves that of the outcome, and the old one if the run commits nothing.
 pub record IsAtomic (ignored : List ℕ → Bool) (v : TreeState) (run : Run) : Type 0 where
   pub moments : (m : TreeState) → IsMomentOf run m → (image : Files) → IsCrashImage m image
-      → HasOldOrOutcome (ignored_during_run run ignored) v run image
+      → HasStateAsReadOrOutcome (ignored_during_run run ignored) v run image
   pub answered : AnswersOutcome run.answer → (outcome : Outcome) → IsOutcomeFrom v run outcome
       → HoldsNow run.now (EachCrashLeaves (ignored_during_run run ignored) outcome.files)
   pub left : IsRunWithoutCommit v run
@@ -92,5 +94,5 @@ abbrev pub IsAtomicAfterAnyEvents : TreeState → Run → Type 0
 IsAtomicAfterAnyEvents v run =
     (ignored : List ℕ → Bool) (first : TreeState) (events : List RootEvent)
     → ignored intent_name ≡ false → IsDurableState ignored (files_of first) first
-    → ReachesOneState first events v
+    → ReachesOneCrashState first events v
     → IsAtomic (ignored_after ignored events) v run

@@ -13,10 +13,10 @@ ghost use Rattle.apk_front.specs.outcome.Effect.{does_recover, effect_of_argumen
 ghost use Rattle.apk_front.specs.outcome.Outcome.{Outcome};
 ghost use Rattle.apk_front.specs.outcome.Words.{IsOutcome};
 ghost use Rattle.apk_front.specs.outcome.Work.{recovery_fault};
-ghost use Rattle.run_lists.specs.Events.{AreNamesAmong, RootEvent, HasNoPendingOutput, HasNoPendingRun, Reaches, ReachesWithoutCommit, ReachesOneState, IsRunWithoutCommit, IsMomentOf, IsOutcomeFrom, IsRunFrom, IsPossibleStop, Run, ignored_after, ignored_during_run, nothing_ignored, ignored_with_all_touched, ignored_with_scratch};
+ghost use Rattle.run_lists.specs.Events.{AreNamesAmong, RootEvent, HasNoUnfinishedOutputSinceSync, HasNoUnfinishedRunSinceCrash, Reaches, ReachesWithoutCommit, ReachesOneCrashState, IsRunWithoutCommit, IsMomentOf, IsOutcomeFrom, IsRunFrom, IsPossibleStop, Run, ignored_after, ignored_during_run, nothing_ignored, ignored_with_all_touched, ignored_with_scratch};
 ghost use Rattle.run_lists.specs.Reading.{HasBadIntent, HasOldRecoveredOrOutcomeBytes, ReachesByRuns, IsUnrestrictedRun, IsDurablyDone, IsOrdinaryName, IsNoJournalOrDraftName, IsTrueAt, LeavesTrueAt};
-ghost use Rattle.run_lists.specs.Recovered.{ReachesWithoutBadIntent, HasStateBeforeOrOutcome, HasSameState, IsRecoveredBy, IsNotRefusedForIntent, LeavesNoBadIntent};
-ghost use Rattle.run_lists.specs.Safety.{HasOldOrOutcome, IsAtomicAfterAnyEvents, IsSafeAfterAnyEvents};
+ghost use Rattle.run_lists.specs.Recovered.{ReachesWithoutBadIntent, HasStateOfCrashBeforeOrOutcome, HasSameState, IsRecoveredBy, IsNotRefusedForIntent, LeavesNoBadIntent};
+ghost use Rattle.run_lists.specs.Safety.{HasStateAsReadOrOutcome, IsAtomicAfterAnyEvents, IsSafeAfterAnyEvents};
 ghost use Rattle.apk_front.specs.words_core.Grammar.{command_of};
 
 use apk_front::{
@@ -36,7 +36,7 @@ use apk_front::{
 /// `ignored` are names that are ignored from the start, such as scratch names of outputs; on an
 /// ordinary root there are none.
 pub fn a_run_is_safe_after_any_events()
-    // Behind each list the tree is durable, apart from the names that are ignored then.
+    // After each list the tree is durable, apart from the names that are ignored then.
     ensures is_durable { (ignored : List ℕ → Bool) (first v : TreeState) (events : List RootEvent)
         → ignored intent_name ≡ false → IsDurable (StateDependsOn ignored) first
         → Reaches first events v
@@ -53,7 +53,8 @@ pub fn a_run_is_safe_after_any_events()
 
     // On an ordinary root no name is ignored, and none is until a run with an output is stopped, or
     // ends by an I/O error of the tree.
-    ensures ordinary { (events : List RootEvent) (q : List ℕ) → HasNoPendingOutput events
+    ensures ordinary { (events : List RootEvent) (q : List ℕ)
+        → HasNoUnfinishedOutputSinceSync events
         → ignored_after nothing_ignored events q ≡ false }
 
     // The next run is safe.
@@ -65,13 +66,14 @@ pub fn a_run_is_safe_after_any_events()
     // change that was found and completed.
     ensures one_state { (ignored : List ℕ → Bool) (first v : TreeState) (events : List RootEvent)
         → ignored intent_name ≡ false → IsDurableState ignored (files_of first) first
-        → ReachesOneState first events v
+        → ReachesOneCrashState first events v
         → IsDurableState (ignored_after ignored events) (files_of v) v }
 
     // A list keeps it so if no run was stopped, or failed by the tree, since the last crash or
     // change by others: a power cut during a run is a crash.
     ensures without_pending_run { (first v : TreeState) (events : List RootEvent)
-        → Reaches first events v → HasNoPendingRun events → ReachesOneState first events v }
+        → Reaches first events v → HasNoUnfinishedRunSinceCrash events
+        → ReachesOneCrashState first events v }
 
     // Then the next run is all or nothing.
     ensures atomic { (v : TreeState) (run : Run) → IsRunFrom v run → IsAtomicAfterAnyEvents v run }
@@ -128,7 +130,8 @@ pub fn a_root_that_commits_nothing_keeps_its_state()
 pub fn each_name_keeps_old_recovered_or_new_bytes()
     // At each moment of a run.
     ensures moments { (v m : TreeState) (run : Run) (q : List ℕ) → IsRunFrom v run
-        → IsMomentOf run m → IsNoJournalOrDraftName run q → HasOldRecoveredOrOutcomeBytes v run m q }
+        → IsMomentOf run m → IsNoJournalOrDraftName run q
+        → HasOldRecoveredOrOutcomeBytes v run m q }
 
     // An outcome that commits leaves no file under the intent's name.
     ensures commits { (words : List (List ℕ)) (files : Files) (o : Outcome)
@@ -162,7 +165,8 @@ pub fn a_bad_intent_and_all_files_are_kept()
 /// the run is stopped. Each name has its recovered bytes, or those of an outcome of the run, and
 /// each crash leaves exactly these.
 pub fn the_actions_of_an_intent_are_durably_done()
-    ensures { (ignored : List ℕ → Bool) (first v m : TreeState) (events : List RootEvent) (run : Run)
+    ensures { (ignored : List ℕ
+        → Bool) (first v m : TreeState) (events : List RootEvent) (run : Run)
         → ignored intent_name ≡ false → IsDurable (StateDependsOn ignored) first
         → Reaches first events v → IsRunFrom v run → IsSome (v.names intent_name)
         → IsMomentOf run m → m.names intent_name ≡ None
@@ -216,7 +220,8 @@ pub fn a_stopped_run_is_recovered()
         → IsRunFrom v run → IsPossibleStop run m → ReachesWithoutCommit m later w
         → IsRunFrom w next → does_recover (effect_of_arguments (command_of next.words)) ≡ true
         → let names = ignored_during_run run (ignored_after ignored events) in
-        IsRecoveredBy (HasStateBeforeOrOutcome (ignored_with_all_touched later names) v run) w next }
+        IsRecoveredBy (HasStateOfCrashBeforeOrOutcome
+        (ignored_with_all_touched later names) v run) w next }
 
     // These have the state of files that a crash might have left at that moment.
     ensures left { (ignored : List ℕ → Bool) (first v m w : TreeState)
@@ -231,8 +236,9 @@ pub fn a_stopped_run_is_recovered()
 
     // If the root had one state when the run began, these are two: the old one and the outcome's.
     ensures two { (ignored : List ℕ → Bool) (v : TreeState) (run : Run) (files : Files)
-        → EachCrashLeaves ignored (files_of v) v → HasStateBeforeOrOutcome ignored v run files
-        → HasOldOrOutcome ignored v run files }
+        → EachCrashLeaves ignored (files_of v) v
+        → HasStateOfCrashBeforeOrOutcome ignored v run files
+        → HasStateAsReadOrOutcome ignored v run files }
 {
     a_crash_leaves_a_durable_settled_tree();
     more_names_may_be_ignored();

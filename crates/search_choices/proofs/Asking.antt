@@ -19,7 +19,7 @@ use Rattle.search_tables.specs.candidate_core.Options.{IsIn, options_for}
 use Rattle.search_tables.proofs.candidate_core.Places.{place_of}
 use Rattle.search_tables.specs.Selection.{AreAllMembersOf, is_met, is_unmet, names_by_install_if, install_if_applies, least_name, lesser_name, needs, next_need, raised_needs}
 use Rattle.search_tables.specs.Reasons.{FrameValue, IsFrameOf}
-use Rattle.search_tables.specs.InstallIf.{AreInstallIfs, AreNoneTriggeredBelow, IsLeastTriggeredInstallIf, IsNoInstallIfTriggered, all_met, is_install_if_triggered_at, is_triggered_by_install_if, has_lesser_name, install_if_at, is_usable_at, name_at, is_install_if_triggered_at_rank}
+use Rattle.search_tables.specs.InstallIf.{AreUsableInstallIfsByName, AreNoneTriggeredBelow, IsLeastTriggeredInstallIf, IsNoInstallIfTriggered, all_met, is_install_if_triggered_at, is_triggered_by_install_if, has_lesser_name, install_if_at, has_usable_install_if_at, name_at, is_install_if_triggered_at_rank}
 use Rattle.search_tables.specs.NameTable.{items_under_name}
 use Rattle.search_tables.specs.Queue.{is_unmet_dep, queue_of}
 use Rattle.search_tables.proofs.Theory.{in_append, in_right, none_or_some}
@@ -57,14 +57,14 @@ past_of (x ∷ xs) (suc r) h = let g = past_of xs r h in omega (arith, g)
 -- ---- the first rank that asks
 
 -- where the cursor is past the last, none asks
-pub none_ask : (pool : SealedPool) (t by_name : List ℕ) (waiting : List (List ℕ × List ℕ)) (cursor : ℕ) → AreInstallIfs pool by_name waiting → AreNoneTriggeredBelow pool t by_name cursor → slice_get by_name cursor ≡ None → IsNoInstallIfTriggered pool t
+pub none_ask : (pool : SealedPool) (t by_name : List ℕ) (waiting : List (List ℕ × List ℕ)) (cursor : ℕ) → AreUsableInstallIfsByName pool by_name waiting → AreNoneTriggeredBelow pool t by_name cursor → slice_get by_name cursor ≡ None → IsNoInstallIfTriggered pool t
 none_ask pool t by_name waiting cursor are free none = λ o usable.
     let r = rank_of by_name o (are.each o usable) in
     let past = past_of by_name cursor none in
     sym (some_at (λ (k : ℕ). is_install_if_triggered_at pool t k) (slice_get by_name r.0) o r.2) ∙ free r.0 (omega (arith, r.1, past))
 
 -- where the candidate at the cursor asks, it has the least name
-pub least_asks : (pool : SealedPool) (t by_name : List ℕ) (waiting : List (List ℕ × List ℕ)) (cursor k : ℕ) → AreInstallIfs pool by_name waiting → AreNoneTriggeredBelow pool t by_name cursor → slice_get by_name cursor ≡ Some k → is_install_if_triggered_at pool t k ≡ true → IsLeastTriggeredInstallIf pool t k
+pub least_asks : (pool : SealedPool) (t by_name : List ℕ) (waiting : List (List ℕ × List ℕ)) (cursor k : ℕ) → AreUsableInstallIfsByName pool by_name waiting → AreNoneTriggeredBelow pool t by_name cursor → slice_get by_name cursor ≡ Some k → is_install_if_triggered_at pool t k ≡ true → IsLeastTriggeredInstallIf pool t k
 least_asks pool t by_name waiting cursor k are free here asks = record {
   usable = are.those k (there_is by_name cursor k here).1;
   asks = asks;
@@ -91,11 +91,11 @@ one_more_unasked pool t by_name cursor k free here asks = (
   ]),
 )
 
-pub front_of : (pool : SealedPool) (t by_name : List ℕ) (waiting : List (List ℕ × List ℕ)) (cursor k : ℕ) (b : Bool) → AreInstallIfs pool by_name waiting → AreNoneTriggeredBelow pool t by_name cursor → slice_get by_name cursor ≡ Some k → b ≡ is_install_if_triggered_at pool t k → MatchBool (not b) ((cursor + 1 ≤ length by_name) × AreNoneTriggeredBelow pool t by_name (cursor + 1)) (MatchOption (slice_get by_name cursor) (IsNoInstallIfTriggered pool t) (λ id. IsLeastTriggeredInstallIf pool t id))
+pub front_of : (pool : SealedPool) (t by_name : List ℕ) (waiting : List (List ℕ × List ℕ)) (cursor k : ℕ) (b : Bool) → AreUsableInstallIfsByName pool by_name waiting → AreNoneTriggeredBelow pool t by_name cursor → slice_get by_name cursor ≡ Some k → b ≡ is_install_if_triggered_at pool t k → MatchBool (not b) ((cursor + 1 ≤ length by_name) × AreNoneTriggeredBelow pool t by_name (cursor + 1)) (MatchOption (slice_get by_name cursor) (IsNoInstallIfTriggered pool t) (λ id. IsLeastTriggeredInstallIf pool t id))
 front_of pool t by_name waiting cursor k true are free here is = rw here (least_asks pool t by_name waiting cursor k are free here (sym is))
 front_of pool t by_name waiting cursor k false are free here is = one_more_unasked pool t by_name cursor k free here (sym is)
 
-pub front_past : (pool : SealedPool) (t by_name : List ℕ) (waiting : List (List ℕ × List ℕ)) (cursor : ℕ) → AreInstallIfs pool by_name waiting → AreNoneTriggeredBelow pool t by_name cursor → slice_get by_name cursor ≡ None → MatchOption (slice_get by_name cursor) (IsNoInstallIfTriggered pool t) (λ id. IsLeastTriggeredInstallIf pool t id)
+pub front_past : (pool : SealedPool) (t by_name : List ℕ) (waiting : List (List ℕ × List ℕ)) (cursor : ℕ) → AreUsableInstallIfsByName pool by_name waiting → AreNoneTriggeredBelow pool t by_name cursor → slice_get by_name cursor ≡ None → MatchOption (slice_get by_name cursor) (IsNoInstallIfTriggered pool t) (λ id. IsLeastTriggeredInstallIf pool t id)
 front_past pool t by_name waiting cursor are free none = rw none (none_ask pool t by_name waiting cursor are free none)
 
 -- ---- what a further choice changes
@@ -127,7 +127,7 @@ unmet_less pool t c q h = elim (cases_Bool (is_met pool t q)) [
 ]
 
 -- the ranks in front of the cursor stay unasked where it does not pass one that the choice makes ask
-pub unasked_more : (pool : SealedPool) (t : List ℕ) (c : ℕ) (details : Candidate) (by_name : List ℕ) (waiting : List (List ℕ × List ℕ)) (old new : ℕ) → AreInstallIfs pool by_name waiting → candidate_at pool c ≡ Some details → AreNoneTriggeredBelow pool t by_name old → new ≤ old → ((name : List ℕ) (rank : ℕ) → offers_name name details ≡ true → IsIn rank (items_under_name waiting name) → rank < new → is_install_if_triggered_at_rank pool (t ++ c ∷ []) by_name rank ≡ false) → AreNoneTriggeredBelow pool (t ++ c ∷ []) by_name new
+pub unasked_more : (pool : SealedPool) (t : List ℕ) (c : ℕ) (details : Candidate) (by_name : List ℕ) (waiting : List (List ℕ × List ℕ)) (old new : ℕ) → AreUsableInstallIfsByName pool by_name waiting → candidate_at pool c ≡ Some details → AreNoneTriggeredBelow pool t by_name old → new ≤ old → ((name : List ℕ) (rank : ℕ) → offers_name name details ≡ true → IsIn rank (items_under_name waiting name) → rank < new → is_install_if_triggered_at_rank pool (t ++ c ∷ []) by_name rank ≡ false) → AreNoneTriggeredBelow pool (t ++ c ∷ []) by_name new
 unasked_more pool t c details by_name waiting old new are here was less now = λ rank low. elim (cases_Bool (is_install_if_triggered_at_rank pool (t ++ c ∷ []) by_name rank)) [
   | inr e ↦ e
   | inl e ↦
@@ -164,7 +164,7 @@ offered_names name c h = elim (or_cases (bytes_eq name c.name) (list_any (λ (p 
 abbrev asked_names : SealedPool → List ℕ → List (List ℕ)
 asked_names pool t = filter (λ (name : List ℕ). is_unmet pool t (named name)) (names_by_install_if pool t)
 
-asked_by : (pool : SealedPool) (t : List ℕ) (name : List ℕ) → IsIn name (asked_names pool t) → (o : ℕ) × (name ≡ name_at pool o) × (is_usable_at pool o ≡ true) × (is_install_if_triggered_at pool t o ≡ true)
+asked_by : (pool : SealedPool) (t : List ℕ) (name : List ℕ) → IsIn name (asked_names pool t) → (o : ℕ) × (name ≡ name_at pool o) × (has_usable_install_if_at pool o ≡ true) × (is_install_if_triggered_at pool t o ≡ true)
 asked_by pool t name h =
     let f = filter_in (λ (n : List ℕ). is_unmet pool t (named n)) name (names_by_install_if pool t) h in
     let m = map_in (λ (c : Candidate). c.name) name (filter (install_if_applies pool t) pool.candidates) f.0 in
@@ -178,7 +178,7 @@ asked_by pool t name h =
       some_at (is_triggered_by_install_if pool t) (candidate_at pool k.0) m.0 k.1 ∙ rw both.1 unmet,
     )
 
-asked_there : (pool : SealedPool) (t : List ℕ) (o : ℕ) → is_usable_at pool o ≡ true → is_install_if_triggered_at pool t o ≡ true → IsIn (name_at pool o) (asked_names pool t)
+asked_there : (pool : SealedPool) (t : List ℕ) (o : ℕ) → has_usable_install_if_at pool o ≡ true → is_install_if_triggered_at pool t o ≡ true → IsIn (name_at pool o) (asked_names pool t)
 asked_there pool t o usable asks =
     let one = at_some (has_usable_install_if pool.world) (candidate_at pool o) usable in
     let both = and_parts (all_met pool t one.0.install_if) (is_unmet pool t (named one.0.name)) (sym (some_at (is_triggered_by_install_if pool t) (candidate_at pool o) one.0 one.1) ∙ asks) in

@@ -13,9 +13,9 @@ use Rattle.std.proofs.lemmas.Bool.{cases_Bool}
 use Rattle.search_tables.specs.candidate_core.Options.{IsIn, options_for}
 use Rattle.search_tables.specs.Selection.{AreAllMembersOf, names_by_install_if, depends_at, is_met, is_unmet, needs, positive_needs, next_need, raised_needs}
 use Rattle.search_tables.specs.Reasons.{FrameValue, IsFrameOf}
-use Rattle.search_tables.specs.InstallIf.{AreInstallIfs, AreNoneTriggeredBelow}
+use Rattle.search_tables.specs.InstallIf.{AreUsableInstallIfsByName, AreNoneTriggeredBelow}
 use Rattle.search_tables.specs.Queue.{AreFirstDepsMet, RaisedDepValue, is_unmet_dep, queue_of, raised_deps_at, raised_deps, raised_deps_from}
-use Rattle.search_tables.specs.Conflicts.{AreConflictsOf, HasDepends, ListedConflictValue, conflicts_among, conflicts_in, conflicts_named}
+use Rattle.search_tables.specs.Conflicts.{AreConflictsOf, HasDepends, ListedConflictValue, conflicts_among, conflicts_in, conflicts_of_name_in}
 use Rattle.search_tables.specs.Excluders.{IsConflictTable}
 use Rattle.search_tables.specs.NameTable.{items_under_name}
 use Rattle.search_tables.specs.Reasons.{HasOptions}
@@ -80,7 +80,7 @@ pub record IsStep (old new : Choices) (t : List ℕ) : Type 0 where
 
 -- consistent again, if all is as a list of choices has it
 pub consistent_by : (old new : Choices) (t : List ℕ) → IsStep old new t
-    → AreInstallIfs (pool_of old) (install_ifs_of old) old.install_ifs.waiting
+    → AreUsableInstallIfsByName (pool_of old) (install_ifs_of old) old.install_ifs.waiting
     → ((c : ℕ) → IsIn c t → c < length (pool_of old).candidates)
     → new.queue.items ≡ queue_of (pool_of old) t
     → AreFirstDepsMet (pool_of old) t new.cursor
@@ -99,8 +99,8 @@ consistent_by old new t step are within queue met unasked listed conflicts check
       within = λ k h. subst (λ (q : SealedPool). k < length q.candidates) p (within k (subst (λ (z : List ℕ). IsIn k z) step.choices h));
       queue = queue ∙ (ap (queue_of (pool_of old)) s ∙ ap (λ (q : SealedPool). queue_of q (choices_of new)) p);
       met = subst (λ (q : SealedPool). AreFirstDepsMet q (choices_of new) new.cursor) p (subst (λ (z : List ℕ). AreFirstDepsMet (pool_of old) z new.cursor) s met);
-      install_ifs = subst (λ (q : SealedPool). AreInstallIfs q (install_ifs_of new) new.install_ifs.waiting) p
-          (subst (λ (z : List ℕ). AreInstallIfs (pool_of old) z new.install_ifs.waiting) i (subst (λ (z : List (List ℕ × List ℕ)). AreInstallIfs (pool_of old) (install_ifs_of old) z) same_waiting are));
+      install_ifs = subst (λ (q : SealedPool). AreUsableInstallIfsByName q (install_ifs_of new) new.install_ifs.waiting) p
+          (subst (λ (z : List ℕ). AreUsableInstallIfsByName (pool_of old) z new.install_ifs.waiting) i (subst (λ (z : List (List ℕ × List ℕ)). AreUsableInstallIfsByName (pool_of old) (install_ifs_of old) z) same_waiting are));
       unasked = subst (λ (q : SealedPool). AreNoneTriggeredBelow q (choices_of new) (install_ifs_of new) new.asking_cursor) p
           (subst (λ (z : List ℕ). AreNoneTriggeredBelow (pool_of old) z (install_ifs_of new) new.asking_cursor) s (subst (λ (z : List ℕ). AreNoneTriggeredBelow (pool_of old) t z new.asking_cursor) i unasked));
       listed = subst (λ (q : SealedPool). IsConflictTable q (choices_of new) new.conflicts) p (subst (λ (z : List ℕ). IsConflictTable (pool_of old) z new.conflicts) s listed);
@@ -110,7 +110,7 @@ consistent_by old new t step are within queue met unasked listed conflicts check
     }
 
 pub consistent_more : (old new : Choices) (c : ℕ) (deps : List Dependency) (b : Checkpoint) → IsConsistent old → c < length (pool_of old).candidates → deps ≡ depends_at (pool_of old) c → IsStep old new (choices_of old ++ c ∷ []) → new.queue.items ≡ old.queue.items ++ raised_deps (Some c) deps → new.cursor ≡ old.cursor → new.checkpoints.items ≡ old.checkpoints.items ++ b ∷ [] → b.queue_len ≡ length old.queue.items → b.cursor ≡ old.cursor → b.asking_cursor ≡ old.asking_cursor
-    → AreNoneTriggeredBelow (pool_of old) (choices_of old ++ c ∷ []) (install_ifs_of old) new.asking_cursor → ((name : List ℕ) → conflicts_in new.conflicts.by_name name ≡ conflicts_in old.conflicts.by_name name ++ conflicts_named name c deps)
+    → AreNoneTriggeredBelow (pool_of old) (choices_of old ++ c ∷ []) (install_ifs_of old) new.asking_cursor → ((name : List ℕ) → conflicts_in new.conflicts.by_name name ≡ conflicts_in old.conflicts.by_name name ++ conflicts_of_name_in name c deps)
     → ((candidates : List Candidate) → HasDepends candidates c deps → AreConflictsOf candidates old.conflicts.by_name → AreConflictsOf candidates new.conflicts.by_name) → IsConsistent new
 consistent_more old new c deps b consistent small is step queue at checkpoints b_queue b_at b_asking unasked conflicts listed =
     let p = pool_of old in
@@ -142,7 +142,7 @@ met_start pool t = (omega arith, ap (find (is_unmet_dep pool t)) (take_none (que
 none_below : (k : ℕ) → k < 0 → ⊥
 none_below k h = absurd (omega (arith, h))
 
-pub consistent_start : (chosen : Choices) → choices_of chosen ≡ [] → chosen.queue.items ≡ [] ++ raised_deps None (pool_of chosen).world → chosen.cursor ≡ 0 → chosen.asking_cursor ≡ 0 → AreInstallIfs (pool_of chosen) (install_ifs_of chosen) chosen.install_ifs.waiting → chosen.conflicts.by_name ≡ [] → chosen.checkpoints.items ≡ [] → IsConsistent chosen
+pub consistent_start : (chosen : Choices) → choices_of chosen ≡ [] → chosen.queue.items ≡ [] ++ raised_deps None (pool_of chosen).world → chosen.cursor ≡ 0 → chosen.asking_cursor ≡ 0 → AreUsableInstallIfsByName (pool_of chosen) (install_ifs_of chosen) chosen.install_ifs.waiting → chosen.conflicts.by_name ≡ [] → chosen.checkpoints.items ≡ [] → IsConsistent chosen
 consistent_start chosen none queue at asking are conflicts checkpoints =
     let p = pool_of chosen in
     let all : raised_deps None p.world ≡ queue_of p [] = sym (append-nil (raised_deps None p.world)) in

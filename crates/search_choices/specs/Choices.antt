@@ -6,7 +6,7 @@ use Rattle.search_tables.specs.candidate_core.Rank.{SealedPool}
 use Rattle.search_tables.specs.candidate_core.Options.{IsIn}
 use Rattle.search_tables.specs.Conflicts.{AreConflictsOf}
 use Rattle.search_tables.specs.Excluders.{IsConflictTable}
-use Rattle.search_tables.specs.InstallIf.{AreInstallIfs, AreNoneTriggeredBelow}
+use Rattle.search_tables.specs.InstallIf.{AreUsableInstallIfsByName, AreNoneTriggeredBelow}
 use Rattle.search_tables.specs.Queue.{AreFirstDepsMet, queue_of}
 use Rattle.search_tables.specs.declared.queue.Checkpoint.{Checkpoint}
 use Rattle.search_tables.specs.Reasons.{FrameValue, AreCompatible, AreTurnsFrom, choices_of_turns}
@@ -36,16 +36,18 @@ AreCheckpointsOfLaterChoices pool install_ifs u (c ∷ cs) (b ∷ bs) =
     × AreCheckpointsOfLaterChoices pool install_ifs (u ++ c ∷ []) cs bs
 
 -- the queue is that of the choices. Every dependency before its cursor is met, and no candidate before
--- the cursor of the install-ifs asks. The conflicts of the choices are listed, each at its index, and
--- each choice can be taken back to its checkpoint
+-- the cursor of the install-ifs is triggered. The conflicts of the choices are listed, each at its index,
+-- and each choice can be taken back to its checkpoint
 pub record IsConsistent (chosen : Choices) : Type 0 where
+  -- each choice is a place in the list of candidates
   pub within : (c : ℕ) → IsIn c (choices_of chosen) → c < length (pool_of chosen).candidates
   pub queue : chosen.queue.items ≡ queue_of (pool_of chosen) (choices_of chosen)
   pub met : AreFirstDepsMet (pool_of chosen) (choices_of chosen) chosen.cursor
   pub install_ifs :
-      AreInstallIfs (pool_of chosen) (install_ifs_of chosen) chosen.install_ifs.waiting
+      AreUsableInstallIfsByName (pool_of chosen) (install_ifs_of chosen) chosen.install_ifs.waiting
   pub unasked :
-      AreNoneTriggeredBelow (pool_of chosen) (choices_of chosen) (install_ifs_of chosen) chosen.asking_cursor
+      AreNoneTriggeredBelow (pool_of chosen) (choices_of chosen)
+      (install_ifs_of chosen) chosen.asking_cursor
   pub listed : IsConflictTable (pool_of chosen) (choices_of chosen) chosen.conflicts
   pub conflicts : AreConflictsOf (pool_of chosen).candidates chosen.conflicts.by_name
   pub checkpoints :

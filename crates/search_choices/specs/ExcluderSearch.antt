@@ -8,7 +8,7 @@ use Rattle.search_tables.specs.candidate_core.PackageMatches.{AreMatchesAmong}
 use Rattle.search_tables.specs.candidate_core.Rank.{candidate_at}
 use Rattle.search_tables.specs.candidate_core.declared.package_matches.PackageMatches.{PackageMatches}
 use Rattle.search_tables.specs.Conflicts.{AreConflictsOf}
-use Rattle.search_tables.specs.Excluders.{IsConflictTable, IsExcludingChoice}
+use Rattle.search_tables.specs.Excluders.{IsConflictTable, IsExcluderAmongChoices}
 use Rattle.search_choices.specs.Choices.{choices_of, pool_of}
 use Rattle.search_choices.specs.declared.choices.Choices.{Choices}
 
@@ -27,5 +27,5 @@ pub record IsUnchosenCandidate (chosen : Choices) (id : ℕ) (details : Candidat
 pub record FindsExcluder (chosen : Choices) (id : ℕ) (IfNone : Type 0) (remembered : PackageMatches)
     (result : Result (Option ℕ) AllocError) : Type 0 where
   pub found : IfOk result (λ found. MatchOption found IfNone
-      (λ k. IsExcludingChoice (pool_of chosen) (choices_of chosen) id k))
+      (λ k. IsExcluderAmongChoices (pool_of chosen) (choices_of chosen) id k))
   pub matches : OnOk result (AreMatchesAmong (pool_of chosen).candidates remembered)

@@ -35,7 +35,7 @@ use std::marker::Model;
 /// - the choices so far;
 /// - the queue of the dependencies that they and world raise, and a cursor; every dependency before
 ///   it is met;
-/// - the install-ifs in byte order of names, and a cursor; no candidate before it asks;
+/// - the install-ifs in byte order of names, and a cursor; none before it triggers its candidate;
 /// - the conflicts of the choices;
 /// - for each choice, the state of the queue and the cursors before it.
 #[derive(Drop)]
@@ -48,11 +48,11 @@ pub struct Choices<'p> {
     choices: CandidateSet,
     /// The dependencies that world and the choices raise, in the order in which they are to be met.
     queue: Vec<RaisedDep<'p>>,
-    /// How many of the queue are known to be met, from the front.
+    /// How many dependencies at the start of the queue are known to be met.
     cursor: usize,
     /// The candidates whose install-if can apply, in byte order of their names.
     install_ifs: InstallIfs<'p>,
-    /// How many of the install-ifs are known not to ask, from the front: a rank.
+    /// How many install-ifs at the start of the list are known not to trigger their candidates.
     asking_cursor: usize,
     /// The conflicts of the choices, by their names.
     conflicts: Conflicts<'p>,
@@ -271,7 +271,7 @@ impl<'p> Choices<'p> {
         ensures consistent { IsConsistent self.new }
         ensures pool { pool_of self.new ≡ pool_of self.old }
         ensures choices { choices_of self.new ≡ choices_of self.old }
-        // As above: fewer than a digit of the measure counts.
+        // As in `next_frame`: fewer options are left than the base of the measure's digits.
         ensures few { IfOk result (λ found. IfSome found (λ frame. length frame.1 < 2 ^ 64)) }
         ensures frame { IfOk result (λ found. MatchOption found (next_need (pool_of self.old)
             (choices_of self.old) ≡ None) (λ frame. IsFrameOf (pool_of self.old)
@@ -287,7 +287,7 @@ impl<'p> Choices<'p> {
         }
     }
 
-    // Moves the cursor of the install-ifs to the first candidate that asks, or to the end.
+    // Moves the cursor of the install-ifs to the first triggered candidate, or to the end.
     fn skip_unasked(&mut self)
         requires { IsConsistent self.old }
         ensures consistent { IsConsistent self.new }
@@ -302,7 +302,7 @@ impl<'p> Choices<'p> {
         }
     }
 
-    // Whether there is a candidate at the cursor of the install-ifs that does not ask.
+    // Whether there is a candidate at the cursor of the install-ifs that is not triggered.
     fn is_front_unasked(&self) -> bool
         requires { IsConsistent self.now }
         ensures { MatchBool result ((self.now.asking_cursor + 1
@@ -318,14 +318,14 @@ impl<'p> Choices<'p> {
         }
     }
 
-    // The frame of the name of a candidate that asks, which is the byte-least such name. It is
-    // called only if each raised dependency is met. The choices that meet the entries of the
+    // The frame of the name of a triggered candidate, which is the byte-least such name. The call
+    // requires that each raised dependency is met. The choices that meet the entries of the
     // install-if raise the need.
     fn frame_named(&self, id: CandId) -> Result<Frame, AllocError>
         requires met { find (is_unmet_dep (pool_of self.now) (choices_of self.now)) (queue_of
             (pool_of self.now) (choices_of self.now)) ≡ None }
         requires least { IsLeastTriggeredInstallIf (pool_of self.now) (choices_of self.now) id }
-        // As above: fewer than a digit of the measure counts.
+        // As in `next_frame`: fewer options are left than the base of the measure's digits.
         ensures few { IfOk result (λ frame. length frame.1 < 2 ^ 64) }
         ensures frame { IfOk result (λ frame. IsFrameOf (pool_of self.now)
             (choices_of self.now) frame) }
@@ -338,7 +338,7 @@ impl<'p> Choices<'p> {
         Ok(Frame::new(self.alloc, options.into_ids(), by))
     }
 
-    // Whether the candidate of a rank asks; false if no candidate has the rank.
+    // Whether the candidate of a rank is triggered; false if no candidate has the rank.
     fn is_install_if_triggered_at_rank(&self, rank: usize) -> bool
         ensures { result ≡ is_install_if_triggered_at_rank (pool_of self.now) (choices_of self.now)
             (install_ifs_of self.now) rank }
@@ -356,7 +356,8 @@ impl<'p> Choices<'p> {
         ensures less { result ≤ self.now.asking_cursor }
         ensures unasked { (name : List ℕ) (rank : ℕ) → offers_name name details.now ≡ true →
             IsIn rank (items_under_name self.now.install_ifs.waiting name) → rank < result →
-            is_install_if_triggered_at_rank (pool_of self.now) (choices_of self.now) (install_ifs_of self.now) rank
+            is_install_if_triggered_at_rank (pool_of self.now) (choices_of self.now)
+            (install_ifs_of self.now) rank
             ≡ false }
     {
         let own = self.least_rank_waiting(details.name(), self.asking_cursor);
@@ -369,7 +370,8 @@ impl<'p> Choices<'p> {
         ensures less { result ≤ cursor }
         ensures unasked { (d : Dependency) (rank : ℕ) → IsIn d provides.now →
             IsIn rank (items_under_name self.now.install_ifs.waiting d.name) → rank < result →
-            is_install_if_triggered_at_rank (pool_of self.now) (choices_of self.now) (install_ifs_of self.now) rank
+            is_install_if_triggered_at_rank (pool_of self.now) (choices_of self.now)
+            (install_ifs_of self.now) rank
             ≡ false }
     {
         let mut least = cursor;
@@ -384,7 +386,8 @@ impl<'p> Choices<'p> {
         ensures less { result ≤ cursor }
         ensures unasked { (rank : ℕ) →
             IsIn rank (items_under_name self.now.install_ifs.waiting name.now) → rank < result →
-            is_install_if_triggered_at_rank (pool_of self.now) (choices_of self.now) (install_ifs_of self.now) rank
+            is_install_if_triggered_at_rank (pool_of self.now) (choices_of self.now)
+            (install_ifs_of self.now) rank
             ≡ false }
     {
         let mut least = cursor;
@@ -397,7 +400,8 @@ impl<'p> Choices<'p> {
     // The lesser of two ranks, of which the first counts only if its candidate asks.
     fn lesser_rank(&self, rank: usize, least: usize) -> usize
         ensures less { result ≤ least }
-        ensures unasked { rank < result → is_install_if_triggered_at_rank (pool_of self.now) (choices_of self.now)
+        ensures unasked { rank < result
+            → is_install_if_triggered_at_rank (pool_of self.now) (choices_of self.now)
             (install_ifs_of self.now) rank ≡ false }
     {
         if rank < least && self.is_install_if_triggered_at_rank(rank) {

@@ -14,8 +14,8 @@ use Rattle.pool_core.specs.candidate_core.Candidates.{Candidate, entry, meets_de
 use Rattle.pool_core.specs.candidate_core.Rank.{SealedPool, candidate_at, candidate_at_passes, meets_at}
 use Rattle.pool_core.specs.candidate_core.Options.{IsIn}
 use Rattle.search_tables.specs.Selection.{exclude_each_other, depends_at, conflicts_with, is_met, occupied_names_at, occupied_names, does_exclude, share_a_name}
-use Rattle.search_tables.specs.Conflicts.{conflicts_in, conflicts_named}
-use Rattle.search_tables.specs.Excluders.{IsConflictTable, IsExcludingChoice, IsNotExcludedAt}
+use Rattle.search_tables.specs.Conflicts.{conflicts_in, conflicts_of_name_in}
+use Rattle.search_tables.specs.Excluders.{IsConflictTable, IsExcluderAmongChoices, IsNotExcludedAt}
 use Rattle.search_tables.specs.declared.conflicts.Conflicts.{Conflicts}
 use Rattle.search_tables.proofs.Theory.{in_append, in_left, in_right}
 use Rattle.search_tables.proofs.PoolFacts.{filter_in, in_filter, in_map, map_in}
@@ -66,10 +66,10 @@ module _ (pool : SealedPool) (t : List ℕ) (id : ℕ) (details : Candidate) whe
     | inr n ↦ n.0
   ]
 
-  excludes_by : (IsIn id t → ⊥) → (k : ℕ) → IsIn k t → (does_exclude pool k id ≡ true) → IsExcludingChoice pool t id k
+  excludes_by : (IsIn id t → ⊥) → (k : ℕ) → IsIn k t → (does_exclude pool k id ≡ true) → IsExcluderAmongChoices pool t id k
   excludes_by once k there out = (there, let d = different once k there in rw (d, out) refl)
 
-  excludes_back : (IsIn id t → ⊥) → (k : ℕ) → IsIn k t → (does_exclude pool id k ≡ true) → IsExcludingChoice pool t id k
+  excludes_back : (IsIn id t → ⊥) → (k : ℕ) → IsIn k t → (does_exclude pool id k ≡ true) → IsExcluderAmongChoices pool t id k
   excludes_back once k there out = (there, let d = different once k there in let o : (does_exclude pool k id || does_exclude pool id k) ≡ true = true_or (does_exclude pool k id) (does_exclude pool id k) (inr out) in rw (d, o) refl)
 
   at_id : candidate_at pool id ≡ Some details → (p : Candidate → Bool) → candidate_at_passes pool p id ≡ p details
@@ -82,12 +82,12 @@ module _ (pool : SealedPool) (t : List ℕ) (id : ℕ) (details : Candidate) whe
   names_of_id here = ap (λ (o : Option Candidate). option_map_or occupied_names o []) here
 
   -- a choice whose conflict is found excludes it
-  pub found_against : (conflicts : Conflicts) (name : List ℕ) (k : ℕ) → IsConflictTable pool t conflicts → candidate_at pool id ≡ Some details → (IsIn id t → ⊥) → Some k ≡ option_map (λ (c : Listed). c.0) (find (λ (c : Listed). meets_dependency c.1 details) (conflicts_in conflicts.by_name name)) → IsExcludingChoice pool t id k
+  pub found_against : (conflicts : Conflicts) (name : List ℕ) (k : ℕ) → IsConflictTable pool t conflicts → candidate_at pool id ≡ Some details → (IsIn id t → ⊥) → Some k ≡ option_map (λ (c : Listed). c.0) (find (λ (c : Listed). meets_dependency c.1 details) (conflicts_in conflicts.by_name name)) → IsExcluderAmongChoices pool t id k
   found_against conflicts name k listed here once found =
       let items = conflicts_in conflicts.by_name name in
       let one = some_of (find (λ (c : Listed). meets_dependency c.1 details) items) found in
       let f = find_in (λ (c : Listed). meets_dependency c.1 details) items one.0 one.1 in
-      let g = flat_in (λ c. conflicts_named name c (depends_at pool c)) one.0 t (subst (λ (z : List Listed). IsIn one.0 z) (listed name) f.0) in
+      let g = flat_in (λ c. conflicts_of_name_in name c (depends_at pool c)) one.0 t (subst (λ (z : List Listed). IsIn one.0 z) (listed name) f.0) in
       let m = map_in (λ (d : Dependency). (g.0, d)) one.0 (filter (λ (d : Dependency). d.conflict && bytes_eq name d.name) (depends_at pool g.0)) g.2 in
       let h = filter_in (λ (d : Dependency). d.conflict && bytes_eq name d.name) m.0 (depends_at pool g.0) m.1 in
       let conflict = (and_parts m.0.conflict (bytes_eq name m.0.name) h.1).0 in
@@ -95,7 +95,7 @@ module _ (pool : SealedPool) (t : List ℕ) (id : ℕ) (details : Candidate) whe
       let meets : meets_dependency m.0 details ≡ true = subst (λ (c : Listed). meets_dependency c.1 details ≡ true) m.2 f.1 in
       let meets_there : candidate_at_passes pool (meets_dependency m.0) id ≡ true = at_id here (meets_dependency m.0) ∙ meets in
       let out : conflicts_with pool g.0 id ≡ true = one_any (λ (d : Dependency). d.conflict && candidate_at_passes pool (meets_dependency d) id) (depends_at pool g.0) m.0 h.0 (rw conflict meets_there) in
-      subst (λ (z : ℕ). IsExcludingChoice pool t id z) who (excludes_by once g.0 g.1 (true_or (conflicts_with pool g.0 id) (share_a_name pool g.0 id) (inl out)))
+      subst (λ (z : ℕ). IsExcluderAmongChoices pool t id z) who (excludes_by once g.0 g.1 (true_or (conflicts_with pool g.0 id) (share_a_name pool g.0 id) (inl out)))
     where
       some_of : (o : Option Listed) → Some k ≡ option_map (λ (c : Listed). c.0) o → (c : Listed) × (o ≡ Some c) × (c.0 ≡ k)
       some_of None e = absurd (cc)
@@ -107,8 +107,8 @@ module _ (pool : SealedPool) (t : List ℕ) (id : ℕ) (details : Candidate) whe
       let items = conflicts_in conflicts.by_name name in
       let same : bytes_eq name d.name ≡ true = (bytes_decides name d.name).1 (sym is) in
       let p : Dependency → Bool = λ (e : Dependency). e.conflict && bytes_eq name e.name in
-      let member : IsIn (k, d) (conflicts_named name k (depends_at pool k)) = in_map (λ (e : Dependency). (k, e)) d (filter p (depends_at pool k)) (in_filter p d (depends_at pool k) has (rw conflict same)) in
-      let all : IsIn (k, d) items = subst (λ (z : List Listed). IsIn (k, d) z) (sym (listed name)) (in_flat (λ c. conflicts_named name c (depends_at pool c)) (k, d) k t there member) in
+      let member : IsIn (k, d) (conflicts_of_name_in name k (depends_at pool k)) = in_map (λ (e : Dependency). (k, e)) d (filter p (depends_at pool k)) (in_filter p d (depends_at pool k) has (rw conflict same)) in
+      let all : IsIn (k, d) items = subst (λ (z : List Listed). IsIn (k, d) z) (sym (listed name)) (in_flat (λ c. conflicts_of_name_in name c (depends_at pool c)) (k, d) k t there member) in
       none_in (λ (c : Listed). meets_dependency c.1 details) items (k, d) (none_found (find (λ (c : Listed). meets_dependency c.1 details) items) never) all
     where
       none_found : (o : Option Listed) → ((k : ℕ) → option_map (λ (c : Listed). c.0) o ≡ Some k → ⊥) → o ≡ None
@@ -116,14 +116,14 @@ module _ (pool : SealedPool) (t : List ℕ) (id : ℕ) (details : Candidate) whe
       none_found (Some c) never = absurd (never c.0 refl)
 
   -- a choice that occupies one of its names excludes it
-  pub found_occupant : (name : List ℕ) (k : ℕ) → candidate_at pool id ≡ Some details → (IsIn id t → ⊥) → IsIn name (occupied_names details) → IsIn k t → candidate_at_passes pool (occupies_name name) k ≡ true → IsExcludingChoice pool t id k
+  pub found_occupant : (name : List ℕ) (k : ℕ) → candidate_at pool id ≡ Some details → (IsIn id t → ⊥) → IsIn name (occupied_names details) → IsIn k t → candidate_at_passes pool (occupies_name name) k ≡ true → IsExcluderAmongChoices pool t id k
   found_occupant name k here once mine there occupies =
       let listed : IsIn name (occupied_names_at pool id) = subst (λ (z : List (List ℕ)). IsIn name z) (sym (names_of_id here)) mine in
       let share : share_a_name pool id k ≡ true = one_any (λ n. candidate_at_passes pool (occupies_name n) k) (occupied_names_at pool id) name listed occupies in
       excludes_back once k there (true_or (conflicts_with pool id k) (share_a_name pool id k) (inr share))
 
   -- a choice that meets one of its conflicts excludes it
-  pub found_meeting : (d : Dependency) (k : ℕ) → candidate_at pool id ≡ Some details → (IsIn id t → ⊥) → IsIn d details.depends → d.conflict ≡ true → IsIn k t → meets_at pool k (entry d) ≡ true → IsExcludingChoice pool t id k
+  pub found_meeting : (d : Dependency) (k : ℕ) → candidate_at pool id ≡ Some details → (IsIn id t → ⊥) → IsIn d details.depends → d.conflict ≡ true → IsIn k t → meets_at pool k (entry d) ≡ true → IsExcluderAmongChoices pool t id k
   found_meeting d k here once has conflict there meets =
       let mine : IsIn d (depends_at pool id) = subst (λ (z : List Dependency). IsIn d z) (sym (deps_of_id here)) has in
       let out : conflicts_with pool id k ≡ true = one_any (λ (e : Dependency). e.conflict && candidate_at_passes pool (meets_dependency e) k) (depends_at pool id) d mine (rw conflict meets) in

@@ -4,7 +4,7 @@ use Rattle.std.specs.Prelude.{slice_index_or, slice_set}
 use Rattle.std.specs.Bool.{MatchBool}
 use Rattle.pool_core.specs.candidate_core.Options.{IsIn}
 use Rattle.search_tables.specs.Selection.{AreDistinct}
-use Rattle.search_tables.specs.CandidateSet.{AreMarks}
+use Rattle.search_tables.specs.CandidateSet.{AreMarksOfPlaces}
 use Rattle.std.proofs.lemmas.Bool.{cases_eq}
 use Rattle.search_tables.proofs.Theory.{in_left, in_right, in_append}
 
@@ -47,7 +47,7 @@ set-same (m ∷ marks) zero h = refl
 set-same (m ∷ marks) (suc i) h = set-same marks i (omega arith)
 
 -- one more is marked
-pub marked_more : (old grown : List Bool) (ids : List ℕ) (id : ℕ) → AreMarks old ids → ((c : ℕ) → slice_index_or grown c false ≡ slice_index_or old c false) → (IsIn id ids → ⊥) → id < length grown → AreMarks (slice_set grown id true) (ids ++ id ∷ [])
+pub marked_more : (old grown : List Bool) (ids : List ℕ) (id : ℕ) → AreMarksOfPlaces old ids → ((c : ℕ) → slice_index_or grown c false ≡ slice_index_or old c false) → (IsIn id ids → ⊥) → id < length grown → AreMarksOfPlaces (slice_set grown id true) (ids ++ id ∷ [])
 marked_more old grown ids id marked same out within = record {
   told = λ c. elim (cases_eq c id) [
     | inl e ↦
@@ -65,7 +65,7 @@ marked_more old grown ids id marked same out within = record {
 }
 
 -- grown marks without a further one
-pub marked_grown : (old grown : List Bool) (ids : List ℕ) → AreMarks old ids → ((c : ℕ) → slice_index_or grown c false ≡ slice_index_or old c false) → AreMarks grown ids
+pub marked_grown : (old grown : List Bool) (ids : List ℕ) → AreMarksOfPlaces old ids → ((c : ℕ) → slice_index_or grown c false ≡ slice_index_or old c false) → AreMarksOfPlaces grown ids
 marked_grown old grown ids marked same = record {
   told = λ c. subst (λ (b : Bool). MatchBool b (IsIn c ids) (IsIn c ids → ⊥)) (sym (same c)) (marked.told c);
   once = marked.once;
@@ -101,13 +101,13 @@ index_past [] (suc i) h = refl
 index_past (m ∷ marks) zero h = absurd (omega arith)
 index_past (m ∷ marks) (suc i) h = index_past marks i (omega arith)
 
-pub marked_within : (marks : List Bool) (ids rest : List ℕ) (id : ℕ) → AreMarks marks ids → ids ≡ rest ++ id ∷ [] → length marks ≤ id → ⊥
+pub marked_within : (marks : List Bool) (ids rest : List ℕ) (id : ℕ) → AreMarksOfPlaces marks ids → ids ≡ rest ++ id ∷ [] → length marks ≤ id → ⊥
 marked_within marks ids rest id marked is past =
     let no_mark : slice_index_or marks id false ≡ false = index_past marks id past in
     let there : IsIn id ids = subst (λ (z : List ℕ). IsIn id z) (sym is) (in_right id rest (id ∷ []) (inl refl)) in
     subst (λ (b : Bool). MatchBool b (IsIn id ids) (IsIn id ids → ⊥)) no_mark (marked.told id) there
 
-pub marked_less : (marks : List Bool) (ids rest : List ℕ) (id : ℕ) → AreMarks marks ids → ids ≡ rest ++ id ∷ [] → AreMarks (slice_set marks id false) rest
+pub marked_less : (marks : List Bool) (ids rest : List ℕ) (id : ℕ) → AreMarksOfPlaces marks ids → ids ≡ rest ++ id ∷ [] → AreMarksOfPlaces (slice_set marks id false) rest
 marked_less marks ids rest id marked is =
     let apart = distinct_front rest id (subst AreDistinct is marked.once) in
     record {

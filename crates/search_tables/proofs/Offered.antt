@@ -8,7 +8,7 @@ use Rattle.std.specs.Str.{bytes_eq}
 use Rattle.std.proofs.lemmas.Bool.{and_parts, or_cases, cases_Bool, both_ways}
 use Rattle.pool_core.proofs.Filtered.{meeting_offers, at_weaker}
 use Rattle.dep_core.specs.Dependency.{Dependency}
-use Rattle.pool_core.specs.candidate_core.Candidates.{Candidate, Need, entry, entry_occupies, named, need_name, meets_dependency, occupies_name, offers_name}
+use Rattle.pool_core.specs.candidate_core.Candidates.{Candidate, Need, entry, is_name_occupied_by_provides_entry, named, need_name, meets_dependency, occupies_name, offers_name}
 use Rattle.pool_core.specs.candidate_core.Rank.{SealedPool, candidate_at_passes, meets_at}
 use Rattle.pool_core.specs.candidate_core.Options.{IsIn, places_offering}
 use Rattle.search_tables.specs.Selection.{is_met}
@@ -65,10 +65,10 @@ each_all {X} P xs i past done y h = done y (subst (λ (z : List X). IsIn y z) (s
 
 -- a candidate that occupies a name offers it
 occupied_offers : (name : List ℕ) (c : Candidate) → occupies_name name c ≡ true → offers_name name c ≡ true
-occupied_offers name c h = elim (or_cases (bytes_eq name c.name) (list_any (entry_occupies name) c.provides) h) [
+occupied_offers name c h = elim (or_cases (bytes_eq name c.name) (list_any (is_name_occupied_by_provides_entry name) c.provides) h) [
   | inl e ↦ true_or (bytes_eq name c.name) _ (inl e)
   | inr e ↦
-      let a = any_one (entry_occupies name) c.provides e in
+      let a = any_one (is_name_occupied_by_provides_entry name) c.provides e in
       let b = and_parts (not a.0.conflict) (is_some a.0.version && bytes_eq name a.0.name) a.2 in
       let n = and_parts (is_some a.0.version) (bytes_eq name a.0.name) b.1 in
       true_or (bytes_eq name c.name) (list_any (λ (p : Dependency). not p.conflict && bytes_eq name p.name) c.provides)

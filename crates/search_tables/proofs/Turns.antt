@@ -5,7 +5,7 @@ use Rattle.pool_core.specs.candidate_core.Candidates.{Need}
 use Rattle.pool_core.specs.candidate_core.Rank.{SealedPool, is_eligible_at, is_better, meets_at}
 use Rattle.pool_core.specs.candidate_core.Options.{IsIn, options_for}
 use Rattle.search_tables.specs.Selection.{AreAllMembersOf, exclude_each_other, needs, next_need}
-use Rattle.search_tables.specs.Reasons.{AreCompatible, RulesOut, FrameValue, ruled_out_options, AreRuledOut, IsFrameOf, IsFrameTaking, AreTurnsFrom, choices_of_turns}
+use Rattle.search_tables.specs.Reasons.{AreCompatible, IsRuledOutBy, FrameValue, ruled_out_options, AreRuledOut, IsFrameOf, IsFrameTaking, AreTurnsFrom, choices_of_turns}
 use Rattle.search_tables.proofs.Theory as law
 use Rattle.search_tables.proofs.Theory.{Facts, in_left, in_right, in_append}
 
@@ -61,27 +61,27 @@ module _ (pool : SealedPool) where
   options-append [] o others left = refl
   options-append (p ∷ ps) o others left = ap (λ (z : List ℕ). p.0 ∷ z) (options-append ps o others left)
 
-  reasons_more : (t : List ℕ) (ps : List (ℕ × List ℕ)) (o : ℕ) (others : List ℕ) → AreRuledOut pool t ps → RulesOut pool t o others → AreRuledOut pool t (ps ++ (o, others) ∷ [])
+  reasons_more : (t : List ℕ) (ps : List (ℕ × List ℕ)) (o : ℕ) (others : List ℕ) → AreRuledOut pool t ps → IsRuledOutBy pool t o others → AreRuledOut pool t (ps ++ (o, others) ∷ [])
   reasons_more t [] o others why reason = (reason, tt)
   reasons_more t (p ∷ ps) o others why reason = (why.0, reasons_more t ps o others why.1 reason)
 
-  pub passed_over : (t : List ℕ) (f : FrameValue) (o : ℕ) (others : List ℕ) → IsFrameTaking pool t f o → RulesOut pool t o others → IsFrameOf pool t (f.0 ++ (o, others) ∷ [], f.1, f.2)
+  pub passed_over : (t : List ℕ) (f : FrameValue) (o : ℕ) (others : List ℕ) → IsFrameTaking pool t f o → IsRuledOutBy pool t o others → IsFrameOf pool t (f.0 ++ (o, others) ∷ [], f.1, f.2)
   passed_over t f o others open_now reason =
       (open_now.0, open_now.1, open_now.2 ∙ options-append f.0 o others f.1, open_now.3, open_now.4, reasons_more t f.0 o others open_now.5 reason)
 
-  pub reason_in : (t : List ℕ) (ps : List (ℕ × List ℕ)) (i : ℕ) (p : ℕ × List ℕ) → AreRuledOut pool t ps → slice_get ps i ≡ Some p → RulesOut pool t p.0 p.1
+  pub reason_in : (t : List ℕ) (ps : List (ℕ × List ℕ)) (i : ℕ) (p : ℕ × List ℕ) → AreRuledOut pool t ps → slice_get ps i ≡ Some p → IsRuledOutBy pool t p.0 p.1
   reason_in t [] zero p why h = absurd (cc)
   reason_in t [] (suc i) p why h = absurd (cc)
   reason_in t (q ∷ ps) zero p why h =
       let same : q ≡ p = cc in
-      subst (λ (z : ℕ × List ℕ). RulesOut pool t z.0 z.1) same why.0
+      subst (λ (z : ℕ × List ℕ). IsRuledOutBy pool t z.0 z.1) same why.0
   reason_in t (q ∷ ps) (suc i) p why h = reason_in t ps i p why.1 h
 
-  reason_of_more : (t u : List ℕ) (c : ℕ) (others : List ℕ) → AreAllMembersOf t u → RulesOut pool t c others → RulesOut pool u c others
+  reason_of_more : (t u : List ℕ) (c : ℕ) (others : List ℕ) → AreAllMembersOf t u → IsRuledOutBy pool t c others → IsRuledOutBy pool u c others
   reason_of_more t u c others sub reason = record { within = λ o h. sub o (reason.within o h); dead = reason.dead }
 
   -- what was skipped at an earlier turn is still skipped
-  pub passed_before : (u : List ℕ) (turns : List (FrameValue × ℕ)) (j i : ℕ) (turn : FrameValue × ℕ) (p : ℕ × List ℕ) → AreTurnsFrom pool u turns → slice_get turns j ≡ Some turn → slice_get turn.0.0 i ≡ Some p → RulesOut pool (u ++ choices_of_turns turns) p.0 p.1
+  pub passed_before : (u : List ℕ) (turns : List (FrameValue × ℕ)) (j i : ℕ) (turn : FrameValue × ℕ) (p : ℕ × List ℕ) → AreTurnsFrom pool u turns → slice_get turns j ≡ Some turn → slice_get turn.0.0 i ≡ Some p → IsRuledOutBy pool (u ++ choices_of_turns turns) p.0 p.1
   passed_before u [] zero i turn p taken h g = absurd (cc)
   passed_before u [] (suc j) i turn p taken h g = absurd (cc)
   passed_before u (x ∷ turns) zero i turn p taken h g =
@@ -89,9 +89,9 @@ module _ (pool : SealedPool) where
       let here : slice_get x.0.0 i ≡ Some p = subst (λ (z : FrameValue × ℕ). slice_get z.0.0 i ≡ Some p) same g in
       reason_of_more u (u ++ x.1 ∷ choices_of_turns turns) p.0 p.1 (λ o. in_left o u (x.1 ∷ choices_of_turns turns)) (reason_in u x.0.0 i p taken.0.5 here)
   passed_before u (x ∷ turns) (suc j) i turn p taken h g =
-      subst (λ (z : List ℕ). RulesOut pool z p.0 p.1) (append_assoc u (x.1 ∷ []) (choices_of_turns turns))
+      subst (λ (z : List ℕ). IsRuledOutBy pool z p.0 p.1) (append_assoc u (x.1 ∷ []) (choices_of_turns turns))
       (passed_before (u ++ x.1 ∷ []) turns j i turn p taken.1 h g)
 
-  pub reason_as : (t u : List ℕ) (c d : ℕ) (xs ys : List ℕ) → RulesOut pool t c xs → t ≡ u → c ≡ d → xs ≡ ys → RulesOut pool u d ys
+  pub reason_as : (t u : List ℕ) (c d : ℕ) (xs ys : List ℕ) → IsRuledOutBy pool t c xs → t ≡ u → c ≡ d → xs ≡ ys → IsRuledOutBy pool u d ys
   reason_as t u c d xs ys reason tu cd xy =
-      subst (λ (z : List ℕ). RulesOut pool z d ys) tu (subst (λ (z : ℕ). RulesOut pool t z ys) cd (subst (λ (z : List ℕ). RulesOut pool t c z) xy reason))
+      subst (λ (z : List ℕ). IsRuledOutBy pool z d ys) tu (subst (λ (z : ℕ). IsRuledOutBy pool t z ys) cd (subst (λ (z : List ℕ). IsRuledOutBy pool t c z) xy reason))

@@ -6,7 +6,7 @@ use Rattle.pool_core.specs.candidate_core.Options.{IsIn}
 use Rattle.search_tables.specs.Selection.{AreDistinct}
 
 -- each mark says whether its place is in the list, and the list has each candidate once
-pub record AreMarks (marks : List Bool) (ids : List ℕ) : Type 0 where
+pub record AreMarksOfPlaces (marks : List Bool) (ids : List ℕ) : Type 0 where
   pub told : (c : ℕ) → MatchBool (slice_index_or marks c false) (IsIn c ids) (IsIn c ids →
       ⊥)
   pub once : AreDistinct ids

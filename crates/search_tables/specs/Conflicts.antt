@@ -11,14 +11,14 @@ use Rattle.search_tables.specs.NameTable.{items_under_name}
 use Rattle.search_tables.specs.Selection.{depends_at}
 
 -- the conflicts of a name among some dependencies, each with the choice that has it
-abbrev pub conflicts_named : List ℕ → ℕ → List Dependency → List (ℕ × Dependency)
-conflicts_named name by deps =
+abbrev pub conflicts_of_name_in : List ℕ → ℕ → List Dependency → List (ℕ × Dependency)
+conflicts_of_name_in name by deps =
     map (λ (d : Dependency). (by, d))
     (filter (λ (d : Dependency). d.conflict && bytes_eq name d.name) deps)
 
 -- the conflicts of a name that some choices have, in the order of the choices
 abbrev pub conflicts_among : SealedPool → List ℕ → List ℕ → List (ℕ × Dependency)
-conflicts_among pool chosen name = flat_map (λ c. conflicts_named name c (depends_at pool c)) chosen
+conflicts_among pool chosen name = flat_map (λ c. conflicts_of_name_in name c (depends_at pool c)) chosen
 
 -- a conflict that is listed: the choice that has it, the conflict, and its index among the
 -- dependencies of the choice
@@ -33,7 +33,7 @@ conflict_without_index listed = (listed.0, listed.1)
 abbrev pub conflicts_in : List (List ℕ × List ListedConflictValue) → List ℕ → List (ℕ × Dependency)
 conflicts_in table name = map conflict_without_index (items_under_name table name)
 
--- the candidate at this place has these dependencies
+-- if there is a candidate at this place, its dependencies are these
 abbrev pub HasDepends : List Candidate → ℕ → List Dependency → Type 0
 HasDepends candidates by deps =
     (c : Candidate) → slice_get candidates by ≡ Some c → c.depends ≡ deps

@@ -16,8 +16,8 @@ IsConflictTable pool chosen conflicts =
     (name : List ℕ) → conflicts_in conflicts.by_name name ≡ conflicts_among pool chosen name
 
 -- the candidate at place `k` is a choice, and it and the candidate at place `id` exclude each other
-abbrev pub IsExcludingChoice : SealedPool → List ℕ → ℕ → ℕ → Type 0
-IsExcludingChoice pool chosen id k = IsIn k chosen × (exclude_each_other pool k id ≡ true)
+abbrev pub IsExcluderAmongChoices : SealedPool → List ℕ → ℕ → ℕ → Type 0
+IsExcluderAmongChoices pool chosen id k = IsIn k chosen × (exclude_each_other pool k id ≡ true)
 
 -- no choice excludes a candidate by a name: the candidate meets no conflict of that name that a choice
 -- has, and, if `is_occupied`, no choice occupies the name
@@ -25,4 +25,5 @@ abbrev pub IsNotExcludedAt : SealedPool → List ℕ → Candidate → List ℕ 
 IsNotExcludedAt pool chosen details name is_occupied =
     ((k : ℕ) (d : Dependency) → IsIn k chosen → IsIn d (depends_at pool k) →
     d.conflict ≡ true → d.name ≡ name → meets_dependency d details ≡ false)
-    × (is_occupied ≡ true → (k : ℕ) → IsIn k chosen → candidate_at_passes pool (occupies_name name) k ≡ false)
+    × (is_occupied ≡ true → (k : ℕ) → IsIn k chosen → candidate_at_passes pool (occupies_name name) k
+    ≡ false)

@@ -1,4 +1,5 @@
--- Which candidates ask by their install-if for a name that no choice has, and the least of these names.
+-- Which candidates are triggered by their install-if, so that their name is needed and no choice has it,
+-- and the least of these names.
 -- The rules are in `docs/selection.md`: "What satisfies world", 4, and "Which selection is taken" (in
 -- byte order). Serves the contracts of `src/needs.rt` and `src/install_ifs.rt`.
 use Rattle.std.specs.Prelude.{◌≡◌, ◌≤◌, ◌<◌, ℕ, Bool, true, false, ◌&&◌, List, [], get_or, length, slice_get, Some}
@@ -16,18 +17,20 @@ use Rattle.search_tables.specs.Selection.{is_met, is_unmet}
 abbrev pub all_met : SealedPool → List ℕ → List Dependency → Bool
 all_met pool chosen deps = list_all (λ (d : Dependency). is_met pool chosen (entry d)) deps
 
--- whether a candidate asks: each entry of its install-if is met, and no choice has its name
+-- whether a candidate is triggered: each entry of its install-if is met, and no choice has the
+-- candidate's name
 abbrev pub is_triggered_by_install_if : SealedPool → List ℕ → Candidate → Bool
 is_triggered_by_install_if pool chosen c = all_met pool chosen c.install_if
     && is_unmet pool chosen (named c.name)
 
--- whether the candidate at a place asks
+-- whether the candidate at a place is triggered by its install-if
 abbrev pub is_install_if_triggered_at : SealedPool → List ℕ → ℕ → Bool
-is_install_if_triggered_at pool chosen k = candidate_at_passes pool (is_triggered_by_install_if pool chosen) k
+is_install_if_triggered_at pool chosen k =
+    candidate_at_passes pool (is_triggered_by_install_if pool chosen) k
 
 -- whether the candidate at a place has an install-if that can apply
-abbrev pub is_usable_at : SealedPool → ℕ → Bool
-is_usable_at pool k = candidate_at_passes pool (has_usable_install_if pool.world) k
+abbrev pub has_usable_install_if_at : SealedPool → ℕ → Bool
+has_usable_install_if_at pool k = candidate_at_passes pool (has_usable_install_if pool.world) k
 
 -- the name of the candidate at a place; empty if there is none
 abbrev pub name_at : SealedPool → ℕ → List ℕ
@@ -43,35 +46,41 @@ has_lesser_name pool a b = is_lt (bytes_cmp (name_at pool a) (name_at pool b))
 
 -- the candidates whose install-if can apply, in byte order of their names; and a table that has for the
 -- name of each entry of an install-if the rank of its candidate
-pub record AreInstallIfs (pool : SealedPool) (by_name : List ℕ) (waiting : List (List ℕ × List ℕ)) :
+pub record AreUsableInstallIfsByName (pool : SealedPool) (by_name : List ℕ)
+    (waiting : List (List ℕ × List ℕ)) :
     Type 0 where
-  pub those : (k : ℕ) → IsIn k by_name → is_usable_at pool k ≡ true
-  pub each : (k : ℕ) → is_usable_at pool k ≡ true → IsIn k by_name
+  -- each candidate of the list has an install-if that can apply
+  pub those : (k : ℕ) → IsIn k by_name → has_usable_install_if_at pool k ≡ true
+  -- the list has each candidate whose install-if can apply
+  pub each : (k : ℕ) → has_usable_install_if_at pool k ≡ true → IsIn k by_name
+  -- no candidate of the list has a lesser name than one before it
   pub rising :
       (i j d : ℕ) → i ≤ j → j < length by_name →
       has_lesser_name pool (get_or by_name j d) (get_or by_name i d) ≡ false
+  -- the table has the rank of each candidate under the name of each entry of its install-if
   pub entries :
       (rank k : ℕ) (d : Dependency) → slice_get by_name rank ≡ Some k →
       IsIn d (install_if_at pool k) → IsIn rank (items_under_name waiting d.name)
 
--- whether the candidate at this place of the list by name (its rank there) asks
+-- whether the candidate with this rank, its place in the list by name, is triggered by its install-if
 abbrev pub is_install_if_triggered_at_rank : SealedPool → List ℕ → List ℕ → ℕ → Bool
 is_install_if_triggered_at_rank pool chosen by_name rank =
     option_map_or (λ (k : ℕ). is_install_if_triggered_at pool chosen k) (slice_get by_name rank) false
 
--- none of the candidates of the first `count` ranks asks
+-- none of the candidates of the first `count` ranks is triggered by its install-if
 abbrev pub AreNoneTriggeredBelow : SealedPool → List ℕ → List ℕ → ℕ → Type 0
 AreNoneTriggeredBelow pool chosen by_name count =
     (rank : ℕ) → rank < count → is_install_if_triggered_at_rank pool chosen by_name rank ≡ false
 
--- the candidate asks, its install-if can apply, and no such candidate that asks has a lesser name
+-- the candidate is triggered by its install-if, which can apply; no other such candidate has a lesser name
 pub record IsLeastTriggeredInstallIf (pool : SealedPool) (chosen : List ℕ) (k : ℕ) : Type 0 where
-  pub usable : is_usable_at pool k ≡ true
+  pub usable : has_usable_install_if_at pool k ≡ true
   pub asks : is_install_if_triggered_at pool chosen k ≡ true
   pub least :
-      (o : ℕ) → is_usable_at pool o ≡ true → is_install_if_triggered_at pool chosen o ≡ true →
+      (o : ℕ) → has_usable_install_if_at pool o ≡ true → is_install_if_triggered_at pool chosen o ≡ true →
       has_lesser_name pool o k ≡ false
 
--- no candidate asks whose install-if can apply
+-- no candidate whose install-if can apply is triggered by it
 abbrev pub IsNoInstallIfTriggered : SealedPool → List ℕ → Type 0
-IsNoInstallIfTriggered pool chosen = (o : ℕ) → is_usable_at pool o ≡ true → is_install_if_triggered_at pool chosen o ≡ false
+IsNoInstallIfTriggered pool chosen =
+    (o : ℕ) → has_usable_install_if_at pool o ≡ true → is_install_if_triggered_at pool chosen o ≡ false

@@ -24,8 +24,8 @@ abbrev pub IsReason : SealedPool → List ℕ → Type 0
 IsReason pool reason = (selection : List ℕ) → IsSolution pool selection →
     AreAllMembersOf reason selection → ⊥
 
--- why a candidate cannot join some choices: it and some of them form a reason
-pub record RulesOut (pool : SealedPool) (chosen : List ℕ) (c : ℕ) (others : List ℕ) : Type 0 where
+-- why a candidate `c` cannot join some choices: `c` and some of the choices, `others`, form a reason
+pub record IsRuledOutBy (pool : SealedPool) (chosen : List ℕ) (c : ℕ) (others : List ℕ) : Type 0 where
   pub within : AreAllMembersOf others chosen
   pub dead : IsReason pool (c ∷ others)
 
@@ -34,7 +34,7 @@ pub record RulesOut (pool : SealedPool) (chosen : List ℕ) (c : ℕ) (others : 
 abbrev pub FrameValue : Type 0
 FrameValue = List (ℕ × List ℕ) × List ℕ × List ℕ
 
--- the options of a list of those that are ruled out
+-- the options in a list of ruled-out options, without the other members of their reasons
 abbrev pub ruled_out_options : List (ℕ × List ℕ) → List ℕ
 ruled_out_options [] = []
 ruled_out_options (p ∷ ps) = p.0 ∷ ruled_out_options ps
@@ -42,7 +42,7 @@ ruled_out_options (p ∷ ps) = p.0 ∷ ruled_out_options ps
 -- each option of the list is ruled out by a reason whose other members are choices
 abbrev pub AreRuledOut : SealedPool → List ℕ → List (ℕ × List ℕ) → Type 0
 AreRuledOut pool chosen [] = Unit {0}
-AreRuledOut pool chosen (p ∷ ps) = RulesOut pool chosen p.0 p.1 × AreRuledOut pool chosen ps
+AreRuledOut pool chosen (p ∷ ps) = IsRuledOutBy pool chosen p.0 p.1 × AreRuledOut pool chosen ps
 
 -- the frame is that of the next need after some choices: its ruled-out options and those that are left
 -- are the options of the need in their order
@@ -89,8 +89,11 @@ HasSameMembers xs ys = AreAllMembersOf xs ys × AreAllMembersOf ys xs
 -- the promise of a pool about the options of a need: they are exactly the candidates that may be
 -- selected and meet it, each better than those after it
 pub record HasOptions (pool : SealedPool) (need : Need) : Type 0 where
+  -- each option may be selected, and meets the need
   pub those : (c : ℕ) → IsIn c (options_for pool need) → (is_eligible_at pool c ≡ true)
       × (meets_at pool c need ≡ true)
+  -- each candidate that may be selected and meets the need is an option
   pub each : (c : ℕ) → is_eligible_at pool c ≡ true → meets_at pool c need ≡ true →
       IsIn c (options_for pool need)
+  -- each option is better than those after it
   pub best_first : IsSortedBestFirst (is_better pool need) (options_for pool need)

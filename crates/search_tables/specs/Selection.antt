@@ -86,8 +86,8 @@ occupied_names c =
 abbrev pub occupied_names_at : SealedPool → ℕ → List (List ℕ)
 occupied_names_at pool c = option_map_or occupied_names (candidate_at pool c) []
 
--- whether both candidates occupy a name: one selection cannot have both, since a name has one place
--- in it
+-- whether both candidates occupy a name: one selection cannot have both, since at most one member may
+-- occupy a name
 abbrev pub share_a_name : SealedPool → ℕ → ℕ → Bool
 share_a_name pool a b =
     list_any (λ name. candidate_at_passes pool (occupies_name name) b) (occupied_names_at pool a)
@@ -118,7 +118,8 @@ pub record IsSatisfying (pool : SealedPool) (selection : List ℕ) : Type 0 wher
       conflicts_with pool a b ≡ false
   pub names_alone :
       (a b : ℕ) (name : List ℕ) → IsIn a selection → IsIn b selection →
-      candidate_at_passes pool (occupies_name name) a ≡ true → candidate_at_passes pool (occupies_name name) b ≡ true → a ≡ b
+      candidate_at_passes pool (occupies_name name) a ≡ true
+      → candidate_at_passes pool (occupies_name name) b ≡ true → a ≡ b
   pub asked_met :
       (name : List ℕ) → IsIn name (names_by_install_if pool selection) →
       is_met pool selection (named name) ≡ true
@@ -134,34 +135,34 @@ IsBestMember pool selection need c =
 
 -- after some choices: the rest of the walk of a selection, which has the best member in rank for each
 -- next need, until there is none
-abbrev pub IsWalkFrom : SealedPool → List ℕ → List ℕ → List ℕ → Type 0
-IsWalkFrom pool selection chosen [] = next_need pool chosen ≡ None
-IsWalkFrom pool selection chosen (c ∷ rest) =
+abbrev pub IsRestOfWalk : SealedPool → List ℕ → List ℕ → List ℕ → Type 0
+IsRestOfWalk pool selection chosen [] = next_need pool chosen ≡ None
+IsRestOfWalk pool selection chosen (c ∷ rest) =
     (need : Need) × (next_need pool chosen ≡ Some need) × IsBestMember pool selection need c
-    × IsWalkFrom pool selection (chosen ++ c ∷ []) rest
+    × IsRestOfWalk pool selection (chosen ++ c ∷ []) rest
 
--- the walk of a selection, from the first need on
-abbrev pub IsWalk : SealedPool → List ℕ → List ℕ → Type 0
-IsWalk pool selection walk = IsWalkFrom pool selection [] walk
+-- the walk of a selection, from the first need on: for each next need, the best member that meets it
+abbrev pub IsWalkOfSelection : SealedPool → List ℕ → List ℕ → Type 0
+IsWalkOfSelection pool selection walk = IsRestOfWalk pool selection [] walk
 
 -- after some choices: the rest of one walk is preferred to that of another if it has the better rank at
 -- the first place where they differ, for the need there
-abbrev pub IsPreferredFrom : SealedPool → List ℕ → List ℕ → List ℕ → Type 0
-IsPreferredFrom pool chosen [] other = ⊥
-IsPreferredFrom pool chosen (c ∷ rest) [] = ⊥
-IsPreferredFrom pool chosen (c ∷ rest) (d ∷ other) =
+abbrev pub IsRestOfWalkPreferred : SealedPool → List ℕ → List ℕ → List ℕ → Type 0
+IsRestOfWalkPreferred pool chosen [] other = ⊥
+IsRestOfWalkPreferred pool chosen (c ∷ rest) [] = ⊥
+IsRestOfWalkPreferred pool chosen (c ∷ rest) (d ∷ other) =
     ((need : Need) × (next_need pool chosen ≡ Some need) × (is_better pool need c d ≡ true))
-    ⊎ ((c ≡ d) × IsPreferredFrom pool (chosen ++ c ∷ []) rest other)
+    ⊎ ((c ≡ d) × IsRestOfWalkPreferred pool (chosen ++ c ∷ []) rest other)
 
 -- one walk is preferred to another, from the first need on
-abbrev pub IsPreferredTo : SealedPool → List ℕ → List ℕ → Type 0
-IsPreferredTo pool walk other = IsPreferredFrom pool [] walk other
+abbrev pub IsWalkPreferredTo : SealedPool → List ℕ → List ℕ → Type 0
+IsWalkPreferredTo pool walk other = IsRestOfWalkPreferred pool [] walk other
 
 -- the preferred solution: it satisfies the world, is its own walk, and is preferred to the walk of each
 -- other satisfying selection
-pub record IsFirstSelection (pool : SealedPool) (trace : List ℕ) : Type 0 where
+pub record IsFirstPreferredSelection (pool : SealedPool) (trace : List ℕ) : Type 0 where
   pub satisfies : IsSatisfying pool trace
-  pub walked : IsWalk pool trace trace
+  pub walked : IsWalkOfSelection pool trace trace
   pub first :
-      (selection walk : List ℕ) → IsSatisfying pool selection → IsWalk pool selection walk →
-      (walk ≡ trace) ⊎ IsPreferredTo pool trace walk
+      (selection walk : List ℕ) → IsSatisfying pool selection → IsWalkOfSelection pool selection walk →
+      (walk ≡ trace) ⊎ IsWalkPreferredTo pool trace walk

@@ -22,13 +22,13 @@ pub struct CandidateSet {
 
 impl Model for CandidateSet {
     ghost use Rattle.std.specs.Prelude.{ℕ, List};
-    ghost use Rattle.search_tables.specs.CandidateSet.{AreMarks};
+    ghost use Rattle.search_tables.specs.CandidateSet.{AreMarksOfPlaces};
 
     ghost Value = { List ℕ };
 
     ghost view = { λ m. m.ids.items };
 
-    ghost invariant = { λ m. AreMarks m.marks.items m.ids.items };
+    ghost invariant = { λ m. AreMarksOfPlaces m.marks.items m.ids.items };
 }
 
 impl CandidateSet {

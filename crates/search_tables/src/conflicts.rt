@@ -8,7 +8,7 @@ ghost use Rattle.dep_core.specs.Meets.{dependency};
 ghost use Rattle.pool_core.specs.candidate_core.Candidates.{Candidate, meets_dependency};
 ghost use Rattle.pool_core.specs.candidate_core.PackageMatches.{AreMatchesAmong};
 ghost use Rattle.pool_core.specs.candidate_core.Packages.{candidates_of_packages};
-ghost use Rattle.search_tables.specs.Conflicts.{AreConflictsOf, HasDepends, IsConflictOf, conflicts_in, conflicts_named};
+ghost use Rattle.search_tables.specs.Conflicts.{AreConflictsOf, HasDepends, IsConflictOf, conflicts_in, conflicts_of_name_in};
 
 use crate::name_table::NameTable;
 use dep_core::Dep;
@@ -87,7 +87,7 @@ impl<'p> Conflicts<'p> {
     /// names.
     pub fn add(&mut self, depends: &Deps<'p>, by: CandId) -> Result<(), AllocError>
         ensures conflicts { OnOk result ((name : List ℕ) → conflicts_in self.new.by_name name
-            ≡ conflicts_in self.old.by_name name ++ conflicts_named name by depends.now) }
+            ≡ conflicts_in self.old.by_name name ++ conflicts_of_name_in name by depends.now) }
         ensures listed { OnOk result ((candidates : List Candidate)
             → HasDepends candidates by depends.now → AreConflictsOf candidates self.old.by_name
             → AreConflictsOf candidates self.new.by_name) }
@@ -102,7 +102,7 @@ impl<'p> Conflicts<'p> {
     fn add_one(&mut self, dep: Dep<'p>, by: CandId, index: usize) -> Result<(), AllocError>
         ensures conflicts { OnOk result ((name : List ℕ) → conflicts_in self.new.by_name name
             ≡ conflicts_in self.old.by_name name
-            ++ conflicts_named name by (dependency dep.entry ∷ [])) }
+            ++ conflicts_of_name_in name by (dependency dep.entry ∷ [])) }
         ensures listed { OnOk result ((candidates : List Candidate)
             → IsConflictOf candidates (by, dependency dep.entry, index)
             → AreConflictsOf candidates self.old.by_name
@@ -121,7 +121,7 @@ impl<'p> Conflicts<'p> {
     pub fn pop_all(&mut self, depends: &Deps<'_>)
         ensures conflicts { (by : ℕ) (front : List ℕ → List (ℕ × Dependency)) →
             ((name : List ℕ) → conflicts_in self.old.by_name name
-            ≡ front name ++ conflicts_named name by depends.now) →
+            ≡ front name ++ conflicts_of_name_in name by depends.now) →
             (name : List ℕ) → conflicts_in self.new.by_name name ≡ front name }
         ensures listed { (candidates : List Candidate) → AreConflictsOf candidates self.old.by_name
             → AreConflictsOf candidates self.new.by_name }
@@ -138,7 +138,7 @@ impl<'p> Conflicts<'p> {
     fn take_one_away(&mut self, dep: &Dep<'_>)
         ensures conflicts { (by : ℕ) (front : List ℕ → List (ℕ × Dependency)) →
             ((name : List ℕ) → conflicts_in self.old.by_name name
-            ≡ front name ++ conflicts_named name by (dependency dep.now ∷ [])) →
+            ≡ front name ++ conflicts_of_name_in name by (dependency dep.now ∷ [])) →
             (name : List ℕ) → conflicts_in self.new.by_name name ≡ front name }
         ensures listed { (candidates : List Candidate) → AreConflictsOf candidates self.old.by_name
             → AreConflictsOf candidates self.new.by_name }

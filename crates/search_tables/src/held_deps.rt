@@ -1,8 +1,8 @@
-//! The search for a choice that meets a dependency of a candidate: a conflict of a further one, or
-//! a dependency that a choice raised. The rules are in `docs/selection.md`: "What satisfies world",
-//! 1 (dependencies are met) and 2 (no conflict of a selected package is met by another one), and
-//! "What there is to choose from" (what meets a dependency). Comparing long versions only once
-//! saves time.
+//! The search for a choice that meets a dependency of a candidate: a conflict of a candidate that
+//! is no choice yet, or a dependency that a choice raised. The rules are in `docs/selection.md`:
+//! "What satisfies world", 1 (dependencies are met) and 2 (no conflict of a selected package is met
+//! by another one), and "What there is to choose from" (what meets a dependency). Comparing long
+//! versions only once saves time.
 ghost use Rattle.std.specs.Prelude.{◌≡◌, ℕ, false, true, IfOk, MatchBool, MatchOption, OnOk};
 ghost use Rattle.dep_core.specs.Meets.{dependency};
 ghost use Rattle.pool_core.specs.candidate_core.Candidates.{entry};

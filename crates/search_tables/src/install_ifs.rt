@@ -5,7 +5,7 @@ ghost use Rattle.std.specs.Prelude.{◌≡◌, ◌≤◌, ◌<◌, ℕ, List, le
 ghost use Rattle.dep_core.specs.Dependency.{Dependency};
 ghost use Rattle.pool_core.specs.candidate_core.Options.{AreAllMembersOf, IsIn};
 ghost use Rattle.pool_core.specs.candidate_core.Rank.{bytes_cmp};
-ghost use Rattle.search_tables.specs.InstallIf.{AreInstallIfs, has_lesser_name, install_if_at, is_usable_at, name_at};
+ghost use Rattle.search_tables.specs.InstallIf.{AreUsableInstallIfsByName, has_lesser_name, install_if_at, has_usable_install_if_at, name_at};
 ghost use Rattle.search_tables.specs.NameTable.{items_under_name};
 
 use crate::name_table::NameTable;
@@ -27,7 +27,7 @@ pub struct InstallIfs<'p> {
 impl<'p> InstallIfs<'p> {
     /// The candidates of a pool whose install-if can apply.
     pub fn new(alloc: Global, pool: &'p Sealed<'p>) -> Result<InstallIfs<'p>, AllocError>
-        ensures { IfOk result (λ found. AreInstallIfs pool.entry.now found.by_name.items
+        ensures { IfOk result (λ found. AreUsableInstallIfsByName pool.entry.now found.by_name.items
             found.waiting) }
     {
         let by_name = in_byte_order(alloc, pool)?;
@@ -56,8 +56,8 @@ impl<'p> InstallIfs<'p> {
 // The candidates whose install-if can apply, in byte order of their names.
 fn in_byte_order(alloc: Global, pool: &Sealed<'_>) -> Result<Vec<CandId>, AllocError>
     ensures those { IfOk result (λ ids. (k : ℕ) → IsIn k ids.items →
-        is_usable_at pool.now k ≡ true) }
-    ensures each { IfOk result (λ ids. (k : ℕ) → is_usable_at pool.now k ≡ true →
+        has_usable_install_if_at pool.now k ≡ true) }
+    ensures each { IfOk result (λ ids. (k : ℕ) → has_usable_install_if_at pool.now k ≡ true →
         IsIn k ids.items) }
     ensures rising { IfOk result (λ ids. (i j d : ℕ) → i ≤ j → j < length ids.items →
         has_lesser_name pool.now (get_or ids.items j d) (get_or ids.items i d) ≡ false) }

@@ -133,8 +133,8 @@ fn latest_meets(pool: &Sealed<'_>, choices: &[CandId], need: &NeedRef<'_>) -> bo
     }
 }
 
-/// Whether the candidate at a place asks for its name: each entry of its install-if is met, and no
-/// choice has its name.
+/// Whether the candidate at a place is triggered: each entry of its install-if is met, and no
+/// choice has the candidate's name.
 pub fn is_triggered_by_install_if(pool: &Sealed<'_>, choices: &CandidateSet, id: CandId) -> bool
     ensures { result ≡ is_install_if_triggered_at pool.now choices.now id }
 {
@@ -144,8 +144,8 @@ pub fn is_triggered_by_install_if(pool: &Sealed<'_>, choices: &CandidateSet, id:
     }
 }
 
-// Whether a candidate asks, by its details: each entry of its install-if is met, and no choice has
-// its name.
+// Whether a candidate is triggered, by its details: each entry of its install-if is met, and no
+// choice has the candidate's name.
 fn wants(pool: &Sealed<'_>, choices: &CandidateSet, details: &Details<'_>) -> bool
     ensures { result ≡ is_triggered_by_install_if pool.now choices.now details.now }
 {

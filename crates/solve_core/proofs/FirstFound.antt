@@ -3,7 +3,7 @@ use Rattle.std.proofs.Common.{◌≡◌, ℕ, List, [], subst, sym}
 use Rattle.std.specs.Prelude.{None}
 use Rattle.search_choices.specs.candidate_core.Candidates.{Need}
 use Rattle.search_choices.specs.candidate_core.Rank.{SealedPool}
-use Rattle.search_choices.specs.search_tables.Selection.{IsSatisfying, IsFirstSelection, next_need}
+use Rattle.search_choices.specs.search_tables.Selection.{IsSatisfying, IsFirstPreferredSelection, next_need}
 use Rattle.search_choices.specs.search_tables.Reasons.{FrameValue, AreCompatible, IsReason, AreTurnsFrom, choices_of_turns}
 use Rattle.search_choices.specs.search_tables.Reasons.{HasOptions}
 use Rattle.search_choices.specs.Choices.{IsSearch, choices_of, pool_of}
@@ -12,7 +12,7 @@ use Rattle.search_choices.proofs.search_tables.Turns.{turns_found}
 use Rattle.search_choices.proofs.search_tables.PoolFacts.{pool_facts}
 use Rattle.search_choices.proofs.search_tables.Satisfying.{closed_of_satisfying, satisfying_of_closed}
 
-pub first_found : (pool : SealedPool) → ((need : Need) → HasOptions pool need) → (chosen : Choices) (turns : List (FrameValue × ℕ)) → IsSearch chosen turns → pool_of chosen ≡ pool → next_need (pool_of chosen) (choices_of chosen) ≡ None → IsFirstSelection pool (choices_of chosen)
+pub first_found : (pool : SealedPool) → ((need : Need) → HasOptions pool need) → (chosen : Choices) (turns : List (FrameValue × ℕ)) → IsSearch chosen turns → pool_of chosen ≡ pool → next_need (pool_of chosen) (choices_of chosen) ≡ None → IsFirstPreferredSelection pool (choices_of chosen)
 first_found pool has chosen turns search same end =
     let facts = pool_facts pool has in
     let t = choices_of_turns turns in
@@ -20,12 +20,12 @@ first_found pool has chosen turns search same end =
     let clean : AreCompatible pool t = subst (λ (p : SealedPool). AreCompatible p t) same (subst (λ (z : List ℕ). AreCompatible (pool_of chosen) z) search.choices search.clean) in
     let none : next_need pool t ≡ None = subst (λ (p : SealedPool). next_need p t ≡ None) same (subst (λ (z : List ℕ). next_need (pool_of chosen) z ≡ None) search.choices end) in
     let all = turns_found pool facts turns taken clean none in
-    let found : IsFirstSelection pool t = record {
+    let found : IsFirstPreferredSelection pool t = record {
       satisfies = satisfying_of_closed pool t all.0;
       walked = all.1;
       first = λ selection walk satisfies walked. all.2 selection walk (closed_of_satisfying pool selection satisfies) walked;
     } in
-    subst (λ (z : List ℕ). IsFirstSelection pool z) (sym search.choices) found
+    subst (λ (z : List ℕ). IsFirstPreferredSelection pool z) (sym search.choices) found
 
 pub none_satisfies : (pool : SealedPool) → IsReason pool [] → (selection : List ℕ) → IsSatisfying pool selection → ⊥
 none_satisfies pool dead selection satisfies = dead selection (closed_of_satisfying pool selection satisfies) (λ c h. absurd h)

@@ -5,7 +5,7 @@ use Rattle.search_choices.specs.candidate_core.Candidates.{Need}
 use Rattle.search_choices.specs.candidate_core.Rank.{SealedPool}
 use Rattle.search_choices.specs.candidate_core.Options.{IsIn, options_for}
 use Rattle.search_choices.specs.search_tables.Selection.{AreAllMembersOf, AreDistinct, exclude_each_other}
-use Rattle.search_choices.specs.search_tables.Reasons.{AreCompatible, IsReason, RulesOut, FrameValue, ruled_out_options, AreRuledOut, IsFrameOf, IsExhaustedFrame, IsFrameTaking, AreTurnsFrom, choices_of_turns, other_members_of_reasons, dead_end_reason, HasSameMembers}
+use Rattle.search_choices.specs.search_tables.Reasons.{AreCompatible, IsReason, IsRuledOutBy, FrameValue, ruled_out_options, AreRuledOut, IsFrameOf, IsExhaustedFrame, IsFrameTaking, AreTurnsFrom, choices_of_turns, other_members_of_reasons, dead_end_reason, HasSameMembers}
 use Rattle.search_choices.specs.search_tables.Reasons.{HasOptions}
 use Rattle.search_choices.specs.Choices.{IsSearch, IsConsistent, choices_of, pool_of}
 use Rattle.search_choices.specs.declared.choices.Choices.{Choices}
@@ -137,7 +137,7 @@ sub_filter c (x ∷ xs) o h = elim (eqb_tells x c) [
 ]
 
 -- a reason whose other members are choices rules a candidate out
-pub rules_out : (pool : SealedPool) (members others chosen : List ℕ) (c : ℕ) → AreAllMembersOfOr members c chosen → IsReason pool members → others ≡ filter (λ id. not (id == c)) members → RulesOut pool chosen c others
+pub rules_out : (pool : SealedPool) (members others chosen : List ℕ) (c : ℕ) → AreAllMembersOfOr members c chosen → IsReason pool members → others ≡ filter (λ id. not (id == c)) members → IsRuledOutBy pool chosen c others
 rules_out pool members others chosen c or dead e = record {
   within = λ o h.
       let f = filter_sub c members o (subst (λ (z : List ℕ). IsIn o z) e h) in
@@ -149,7 +149,7 @@ rules_out pool members others chosen c or dead e = record {
 }
 
 -- a choice that is to blame is skipped at its frame, with the rest of the blame
-pub hit_reason : (pool : SealedPool) (members rest all others : List ℕ) (c : ℕ) → AreAllMembersOf members all → all ≡ rest ++ c ∷ [] → IsReason pool members → others ≡ filter (λ id. not (id == c)) members → RulesOut pool rest c others
+pub hit_reason : (pool : SealedPool) (members rest all others : List ℕ) (c : ℕ) → AreAllMembersOf members all → all ≡ rest ++ c ∷ [] → IsReason pool members → others ≡ filter (λ id. not (id == c)) members → IsRuledOutBy pool rest c others
 hit_reason pool members rest all others c sub is dead e =
     rules_out pool members others rest c (λ o h. elim (in_append o rest (c ∷ []) (subst (λ (z : List ℕ). IsIn o z) is (sub o h))) [
       | inl a ↦ inr a

@@ -11,7 +11,7 @@ use Rattle.search_choices.specs.candidate_core.Candidates.{Need, is_eligible}
 use Rattle.search_choices.specs.candidate_core.Rank.{SealedPool, is_better, meets_at, rank_cmp}
 use Rattle.search_choices.specs.candidate_core.Options.{IsSortedBestFirst, IsIn, options_for, places_passing_from}
 use Rattle.search_choices.specs.search_tables.Reasons.{HasOptions}
-use Rattle.search_choices.specs.search_tables.Selection.{AreAllMembersOf, IsPreferredTo, IsPreferredFrom, IsFirstSelection, IsSatisfying, IsWalk, IsWalkFrom, next_need}
+use Rattle.search_choices.specs.search_tables.Selection.{AreAllMembersOf, IsWalkPreferredTo, IsRestOfWalkPreferred, IsFirstPreferredSelection, IsSatisfying, IsWalkOfSelection, IsRestOfWalk, next_need}
 use Rattle.search_choices.proofs.search_tables.Theory as law
 use Rattle.search_choices.proofs.search_tables.Turns.{PoolFacts}
 use Rattle.search_choices.proofs.search_tables.PoolFacts.{pool_facts}
@@ -46,7 +46,7 @@ module _ (pool : SealedPool) (total : (need : Need) → IsTotalOrder (rank_cmp p
   same_need : (q r : Need) (t : List ℕ) → next_need pool t ≡ Some q → next_need pool t ≡ Some r → q ≡ r
   same_need q r t a b = cc
 
-  before_chain : (u v w x : List ℕ) → IsPreferredFrom pool u v w → IsPreferredFrom pool u w x → IsPreferredFrom pool u v x
+  before_chain : (u v w x : List ℕ) → IsRestOfWalkPreferred pool u v w → IsRestOfWalkPreferred pool u w x → IsRestOfWalkPreferred pool u v x
   before_chain u [] w x a b = absurd a
   before_chain u (c ∷ v) [] x a b = absurd a
   before_chain u (c ∷ v) (d ∷ w) [] a b = absurd b
@@ -55,38 +55,38 @@ module _ (pool : SealedPool) (total : (need : Need) → IsTotalOrder (rank_cmp p
   before_chain u (c ∷ v) (d ∷ w) (e ∷ x) (inl a) (inr b) = inl (a.0, a.1, subst (λ (z : ℕ). is_better pool a.0 c z ≡ true) b.0 a.2)
   before_chain u (c ∷ v) (d ∷ w) (e ∷ x) (inr a) (inl b) = inl (b.0, b.1, subst (λ (z : ℕ). is_better pool b.0 z e ≡ true) (sym a.0) b.2)
   before_chain u (c ∷ v) (d ∷ w) (e ∷ x) (inr a) (inr b) =
-      inr (a.0 ∙ b.0, before_chain (u ++ c ∷ []) v w x a.1 (subst (λ (z : ℕ). IsPreferredFrom pool (u ++ z ∷ []) w x) (sym a.0) b.1))
+      inr (a.0 ∙ b.0, before_chain (u ++ c ∷ []) v w x a.1 (subst (λ (z : ℕ). IsRestOfWalkPreferred pool (u ++ z ∷ []) w x) (sym a.0) b.1))
 
   module _ (has : (need : Need) → HasOptions pool need) where
     facts : PoolFacts pool
     facts = pool_facts pool has
 
-    pub walk_satisfies : (selection walk : List ℕ) → IsSatisfying pool selection → IsWalk pool selection walk → IsSatisfying pool walk
+    pub walk_satisfies : (selection walk : List ℕ) → IsSatisfying pool selection → IsWalkOfSelection pool selection walk → IsSatisfying pool walk
     walk_satisfies selection walk s walked =
         satisfying_of_closed pool walk (law.law facts selection walk (tt, (λ c h. absurd h), λ a b h. absurd h) (closed_of_satisfying pool selection s) walked)
 
-    pub walk_of_walk : (selection walk : List ℕ) → IsWalk pool selection walk → IsWalk pool walk walk
+    pub walk_of_walk : (selection walk : List ℕ) → IsWalkOfSelection pool selection walk → IsWalkOfSelection pool walk walk
     walk_of_walk selection walk walked = law.walk_idem facts selection walk walked
 
-    pub has_a_walk : (selection : List ℕ) → IsSatisfying pool selection → (walk : List ℕ) × IsWalk pool selection walk
+    pub has_a_walk : (selection : List ℕ) → IsSatisfying pool selection → (walk : List ℕ) × IsWalkOfSelection pool selection walk
     has_a_walk selection s = law.walk_of_sat facts (λ q. sorted_of (is_better pool q) (options_for pool q) (has q).best_first) selection (closed_of_satisfying pool selection s)
 
-    pub has_one_walk : (selection walk other : List ℕ) → IsWalk pool selection walk → IsWalk pool selection other → walk ≡ other
+    pub has_one_walk : (selection walk other : List ℕ) → IsWalkOfSelection pool selection walk → IsWalkOfSelection pool selection other → walk ≡ other
     has_one_walk selection walk other a b = law.walk_unique facts one_way selection [] walk other a b
 
-    pub walks_compare : (selection other walk second : List ℕ) → IsSatisfying pool selection → IsSatisfying pool other → IsWalk pool selection walk → IsWalk pool other second → (walk ≡ second) ⊎ (IsPreferredTo pool walk second ⊎ IsPreferredTo pool second walk)
+    pub walks_compare : (selection other walk second : List ℕ) → IsSatisfying pool selection → IsSatisfying pool other → IsWalkOfSelection pool selection walk → IsWalkOfSelection pool other second → (walk ≡ second) ⊎ (IsWalkPreferredTo pool walk second ⊎ IsWalkPreferredTo pool second walk)
     walks_compare selection other walk second s o a b =
         law.before_total facts (λ q c d gc gd mc md. one_of q c d) selection other [] walk second (closed_of_satisfying pool selection s) (closed_of_satisfying pool other o) a b
 
-    pub not_both_before : (walk second : List ℕ) → IsPreferredTo pool walk second → IsPreferredTo pool second walk → ⊥
+    pub not_both_before : (walk second : List ℕ) → IsWalkPreferredTo pool walk second → IsWalkPreferredTo pool second walk → ⊥
     not_both_before walk second a b = law.before_asym facts one_way [] walk second a b
 
-    pub before_is_transitive : (a b c : List ℕ) → IsPreferredTo pool a b → IsPreferredTo pool b c → IsPreferredTo pool a c
+    pub before_is_transitive : (a b c : List ℕ) → IsWalkPreferredTo pool a b → IsWalkPreferredTo pool b c → IsWalkPreferredTo pool a c
     before_is_transitive a b c x y = before_chain [] a b c x y
 
     -- of a selection that has the choices in front and another option, the walk takes these choices
     -- too, and then none that is better than the option
-    as_good : (trace selection u front rest w : List ℕ) (c o : ℕ) (need : Need) → IsWalkFrom pool trace u (front ++ c ∷ rest) → IsWalkFrom pool selection u w → (w ≡ front ++ c ∷ rest) ⊎ IsPreferredFrom pool u (front ++ c ∷ rest) w → next_need pool (u ++ front) ≡ Some need → AreAllMembersOf (front ++ o ∷ []) selection → meets_at pool o need ≡ true → (o ≡ c) ⊎ (is_better pool need c o ≡ true)
+    as_good : (trace selection u front rest w : List ℕ) (c o : ℕ) (need : Need) → IsRestOfWalk pool trace u (front ++ c ∷ rest) → IsRestOfWalk pool selection u w → (w ≡ front ++ c ∷ rest) ⊎ IsRestOfWalkPreferred pool u (front ++ c ∷ rest) w → next_need pool (u ++ front) ≡ Some need → AreAllMembersOf (front ++ o ∷ []) selection → meets_at pool o need ≡ true → (o ≡ c) ⊎ (is_better pool need c o ≡ true)
     as_good trace selection u [] rest [] c o need tw sw first next in_it meets = elim first [
       | inl e ↦ absurd (cc)
       | inr b ↦ absurd b
@@ -114,8 +114,8 @@ module _ (pool : SealedPool) (total : (need : Need) → IsTotalOrder (rank_cmp p
     ]
     as_good trace selection u (f ∷ front) rest (d ∷ w) c o need tw sw first next in_it meets =
         let further : next_need pool ((u ++ f ∷ []) ++ front) ≡ Some need = subst (λ (z : List ℕ). next_need pool z ≡ Some need) (sym (append_assoc u (f ∷ []) front)) next in
-        let on : f ≡ d → (w ≡ front ++ c ∷ rest) ⊎ IsPreferredFrom pool (u ++ f ∷ []) (front ++ c ∷ rest) w → (o ≡ c) ⊎ (is_better pool need c o ≡ true) = λ e after.
-        as_good trace selection (u ++ f ∷ []) front rest w c o need tw.3 (subst (λ (z : ℕ). IsWalkFrom pool selection (u ++ z ∷ []) w) (sym e) sw.3) after further (λ k h. in_it k (inr h)) meets in
+        let on : f ≡ d → (w ≡ front ++ c ∷ rest) ⊎ IsRestOfWalkPreferred pool (u ++ f ∷ []) (front ++ c ∷ rest) w → (o ≡ c) ⊎ (is_better pool need c o ≡ true) = λ e after.
+        as_good trace selection (u ++ f ∷ []) front rest w c o need tw.3 (subst (λ (z : ℕ). IsRestOfWalk pool selection (u ++ z ∷ []) w) (sym e) sw.3) after further (λ k h. in_it k (inr h)) meets in
         elim first [
           | inl e ↦ let is : f ≡ d = cc in let rest_is : w ≡ front ++ c ∷ rest = cc in on is (inl rest_is)
           | inr b ↦ elim b [
@@ -131,12 +131,12 @@ module _ (pool : SealedPool) (total : (need : Need) → IsTotalOrder (rank_cmp p
           ]
         ]
 
-    pub best_completed : (front rest selection : List ℕ) (c o : ℕ) (need : Need) → IsFirstSelection pool (front ++ c ∷ rest) → next_need pool front ≡ Some need → IsSatisfying pool selection → AreAllMembersOf (front ++ o ∷ []) selection → meets_at pool o need ≡ true → (o ≡ c) ⊎ (is_better pool need c o ≡ true)
+    pub best_completed : (front rest selection : List ℕ) (c o : ℕ) (need : Need) → IsFirstPreferredSelection pool (front ++ c ∷ rest) → next_need pool front ≡ Some need → IsSatisfying pool selection → AreAllMembersOf (front ++ o ∷ []) selection → meets_at pool o need ≡ true → (o ≡ c) ⊎ (is_better pool need c o ≡ true)
     best_completed front rest selection c o need first next s in_it meets =
         let walk = has_a_walk selection s in
         as_good (front ++ c ∷ rest) selection [] front rest walk.0 c o need first.walked walk.1 (first.first selection walk.0 s walk.1) next in_it meets
 
-    pub first_is_unique : (a b : List ℕ) → IsFirstSelection pool a → IsFirstSelection pool b → a ≡ b
+    pub first_is_unique : (a b : List ℕ) → IsFirstPreferredSelection pool a → IsFirstPreferredSelection pool b → a ≡ b
     first_is_unique a b fa fb = elim (fa.first b b fb.satisfies fb.walked) [
       | inl e ↦ sym e
       | inr before ↦ elim (fb.first a a fa.satisfies fa.walked) [
@@ -145,7 +145,7 @@ module _ (pool : SealedPool) (total : (need : Need) → IsTotalOrder (rank_cmp p
       ]
     ]
 
-    pub first_exists : (selection : List ℕ) → IsSatisfying pool selection → (trace : List ℕ) × IsFirstSelection pool trace
+    pub first_exists : (selection : List ℕ) → IsSatisfying pool selection → (trace : List ℕ) × IsFirstPreferredSelection pool trace
     first_exists selection s =
         let all = places_passing_from 0 (is_eligible pool.world) pool.candidates in
         elim (first_or_none pool facts all (λ c h. let z : 0 + c ≡ c = omega arith in subst (λ (k : ℕ). IsIn k all) z (in_places 0 (is_eligible pool.world) pool.candidates c h))) [

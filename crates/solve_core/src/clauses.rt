@@ -50,7 +50,7 @@ impl Clause {
         })
     }
 
-    /// A copy.
+    /// A copy of the clause.
     pub(crate) fn copy(&self, alloc: Global) -> Result<Clause, AllocError>
         ensures { IfOk result (λ clause. clause ≡ self.now) }
     {

@@ -4,7 +4,7 @@
 ghost use Rattle.std.specs.Prelude.{◌≡◌, ◌⊎◌, ℕ, true, List, [], ◌∷◌, ◌++◌, Some};
 ghost use Rattle.search_choices.specs.candidate_core.Candidates.{Need};
 ghost use Rattle.search_choices.specs.candidate_core.Rank.{SealedPool, is_better, meets_at};
-ghost use Rattle.search_choices.specs.search_tables.Selection.{AreAllMembersOf, IsPreferredTo, IsFirstSelection, IsSatisfying, IsWalk, next_need};
+ghost use Rattle.search_choices.specs.search_tables.Selection.{AreAllMembersOf, IsWalkPreferredTo, IsFirstPreferredSelection, IsSatisfying, IsWalkOfSelection, next_need};
 
 use crate::selection::options_are_as_promised;
 use search_choices::rank_is_total;
@@ -12,9 +12,10 @@ use search_choices::rank_is_total;
 /// The walk of a satisfying selection satisfies too, and is its own walk.
 pub fn walks_satisfy()
     ensures satisfies { (pool : SealedPool) (selection walk : List ℕ) →
-        IsSatisfying pool selection → IsWalk pool selection walk → IsSatisfying pool walk }
+        IsSatisfying pool selection → IsWalkOfSelection pool selection walk
+        → IsSatisfying pool walk }
     ensures walked { (pool : SealedPool) (selection walk : List ℕ) →
-        IsWalk pool selection walk → IsWalk pool walk walk }
+        IsWalkOfSelection pool selection walk → IsWalkOfSelection pool walk walk }
 {
     options_are_as_promised();
     rank_is_total();
@@ -23,9 +24,10 @@ pub fn walks_satisfy()
 /// Each satisfying selection has a walk, and one only.
 pub fn each_selection_has_one_walk()
     ensures some { (pool : SealedPool) (selection : List ℕ) →
-        IsSatisfying pool selection → (walk : List ℕ) × IsWalk pool selection walk }
+        IsSatisfying pool selection → (walk : List ℕ) × IsWalkOfSelection pool selection walk }
     ensures one { (pool : SealedPool) (selection walk other : List ℕ) →
-        IsWalk pool selection walk → IsWalk pool selection other → walk ≡ other }
+        IsWalkOfSelection pool selection walk → IsWalkOfSelection pool selection other → walk
+        ≡ other }
 {
     options_are_as_promised();
     rank_is_total();
@@ -36,12 +38,13 @@ pub fn each_selection_has_one_walk()
 pub fn walks_have_one_order()
     ensures one_of { (pool : SealedPool) (selection other walk second : List ℕ) →
         IsSatisfying pool selection → IsSatisfying pool other →
-        IsWalk pool selection walk → IsWalk pool other second →
-        (walk ≡ second) ⊎ (IsPreferredTo pool walk second ⊎ IsPreferredTo pool second walk) }
+        IsWalkOfSelection pool selection walk → IsWalkOfSelection pool other second →
+        (walk ≡ second) ⊎ (IsWalkPreferredTo pool walk second
+        ⊎ IsWalkPreferredTo pool second walk) }
     ensures not_both { (pool : SealedPool) (walk second : List ℕ) →
-        IsPreferredTo pool walk second → IsPreferredTo pool second walk → ⊥ }
+        IsWalkPreferredTo pool walk second → IsWalkPreferredTo pool second walk → ⊥ }
     ensures transitive { (pool : SealedPool) (a b c : List ℕ) →
-        IsPreferredTo pool a b → IsPreferredTo pool b c → IsPreferredTo pool a c }
+        IsWalkPreferredTo pool a b → IsWalkPreferredTo pool b c → IsWalkPreferredTo pool a c }
 {
     options_are_as_promised();
     rank_is_total();
@@ -50,7 +53,8 @@ pub fn walks_have_one_order()
 /// There is at most one first selection: the rule of the document picks one.
 pub fn the_first_selection_is_unique()
     ensures { (pool : SealedPool) (trace other : List ℕ) →
-        IsFirstSelection pool trace → IsFirstSelection pool other → trace ≡ other }
+        IsFirstPreferredSelection pool trace → IsFirstPreferredSelection pool other → trace
+        ≡ other }
 {
     options_are_as_promised();
     rank_is_total();
@@ -60,7 +64,7 @@ pub fn the_first_selection_is_unique()
 /// is none only if none satisfies.
 pub fn a_first_selection_exists()
     ensures { (pool : SealedPool) (selection : List ℕ) →
-        IsSatisfying pool selection → (trace : List ℕ) × IsFirstSelection pool trace }
+        IsSatisfying pool selection → (trace : List ℕ) × IsFirstPreferredSelection pool trace }
 {
     options_are_as_promised();
     rank_is_total();
@@ -70,7 +74,7 @@ pub fn a_first_selection_exists()
 /// before it, the world can still be satisfied.
 pub fn each_choice_is_the_best_that_can_be_completed()
     ensures { (pool : SealedPool) (front rest selection : List ℕ) (c o : ℕ) (need : Need) →
-        IsFirstSelection pool (front ++ c ∷ rest) → next_need pool front ≡ Some need →
+        IsFirstPreferredSelection pool (front ++ c ∷ rest) → next_need pool front ≡ Some need →
         IsSatisfying pool selection → AreAllMembersOf (front ++ o ∷ []) selection →
         meets_at pool o need ≡ true → (o ≡ c) ⊎ (is_better pool need c o ≡ true) }
 {

@@ -4,7 +4,7 @@ ghost use Rattle.std.specs.Prelude.{◌≡◌, ◌<◌, ◌^◌, ◌≤◌, ◌=
 ghost use Rattle.search_choices.specs.candidate_core.Options.{IsIn};
 ghost use Rattle.search_choices.specs.candidate_core.PackageMatches.{AreMatchesAmong};
 ghost use Rattle.search_choices.specs.search_tables.Selection.{AreAllMembersOf, exclude_each_other, next_need};
-ghost use Rattle.search_choices.specs.search_tables.Reasons.{AreCompatible, FrameValue, IsReason, HasSameMembers, RulesOut, IsFrameOf, IsExhaustedFrame, IsFrameTaking, dead_end_reason};
+ghost use Rattle.search_choices.specs.search_tables.Reasons.{AreCompatible, FrameValue, IsReason, HasSameMembers, IsRuledOutBy, IsFrameOf, IsExhaustedFrame, IsFrameTaking, dead_end_reason};
 ghost use Rattle.solve_core.specs.Clauses.{IsClauseIfFound};
 ghost use Rattle.solve_core.specs.Measure.{search_measure};
 ghost use Rattle.search_choices.specs.Choices.{IsSearch, choices_of, pool_of};
@@ -157,7 +157,7 @@ impl<'p> Search<'p> {
         ensures found { IfOk result (λ found. MatchOption found ((other : ℕ) →
             IsIn other (choices_of self.old.chosen) →
             exclude_each_other (pool_of self.old.chosen) other id ≡ false)
-            (λ others. RulesOut (pool_of self.old.chosen) (choices_of self.old.chosen) id
+            (λ others. IsRuledOutBy (pool_of self.old.chosen) (choices_of self.old.chosen) id
             others.items)) }
         ensures chosen { self.new.chosen ≡ self.old.chosen }
         ensures turns { self.new.turns.items ≡ self.old.turns.items }
@@ -199,7 +199,7 @@ impl<'p> Search<'p> {
     // compared with this one.
     fn ruled_out_with(&self, id: CandId) -> Option<&[CandId]>
         requires { IsSearch self.now.chosen self.now.turns.items }
-        ensures { IfSome result (λ others. RulesOut (pool_of self.now.chosen)
+        ensures { IfSome result (λ others. IsRuledOutBy (pool_of self.now.chosen)
             (choices_of self.now.chosen) id others.now) }
     {
         let hint = (*self.hints.get(id.place as usize)?)?;
@@ -214,7 +214,8 @@ impl<'p> Search<'p> {
     // The other members of the reason with which propagation rules an option out, if it does.
     fn propagated_against(&self, id: CandId) -> Result<Option<Vec<CandId>>, AllocError>
         requires { self.now.known ≡ pool_of self.now.chosen }
-        ensures { IfOk result (λ found. IfSome found (λ others. RulesOut (pool_of self.now.chosen)
+        ensures { IfOk result (λ found. IfSome found (λ others. IsRuledOutBy
+            (pool_of self.now.chosen)
             (choices_of self.now.chosen) id others.items)) }
     {
         let Some(clause) = self.propagation.clause_against(id, &self.known)? else {
@@ -317,8 +318,9 @@ impl<'p> Search<'p> {
         self.step_back_for_reason()
     }
 
-    /// Whether propagation finds that no satisfying selection has all the choices. The stored reason
-    /// is then one of choices. After many dead ends only, since most searches have few.
+    /// Whether propagation finds that no satisfying selection has all the choices. All members of
+    /// the stored reason are then choices. It is only tried after many dead ends, since most
+    /// searches have few.
     pub(crate) fn is_dead_ahead(&mut self) -> Result<bool, AllocError>
         requires { self.old.known ≡ pool_of self.old.chosen }
         ensures chosen { self.new.chosen ≡ self.old.chosen }

@@ -7,7 +7,7 @@ ghost use Rattle.search_choices.specs.candidate_core.PackageMatches.{AreMatchesA
 ghost use Rattle.search_choices.specs.candidate_core.Rank.{SealedPool};
 ghost use Rattle.search_choices.specs.search_tables.Reasons.{HasOptions};
 ghost use Rattle.search_choices.specs.Choices.{IsSearch, pool_of};
-ghost use Rattle.search_choices.specs.search_tables.Selection.{IsFirstSelection, IsSatisfying};
+ghost use Rattle.search_choices.specs.search_tables.Selection.{IsFirstPreferredSelection, IsSatisfying};
 
 use crate::search::Search;
 use dep_core::World;
@@ -28,7 +28,7 @@ pub fn solve(alloc: Global, pool: &Sealed<'_>, world: &World) -> Result<Option<T
     requires { world.now ≡ pool.now.world }
     ensures { IfOk result (λ found. MatchOption found
         ((selection : List ℕ) → IsSatisfying pool.now selection → ⊥)
-        (λ trace. IsFirstSelection pool.now trace)) }
+        (λ trace. IsFirstPreferredSelection pool.now trace)) }
 {
     let mut search = Search::new(alloc, pool, world)?;
     first_selection(alloc, &mut search)
@@ -43,7 +43,7 @@ fn first_selection(alloc: Global, search: &mut Search<'_>) -> Result<Option<Trac
     requires known { search.old.known ≡ pool_of search.old.chosen }
     ensures { IfOk result (λ found. MatchOption found ((selection : List ℕ) →
         IsSatisfying (pool_of search.old.chosen) selection → ⊥)
-        (λ trace. IsFirstSelection (pool_of search.old.chosen) trace)) }
+        (λ trace. IsFirstPreferredSelection (pool_of search.old.chosen) trace)) }
 {
     options_are_as_promised();
     let Some(frame) = search.next_frame()? else {

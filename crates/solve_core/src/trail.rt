@@ -10,18 +10,18 @@ use std::alloc::{AllocError, Global};
 pub(crate) struct Literal {
     /// The place of the candidate.
     pub(crate) place: u32,
-    /// Whether it is in the selection.
+    /// Whether the literal says that the candidate is in the selection.
     pub(crate) is_in: bool,
 }
 
-/// What is known of a candidate.
+/// What the trail says of a candidate.
 #[derive(Clone, Copy)]
 struct Value {
-    /// Whether it is in the selection.
+    /// Whether the candidate is in the selection.
     is_in: bool,
-    /// The step of the trail.
+    /// The index of the candidate's step in the trail, counted from 0.
     step: usize,
-    /// How many choices were made before.
+    /// How many choices were made up to this step, the candidate included if it is a choice.
     level: usize,
 }
 
@@ -30,9 +30,9 @@ struct Value {
 struct Step {
     /// The place of the candidate.
     place: u32,
-    /// Whether it is in the selection.
+    /// Whether the candidate is in the selection.
     is_in: bool,
-    /// Whether it is a choice, and does not follow from a clause.
+    /// Whether the candidate is a choice, and does not follow from a clause.
     is_choice: bool,
 }
 
@@ -41,7 +41,7 @@ struct Step {
 pub(crate) enum Status {
     /// Nothing further: a literal of it is true, or two are open.
     Quiet,
-    /// Its last open literal is true.
+    /// One literal of it is open, and all others are false: so the open one is true.
     Unit(Literal),
     /// All its literals are false.
     Conflict,
@@ -57,7 +57,7 @@ pub(crate) struct Trail {
     steps: Vec<Step>,
     /// For each choice, how many steps were before it.
     levels: Vec<usize>,
-    /// How many steps were propagated.
+    /// How many steps, from the first on, were propagated.
     next: usize,
 }
 
@@ -94,7 +94,7 @@ impl Trail {
         if value.is_in { None } else { Some(value.step) }
     }
 
-    /// The step of a candidate; the number of all steps if it has none.
+    /// The step of a literal's candidate; the number of all steps if it has none.
     pub(crate) fn step_of(&self, literal: Literal) -> usize {
         match self.value(literal.place) {
             Some(value) => value.step,

@@ -31,9 +31,9 @@ impl Watch {
 /// The indexes of the clauses that watch the literals of a candidate, and of some that no longer do.
 #[derive(Drop)]
 struct Watching {
-    /// Those that watch whether the candidate is in the selection.
+    /// The clauses that watch the literal that the candidate is in the selection.
     is_in: Vec<usize>,
-    /// Those that watch whether it is not.
+    /// The clauses that watch the literal that the candidate is not in the selection.
     is_out: Vec<usize>,
 }
 

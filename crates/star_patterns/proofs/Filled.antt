@@ -5,15 +5,15 @@ use Rattle.std.specs.List.{list_any}
 use Rattle.std.proofs.lemmas.Bool.{and_parts}
 use Rattle.std.proofs.lemmas.Bool.Decides.{Decides-eqb}
 use Rattle.std.proofs.lemmas.List.Sums.{sum_by-cons}
-use Rattle.star_patterns.specs.Patterns.{is_byte_then, is_matched, suffixes_of}
+use Rattle.star_patterns.specs.Patterns.{starts_with_byte_then, is_whole_text_matched, suffixes_of}
 use Rattle.star_patterns.specs.Ends.{matches_some_suffix}
 use Rattle.star_patterns.specs.Fills.{MatchesByFillingStars, filled_pattern, star_count}
 use Rattle.star_patterns.proofs.Pieces.{IsEnd, end_found, end_matched, literal_byte, nothing_left, same_number, whole_end}
 
 -- ---- a star, and a byte that is none
 
-star_byte : (p : ℕ) (q text : List ℕ) → (p == 42) ≡ true → is_matched (p ∷ q) text ≡ matches_some_suffix q text
-star_byte p q text e = ap (λ t. if t then list_any (is_matched q) (suffixes_of text) else is_byte_then p (is_matched q) text) e
+star_byte : (p : ℕ) (q text : List ℕ) → (p == 42) ≡ true → is_whole_text_matched (p ∷ q) text ≡ matches_some_suffix q text
+star_byte p q text e = ap (λ t. if t then list_any (is_whole_text_matched q) (suffixes_of text) else starts_with_byte_then p (is_whole_text_matched q) text) e
 
 count_star : (p : ℕ) (q : List ℕ) → (p == 42) ≡ true → star_count (p ∷ q) ≡ suc (star_count q)
 count_star p q e =
@@ -55,45 +55,45 @@ filled_after_byte p q b rest e same later =
           ∙ ap (λ z. b ∷ z) later.text_is);
     }
 
-matched_is_filled : (pattern text : List ℕ) → is_matched pattern text ≡ true → MatchesByFillingStars pattern text
+matched_is_filled : (pattern text : List ℕ) → is_whole_text_matched pattern text ≡ true → MatchesByFillingStars pattern text
 matched_is_filled [] text m = record { fills = []; count = refl; text_is = sym (nothing_left text m) }
 matched_is_filled (p ∷ q) text m = go (λ rest later. matched_is_filled q rest later) (p == 42) refl
   where
-    go : ((rest : List ℕ) → is_matched q rest ≡ true → MatchesByFillingStars q rest) → (t : Bool) → (p == 42) ≡ t → MatchesByFillingStars (p ∷ q) text
+    go : ((rest : List ℕ) → is_whole_text_matched q rest ≡ true → MatchesByFillingStars q rest) → (t : Bool) → (p == 42) ≡ t → MatchesByFillingStars (p ∷ q) text
     go further true e =
         let end = end_found q text (sym (star_byte p q text e) ∙ m) in
         filled_after_star p q text end e (further end.rest end.matched)
     go further false e = other text m
       where
-        other : (text : List ℕ) → is_matched (p ∷ q) text ≡ true → MatchesByFillingStars (p ∷ q) text
+        other : (text : List ℕ) → is_whole_text_matched (p ∷ q) text ≡ true → MatchesByFillingStars (p ∷ q) text
         other [] m = absurd (true≢false (sym m ∙ literal_byte p q [] e))
         other (b ∷ rest) m =
-            let both = and_parts (p == b) (is_matched q rest) (sym (literal_byte p q (b ∷ rest) e) ∙ m) in
+            let both = and_parts (p == b) (is_whole_text_matched q rest) (sym (literal_byte p q (b ∷ rest) e) ∙ m) in
             filled_after_byte p q b rest e both.0 (further rest both.1)
 
-filled_is_matched : (pattern : List ℕ) (fills : List (List ℕ)) → length fills ≡ star_count pattern → is_matched pattern (filled_pattern pattern fills) ≡ true
+filled_is_matched : (pattern : List ℕ) (fills : List (List ℕ)) → length fills ≡ star_count pattern → is_whole_text_matched pattern (filled_pattern pattern fills) ≡ true
 filled_is_matched [] fills count = refl
 filled_is_matched (p ∷ q) fills count = go (λ others same. filled_is_matched q others same) (p == 42) refl
   where
-    go : ((others : List (List ℕ)) → length others ≡ star_count q → is_matched q (filled_pattern q others) ≡ true)
-        → (t : Bool) → (p == 42) ≡ t → is_matched (p ∷ q) (filled_pattern (p ∷ q) fills) ≡ true
+    go : ((others : List (List ℕ)) → length others ≡ star_count q → is_whole_text_matched q (filled_pattern q others) ≡ true)
+        → (t : Bool) → (p == 42) ≡ t → is_whole_text_matched (p ∷ q) (filled_pattern (p ∷ q) fills) ≡ true
     go further true e = star fills count
       where
-        star : (fills : List (List ℕ)) → length fills ≡ star_count (p ∷ q) → is_matched (p ∷ q) (filled_pattern (p ∷ q) fills) ≡ true
+        star : (fills : List (List ℕ)) → length fills ≡ star_count (p ∷ q) → is_whole_text_matched (p ∷ q) (filled_pattern (p ∷ q) fills) ≡ true
         star [] count = absurd (omega (arith, count_star p q e))
         star (fill ∷ fills) count =
             let fewer : length fills ≡ star_count q = omega (arith, count_star p q e) in
             let rest = filled_pattern q fills in
-            ap (is_matched (p ∷ q)) (filled_star p q fill fills e)
+            ap (is_whole_text_matched (p ∷ q)) (filled_star p q fill fills e)
             ∙ (star_byte p q (fill ++ rest) e
             ∙ end_matched q fill rest (whole_end q rest (further fills fewer)))
     go further false e =
         let rest = filled_pattern q fills in
-        ap (is_matched (p ∷ q)) (filled_other p q fills e)
+        ap (is_whole_text_matched (p ∷ q)) (filled_other p q fills e)
         ∙ (literal_byte p q (p ∷ rest) e
-        ∙ (ap (λ t. t && is_matched q rest) (same_number p)
+        ∙ (ap (λ t. t && is_whole_text_matched q rest) (same_number p)
         ∙ further fills (count ∙ count_other p q e)))
 
-pub matched_if_filled : (pattern text : List ℕ) → (is_matched pattern text ≡ true) ↔ MatchesByFillingStars pattern text
+pub matched_if_filled : (pattern text : List ℕ) → (is_whole_text_matched pattern text ≡ true) ↔ MatchesByFillingStars pattern text
 matched_if_filled pattern text =
-    (matched_is_filled pattern text, λ f. ap (is_matched pattern) (sym f.text_is) ∙ filled_is_matched pattern f.fills f.count)
+    (matched_is_filled pattern text, λ f. ap (is_whole_text_matched pattern) (sym f.text_is) ∙ filled_is_matched pattern f.fills f.count)

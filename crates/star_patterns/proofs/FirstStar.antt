@@ -5,7 +5,7 @@ use Rattle.std.specs.List.{prefix_len}
 use Rattle.std.proofs.lemmas.Bool.{ltb-true, ltb-false}
 use Rattle.std.proofs.lemmas.Bool.Decides.{Decides-eqb}
 use Rattle.std.proofs.lemmas.List.{append_assoc}
-use Rattle.star_patterns.specs.Patterns.{is_matched}
+use Rattle.star_patterns.specs.Patterns.{is_whole_text_matched}
 use Rattle.star_patterns.specs.Ends.{has_star, matches_some_suffix}
 use Rattle.star_patterns.proofs.Pieces.{after_piece, not_in_front}
 
@@ -67,15 +67,15 @@ parts_joined pattern piece later at star front back =
 no_star_in : (pattern piece : List ℕ) (at : ℕ) → IsInTreeAt pattern at → piece ≡ take at pattern → has_star piece ≡ false
 no_star_in pattern piece at star front = ap has_star front ∙ star.front
 
-pub front_taken : (pattern part left piece later : List ℕ) (at : ℕ) → IsInTreeAt pattern at → piece ≡ take at pattern → later ≡ drop (at + 1) pattern → part ≡ piece ++ left → matches_some_suffix later left ≡ is_matched pattern part
+pub front_taken : (pattern part left piece later : List ℕ) (at : ℕ) → IsInTreeAt pattern at → piece ≡ take at pattern → later ≡ drop (at + 1) pattern → part ≡ piece ++ left → matches_some_suffix later left ≡ is_whole_text_matched pattern part
 front_taken pattern part left piece later at star front back is =
-    sym (ap (λ z. is_matched z part) (parts_joined pattern piece later at star front back)
-    ∙ (ap (is_matched (piece ++ 42 ∷ later)) is
+    sym (ap (λ z. is_whole_text_matched z part) (parts_joined pattern piece later at star front back)
+    ∙ (ap (is_whole_text_matched (piece ++ 42 ∷ later)) is
     ∙ after_piece piece (42 ∷ later) left (no_star_in pattern piece at star front)))
 
-pub front_missing : (pattern part piece : List ℕ) (at : ℕ) → IsInTreeAt pattern at → piece ≡ take at pattern → ((rest : List ℕ) → part ≢ piece ++ rest) → false ≡ is_matched pattern part
+pub front_missing : (pattern part piece : List ℕ) (at : ℕ) → IsInTreeAt pattern at → piece ≡ take at pattern → ((rest : List ℕ) → part ≢ piece ++ rest) → false ≡ is_whole_text_matched pattern part
 front_missing pattern part piece at star front absent =
-    sym (ap (λ z. is_matched z part) (parts_joined pattern piece (drop (at + 1) pattern) at star front refl)
+    sym (ap (λ z. is_whole_text_matched z part) (parts_joined pattern piece (drop (at + 1) pattern) at star front refl)
     ∙ not_in_front piece (42 ∷ drop (at + 1) pattern) part (no_star_in pattern piece at star front) absent)
 
 -- the same with a tail after the pattern, which is no part of the piece

@@ -6,14 +6,14 @@
 ghost use Rattle.std.specs.Option.{option_map_or};
 ghost use Rattle.std.specs.Prelude.{◌≡◌, ◌==◌, ◌∷◌, ◌++◌, ◌<◌, ◌+◌, ℕ, [], List, false, drop, length, position, IfSome};
 ghost use Rattle.star_patterns.specs.Ends.{has_star, matches_some_suffix};
-ghost use Rattle.star_patterns.specs.Patterns.{is_matched, matches_some_part, star};
+ghost use Rattle.star_patterns.specs.Patterns.{is_whole_text_matched, matches_some_part, star};
 
 use memchr::memmem;
 
 /// Whether a pattern matches the whole of a text. It takes time in proportion to the lengths of
 /// both.
 pub fn matches(pattern: &[u8], text: &[u8]) -> bool
-    ensures { result ≡ is_matched pattern.now text.now }
+    ensures { result ≡ is_whole_text_matched pattern.now text.now }
 {
     let Some(at) = first_star(pattern) else {
         return pattern == text;
@@ -24,8 +24,8 @@ pub fn matches(pattern: &[u8], text: &[u8]) -> bool
     }
 }
 
-/// Whether a pattern matches some part of a text. It takes time in proportion to the lengths of
-/// both.
+/// Whether a pattern matches some substring of a text. It takes time in proportion to the lengths
+/// of both.
 pub fn matches_within(pattern: &[u8], text: &[u8]) -> bool
     ensures { result ≡ matches_some_part pattern.now text.now }
 {
@@ -35,7 +35,7 @@ pub fn matches_within(pattern: &[u8], text: &[u8]) -> bool
     }
 }
 
-/// Whether a pattern matches some end of a text.
+/// Whether a pattern matches some suffix of a text.
 fn matches_end(pattern: &[u8], text: &[u8]) -> bool
     ensures { result ≡ matches_some_suffix pattern.now text.now }
 {
@@ -72,7 +72,8 @@ fn last_piece<'p, 't>(pattern: &'p [u8], text: &'t [u8]) -> Option<LastPiece<'p,
     })
 }
 
-/// What follows the first place of a piece without a star, if the text has the piece.
+/// The text after the first occurrence of a piece that has no star, or None if the piece does not
+/// occur.
 fn after_first<'a>(piece: &[u8], text: &'a [u8]) -> Option<&'a [u8]>
     ensures { (pattern : List ℕ) → has_star piece.now ≡ false
         → matches_some_suffix (piece.now ++ star ∷ pattern) text.now
@@ -82,7 +83,7 @@ fn after_first<'a>(piece: &[u8], text: &'a [u8]) -> Option<&'a [u8]>
     Some(&text[at + piece.len()..])
 }
 
-/// What follows the byte at a place, counted from 0.
+/// The text after the byte at a place, counted from 0.
 fn after(bytes: &[u8], at: usize) -> &[u8]
     requires { at < length bytes.now }
     ensures { result.now ≡ drop (at + 1) bytes.now }

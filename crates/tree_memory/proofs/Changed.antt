@@ -11,7 +11,7 @@ use Rattle.base_core.specs.Tree.{TreeState, File, CanRename, HasName, set_file, 
 use Rattle.base_core.proofs.AtName.{name_cases, off_name}
 use Rattle.tree_memory.specs.Table.{lookup}
 use Rattle.tree_memory.specs.Changes.{empty_state, step, state_after_changes, earlier_states, contents_of, can_record_change, can_record_changes}
-use Rattle.tree_memory.specs.Kept.{HoldsState, IsSoundState, IsStore}
+use Rattle.tree_memory.specs.Kept.{HoldsState, IsSoundState, IsConsistentStore}
 use Rattle.tree_memory.proofs.AtName.{drop_name-off, put-at, put-off}
 use Rattle.tree_memory.proofs.Folders.{folder_like_fewer, folder_like_number, fewer_dropped}
 use Rattle.tree_memory.proofs.Growing.{front_is, Grows, grows_not, grows_set, IsPushed}
@@ -35,7 +35,7 @@ pub record IsOther (name : List ℕ) (n : ℕ) (es : List NameAndFile) (files mo
   pub named : lookup es name ≡ Some n
   pub stored : more ≡ set files n s
 
-module _ (name : List ℕ) (n : ℕ) (cs ds : List Change) (es : List NameAndFile) (files more : List Stored) (s : Stored) (store : IsStore cs es files) (m : IsOther name n es files more s) where
+module _ (name : List ℕ) (n : ℕ) (cs ds : List Change) (es : List NameAndFile) (files more : List Stored) (s : Stored) (store : IsConsistentStore cs es files) (m : IsOther name n es files more s) where
   abbrev was : TreeState
   was = newest_of cs files
 
@@ -91,7 +91,7 @@ module _ (name : List ℕ) (n : ℕ) (cs ds : List Change) (es : List NameAndFil
       few = subst (λ (l : List ℕ). length l < 2 ^ 64) (sym grown_read) few;
     }
 
-    pub store_append : ds ≡ cs ++ Append n (length s.bytes.items) ∷ [] → s.synced ≡ false → All (λ b. b < 256) piece → length s.bytes.items < 2 ^ 64 → IsStore ds es more
+    pub store_append : ds ≡ cs ++ Append n (length s.bytes.items) ∷ [] → s.synced ≡ false → All (λ b. b < 256) piece → length s.bytes.items < 2 ^ 64 → IsConsistentStore ds es more
     store_append is unsynced each few =
         store_pushed (Append n (length s.bytes.items)) cs ds es (contents_of files) more (after_append name piece was) (append_pushed is) append_step
         (changed_kept (λ (f : File). record { bytes = f.bytes ++ piece; synced = false }) (ap (λ (l : List ℕ). l ++ piece) (store.kept.bytes n) ∙ sym grown) (sym unsynced))
@@ -111,7 +111,7 @@ module _ (name : List ℕ) (n : ℕ) (cs ds : List Change) (es : List NameAndFil
     sync_step : step (contents_of more) (Sync n) was ≡ after_sync name was
     sync_step = sym (ap (with_file_changed (λ (f : File). record { bytes = f.bytes; synced = true }) was) leads)
 
-    pub store_sync : ds ≡ cs ++ Sync n ∷ [] → s.synced ≡ true → IsStore ds es more
+    pub store_sync : ds ≡ cs ++ Sync n ∷ [] → s.synced ≡ true → IsConsistentStore ds es more
     store_sync is synced =
         store_pushed (Sync n) cs ds es (contents_of files) more (after_sync name was) (sync_pushed is) sync_step
         (changed_kept (λ (f : File). record { bytes = f.bytes; synced = true }) (store.kept.bytes n ∙ sym same) (sym synced))
@@ -121,7 +121,7 @@ module _ (name : List ℕ) (n : ℕ) (cs ds : List Change) (es : List NameAndFil
     history_sync is = history_pushed (Sync n) cs ds (contents_of files) (contents_of more) (after_sync name was) (sync_pushed is) sync_step
 
 -- a file that is as it was
-pub store_same : (n : ℕ) (cs : List Change) (es : List NameAndFile) (files more : List Stored) (s d : Stored) → IsStore cs es files → more ≡ set files n s → n < length files → s.bytes.items ≡ d.bytes.items → s.synced ≡ d.synced → d ≡ get_or files n d → IsStore cs es more
+pub store_same : (n : ℕ) (cs : List Change) (es : List NameAndFile) (files more : List Stored) (s d : Stored) → IsConsistentStore cs es files → more ≡ set files n s → n < length files → s.bytes.items ≡ d.bytes.items → s.synced ≡ d.synced → d ≡ get_or files n d → IsConsistentStore cs es more
 store_same n cs es files more s d store is inside bytes synced at =
     let same_bytes : contents_of more ≡ contents_of files = ap contents_of is ∙ map-set_same (λ (f : Stored). f.bytes.items) files n s d (bytes ∙ ap (λ (f : Stored). f.bytes.items) at) in
     let same_flags = ap (λ (l : List Stored). map (λ (f : Stored). f.synced) l) is ∙ map-set_same (λ (f : Stored). f.synced) files n s d (synced ∙ ap (λ (f : Stored). f.synced) at) in record {
@@ -141,7 +141,7 @@ states_same n cs files more s d is bytes at =
 
 -- ---- names
 
-module _ (cs ds : List Change) (es fs : List NameAndFile) (files : List Stored) (store : IsStore cs es files) where
+module _ (cs ds : List Change) (es fs : List NameAndFile) (files : List Stored) (store : IsConsistentStore cs es files) where
   abbrev now : TreeState
   now = newest_of cs files
 
@@ -175,7 +175,7 @@ module _ (cs ds : List Change) (es fs : List NameAndFile) (files : List Stored) 
         subst (λ (o : Option ℕ). IsSoundState (with_file_moved from to now o)) (sym (store.kept.names from ∙ there)) (sound_with now (move_name now.names from to n) now_sound (folder_like_number (drop_name now.names from) to 0 n can.folders)
         (named_put (drop_name now.names from) to n (named_drop now.names from (now_sound.named now.names (inl refl))) named))
 
-    pub store_rename : ds ≡ cs ++ Rename from to ∷ [] → IsName to → CanRename from to now → (es₁ : List NameAndFile) → ((q : List ℕ) → lookup es₁ q ≡ put_name (lookup es) to n q) → ((q : List ℕ) → lookup fs q ≡ drop_name (lookup es₁) from q) → IsStore ds fs files
+    pub store_rename : ds ≡ cs ++ Rename from to ∷ [] → IsName to → CanRename from to now → (es₁ : List NameAndFile) → ((q : List ℕ) → lookup es₁ q ≡ put_name (lookup es) to n q) → ((q : List ℕ) → lookup fs q ≡ drop_name (lookup es₁) from q) → IsConsistentStore ds fs files
     store_rename is named can es₁ first second =
         store_pushed (Rename from to) cs ds fs (contents_of files) files (after_rename from to now) (pushed_names (Rename from to) is rename_can) refl (renamed_kept (moved can.apart es₁ first second)) (renamed_sound named can) store.sound
 
@@ -193,7 +193,7 @@ module _ (cs ds : List Change) (es fs : List NameAndFile) (files : List Stored) 
     removed_sound (Some n) = sound_with now (drop_name now.names name) now_sound (folder_like_fewer now.names (drop_name now.names name) (fewer_dropped now.names name) (now_sound.folders now.names (inl refl)))
         (named_drop now.names name (now_sound.named now.names (inl refl)))
 
-    pub store_remove : ds ≡ cs ++ Remove name ∷ [] → HasName name now → ((q : List ℕ) → lookup fs q ≡ drop_name (lookup es) name q) → IsStore ds fs files
+    pub store_remove : ds ≡ cs ++ Remove name ∷ [] → HasName name now → ((q : List ℕ) → lookup fs q ≡ drop_name (lookup es) name q) → IsConsistentStore ds fs files
     store_remove is has gone =
         store_pushed (Remove name) cs ds fs (contents_of files) files (after_remove name now) (pushed_names (Remove name) is has) refl (removed_kept (now.names name) has gone) (removed_sound (now.names name)) store.sound
 
@@ -208,10 +208,10 @@ module _ (cs ds : List Change) (es fs : List NameAndFile) (files : List Stored) 
     pub history_stay : ds ≡ cs ++ Stay ∷ [] → (HasName name now → ⊥) → states_of ds files ≡ after_remove name now ∷ states_of cs files
     history_stay is absent = history_pushed Stay cs ds (contents_of files) (contents_of files) (after_remove name now) (pushed_names Stay is refl) (stayed (now.names name) absent)
 
-  pub store_stay : ds ≡ cs ++ Stay ∷ [] → IsStore ds es files
+  pub store_stay : ds ≡ cs ++ Stay ∷ [] → IsConsistentStore ds es files
   store_stay is = store_pushed Stay cs ds es (contents_of files) files now (pushed_names Stay is refl) refl store.kept now_sound store.sound
 
-  pub store_sync_names : ds ≡ cs ++ SyncNames ∷ [] → IsStore ds es files
+  pub store_sync_names : ds ≡ cs ++ SyncNames ∷ [] → IsConsistentStore ds es files
   store_sync_names is =
       store_pushed SyncNames cs ds es (contents_of files) files (after_sync_names now) (pushed_names SyncNames is refl) refl (record { names = store.kept.names; made = store.kept.made; bytes = store.kept.bytes; synced = store.kept.synced })
       (sound_one (after_sync_names now) refl (now_sound.folders now.names (inl refl)) (now_sound.named now.names (inl refl)) now_sound.bytes) store.sound

@@ -6,7 +6,7 @@ use Rattle.std.proofs.lemmas.Bool.Decides.{nat_tests}
 use Rattle.std.proofs.lemmas.Bool.{both_ways}
 use Rattle.base_core.specs.Tree.{TreeState}
 use Rattle.base_core.specs.Calls.{IsCounted}
-use Rattle.base_core.specs.Faults.{CountsOnlyRise, HasCause}
+use Rattle.base_core.specs.Faults.{CountsOnlyRise, IsFaultCountedWithCause}
 use Rattle.base_core.proofs.Booleans.{or_weaker}
 use Rattle.tree_memory.specs.Plans.{PlanState, is_next_call_listed, is_stop_reached, is_next_call_to_fail, has_later_failure, listed_calls_after_one_call, plan_after_one_call}
 use Rattle.tree_memory.specs.Tallies.{with_call, with_fault, with_misuse, with_memory_fault, with_begun_call, goes_on, HasNotFallen}
@@ -116,7 +116,7 @@ module _ (b : Bool) (writes : ℕ) (old new : Calls) (h : IsBegun b writes old n
   begun_on = on old new h.grown h.plan
 
 -- a call that is never a misuse fails if that is planned
-pub planned_cause : (writes : ℕ) (old new : Calls) → IsBegun true writes old new → goes_on true (is_next_call_to_fail old.plan) ≡ false → HasCause (counts_by old) (counts_by new)
+pub planned_cause : (writes : ℕ) (old new : Calls) → IsBegun true writes old new → goes_on true (is_next_call_to_fail old.plan) ≡ false → IsFaultCountedWithCause (counts_by old) (counts_by new)
 planned_cause writes old new h stays = ⊎_elim (λ m. absurd (both_ways true m.cannot refl))
     (λ p. record { fault = omega (arith, ap (λ (u : Tally). u.faults) p.tally); reason = inl (next_is_more old.plan p.next) })
     (has_failed true writes old new h stays)

@@ -18,7 +18,7 @@ use Rattle.base_core.specs.Files.{IsFolderOf, HasNoFileAsFolder, NameMap, put_na
 use Rattle.base_core.proofs.Orderings.{is_less, tied_then}
 use Rattle.base_core.proofs.AtName.{other_name, name_cases, off_name}
 use Rattle.base_core.proofs.Folders.{at_folder}
-use Rattle.tree_memory.specs.Table.{IsSortedNameTable, lookup, IsStartOfFolder, MakesNoFolderOfAnother, IsBelow, HasNameBelowOtherThan, HasFolderOtherThan}
+use Rattle.tree_memory.specs.Table.{IsSortedNameTable, lookup, IsStartOfFolder, MakesNoFolderOfAnother, AreTableNamesBelow, HasNameBelowOtherThan, HasFolderOtherThan}
 use Rattle.tree_memory.proofs.AtName.{put-at, put-off, drop_name-at, drop_name-off}
 use Rattle.tree_memory.proofs.Placed.{searchable, located, looked_up}
 use Rattle.tree_memory.specs.declared.table.NameAndFile.{NameAndFile}
@@ -169,7 +169,7 @@ listing_more es start i folder name names e so_far within is spelt below = recor
     here k d last = let same : start + k ≡ i = omega (arith, last, so_far.long) in ap (λ n. get_or es n d) same ∙ entry_at es i e d within is
 
 pub listed_below : (es : List NameAndFile) (start i : ℕ) (folder : List ℕ) (names : List (List ℕ)) → IsSortedNameTable es → IsStartOfFolder es start folder → i ≤ length es → IsListing es start i folder names
-    → ((k : ℕ) (d : NameAndFile) → i ≤ k → k < length es → IsFolderOf folder (get_or es k d).name → ⊥) → IsBelow es folder names
+    → ((k : ℕ) (d : NameAndFile) → i ≤ k → k < length es → IsFolderOf folder (get_or es k d).name → ⊥) → AreTableNamesBelow es folder names
 listed_below es start i folder names table is upto so_far behind = record { rising = rising; each = λ q. (there q, back q) }
   where
     inside : (k : ℕ) → k < length names → start + k < length es

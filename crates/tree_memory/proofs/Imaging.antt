@@ -15,7 +15,7 @@ use Rattle.tree_memory.specs.Changes.{empty_state, after_put, state_after_change
 use Rattle.tree_memory.specs.Images.{picked_crash_map, crash_image_count_of, crash_bytes, stored_file, IsPickedImageMap, IsImageOf, HasImageNames}
 use Rattle.tree_memory.specs.Kept.{HoldsState, CanPut}
 use Rattle.tree_memory.specs.Table.{IsSortedNameTable, lookup}
-use Rattle.tree_memory.specs.WellFormedLaw.{AreMapsFiniteBelow}
+use Rattle.tree_memory.specs.WellFormedLaw.{AreMapsFiniteOfMadeFiles}
 use Rattle.tree_memory.proofs.AtName.{put-at, put-off}
 use Rattle.tree_memory.proofs.Keeping.{read-after_put, stored_bytes}
 use Rattle.tree_memory.proofs.Undoing.{picked_left}
@@ -83,7 +83,7 @@ module _ (v : TreeState) (way : ℕ) (es : List NameAndFile) (table : IsSortedNa
             (λ off. lookup_take es i q (present q (subst IsSome (put-off w.names e.name w.made q (off_name q e.name off)) some)))
             (name_cases q e.name)
 
-    pub so_far_next : (bytes : List ℕ) (u : TreeState) → AreMapsFiniteBelow w → bytes ≡ crash_bytes way (v.files e.file) → u ≡ after_put e.name bytes w → IsSoFar v way es (i + 1) u
+    pub so_far_next : (bytes : List ℕ) (u : TreeState) → AreMapsFiniteOfMadeFiles w → bytes ≡ crash_bytes way (v.files e.file) → u ≡ after_put e.name bytes w → IsSoFar v way es (i + 1) u
     so_far_next bytes u whole are is = subst (IsSoFar v way es (i + 1)) (sym is) (record { files = files; one_map = refl; synced = synced })
       where
         both_ways : (b : Bool) (r : Option ℕ) → cond b (Some (crash_bytes way (v.files e.file))) (option_map (λ n. crash_bytes way (v.files n)) r) ≡ option_map (λ n. crash_bytes way (v.files n)) (cond b (Some e.file) r)
@@ -109,7 +109,7 @@ module _ (v : TreeState) (way : ℕ) (es : List NameAndFile) (table : IsSortedNa
             some_same e = cc (e)
 
     -- it leads to a file that was made
-    pub number_made : IsCrashMap v (lookup es) → AreMapsFiniteBelow v → e.file < v.made
+    pub number_made : IsCrashMap v (lookup es) → AreMapsFiniteOfMadeFiles v → e.file < v.made
     number_made left whole =
         left_each (λ (o : Option ℕ). o ≡ Some e.file → e.file < v.made) v e.name (λ one is at. (whole.each one is).below e.name e.file at) (lookup es) left
         (lookup_named es i e.name e table (record { within = within; here = λ d. ap (λ (x : NameAndFile). x.name) (entry_at es i e d within here) }) ∙ ap (λ (x : NameAndFile). Some x.file) (sym here))

@@ -17,8 +17,8 @@ use Rattle.base_core.specs.Tree.{TreeState, File, IsCurrentOrOlderMap, CanCreate
 use Rattle.base_core.proofs.AtName.{name_cases, off_name}
 use Rattle.tree_memory.specs.Table.{IsSortedNameTable, lookup, names_of}
 use Rattle.tree_memory.specs.Changes.{empty_state, after_put, step, state_after_changes, earlier_states, contents_of, synced_flags}
-use Rattle.tree_memory.specs.Kept.{HoldsState, IsSoundState, IsStore, CanPut}
-use Rattle.tree_memory.specs.WellFormedLaw.{AreMapsFiniteBelow, bounded_state}
+use Rattle.tree_memory.specs.Kept.{HoldsState, IsSoundState, IsConsistentStore, CanPut}
+use Rattle.tree_memory.specs.WellFormedLaw.{AreMapsFiniteOfMadeFiles, bounded_state}
 use Rattle.tree_memory.proofs.AtName.{put-at, put-off}
 use Rattle.tree_memory.proofs.Growing.{front_is, Grows, grows_push, IsPushed, pushed_state, pushed_record, pushed_history}
 use Rattle.tree_memory.proofs.Placed.{located, looked_up}
@@ -151,7 +151,7 @@ pub sound_changed : (change : File → File) (v : TreeState) (n : ℕ) → IsSou
 sound_changed change v n old new = record { folders = old.folders; named = old.named; bytes = set_bytes v.files n (change (v.files n)) old.bytes new }
 
 -- the newest state of a store is sound
-pub store_sound : (cs : List Change) (es : List NameAndFile) (files : List Stored) → IsStore cs es files → IsSoundState (state_after_changes (contents_of files) empty_state cs)
+pub store_sound : (cs : List Change) (es : List NameAndFile) (files : List Stored) → IsConsistentStore cs es files → IsSoundState (state_after_changes (contents_of files) empty_state cs)
 store_sound cs es files store = All-head IsSoundState (state_after_changes (contents_of files) empty_state cs) (earlier_states (contents_of files) empty_state [] cs) store.sound
 
 -- ---- the changes
@@ -163,7 +163,7 @@ history_pushed c cs ds contents more w p is = pushed_history c cs ds contents mo
 
 -- and such a store
 pub store_pushed : (c : Change) (cs ds : List Change) (es : List NameAndFile) (contents : List (List ℕ)) (files : List Stored) (w : TreeState) → IsPushed c cs ds contents (contents_of files) → step (contents_of files) c (state_after_changes contents empty_state cs) ≡ w
-    → HoldsState w es files → IsSoundState w → All IsSoundState (state_after_changes contents empty_state cs ∷ earlier_states contents empty_state [] cs) → IsStore ds es files
+    → HoldsState w es files → IsSoundState w → All IsSoundState (state_after_changes contents empty_state cs ∷ earlier_states contents empty_state [] cs) → IsConsistentStore ds es files
 store_pushed c cs ds es contents files w p is kept sound earlier =
     let same = sym (pushed_state c cs ds contents (contents_of files) p ∙ is) in record {
       recorded = pushed_record c cs ds contents (contents_of files) p;
@@ -185,7 +185,7 @@ more_grows name es fs files more s m = subst (Grows (contents_of files)) (sym (m
 more_names : (v : TreeState) (name : List ℕ) (es fs : List NameAndFile) (files more : List Stored) (s : Stored) → IsMore name es fs files more s → HoldsState v es files → (q : List ℕ) → put_name v.names name v.made q ≡ lookup fs q
 more_names v name es fs files more s m kept q = ap (λ (n : ℕ). cond (bytes_eq q name) (Some n) (v.names q)) kept.made ∙ ap (cond (bytes_eq q name) (Some (length files))) (kept.names q) ∙ sym (m.named q)
 
-module _ (name : List ℕ) (cs ds : List Change) (es fs : List NameAndFile) (files more : List Stored) (s : Stored) (store : IsStore cs es files) (m : IsMore name es fs files more s) where
+module _ (name : List ℕ) (cs ds : List Change) (es fs : List NameAndFile) (files more : List Stored) (s : Stored) (store : IsConsistentStore cs es files) (m : IsMore name es fs files more s) where
   abbrev was : TreeState
   was = state_after_changes (contents_of files) empty_state cs
 
@@ -225,7 +225,7 @@ module _ (name : List ℕ) (cs ds : List Change) (es fs : List NameAndFile) (fil
   put_sound named file can = sound_one (after_put name s.bytes.items was) refl can.folders (named_put was.names name was.made (was_sound.named was.names (inl refl)) named)
       (set_bytes was.files was.made (record { bytes = s.bytes.items; synced = true }) was_sound.bytes file)
 
-  pub store_put : ds ≡ cs ++ Put name (length files) (length s.bytes.items) ∷ [] → s.synced ≡ true → IsName name → AreFileBytes s.bytes.items → CanPut name was → IsStore ds fs more
+  pub store_put : ds ≡ cs ++ Put name (length files) (length s.bytes.items) ∷ [] → s.synced ≡ true → IsName name → AreFileBytes s.bytes.items → CanPut name was → IsConsistentStore ds fs more
   store_put is synced named file can = store_pushed (Put name (length files) (length s.bytes.items)) cs ds fs (contents_of files) more (after_put name s.bytes.items was) (put_pushed is) put_step (put_kept synced) (put_sound named file can) store.sound
 
   pub history_put : ds ≡ cs ++ Put name (length files) (length s.bytes.items) ∷ [] → state_after_changes (contents_of more) empty_state ds ∷ earlier_states (contents_of more) empty_state [] ds ≡ after_put name s.bytes.items was ∷ (was ∷ earlier_states (contents_of files) empty_state [] cs)
@@ -249,7 +249,7 @@ module _ (name : List ℕ) (cs ds : List Change) (es fs : List NameAndFile) (fil
       named map (inl is) = subst AreNames (sym is) (named_put was.names name was.made (was_sound.named was.names (inl refl)) name_is)
       named map (inr other) = was_sound.named map other
 
-  pub store_create : ds ≡ cs ++ Create name ∷ [] → s.bytes.items ≡ [] → s.synced ≡ false → IsName name → CanCreate name was → IsStore ds fs more
+  pub store_create : ds ≡ cs ++ Create name ∷ [] → s.bytes.items ≡ [] → s.synced ≡ false → IsName name → CanCreate name was → IsConsistentStore ds fs more
   store_create is empty unsynced named can = store_pushed (Create name) cs ds fs (contents_of files) more (after_create name was) (create_pushed is) refl (create_kept empty unsynced) (create_sound named can) store.sound
 
   pub history_create : ds ≡ cs ++ Create name ∷ [] → state_after_changes (contents_of more) empty_state ds ∷ earlier_states (contents_of more) empty_state [] ds ≡ after_create name was ∷ (was ∷ earlier_states (contents_of files) empty_state [] cs)
@@ -264,7 +264,7 @@ pub read_present : (v : TreeState) (es : List NameAndFile) (files : List Stored)
 read_present v es files name n kept present = ap (bytes_of_file_number v.files) (kept.names name ∙ present) ∙ ap Some (kept.bytes n)
 
 -- a name leads to a file that is stored
-pub leads_within : (cs : List Change) (es : List NameAndFile) (files : List Stored) (name : List ℕ) (n : ℕ) → IsStore cs es files → lookup es name ≡ Some n → n < length files
+pub leads_within : (cs : List Change) (es : List NameAndFile) (files : List Stored) (name : List ℕ) (n : ℕ) → IsConsistentStore cs es files → lookup es name ≡ Some n → n < length files
 leads_within cs es files name n store present =
     let v = state_after_changes (contents_of files) empty_state cs in
     let below = ((bounded_state (contents_of files) cs).each v.names (inl refl)).below name n (store.kept.names name ∙ present) in
@@ -275,7 +275,7 @@ pub stored_bytes : (files : List Stored) (n : ℕ) (file : Stored) → n < lengt
 stored_bytes files n file within is = get_or-map (λ (f : Stored). f.bytes.items) files n file [] within ∙ ap (λ (f : Stored). f.bytes.items) (sym is)
 
 -- a file put is read, and the others as before
-pub read-after_put : (name bytes : List ℕ) (v : TreeState) → AreMapsFiniteBelow v → files_of (after_put name bytes v) ≡ put_name (files_of v) name bytes
+pub read-after_put : (name bytes : List ℕ) (v : TreeState) → AreMapsFiniteOfMadeFiles v → files_of (after_put name bytes v) ≡ put_name (files_of v) name bytes
 read-after_put name bytes v bounded = λ i q. read q i
   where
     apart : (q : List ℕ) (o : Option ℕ) → v.names q ≡ o → bytes_of_file_number (after_put name bytes v).files o ≡ bytes_of_file_number v.files o

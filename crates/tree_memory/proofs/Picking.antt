@@ -7,7 +7,7 @@ use Rattle.base_core.specs.Files.{NameMap, no_names, put_name, drop_name}
 use Rattle.base_core.specs.Undone.{with_change_replayed}
 use Rattle.base_core.specs.Tree.{TreeState, with_file_moved, with_name_removed, after_rename, after_remove}
 use Rattle.tree_memory.specs.Changes.{empty_state, step, state_after_changes, can_record_change, can_record_changes}
-use Rattle.tree_memory.specs.Images.{newest_first, syncs_names, map_count_after_change, map_without, HasNames}
+use Rattle.tree_memory.specs.Images.{maps_newest_first, syncs_names, map_count_after_change, map_without, HasNames}
 use Rattle.tree_memory.specs.Table.{lookup}
 use Rattle.tree_memory.proofs.AtName.{is_name}
 use Rattle.tree_memory.proofs.Undoing.{without_none, without_step}
@@ -38,7 +38,7 @@ some_at None is = absurd (cc (is))
 some_at (Some n) is = (n, refl)
 
 -- a change that does not sync the names keeps the maps, or makes one more
-pub older_after : (contents : List (List ℕ)) (c : Change) (v : TreeState) → can_record_change contents c v ≡ true → syncs_names c ≡ false → (newest_first (step contents c v) ≡ newest_first v) ⊎ ((step contents c v).older ≡ newest_first v)
+pub older_after : (contents : List (List ℕ)) (c : Change) (v : TreeState) → can_record_change contents c v ≡ true → syncs_names c ≡ false → (maps_newest_first (step contents c v) ≡ maps_newest_first v) ⊎ ((step contents c v).older ≡ maps_newest_first v)
 older_after contents (Put name file len) v can off = absurd (cc (off))
 older_after contents (Create name) v can off = inr refl
 older_after contents (Append file len) v can off = inl refl
@@ -71,7 +71,7 @@ not_synced cs ds start i c same from within is each =
     let far : AllWithin (λ x. syncs_names x ≡ false) cs start (length cs) = subst (λ (l : List Change). AllWithin (λ x. syncs_names x ≡ false) l start (length l)) same each in
     ap syncs_names is ∙ far i c from within
 
-pub maps_counted : (contents : List (List ℕ)) (c : Change) (v : TreeState) → can_record_change contents c v ≡ true → length (newest_first (step contents c v)) ≡ map_count_after_change c (length (newest_first v))
+pub maps_counted : (contents : List (List ℕ)) (c : Change) (v : TreeState) → can_record_change contents c v ≡ true → length (maps_newest_first (step contents c v)) ≡ map_count_after_change c (length (maps_newest_first v))
 maps_counted contents (Put name file len) v can = refl
 maps_counted contents (Create name) v can = omega arith
 maps_counted contents (Append file len) v can = refl
@@ -93,14 +93,14 @@ maps_few Stay maps i few = omega (arith, few)
 
 -- how many maps a front of a record gives
 pub record IsMapCount (contents : List (List ℕ)) (cs : List Change) (i maps : ℕ) : Type 0 where
-  pub count : maps ≡ length (newest_first (state_after_changes contents empty_state (take i cs)))
+  pub count : maps ≡ length (maps_newest_first (state_after_changes contents empty_state (take i cs)))
   pub few : maps ≤ i + 1
 
 pub count_more : (contents : List (List ℕ)) (cs : List Change) (i maps more : ℕ) (c : Change) → i < length cs → c ≡ get_or cs i c → can_record_changes contents empty_state cs ≡ true → IsMapCount contents cs i maps → more ≡ map_count_after_change c maps
     → IsMapCount contents cs (i + 1) more
 count_more contents cs i maps more c within is recorded so_far counted = record {
   count = counted ∙ ap (map_count_after_change c) so_far.count ∙ sym (maps_counted contents c (state_after_changes contents empty_state (take i cs)) (can_at contents cs i c within is recorded))
-      ∙ sym (ap (λ (v : TreeState). length (newest_first v)) (state_at contents cs i c within is));
+      ∙ sym (ap (λ (v : TreeState). length (maps_newest_first v)) (state_at contents cs i c within is));
   few = subst (λ (n : ℕ). n ≤ i + 1 + 1) (sym counted) (maps_few c maps i so_far.few);
 }
 

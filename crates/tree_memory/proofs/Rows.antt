@@ -2,7 +2,7 @@
 use Rattle.std.specs.Prelude.{◌≡◌, true, false, [], ◌∷◌, Some, None, codes, length, refl}
 use Rattle.base_core.specs.Tree.{TreeState, after_create, after_append, after_sync, after_rename, after_remove, after_sync_names}
 use Rattle.tree_memory.specs.Changes.{empty_state, after_put}
-use Rattle.tree_memory.specs.Images.{crash_bytes, newest_first, picked_crash_map, crash_image_count_of}
+use Rattle.tree_memory.specs.Images.{crash_bytes, maps_newest_first, picked_crash_map, crash_image_count_of}
 use Rattle.tree_memory.specs.Plans.{PlanState, is_next_call_to_fail, has_later_failure, plan_after_one_call}
 
 -- ---- images: an old file, and a new one that is not synced
@@ -43,15 +43,15 @@ row_synced = refl
 
 -- ---- maps
 
-row_moved : length (newest_first (after_rename (codes "new") (codes "old") two_maps)) ≡ 3
+row_moved : length (maps_newest_first (after_rename (codes "new") (codes "old") two_maps)) ≡ 3
 unfolding two_maps
 row_moved = refl
 
-row_stayed : length (newest_first (after_remove (codes "x") two_maps)) ≡ 2
+row_stayed : length (maps_newest_first (after_remove (codes "x") two_maps)) ≡ 2
 unfolding two_maps
 row_stayed = refl
 
-row_one : length (newest_first (after_sync_names two_maps)) ≡ 1
+row_one : length (maps_newest_first (after_sync_names two_maps)) ≡ 1
 unfolding two_maps
 row_one = refl
 

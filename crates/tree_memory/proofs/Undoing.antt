@@ -5,7 +5,7 @@ use Rattle.base_core.specs.Files.{NameMap, no_names}
 use Rattle.base_core.specs.Tree.{TreeState}
 use Rattle.base_core.specs.Undone.{MayBeLeftByCrash, IsCrashMap, with_change_replayed}
 use Rattle.base_core.proofs.Undone.{change_off, change_whole}
-use Rattle.tree_memory.specs.Images.{newest_first, most_changes_with_all_subsets, is_bit_set_at, is_change_undone, map_without, picked_crash_map, crash_image_count_of}
+use Rattle.tree_memory.specs.Images.{maps_newest_first, most_changes_with_all_subsets, is_bit_set_at, is_change_undone, map_without, picked_crash_map, crash_image_count_of}
 
 -- ---- what is left is a map that a crash may leave
 
@@ -46,7 +46,7 @@ module _ (undone : ℕ → Bool) (v w : TreeState) (before after : NameMap) (so_
   at_name true one other q = refl
   at_name false one other q = refl
 
-  pub without_step : (newest_first w ≡ newest_first v) ⊎ (w.older ≡ newest_first v) → (q : List ℕ) → after q ≡ map_without undone w.names w.older q
+  pub without_step : (maps_newest_first w ≡ maps_newest_first v) ⊎ (w.older ≡ maps_newest_first v) → (q : List ℕ) → after q ≡ map_without undone w.names w.older q
   without_step (inl same) q =
       let names : w.names ≡ v.names = ap newest same in
       let older : w.older ≡ v.older = ap behind same in

@@ -39,12 +39,13 @@ synced_flags files = map (λ file. file.synced) files
 abbrev pub first_bytes_of_file : List (List ℕ) → ℕ → ℕ → List ℕ
 first_bytes_of_file contents file len = take len (slice_index_or contents file [])
 
--- what a change does to a state. Stay adds one more state that is the same
+-- the state after a change; `Stay` leaves the state as it is, and counts as one more state
 abbrev pub step : List (List ℕ) → Change → TreeState → TreeState
 step contents (Put name file len) v = after_put name (first_bytes_of_file contents file len) v
 step contents (Create name) v = after_create name v
 step contents (Append file len) v =
-    with_file_changed (λ f. record { bytes = first_bytes_of_file contents file len; synced = false }) v (Some file)
+    with_file_changed (λ f. record { bytes = first_bytes_of_file contents file len; synced = false }) v
+    (Some file)
 step contents (Sync file) v =
     with_file_changed (λ f. record { bytes = f.bytes; synced = true }) v (Some file)
 step contents (Rename from to) v = after_rename from to v
@@ -52,7 +53,7 @@ step contents (Remove name) v = after_remove name v
 step contents SyncNames v = after_sync_names v
 step contents Stay v = v
 
--- the state that a record leads to from another
+-- the state after the changes of a record, from the state `v` on
 abbrev pub state_after_changes : List (List ℕ) → TreeState → List Change → TreeState
 state_after_changes contents v [] = v
 state_after_changes contents v (c ∷ cs) = state_after_changes contents (step contents c v) cs
@@ -85,4 +86,5 @@ can_record_change contents Stay v = true
 -- whether each of some changes may be recorded at the state to which those before it lead
 abbrev pub can_record_changes : List (List ℕ) → TreeState → List Change → Bool
 can_record_changes contents v [] = true
-can_record_changes contents v (c ∷ cs) = can_record_change contents c v && can_record_changes contents (step contents c v) cs
+can_record_changes contents v (c ∷ cs) =
+    can_record_change contents c v && can_record_changes contents (step contents c v) cs

@@ -33,7 +33,7 @@ is_change_undone changes pick number =
     else (if nat_le pick changes then nat_le (changes - pick) number
     else pick - changes - 1 == number)
 
--- how many numbers pick, given how many changes of names there are; it saturates
+-- how many numbers pick a map of names, given how many changes of names there are; at most 2^64 - 1
 abbrev pub crash_image_count : ℕ → ℕ
 crash_image_count changes =
     if nat_le changes most_changes_with_all_subsets then 2 ^ changes else min (changes * 2 + 1) (2 ^ 64 - 1)
@@ -52,8 +52,8 @@ picked_crash_map pick v = map_without (is_change_undone (length v.older) pick) v
 
 -- ---- by a number
 
--- the contents of a file after a crash: a synced one keeps its bytes; an unsynced one has, as chosen,
--- its bytes as read (0), nothing (1), or as many bytes of value 255 (2)
+-- the contents of a file after a crash: those of a synced file. An unsynced file has, as `way`
+-- chooses, its bytes as read (0), nothing (1), or as many bytes of value 255 (any other number)
 abbrev pub crash_bytes : ℕ → File → List ℕ
 crash_bytes way file = if file.synced || way == 0 then file.bytes else
     (if way == 1 then [] else replicate (length file.bytes) 255)
@@ -84,8 +84,8 @@ pub record HasImageNames (pick : ℕ) (v : TreeState) (entries : List NameAndFil
 -- ---- as it is read from a record
 
 -- the maps of names since the names were last synced, that as read first
-abbrev pub newest_first : TreeState → List NameMap
-newest_first v = v.names ∷ v.older
+abbrev pub maps_newest_first : TreeState → List NameMap
+maps_newest_first v = v.names ∷ v.older
 
 -- whether a change that may be recorded syncs the names
 abbrev pub syncs_names : Change → Bool
@@ -114,6 +114,6 @@ pub record HasNames (v : TreeState) (entries : List NameAndFile) (count : ℕ) :
   pub names : (q : List ℕ) → v.names q ≡ lookup entries q
   pub made : v.made ≡ count
 
--- the file that is stored so
+-- the file that a `Stored` represents
 abbrev pub stored_file : Stored → File
 stored_file stored = record { bytes = stored.bytes.items; synced = stored.synced }

@@ -17,8 +17,8 @@ pub record HoldsState (v : TreeState) (entries : List NameAndFile) (files : List
   pub bytes : (n : ℕ) → (v.files n).bytes ≡ slice_index_or (contents_of files) n []
   pub synced : (n : ℕ) → (v.files n).synced ≡ slice_index_or (synced_flags files) n false
 
--- a state is sound: in each map that a crash may leave no name is a folder of another and each is a
--- name, and each file has the content of one
+-- a state is sound: in each map of names, the current one and the older ones, no name is a folder
+-- of another and each is a name; and each file has bytes that a file may have
 pub record IsSoundState (v : TreeState) : Type 0 where
   pub folders : (map : NameMap) → IsCurrentOrOlderMap v map → HasNoFileAsFolder map
   pub named : (map : NameMap) → IsCurrentOrOlderMap v map → AreNames map
@@ -26,7 +26,7 @@ pub record IsSoundState (v : TreeState) : Type 0 where
 
 -- what a store keeps: its changes are a record, its table and its files are those of the newest state,
 -- and each state so far is sound
-pub record IsStore (changes : List Change) (entries : List NameAndFile)
+pub record IsConsistentStore (changes : List Change) (entries : List NameAndFile)
     (files : List Stored) : Type 0 where
   pub recorded : can_record_changes (contents_of files) empty_state changes ≡ true
   pub kept : HoldsState (state_after_changes (contents_of files) empty_state changes) entries files

@@ -56,11 +56,17 @@ longest_read_of tree = tree.longest
 -- a call that reads: it is counted, the plan is one call nearer, and an error is a fault, but never
 -- means out of memory
 pub record IsReadCall {T E : Type 0} (old new : MemoryTree) (result : Result T E) : Type 0 where
+  -- the call is counted
   pub calls : calls_of new ≡ saturating_increment (calls_of old)
+  -- no call that writes is counted
   pub writes : writes_of new ≡ writes_of old
+  -- the plan is one call nearer
   pub plan : plan_of new ≡ plan_after_one_call (plan_of old)
-  pub faults : (counts_of new).faults ≡ (if is_ok result then (counts_of old).faults else saturating_increment
+  -- an error is counted as a fault
+  pub faults : (counts_of new).faults
+      ≡ (if is_ok result then (counts_of old).faults else saturating_increment
       (counts_of old).faults)
+  -- no lack of memory is counted
   pub memory_faults : (counts_of new).memory_faults ≡ (counts_of old).memory_faults
 
 -- ---- a call that writes
@@ -84,13 +90,22 @@ pub record FailedForMemory (can : TreeState → Type 0) (old new : MemoryTree) :
 -- these reasons, and changes nothing else
 pub record IsWriteCall {T E : Type 0} (can : TreeState → Type 0) (old new : MemoryTree)
     (result : Result T E) : Type 0 where
+  -- the call is counted
   pub calls : calls_of new ≡ saturating_increment (calls_of old)
+  -- the call is counted as one that writes
   pub writes : writes_of new ≡ saturating_increment (writes_of old)
+  -- the plan is one call nearer
   pub plan : plan_of new ≡ plan_after_one_call (plan_of old)
   pub longest : longest_read_of new ≡ longest_read_of old
-  pub faults : (counts_of new).faults ≡ (if is_ok result then (counts_of old).faults else saturating_increment
+  -- an error is counted as a fault
+  pub faults : (counts_of new).faults
+      ≡ (if is_ok result then (counts_of old).faults else saturating_increment
       (counts_of old).faults)
+  -- a call that succeeds had no reason to fail
   pub free : OnOk result (HasNoReasonToFail can old)
+  -- a call that succeeds counts no lack of memory
   pub memory_faults : OnOk result ((counts_of new).memory_faults ≡ (counts_of old).memory_faults)
+  -- an error is due to the plan, a misuse, or lack of memory
   pub reason : OnErr result (FailedByPlanOrMisuse can old new ⊎ FailedForMemory can old new)
+  -- an error leaves the history as it was
   pub unchanged : OnErr result (history_of new ≡ history_of old)

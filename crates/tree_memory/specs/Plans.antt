@@ -5,8 +5,8 @@ use Rattle.std.specs.Prelude.{ℕ, zero, suc, ◌-◌, ◌==◌, nat_lt, Bool, f
 use Rattle.std.specs.List.{list_any, filter}
 use Rattle.std.specs.Option.{option_map}
 
--- a plan: the calls with the numbers of a list are to fail, and all after the next so many, if a stop
--- is planned
+-- a plan: each call whose number is in `listed` fails, and, if `stop` is Some n, every call after
+-- the next n
 pub record PlanState : Type 0 where
   pub listed : List ℕ
   pub stop : Option ℕ
@@ -42,7 +42,8 @@ listed_calls_after_one_call listed = filter (λ n. nat_lt 0 n) (map (λ n. n - 1
 
 -- the plan after one call
 abbrev pub plan_after_one_call : PlanState → PlanState
-plan_after_one_call plan = record { listed = listed_calls_after_one_call plan.listed; stop = option_map (λ n. n - 1) plan.stop }
+plan_after_one_call plan =
+    record { listed = listed_calls_after_one_call plan.listed; stop = option_map (λ n. n - 1) plan.stop }
 
 -- the plan after this many calls
 abbrev pub plan_after : ℕ → PlanState → PlanState

@@ -5,8 +5,9 @@ use Rattle.std.specs.Prelude.{◌≡◌, ◌⊎◌, ℕ, ◌-◌, ◌<◌, min, 
 use Rattle.std.specs.Option.{option_map}
 use Rattle.base_core.specs.Faults.{Counts, saturating_increment}
 
--- a sink in memory: its bytes, how many more it takes and how many a write takes at most, if these are
--- planned, and how often it failed, in all and because it was out of memory
+-- a sink in memory: its bytes; how many more bytes it takes (`room`) and how many a write takes at
+-- most (`most`), if these are planned; how many writes failed, and how many of these because it was
+-- out of memory
 pub record SinkState : Type 0 where
   pub bytes : List ℕ
   pub room : Option ℕ

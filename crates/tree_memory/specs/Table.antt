@@ -44,26 +44,27 @@ pub record IsStartOfFolder (entries : List NameAndFile) (i : ℕ) (folder : List
       (length entries)
 
 -- exactly the names of a table below this folder, in byte order
-pub record IsBelow (entries : List NameAndFile) (folder : List ℕ) (names : List (List ℕ)) : Type 0 where
+pub record AreTableNamesBelow (entries : List NameAndFile) (folder : List ℕ)
+    (names : List (List ℕ)) : Type 0 where
   pub rising : AllPairs (λ a b. slice_cmp nat_cmp a b ≡ Less) names
   pub each : (q : List ℕ) → Contains names q ↔ (IsSome (lookup entries q) × IsFolderOf folder q)
 
 -- ---- whether a name fits, if one name is left out
 
--- a folder of this name is a name of the table, and not the one left out
+-- some folder of this name is a name of the table other than `but`
 abbrev pub HasFolderOtherThan : List NameAndFile → List ℕ → List ℕ → Type 0
 HasFolderOtherThan entries name but =
     (folder : List ℕ) × IsFolderOf folder name
     × (IsSome (lookup entries folder) × (bytes_eq folder but ≡ false))
 
--- a name of the table, other than the one left out, is below this folder
+-- some name of the table other than `but` is below this folder
 abbrev pub HasNameBelowOtherThan : List NameAndFile → List ℕ → List ℕ → Type 0
 HasNameBelowOtherThan entries folder but =
     (name : List ℕ) × IsFolderOf folder name
     × (IsSome (lookup entries name) × (bytes_eq name but ≡ false))
 
--- no name of the table, other than the one left out, is a folder of this one or below it. Left out is
--- the name that a rename removes, or the name itself
+-- no name of the table other than `but` is a folder of this name or below it. `but` is the name
+-- that a rename removes, or the name itself
 pub record MakesNoFolderOfAnother (entries : List NameAndFile) (name but : List ℕ) : Type 0 where
   pub above : HasFolderOtherThan entries name but → ⊥
   pub below : HasNameBelowOtherThan entries name but → ⊥

@@ -19,7 +19,8 @@ with_fault t = record t { faults = saturating_increment t.faults }
 
 -- the counts if the call was a misuse, which always fails: one more fault, and one more misuse
 abbrev pub with_misuse : Tally → Tally
-with_misuse t = record t { faults = saturating_increment t.faults; misuses = saturating_increment t.misuses }
+with_misuse t =
+    record t { faults = saturating_increment t.faults; misuses = saturating_increment t.misuses }
 
 -- the counts if the tree was out of memory: one more fault, and one more lack of memory
 abbrev pub with_memory_fault : Tally → Tally
@@ -29,15 +30,16 @@ with_memory_fault t = record t {
       t.memory_faults;
 }
 
--- the counts after the begin of a call, given whether the state allows it and whether it is planned to
--- fail. A misuse that is planned to fail counts as a misuse alone.
+-- the counts after the start of a call. The arguments say whether the state allows the call
+-- (otherwise it is a misuse), and whether its failure is planned. A misuse whose failure is planned
+-- counts as a misuse alone
 abbrev pub with_begun_call : Bool → Bool → Tally → Tally
 with_begun_call false planned t = with_misuse (with_call t)
 with_begun_call true true t = with_fault (with_call t)
 with_begun_call true false t = with_call t
 
--- whether a call continues after its begin, given whether the state allows it and whether it is planned
--- to fail
+-- whether a call continues after its start: the state allows it (first argument), and its failure
+-- is not planned (second argument)
 abbrev pub goes_on : Bool → Bool → Bool
 goes_on false planned = false
 goes_on true true = false

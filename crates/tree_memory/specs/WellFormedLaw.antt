@@ -16,15 +16,15 @@ use Rattle.tree_memory.specs.declared.store.Change.TheVariants.{Put, Create, App
 use Rattle.tree_memory.specs.declared.tree.MemoryTree.{MemoryTree}
 
 -- a map has finitely many names, and leads to numbers below one
-pub record IsFiniteMapBelow (made : ℕ) (map : NameMap) : Type 0 where
+pub record IsFiniteMapOfMadeFiles (made : ℕ) (map : NameMap) : Type 0 where
   pub finite : (names : List (List ℕ)) × HasNamesAmong names map
   pub below : (q : List ℕ) (n : ℕ) → map q ≡ Some n → n < made
 
 -- each map of a state is such a map
-pub record AreMapsFiniteBelow (v : TreeState) : Type 0 where
-  pub each : (map : NameMap) → IsCurrentOrOlderMap v map → IsFiniteMapBelow v.made map
+pub record AreMapsFiniteOfMadeFiles (v : TreeState) : Type 0 where
+  pub each : (map : NameMap) → IsCurrentOrOlderMap v map → IsFiniteMapOfMadeFiles v.made map
 
-bounded_empty : AreMapsFiniteBelow empty_state
+bounded_empty : AreMapsFiniteOfMadeFiles empty_state
 bounded_empty = record { each = λ map is. record { finite = finite map is; below = made map is } }
   where
     finite : (map : NameMap) → IsCurrentOrOlderMap empty_state map → (names : List (List ℕ))
@@ -33,14 +33,16 @@ bounded_empty = record { each = λ map is. record { finite = finite map is; belo
         ([], λ q some. let none : map q ≡ None = ap (λ (m : NameMap). m q) is in cc (none, some))
     finite map (inr other) = absurd other
 
-    made : (map : NameMap) → IsCurrentOrOlderMap empty_state map → (q : List ℕ) (n : ℕ) → map q ≡ Some n → n < 0
+    made : (map : NameMap) → IsCurrentOrOlderMap empty_state map → (q : List ℕ) (n : ℕ) → map q ≡ Some n
+        → n < 0
     made map (inl is) q n at = let none : map q ≡ None =
         ap (λ (m : NameMap). m q) is in absurd (cc (none, at))
     made map (inr other) q n at = absurd other
 
 -- ---- one map more, or the maps of a state with other files
 
-more_made : (made more : ℕ) (map : NameMap) → made ≤ more → IsFiniteMapBelow made map → IsFiniteMapBelow more map
+more_made : (made more : ℕ) (map : NameMap) → made ≤ more → IsFiniteMapOfMadeFiles made map
+    → IsFiniteMapOfMadeFiles more map
 more_made made more map up old =
     record {
       finite = old.finite;
@@ -48,8 +50,9 @@ more_made made more map up old =
           old.below q n at in omega (arith, lower, up);
     }
 
-bounded_put : (made : ℕ) (name : List ℕ) (k : ℕ) (map : NameMap) → k < made → IsFiniteMapBelow made map
-    → IsFiniteMapBelow made (put_name map name k)
+bounded_put : (made : ℕ) (name : List ℕ) (k : ℕ) (map : NameMap) → k < made
+    → IsFiniteMapOfMadeFiles made map
+    → IsFiniteMapOfMadeFiles made (put_name map name k)
 bounded_put made name k map under old = record {
   finite = (
     name ∷ old.finite.0,
@@ -70,8 +73,8 @@ bounded_put made name k map under old = record {
     lower n true was small at = let same : k ≡ n = cc (at) in omega (arith, under)
     lower n false was small at = small at
 
-bounded_drop : (made : ℕ) (name : List ℕ) (map : NameMap) → IsFiniteMapBelow made map
-    → IsFiniteMapBelow made (drop_name map name)
+bounded_drop : (made : ℕ) (name : List ℕ) (map : NameMap) → IsFiniteMapOfMadeFiles made map
+    → IsFiniteMapOfMadeFiles made (drop_name map name)
 bounded_drop made name map old = record {
   finite = (old.finite.0, λ q some. within q (bytes_eq q name) (old.finite.1 q) some);
   below = λ q n at. lower n (bytes_eq q name) (map q) (old.below q n) at;
@@ -89,46 +92,51 @@ bounded_drop made name map old = record {
 
 -- ---- what the changes leave
 
-same_map : (made : ℕ) (map new : NameMap) → map ≡ new → IsFiniteMapBelow made new → IsFiniteMapBelow made map
-same_map made map new is = subst (IsFiniteMapBelow made) (sym is)
+same_map : (made : ℕ) (map new : NameMap) → map ≡ new → IsFiniteMapOfMadeFiles made new
+    → IsFiniteMapOfMadeFiles made map
+same_map made map new is = subst (IsFiniteMapOfMadeFiles made) (sym is)
 
-bounded-after_put : (name bytes : List ℕ) (v : TreeState) → AreMapsFiniteBelow v
-    → AreMapsFiniteBelow (after_put name bytes v)
+bounded-after_put : (name bytes : List ℕ) (v : TreeState) → AreMapsFiniteOfMadeFiles v
+    → AreMapsFiniteOfMadeFiles (after_put name bytes v)
 bounded-after_put name bytes v whole = record { each = each }
   where
-    each : (map : NameMap) → IsCurrentOrOlderMap (after_put name bytes v) map → IsFiniteMapBelow (v.made + 1) map
+    each : (map : NameMap) → IsCurrentOrOlderMap (after_put name bytes v) map
+        → IsFiniteMapOfMadeFiles (v.made + 1) map
     each map (inl is) =
         same_map (v.made + 1) map (put_name v.names name v.made) is
         (bounded_put (v.made + 1) name v.made v.names (omega arith)
         (more_made v.made (v.made + 1) v.names (omega arith) (whole.each v.names (inl refl))))
     each map (inr other) = absurd other
 
-bounded-after_create : (name : List ℕ) (v : TreeState) → AreMapsFiniteBelow v
-    → AreMapsFiniteBelow (after_create name v)
+bounded-after_create : (name : List ℕ) (v : TreeState) → AreMapsFiniteOfMadeFiles v
+    → AreMapsFiniteOfMadeFiles (after_create name v)
 bounded-after_create name v whole = record { each = each }
   where
-    each : (map : NameMap) → IsCurrentOrOlderMap (after_create name v) map → IsFiniteMapBelow (v.made + 1) map
+    each : (map : NameMap) → IsCurrentOrOlderMap (after_create name v) map
+        → IsFiniteMapOfMadeFiles (v.made + 1) map
     each map (inl is) =
         same_map (v.made + 1) map (put_name v.names name v.made) is
         (bounded_put (v.made + 1) name v.made v.names (omega arith)
         (more_made v.made (v.made + 1) v.names (omega arith) (whole.each v.names (inl refl))))
     each map (inr old) = more_made v.made (v.made + 1) map (omega arith) (whole.each map old)
 
-bounded-with_file_changed : (change : File → File) (v : TreeState) (o : Option ℕ) → AreMapsFiniteBelow v
-    → AreMapsFiniteBelow (with_file_changed change v o)
+bounded-with_file_changed : (change : File → File) (v : TreeState) (o : Option ℕ)
+    → AreMapsFiniteOfMadeFiles v
+    → AreMapsFiniteOfMadeFiles (with_file_changed change v o)
 bounded-with_file_changed change v None whole = whole
 bounded-with_file_changed change v (Some n) whole = record { each = whole.each }
 
-bounded-with_names : (v : TreeState) (new : NameMap) → AreMapsFiniteBelow v → IsFiniteMapBelow v.made new
-    → AreMapsFiniteBelow (with_names v new)
+bounded-with_names : (v : TreeState) (new : NameMap) → AreMapsFiniteOfMadeFiles v
+    → IsFiniteMapOfMadeFiles v.made new
+    → AreMapsFiniteOfMadeFiles (with_names v new)
 bounded-with_names v new whole small = record { each = each }
   where
-    each : (map : NameMap) → IsCurrentOrOlderMap (with_names v new) map → IsFiniteMapBelow v.made map
+    each : (map : NameMap) → IsCurrentOrOlderMap (with_names v new) map → IsFiniteMapOfMadeFiles v.made map
     each map (inl is) = same_map v.made map new is small
     each map (inr old) = whole.each map old
 
 bounded-with_file_moved : (from to : List ℕ) (v : TreeState) (o : Option ℕ) → v.names from ≡ o
-    → AreMapsFiniteBelow v → AreMapsFiniteBelow (with_file_moved from to v o)
+    → AreMapsFiniteOfMadeFiles v → AreMapsFiniteOfMadeFiles (with_file_moved from to v o)
 bounded-with_file_moved from to v None is whole = whole
 bounded-with_file_moved from to v (Some n) is whole =
     let old = whole.each v.names (inl refl) in
@@ -136,23 +144,25 @@ bounded-with_file_moved from to v (Some n) is whole =
     (bounded_put v.made to n (drop_name v.names from) (old.below from n is)
     (bounded_drop v.made from v.names old))
 
-bounded-with_name_removed : (name : List ℕ) (v : TreeState) (o : Option ℕ) → AreMapsFiniteBelow v
-    → AreMapsFiniteBelow (with_name_removed name v o)
+bounded-with_name_removed : (name : List ℕ) (v : TreeState) (o : Option ℕ) → AreMapsFiniteOfMadeFiles v
+    → AreMapsFiniteOfMadeFiles (with_name_removed name v o)
 bounded-with_name_removed name v None whole = whole
 bounded-with_name_removed name v (Some n) whole =
     bounded-with_names v (drop_name v.names name) whole
     (bounded_drop v.made name v.names (whole.each v.names (inl refl)))
 
-bounded-after_sync_names : (v : TreeState) → AreMapsFiniteBelow v → AreMapsFiniteBelow (after_sync_names v)
+bounded-after_sync_names : (v : TreeState) → AreMapsFiniteOfMadeFiles v
+    → AreMapsFiniteOfMadeFiles (after_sync_names v)
 bounded-after_sync_names v whole = record { each = each }
   where
-    each : (map : NameMap) → IsCurrentOrOlderMap (after_sync_names v) map → IsFiniteMapBelow v.made map
+    each : (map : NameMap) → IsCurrentOrOlderMap (after_sync_names v) map
+        → IsFiniteMapOfMadeFiles v.made map
     each map (inl is) = same_map v.made map v.names is (whole.each v.names (inl refl))
     each map (inr other) = absurd other
 
 -- a recorded change keeps that names lead only to files that were made, and are of finite number
-pub bounded-step : (contents : List (List ℕ)) (c : Change) (v : TreeState) → AreMapsFiniteBelow v
-    → AreMapsFiniteBelow (step contents c v)
+pub bounded-step : (contents : List (List ℕ)) (c : Change) (v : TreeState) → AreMapsFiniteOfMadeFiles v
+    → AreMapsFiniteOfMadeFiles (step contents c v)
 bounded-step contents (Put name file len) v whole =
     bounded-after_put name (first_bytes_of_file contents file len) v whole
 bounded-step contents (Create name) v whole = bounded-after_create name v whole
@@ -169,32 +179,34 @@ bounded-step contents (Remove name) v whole = bounded-with_name_removed name v (
 bounded-step contents SyncNames v whole = bounded-after_sync_names v whole
 bounded-step contents Stay v whole = whole
 
-bounded_from : (contents : List (List ℕ)) (v : TreeState) (cs : List Change) → AreMapsFiniteBelow v
-    → AreMapsFiniteBelow (state_after_changes contents v cs)
+bounded_from : (contents : List (List ℕ)) (v : TreeState) (cs : List Change) → AreMapsFiniteOfMadeFiles v
+    → AreMapsFiniteOfMadeFiles (state_after_changes contents v cs)
 bounded_from contents v [] whole = whole
 bounded_from contents v (c ∷ cs) whole =
     bounded_from contents (step contents c v) cs (bounded-step contents c v whole)
 
 -- the newest state of a record is whole
 pub bounded_state : (contents : List (List ℕ)) (cs : List Change)
-    → AreMapsFiniteBelow (state_after_changes contents empty_state cs)
+    → AreMapsFiniteOfMadeFiles (state_after_changes contents empty_state cs)
 bounded_state contents cs = bounded_from contents empty_state cs bounded_empty
 
 bounded_earlier : (contents : List (List ℕ)) (v : TreeState) (earlier : List TreeState)
-    (cs : List Change) → AreMapsFiniteBelow v → All AreMapsFiniteBelow earlier
-    → All AreMapsFiniteBelow (earlier_states contents v earlier cs)
+    (cs : List Change) → AreMapsFiniteOfMadeFiles v → All AreMapsFiniteOfMadeFiles earlier
+    → All AreMapsFiniteOfMadeFiles (earlier_states contents v earlier cs)
 bounded_earlier contents v earlier [] whole all = all
 bounded_earlier contents v earlier (c ∷ cs) whole all =
     bounded_earlier contents (step contents c v) (v ∷ earlier) cs (bounded-step contents c v whole)
-    (All-cons AreMapsFiniteBelow v earlier whole all)
+    (All-cons AreMapsFiniteOfMadeFiles v earlier whole all)
 
 bounded_history : (contents : List (List ℕ)) (cs : List Change)
-    → All AreMapsFiniteBelow (state_after_changes contents empty_state cs ∷ earlier_states contents empty_state [] cs)
+    → All AreMapsFiniteOfMadeFiles
+    (state_after_changes contents empty_state cs ∷ earlier_states contents empty_state [] cs)
 bounded_history contents cs =
-    All-cons AreMapsFiniteBelow (state_after_changes contents empty_state cs) _ (bounded_state contents cs)
-    (bounded_earlier contents empty_state [] cs bounded_empty (All-nil AreMapsFiniteBelow))
+    All-cons AreMapsFiniteOfMadeFiles (state_after_changes contents empty_state cs) _
+    (bounded_state contents cs)
+    (bounded_earlier contents empty_state [] cs bounded_empty (All-nil AreMapsFiniteOfMadeFiles))
 
-well_formed_by_both : (v : TreeState) → AreMapsFiniteBelow v → IsSoundState v → IsWellFormed v
+well_formed_by_both : (v : TreeState) → AreMapsFiniteOfMadeFiles v → IsSoundState v → IsWellFormed v
 well_formed_by_both v bounded sound = record {
   finite = λ map is. (bounded.each map is).finite;
   named = sound.named;

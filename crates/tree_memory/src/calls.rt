@@ -2,7 +2,7 @@
 //! The rules are in `docs/crash-safety.md`, "Misuses, faults and counts".
 
 ghost use Rattle.std.specs.Prelude.{◌≡◌, [], None, Some, OnOk, OnErr, is_ok, if◌then◌else◌, ◌⊎◌, ◌+◌, ℕ, false};
-ghost use Rattle.base_core.specs.Faults.{saturating_increment, HasCause, RoseOrIsSaturated};
+ghost use Rattle.base_core.specs.Faults.{saturating_increment, IsFaultCountedWithCause, RoseOrIsSaturated};
 ghost use Rattle.tree_memory.specs.Plans.{PlanState, no_plan, is_next_call_to_fail, is_next_call_listed, plan_after_one_call, listed_calls_after_one_call, has_later_failure, is_call_to_fail, plan_after};
 ghost use Rattle.tree_memory.specs.Tallies.{no_calls, with_call, with_fault, with_misuse, with_memory_fault, with_begun_call, goes_on, HasNotFallen};
 ghost use Rattle.tree_memory.specs.Memory.{plan_of, counts_of};
@@ -59,7 +59,7 @@ impl Plan {
         }
     }
 
-    /// Whether the next call is to fail. Afterwards the plan is one call nearer.
+    /// Whether the next call is to fail. Afterwards the plan counts from the call after it.
     pub fn pass(&mut self) -> bool
         ensures planned { result ≡ is_next_call_to_fail self.old }
         ensures nearer { self.new ≡ plan_after_one_call self.old }
@@ -236,7 +236,7 @@ impl Calls {
 /// If no failure of a tree in memory is planned, a fault is a misuse, or the tree is out of memory.
 pub fn an_unplanned_fault_has_its_reason()
     ensures { (before now : MemoryTree) → has_later_failure (plan_of before) ≡ false
-        → HasCause (counts_of before) (counts_of now)
+        → IsFaultCountedWithCause (counts_of before) (counts_of now)
         → RoseOrIsSaturated (counts_of before).misuses (counts_of now).misuses
         ⊎ RoseOrIsSaturated (counts_of before).memory_faults (counts_of now).memory_faults }
 {}
@@ -244,12 +244,13 @@ pub fn an_unplanned_fault_has_its_reason()
 /// If no end of a sink in memory is planned, a fault means that the sink is out of memory.
 pub fn an_endless_sink_runs_out_of_memory()
     ensures { (before now : SinkState) → before.room ≡ None
-        → HasCause (sink_counts before) (sink_counts now)
+        → IsFaultCountedWithCause (sink_counts before) (sink_counts now)
         → RoseOrIsSaturated before.memory_faults now.memory_faults }
 {}
 
 /// Apart from misuses and out of memory, call k from now on fails exactly if it is listed or after
 /// the stop.
 pub fn a_call_fails_where_it_is_planned()
-    ensures { (plan : PlanState) (k : ℕ) → is_next_call_to_fail (plan_after k plan) ≡ is_call_to_fail plan (k + 1) }
+    ensures { (plan : PlanState) (k : ℕ) → is_next_call_to_fail (plan_after k plan)
+        ≡ is_call_to_fail plan (k + 1) }
 {}

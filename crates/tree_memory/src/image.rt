@@ -7,7 +7,7 @@ ghost use Rattle.base_core.specs.Tree.{TreeState, files_of};
 ghost use Rattle.base_core.specs.Undone.{IsAfterCrash, IsCrashMap, lead_to_same_file, with_change_replayed};
 ghost use Rattle.base_core.specs.Files.{NameMap};
 ghost use Rattle.tree_memory.specs.Changes.{empty_state, state_after_changes, step, can_record_change};
-ghost use Rattle.tree_memory.specs.Images.{newest_first, syncs_names, map_count_after_change, is_bit_set_at, is_change_undone, most_changes_with_all_subsets, crash_image_count, crash_image_count_of, picked_crash_map, IsImageOf, HasImageNames, crash_bytes, stored_file, HasNames};
+ghost use Rattle.tree_memory.specs.Images.{maps_newest_first, syncs_names, map_count_after_change, is_bit_set_at, is_change_undone, most_changes_with_all_subsets, crash_image_count, crash_image_count_of, picked_crash_map, IsImageOf, HasImageNames, crash_bytes, stored_file, HasNames};
 ghost use Rattle.tree_memory.specs.Stores.{store_state};
 ghost use Rattle.tree_memory.specs.Table.{lookup};
 
@@ -23,7 +23,7 @@ impl Store {
     /// How many maps of names there are: that as read, and the older ones since the names were last
     /// synced.
     pub fn maps(&self) -> u64
-        ensures count { result ≡ length (newest_first (store_state self.now)) }
+        ensures count { result ≡ length (maps_newest_first (store_state self.now)) }
         ensures some { 0 < result }
     {
         let mut maps = 1;
@@ -360,7 +360,8 @@ fn crash_bytes(alloc: Global, file: &Stored, way: u64) -> Result<Vec<u8>, AllocE
 /// If few names were changed since the names were last synced, a number picks each map of names
 /// that a crash may leave.
 pub fn each_map_of_few_changes_is_picked()
-    ensures { (v : TreeState) (map : NameMap) → length v.older ≤ most_changes_with_all_subsets → IsCrashMap v map
+    ensures { (v : TreeState) (map : NameMap) → length v.older ≤ most_changes_with_all_subsets
+        → IsCrashMap v map
         → (pick : ℕ) × (pick < crash_image_count_of v) × (picked_crash_map pick v ≡ map) }
 {}
 

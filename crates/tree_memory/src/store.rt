@@ -8,7 +8,7 @@ ghost use Rattle.std.specs.Vec.{vec_len, vec_capacity};
 ghost use Rattle.base_core.specs.Listed.{IsNamesOf, IsListOf};
 ghost use Rattle.base_core.specs.Tree.{files_of, HasName, CanRead, CanCreate, CanRename, after_create, after_append, after_sync, after_rename, after_remove, after_sync_names};
 ghost use Rattle.tree_memory.specs.Changes.{empty_state, after_put};
-ghost use Rattle.tree_memory.specs.Kept.{IsStore, CanPut};
+ghost use Rattle.tree_memory.specs.Kept.{IsConsistentStore, CanPut};
 
 use crate::table::NameTable;
 use base_core::{Name, Names};
@@ -25,7 +25,7 @@ pub struct Store {
     /// All files that were made, by their numbers, including those that no name leads to any more.
     pub files: Vec<Stored>,
     // The names and the files are those of the record's newest state.
-    pub ghost in_step: { IsStore changes.items names.entries.items files.items },
+    pub ghost in_step: { IsConsistentStore changes.items names.entries.items files.items },
 }
 
 impl Store {

@@ -6,7 +6,7 @@ ghost use Rattle.std.specs.Ordering.{nat_cmp, is_lt};
 ghost use Rattle.std.specs.Str.{bytes_eq};
 ghost use Rattle.std.specs.Cmp.Lexicographic.{slice_cmp};
 ghost use Rattle.base_core.specs.Files.{put_name, drop_name, HasNoFileAsFolder};
-ghost use Rattle.tree_memory.specs.Table.{IsSortedNameTable, MakesNoFolderOfAnother, lookup, names_of, IsNameAtPlace, IsInsertionPlace, IsStartOfFolder, IsBelow, HasFolderOtherThan, HasNameBelowOtherThan};
+ghost use Rattle.tree_memory.specs.Table.{IsSortedNameTable, MakesNoFolderOfAnother, lookup, names_of, IsNameAtPlace, IsInsertionPlace, IsStartOfFolder, AreTableNamesBelow, HasFolderOtherThan, HasNameBelowOtherThan};
 
 use base_core::{Name, Names, is_folder_of};
 use std::alloc::{AllocError, Global};
@@ -168,7 +168,7 @@ impl NameTable {
 
     /// The names below a folder, at any depth, in byte order.
     pub fn list_below(&self, alloc: Global, folder: &[u8]) -> Result<Names, AllocError>
-        ensures { IfOk result (IsBelow self.now.entries.items folder.now) }
+        ensures { IfOk result (AreTableNamesBelow self.now.entries.items folder.now) }
     {
         let mut names = Names::new(alloc);
         let start = self.start(folder);

@@ -4,14 +4,14 @@
 ghost use Rattle.std.specs.Prelude.{◌≡◌, ◌↔◌, [], ◌∷◌, List, Some, None, IsTrue, IsOk, IfOk, IfSome, IsErrOf, OnOk, OnErr, false, true, length, max, take, drop, if◌then◌else◌};
 ghost use Rattle.std.specs.Option.{option_map, option_copied};
 ghost use Rattle.base_core.specs.Calls.{IsCounted, ChangesHistory, IfObservable};
-ghost use Rattle.base_core.specs.Faults.{CountsOnlyRise, HasCause, IsNoFault, saturating_increment};
+ghost use Rattle.base_core.specs.Faults.{CountsOnlyRise, IsFaultCountedWithCause, CountsNoNewFault, saturating_increment};
 ghost use Rattle.base_core.specs.Files.{put_name};
 ghost use Rattle.base_core.specs.Listed.{AreNamesBelow, IsNamesOf, IsListOf};
 ghost use Rattle.base_core.specs.Tree.{files_of, after_create, after_append, after_failed_append, after_sync, after_rename, after_remove, after_sync_names, unchanged_after_failed_call, IsAlwaysAllowed, HasName, CanRead, CanCreate, CanRename};
 ghost use Rattle.base_core.specs.Undone.{IsAfterCrash};
 ghost use Rattle.base_core.specs.declared.tree.TreeFault.TheVariants.{Memory, Disk as DiskFault};
 ghost use Rattle.tree_memory.specs.Changes.{empty_state, after_put};
-ghost use Rattle.tree_memory.specs.Images.{newest_first, crash_image_count_of, IsImageOf};
+ghost use Rattle.tree_memory.specs.Images.{maps_newest_first, crash_image_count_of, IsImageOf};
 ghost use Rattle.tree_memory.specs.Kept.{CanPut};
 ghost use Rattle.tree_memory.specs.Plans.{no_plan, is_next_call_to_fail, has_later_failure, plan_after_one_call};
 
@@ -184,7 +184,7 @@ impl MemoryTree {
     /// How many maps of names there are: that as read, and the older ones since the names were last
     /// synced.
     pub fn maps(&self) -> u64
-        ensures { result ≡ length (newest_first (tree_state self.now)) }
+        ensures { result ≡ length (maps_newest_first (tree_state self.now)) }
     {
         self.store.maps()
     }
@@ -212,15 +212,19 @@ impl Tree for MemoryTree {
 
     /// The length of a file in bytes, or None if the name is absent.
     fn size(&mut self, name: &Name) -> Result<Option<u64>, Disk>
+        // The history is unchanged.
         ensures same { history_of self.new ≡ history_of self.old }
+        // How the counts change, and which states allow the call.
         ensures counts { IsCounted IsAlwaysAllowed (history_of self.old) (counts_of self.old)
             (counts_of self.new) result }
+        // What is returned, if the history is observable.
         ensures value { IfOk result (λ size.
             IfObservable (history_of self.old)
             (λ v. size ≡ option_map length (files_of v name.now))) }
 
         // It fails exactly if that is planned.
         ensures when { IsOk result ↔ (is_next_call_to_fail (plan_of self.old) ≡ false) }
+        // What is counted of the call, and why it fails.
         ensures call { IsReadCall self.old self.new result }
         ensures longest { longest_read_of self.new ≡ longest_read_of self.old }
     {
@@ -233,9 +237,12 @@ impl Tree for MemoryTree {
 
     /// Fills a buffer with the file's bytes from an offset on.
     fn read_at(&mut self, name: &Name, at: u64, into: &mut [u8]) -> Result<(), Disk>
+        // The history is unchanged.
         ensures same { history_of self.new ≡ history_of self.old }
+        // How the counts change, and which states allow the call.
         ensures counts { IsCounted (CanRead name.now at (length into.old)) (history_of self.old)
             (counts_of self.old) (counts_of self.new) result }
+        // What is returned, if the history is observable.
         ensures value { OnOk result (IfObservable (history_of self.old)
             (λ v. IfSome (files_of v name.now) (λ bytes.
             into.new ≡ take (length into.old) (drop at bytes)))) }
@@ -243,9 +250,13 @@ impl Tree for MemoryTree {
         // It fails exactly if that is planned, or if it is a misuse.
         ensures when { IsOk result ↔ ((is_next_call_to_fail (plan_of self.old) ≡ false)
             × CanRead name.now at (length into.old) (tree_state self.old)) }
+        // An error leaves the buffer as it was.
         ensures unchanged_after_failed_call { OnErr result (into.new ≡ into.old) }
+        // What is counted of the call, and why it fails.
         ensures call { IsReadCall self.old self.new result }
-        ensures longest { longest_read_of self.new ≡ max (longest_read_of self.old) (length into.old) }
+        // The greatest length that was asked for, with this one.
+        ensures longest { longest_read_of self.new
+            ≡ max (longest_read_of self.old) (length into.old) }
     {
         self.longest = self.longest.max(into.len() as u64);
         let can = self.store.can_read(name, at, into.len());
@@ -256,9 +267,11 @@ impl Tree for MemoryTree {
 
     /// Makes an empty file under an absent name.
     fn create(&mut self, name: &Name) -> Result<(), Disk>
+        // Which state is added to the history: on success, and on an error.
         ensures moves { ChangesHistory (CanCreate name.now) (after_create name.now) (after_create
             name.now)
             (history_of self.old) (history_of self.new) result }
+        // How the counts change, and which states allow the call.
         ensures counts { IsCounted (CanCreate name.now) (history_of self.old) (counts_of self.old)
             (counts_of self.new) result }
 
@@ -274,10 +287,13 @@ impl Tree for MemoryTree {
 
     /// Adds a piece at the end of a file.
     fn append(&mut self, name: &Name, piece: &[u8]) -> Result<(), Disk>
+        // Which state is added to the history: on success, and on an error.
         ensures moves { ChangesHistory (HasName name.now) (after_append name.now piece.now)
             (after_failed_append name.now) (history_of self.old) (history_of self.new) result }
+        // How the counts change, and which states allow the call.
         ensures counts { IsCounted (HasName name.now) (history_of self.old) (counts_of self.old)
             (counts_of self.new) result }
+        // What is counted of the call, and why it fails.
         ensures call { IsWriteCall (HasName name.now) self.old self.new result }
     {
         let can = self.store.has(name);
@@ -288,10 +304,14 @@ impl Tree for MemoryTree {
 
     /// Makes the bytes of a file durable.
     fn sync(&mut self, name: &Name) -> Result<(), Disk>
-        ensures moves { ChangesHistory (HasName name.now) (after_sync name.now) unchanged_after_failed_call
+        // Which state is added to the history: on success, and on an error.
+        ensures moves { ChangesHistory (HasName name.now)
+            (after_sync name.now) unchanged_after_failed_call
             (history_of self.old) (history_of self.new) result }
+        // How the counts change, and which states allow the call.
         ensures counts { IsCounted (HasName name.now) (history_of self.old) (counts_of self.old)
             (counts_of self.new) result }
+        // What is counted of the call, and why it fails.
         ensures call { IsWriteCall (HasName name.now) self.old self.new result }
     {
         let can = self.store.has(name);
@@ -302,10 +322,13 @@ impl Tree for MemoryTree {
 
     /// Moves the file of one name to another.
     fn rename(&mut self, from: &Name, to: &Name) -> Result<(), Disk>
+        // Which state is added to the history: on success, and on an error.
         ensures moves { ChangesHistory (CanRename from.now to.now) (after_rename from.now to.now)
             (after_rename from.now to.now) (history_of self.old) (history_of self.new) result }
+        // How the counts change, and which states allow the call.
         ensures counts { IsCounted (CanRename from.now to.now) (history_of self.old)
             (counts_of self.old) (counts_of self.new) result }
+        // What is counted of the call, and why it fails.
         ensures call { IsWriteCall (CanRename from.now to.now) self.old self.new result }
     {
         let can = self.store.can_rename(from, to);
@@ -316,11 +339,14 @@ impl Tree for MemoryTree {
 
     /// Removes a name; an absent one is no fault.
     fn remove(&mut self, name: &Name) -> Result<(), Disk>
+        // Which state is added to the history: on success, and on an error.
         ensures moves { ChangesHistory IsAlwaysAllowed (after_remove name.now) (after_remove
             name.now)
             (history_of self.old) (history_of self.new) result }
+        // How the counts change, and which states allow the call.
         ensures counts { IsCounted IsAlwaysAllowed (history_of self.old) (counts_of self.old)
             (counts_of self.new) result }
+        // What is counted of the call, and why it fails.
         ensures call { IsWriteCall IsAlwaysAllowed self.old self.new result }
     {
         self.calls.begin_write(true)?;
@@ -330,10 +356,13 @@ impl Tree for MemoryTree {
 
     /// Makes all names durable.
     fn sync_names(&mut self) -> Result<(), Disk>
+        // Which state is added to the history: on success, and on an error.
         ensures moves { ChangesHistory IsAlwaysAllowed after_sync_names unchanged_after_failed_call
             (history_of self.old) (history_of self.new) result }
+        // How the counts change, and which states allow the call.
         ensures counts { IsCounted IsAlwaysAllowed (history_of self.old) (counts_of self.old)
             (counts_of self.new) result }
+        // What is counted of the call, and why it fails.
         ensures call { IsWriteCall IsAlwaysAllowed self.old self.new result }
     {
         self.calls.begin_write(true)?;
@@ -344,14 +373,19 @@ impl Tree for MemoryTree {
     /// The present names below a folder, in byte order. Out of memory for the answer is no fault of
     /// the tree.
     fn list(&mut self, alloc: Global, folder: &Name) -> Result<Names, TreeFault>
+        // The history is unchanged.
         ensures same { history_of self.new ≡ history_of self.old }
+        // No count falls.
         ensures goes_on { CountsOnlyRise (counts_of self.old) (counts_of self.new) }
+        // An I/O error is returned only if a fault was counted.
         ensures disk { IsErrOf result DiskFault
-            → HasCause (counts_of self.old) (counts_of self.new) }
-        ensures kept { OnOk result (IsNoFault (counts_of self.old) (counts_of self.new)) }
+            → IsFaultCountedWithCause (counts_of self.old) (counts_of self.new) }
+        // Ok is returned only if no fault was counted.
+        ensures kept { OnOk result (CountsNoNewFault (counts_of self.old) (counts_of self.new)) }
         ensures memory { IsErrOf result Memory
-            → IsNoFault (counts_of self.old) (counts_of self.new) }
+            → CountsNoNewFault (counts_of self.old) (counts_of self.new) }
         ensures proper { (counts_of self.new).misuses ≡ (counts_of self.old).misuses }
+        // What is returned, if the history is observable.
         ensures value { IfOk result (λ names.
             IfObservable (history_of self.old) (λ v. IsListOf folder.now v names)) }
         ensures order { IfOk result (λ names. AreNamesBelow folder.now names) }
@@ -362,7 +396,8 @@ impl Tree for MemoryTree {
         ensures calls { calls_of self.new ≡ saturating_increment (calls_of self.old) }
         ensures writes { writes_of self.new ≡ writes_of self.old }
         ensures faults { (counts_of self.new).faults
-            ≡ (if is_next_call_to_fail (plan_of self.old) then saturating_increment (counts_of self.old).faults else
+            ≡ (if is_next_call_to_fail (plan_of self.old) then saturating_increment
+            (counts_of self.old).faults else
             (counts_of self.old).faults) }
         ensures memory_faults { (counts_of self.new).memory_faults
             ≡ (counts_of self.old).memory_faults }
@@ -377,12 +412,15 @@ impl Tree for MemoryTree {
 
     /// Returns Ok unless a failure is planned: a tree in memory has no folders that refuse.
     fn check_target(&mut self, name: &Name, source: Option<&Name>) -> Result<(), Disk>
+        // The history is unchanged.
         ensures same { history_of self.new ≡ history_of self.old }
+        // How the counts change, and which states allow the call.
         ensures counts { IsCounted IsAlwaysAllowed (history_of self.old) (counts_of self.old)
             (counts_of self.new) result }
 
         // It fails exactly if that is planned.
         ensures when { IsOk result ↔ (is_next_call_to_fail (plan_of self.old) ≡ false) }
+        // What is counted of the call, and why it fails.
         ensures call { IsReadCall self.old self.new result }
         ensures longest { longest_read_of self.new ≡ longest_read_of self.old }
     {

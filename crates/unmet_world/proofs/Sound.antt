@@ -8,7 +8,7 @@ use Rattle.search_tables.specs.candidate_core.Options.{IsIn, options_for}
 use Rattle.search_tables.specs.Selection.{IsSatisfying, is_met, positive_needs}
 use Rattle.search_tables.proofs.PoolFacts.{any_in, in_filter, in_map}
 use Rattle.search_tables.proofs.Satisfying.{closed_of_satisfying}
-use Rattle.unmet_world.specs.Refutation.{AreDerivationSteps, Follows, IsMetOnlyBy, IsRefutation, IsSureOwner, if_positive, ids_made_sure, dependencies_of_owner, ids_ruled_out}
+use Rattle.unmet_world.specs.Refutation.{AreDerivationSteps, IsDerivationStep, IsMetOnlyBy, IsRefutation, IsSureOwner, if_positive, ids_made_sure, dependencies_of_owner, ids_ruled_out}
 use Rattle.unmet_world.specs.declared.refutation.Owner.{Owner}
 use Rattle.unmet_world.specs.declared.refutation.Owner.TheVariants.{World, Package}
 use Rattle.unmet_world.specs.declared.refutation.Want.{Want}
@@ -72,7 +72,7 @@ module _ (pool : SealedPool) (listed : (need : Need) (c : ℕ) → is_eligible_a
   is_it P c id rest here there (inl e) = subst P (sym e) here
   is_it P c id rest here there (inr h) = there c h
 
-  more : (step : Step) (steps : List Step) → Follows pool (ids_ruled_out steps) (ids_made_sure steps) step → Holds (ids_ruled_out steps) (ids_made_sure steps) → Holds (ids_ruled_out (step ∷ steps)) (ids_made_sure (step ∷ steps))
+  more : (step : Step) (steps : List Step) → IsDerivationStep pool (ids_ruled_out steps) (ids_made_sure steps) step → Holds (ids_ruled_out steps) (ids_made_sure steps) → Holds (ids_ruled_out (step ∷ steps)) (ids_made_sure (step ∷ steps))
   more (Broken id index) steps f holds = record {
     none = λ c h. is_it (λ (z : ℕ). IsIn z S → ⊥) c id (ids_ruled_out steps) (λ there.
         let one = one_of (record { owner = Package id; index = index }) (ids_ruled_out steps) there f in

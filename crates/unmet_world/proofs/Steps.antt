@@ -7,7 +7,7 @@ use Rattle.search_tables.specs.candidate_core.Rank.{SealedPool}
 use Rattle.search_tables.specs.candidate_core.Options.{IsIn}
 use Rattle.search_tables.specs.Selection.{AreAllMembersOf}
 use Rattle.search_tables.proofs.Theory.{in_left, in_right, in_append}
-use Rattle.unmet_world.specs.Refutation.{AreDerivationSteps, Follows, IsMetOnlyBy, IsRefutation, IsSureOwner, ids_made_sure, ids_made_sure_by_step, ids_ruled_out, ids_ruled_out_by_step}
+use Rattle.unmet_world.specs.Refutation.{AreDerivationSteps, IsDerivationStep, IsMetOnlyBy, IsRefutation, IsSureOwner, ids_made_sure, ids_made_sure_by_step, ids_ruled_out, ids_ruled_out_by_step}
 use Rattle.unmet_world.specs.declared.refutation.Owner.{Owner}
 use Rattle.unmet_world.specs.declared.refutation.Owner.TheVariants.{World, Package}
 use Rattle.unmet_world.specs.declared.refutation.Want.{Want}
@@ -29,7 +29,7 @@ module _ (pool : SealedPool) where
   sure_more World sure more members h = tt
   sure_more (Package c) sure more members h = members c h
 
-  pub follows_more : (step : Step) (out out' sure sure' : List ℕ) → AreAllMembersOf out out' → AreAllMembersOf sure sure' → Follows pool out sure step → Follows pool out' sure' step
+  pub follows_more : (step : Step) (out out' sure sure' : List ℕ) → AreAllMembersOf out out' → AreAllMembersOf sure sure' → IsDerivationStep pool out sure step → IsDerivationStep pool out' sure' step
   follows_more (Broken id index) out out' sure sure' outs sures f = only_by_more (record { owner = Package id; index = index }) out out' outs f
   follows_more (Excluded id by) out out' sure sure' outs sures f = (sures by f.0, f.1)
   follows_more (Sure id want) out out' sure sure' outs sures f = (
@@ -54,14 +54,14 @@ pub record AreGathered (pool : SealedPool) (steps : List Step) (out sure : List 
 members_trans : (xs ys zs : List ℕ) → AreAllMembersOf xs ys → AreAllMembersOf ys zs → AreAllMembersOf xs zs
 members_trans xs ys zs one other c h = other c (one c h)
 
-one_more : (pool : SealedPool) (step : Step) (steps : List Step) (out sure out' sure' : List ℕ) → AreGathered pool steps out sure → Follows pool out sure step → AreAllMembersOf out' (ids_ruled_out_by_step step ++ out) → AreAllMembersOf sure' (ids_made_sure_by_step step ++ sure) → AreGathered pool (step ∷ steps) out' sure'
+one_more : (pool : SealedPool) (step : Step) (steps : List Step) (out sure out' sure' : List ℕ) → AreGathered pool steps out sure → IsDerivationStep pool out sure step → AreAllMembersOf out' (ids_ruled_out_by_step step ++ out) → AreAllMembersOf sure' (ids_made_sure_by_step step ++ sure) → AreGathered pool (step ∷ steps) out' sure'
 one_more pool step steps out sure out' sure' g f outs sures = record {
   steps_follow = (follows_more pool step out (ids_ruled_out steps) sure (ids_made_sure steps) g.out_by g.sure_by f, g.steps_follow);
   out_by = members_trans out' (ids_ruled_out_by_step step ++ out) (ids_ruled_out_by_step step ++ ids_ruled_out steps) outs (members_both (ids_ruled_out_by_step step) out (ids_ruled_out steps) g.out_by);
   sure_by = members_trans sure' (ids_made_sure_by_step step ++ sure) (ids_made_sure_by_step step ++ ids_made_sure steps) sures (members_both (ids_made_sure_by_step step) sure (ids_made_sure steps) g.sure_by);
 }
 
-pub gathered_from : (pool : SealedPool) (steps : List Step) (i : ℕ) (step : Step) (out sure out' sure' : List ℕ) → slice_get steps i ≡ Some step → AreGathered pool (drop (suc i) steps) out sure → Follows pool out sure step → AreAllMembersOf out' (ids_ruled_out_by_step step ++ out) → AreAllMembersOf sure' (ids_made_sure_by_step step ++ sure) → AreGathered pool (drop i steps) out' sure'
+pub gathered_from : (pool : SealedPool) (steps : List Step) (i : ℕ) (step : Step) (out sure out' sure' : List ℕ) → slice_get steps i ≡ Some step → AreGathered pool (drop (suc i) steps) out sure → IsDerivationStep pool out sure step → AreAllMembersOf out' (ids_ruled_out_by_step step ++ out) → AreAllMembersOf sure' (ids_made_sure_by_step step ++ sure) → AreGathered pool (drop i steps) out' sure'
 gathered_from pool steps i step out sure out' sure' at g f outs sures =
     subst (λ (z : List Step). AreGathered pool z out' sure') (sym (drop_at steps i step at)) (one_more pool step (drop (suc i) steps) out sure out' sure' g f outs sures)
 

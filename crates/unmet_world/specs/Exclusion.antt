@@ -30,15 +30,15 @@ shared_name one other =
     if occupies_name one.name other then Some one.name else occupied_among one.provides other
 
 -- what a function of two candidates gives for those at two places; None if one is not there
-abbrev pub of_both :
+abbrev pub of_candidates_at_places :
     {X : Type 0} → (Candidate → Candidate → Option X) → SealedPool → ℕ → ℕ → Option X
-of_both f pool a b =
+of_candidates_at_places f pool a b =
     option_and_then (λ one. option_and_then (f one) (candidate_at pool b)) (candidate_at pool a)
 
 -- the first conflict of the candidate at a place that the one at another place meets
 abbrev pub conflict_between : SealedPool → ℕ → ℕ → Option Dependency
-conflict_between pool a b = of_both conflict_with pool a b
+conflict_between pool a b = of_candidates_at_places conflict_with pool a b
 
 -- the first name that the candidates at two places both occupy
 abbrev pub shared_name_at_places : SealedPool → ℕ → ℕ → Option (List ℕ)
-shared_name_at_places pool a b = of_both shared_name pool a b
+shared_name_at_places pool a b = of_candidates_at_places shared_name pool a b

@@ -41,15 +41,15 @@ abbrev pub ExplainsInputs : Inputs → List ℕ → Type 0
 ExplainsInputs inputs text =
     ExplainsIfPool inputs.root.world inputs.root.repositories (root_pool inputs no_names) text
 
--- the same, by the result of reading a root in the program; the text is empty if the root is refused
+-- a text explains the result of reading a root in the program; it is empty if the root is refused
 abbrev pub ExplainsResult : Result Loaded Refused → List ℕ → Type 0
 ExplainsResult (Ok loaded) text = ExplainsInputs (inputs_seen loaded) text
 ExplainsResult (Err (Refuseds.Refusal refusal)) text = text ≡ []
 ExplainsResult (Err Refuseds.Disk) text = ⊥
 ExplainsResult (Err Refuseds.Memory) text = ⊥
 
--- the same, by what a command reads; the text is empty if the root is refused now, since others may have
--- changed it
+-- a text explains what a command reads of a root; it is empty if the root is refused now, since others
+-- may have changed it
 abbrev pub ExplainsIfRead : Result Inputs Refusal → List ℕ → Type 0
 ExplainsIfRead (Ok inputs) text = ExplainsInputs inputs text
 ExplainsIfRead (Err refusal) text = text ≡ []
@@ -59,7 +59,7 @@ abbrev pub ExplainsChange : CommandLine → List TreeState → List ℕ → Type
 ExplainsChange command history text =
     IsExplainedBySomeReads history (λ read. ExplainsIfRead (inputs_of command read) text)
 
--- the same, of a command with this applet; the text is empty if it is no change of packages
+-- a text explains a command with this applet; it is empty if the command does not change packages
 abbrev pub ExplainsForApplet : Applet → CommandLine → List TreeState → List ℕ → Type 0
 ExplainsForApplet Add command history text = ExplainsChange command history text
 ExplainsForApplet Del command history text = ExplainsChange command history text
@@ -67,7 +67,7 @@ ExplainsForApplet Upgrade command history text = ExplainsChange command history 
 ExplainsForApplet Fix command history text = ExplainsChange command history text
 ExplainsForApplet applet command history text = text ≡ []
 
--- the same, of the words of a command line; the text is empty if they are none
+-- a text explains a command line; it is empty if the words are no command
 abbrev pub ExplainsCommandLine : Result CommandLine ℕ → List TreeState → List ℕ → Type 0
 ExplainsCommandLine (Ok command) history text = ExplainsForApplet command.applet command history text
 ExplainsCommandLine (Err place) history text = text ≡ []

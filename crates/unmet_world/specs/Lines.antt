@@ -37,7 +37,7 @@ abbrev pub candidate_text : List Repository → Candidate → List ℕ
 candidate_text repositories c =
     name_and_version_text c ++ codes " (" ++ origin_text repositories c.repository ++ codes ")"
 
--- the candidate at a place
+-- the text of the candidate at a place; empty if there is none
 abbrev pub candidate_text_at : SealedPool → List Repository → ℕ → List ℕ
 candidate_text_at pool repositories c =
     option_map_or (candidate_text repositories) (candidate_at pool c) []
@@ -52,7 +52,7 @@ is_named name d = bytes_eq name d.name
 abbrev pub is_same_text : Dependency → Dependency → Bool
 is_same_text d e = bytes_eq (dep_text d) (dep_text e)
 
--- whether an entry of world is one of these: of world as its file lists it
+-- whether an entry of world is also in `listed`, world as its file lists it
 abbrev pub is_entry_of_file : List Dependency → Dependency → Bool
 is_entry_of_file listed d = option_map_or (is_same_text d) (find (is_named d.name) listed) false
 
@@ -65,7 +65,7 @@ entry_origin false = codes "this command"
 abbrev pub entry_origin_text : List Dependency → Dependency → List ℕ
 entry_origin_text listed d = entry_origin (is_entry_of_file listed d)
 
--- who has a dependency
+-- the text that names who has a dependency
 abbrev pub dependency_owner_text :
     SealedPool → List Dependency → List Repository → Owner → Dependency → List ℕ
 dependency_owner_text pool listed repositories World d = entry_origin_text listed d
@@ -79,7 +79,7 @@ needs_text pool listed repositories owner d =
 
 -- ---- what there is of a name
 
--- the conflict of world that a candidate meets
+-- the text of the conflict of world that a candidate meets; empty if it meets none
 abbrev pub world_conflict_text : List Dependency → Option Dependency → List ℕ
 world_conflict_text listed None = []
 world_conflict_text listed (Some d) =
@@ -93,13 +93,14 @@ world_conflict_reason_text listed world c =
     world_conflict_text listed (find (is_conflict_met_by c) world) else
     codes " (tagged @" ++ unwrap_or c.tag [] ++ codes ")"
 
--- a candidate that offers a name: its version, or the package if it has another name
+-- the text of a candidate that offers a name: its version, or the package if it has another name; and
+-- why it may not be selected
 abbrev pub offer_text : List Dependency → List Dependency → List ℕ → Candidate → List ℕ
 offer_text listed world name c =
     (if bytes_eq name c.name then unwrap_or c.version [] else name_and_version_text c)
     ++ world_conflict_reason_text listed world c
 
--- the candidate at a place, which offers a name
+-- the text of the candidate at a place, which offers a name; empty if there is none
 abbrev pub offer_text_at : SealedPool → List Dependency → List ℕ → ℕ → List ℕ
 offer_text_at pool listed name c =
     option_map_or (offer_text listed pool.world name) (candidate_at pool c) []
@@ -137,7 +138,7 @@ abbrev pub note_on_file : List ℕ → List ℕ
 note_on_file name =
     if is_like_file name then codes "; a package is given by its name, and not by its file" else []
 
--- no package has or provides a name; another name is similar, if there is one
+-- the text that no package has or provides a name, with a similar name, if there is one
 abbrev pub no_package_text : List ℕ → Option (List ℕ) → List ℕ
 no_package_text name None = codes "no package" ++ note_on_file name
 no_package_text name (Some similar) = codes "no package" ++ codes "; a similar name is " ++ similar
@@ -152,8 +153,8 @@ offered_text pool listed name (c ∷ cs) =
     ++ dots_if (nat_lt most_shown_offers (length (c ∷ cs)))
 
 -- what there is of a name: `lib: only 1.0-r0, 1.2-r0`
-abbrev pub offers_line : SealedPool → List Dependency → List ℕ → List ℕ
-offers_line pool listed name =
+abbrev pub offers_line_of_name : SealedPool → List Dependency → List ℕ → List ℕ
+offers_line_of_name pool listed name =
     name ++ codes ": " ++ offered_text pool listed name (places_offering name pool.candidates)
 
 -- ---- steps
@@ -161,7 +162,7 @@ offers_line pool listed name =
 -- what there is of the name of a dependency, if no candidate that may be selected meets it
 abbrev pub missing_lines : SealedPool → List Dependency → Dependency → List (List ℕ)
 missing_lines pool listed d =
-    if length (options_for pool (entry d)) == 0 then offers_line pool listed d.name ∷ [] else []
+    if length (options_for pool (entry d)) == 0 then offers_line_of_name pool listed d.name ∷ [] else []
 
 -- what an owner needs, and, if nothing meets it, what there is
 abbrev pub need_lines :
@@ -170,29 +171,31 @@ need_lines pool listed repositories owner None = []
 need_lines pool listed repositories owner (Some d) =
     needs_text pool listed repositories owner d ∷ missing_lines pool listed d
 
--- what is wanted
+-- the lines of what is wanted: who needs it, and, if nothing meets it, what there is of the name
 abbrev pub want_lines :
     SealedPool → List Dependency → List Repository → Want → List (List ℕ)
 want_lines pool listed repositories want =
     need_lines pool listed repositories want.owner (wanted pool want)
 
--- the only candidate that is left for what is wanted
-abbrev pub only_lines :
+-- the line that says which candidate is the only one left for what is wanted
+abbrev pub only_candidate_lines :
     SealedPool → List Dependency → List Repository → Owner → ℕ → Option Dependency →
     List (List ℕ)
-only_lines pool listed repositories owner id None = []
-only_lines pool listed repositories owner id (Some d) =
-    (needs_text pool listed repositories owner d ++ codes ": only " ++ candidate_text_at pool repositories id) ∷ []
+only_candidate_lines pool listed repositories owner id None = []
+only_candidate_lines pool listed repositories owner id (Some d) =
+    (needs_text pool listed repositories owner d ++ codes ": only "
+    ++ candidate_text_at pool repositories id) ∷ []
 
--- a candidate has a conflict that another one meets
+-- the text that a candidate has a conflict, which another candidate meets
 abbrev pub conflict_text : SealedPool → List Repository → ℕ → ℕ → Dependency → List ℕ
 conflict_text pool repositories a b d =
-    candidate_text_at pool repositories a ++ codes " conflicts with " ++ candidate_text_at pool repositories b
+    candidate_text_at pool repositories a ++ codes " conflicts with "
+    ++ candidate_text_at pool repositories b
     ++ codes ": " ++ dep_text d
 
--- two candidates both occupy a name
-abbrev pub sharing_text : SealedPool → List Repository → ℕ → ℕ → List ℕ → List ℕ
-sharing_text pool repositories a b name =
+-- the text that two candidates both occupy a name
+abbrev pub shared_name_text : SealedPool → List Repository → ℕ → ℕ → List ℕ → List ℕ
+shared_name_text pool repositories a b name =
     candidate_text_at pool repositories a ++ codes " and " ++ candidate_text_at pool repositories b
     ++ codes " exclude each other: both are " ++ name
 
@@ -205,10 +208,10 @@ exclusion_lines pool repositories a b (Some d) other name =
 exclusion_lines pool repositories a b None (Some d) name =
     conflict_text pool repositories b a d ∷ []
 exclusion_lines pool repositories a b None None (Some name) =
-    sharing_text pool repositories a b name ∷ []
+    shared_name_text pool repositories a b name ∷ []
 exclusion_lines pool repositories a b None None None = []
 
--- a step
+-- the lines of a step
 abbrev pub step_lines :
     SealedPool → List Dependency → List Repository → Step → List (List ℕ)
 step_lines pool listed repositories (Broken id index) =
@@ -217,7 +220,7 @@ step_lines pool listed repositories (Excluded id by) =
     exclusion_lines pool repositories by id (conflict_between pool by id)
     (conflict_between pool id by) (shared_name_at_places pool by id)
 step_lines pool listed repositories (Sure id want) =
-    only_lines pool listed repositories want.owner id (wanted pool want)
+    only_candidate_lines pool listed repositories want.owner id (wanted pool want)
 
 -- ---- all lines
 
@@ -232,13 +235,13 @@ refutation_lines pool listed repositories r =
     with_texts (with_texts [] (want_lines pool listed repositories r.end))
     (flat_map (step_lines pool listed repositories) (take most_printed_lines r.steps.items))
 
--- an entry of world
+-- the line of an entry of world, if there is one
 abbrev pub world_lines_of : List Dependency → Option Dependency → List (List ℕ)
 world_lines_of listed None = []
 world_lines_of listed (Some d) =
     (entry_origin_text listed d ++ codes " needs " ++ dep_text d) ∷ []
 
--- the entries of world that are no conflicts
+-- the lines of the entries of world that are no conflicts
 abbrev pub world_lines : List Dependency → List Dependency → List (List ℕ)
 world_lines listed world =
     flat_map (λ (d : Dependency). world_lines_of listed (if_positive (Some d))) world

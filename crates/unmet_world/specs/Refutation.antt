@@ -21,7 +21,7 @@ abbrev pub dependencies_of_owner : SealedPool → Owner → List Dependency
 dependencies_of_owner pool World = pool.world
 dependencies_of_owner pool (Package c) = depends_at pool c
 
--- a dependency that is no conflict
+-- the dependency, if it is no conflict
 abbrev pub if_positive : Option Dependency → Option Dependency
 if_positive None = None
 if_positive (Some d) = if d.conflict then None else Some d
@@ -39,7 +39,7 @@ IsMetOnlyBy pool want ids =
 abbrev pub IsUnmet : SealedPool → Want → Type 0
 IsUnmet pool want = IsMetOnlyBy pool want []
 
--- an entry of world
+-- the want of the entry of world at an index, counted from 0
 abbrev pub want_of_world_entry : ℕ → Want
 want_of_world_entry index = record { owner = World; index = index }
 
@@ -80,17 +80,18 @@ IsSureOwner sure (Package c) = IsIn c sure
 -- a step follows, if some candidates are ruled out and some are sure. A candidate is ruled out if it has
 -- a dependency that only candidates meet which are ruled out, or if it and a sure one exclude each
 -- other. It is sure if all others that meet what is wanted for sure are ruled out
-abbrev pub Follows : SealedPool → List ℕ → List ℕ → Step → Type 0
-Follows pool out sure (Broken id index) =
+abbrev pub IsDerivationStep : SealedPool → List ℕ → List ℕ → Step → Type 0
+IsDerivationStep pool out sure (Broken id index) =
     IsMetOnlyBy pool (record { owner = Package id; index = index }) out
-Follows pool out sure (Excluded id by) = IsIn by sure × (exclude_each_other pool by id ≡ true)
-Follows pool out sure (Sure id want) = IsSureOwner sure want.owner × IsMetOnlyBy pool want (id ∷ out)
+IsDerivationStep pool out sure (Excluded id by) = IsIn by sure × (exclude_each_other pool by id ≡ true)
+IsDerivationStep pool out sure (Sure id want) =
+    IsSureOwner sure want.owner × IsMetOnlyBy pool want (id ∷ out)
 
 -- each step follows from those after it: the first one is the last that was taken
 abbrev pub AreDerivationSteps : SealedPool → List Step → Type 0
 AreDerivationSteps pool [] = Unit {0}
 AreDerivationSteps pool (step ∷ steps) =
-    Follows pool (ids_ruled_out steps) (ids_made_sure steps) step × AreDerivationSteps pool steps
+    IsDerivationStep pool (ids_ruled_out steps) (ids_made_sure steps) step × AreDerivationSteps pool steps
 
 -- ---- refutations
 

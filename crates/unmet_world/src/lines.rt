@@ -4,11 +4,11 @@ ghost use Rattle.std.specs.List.{flat_map};
 ghost use Rattle.dep_core.specs.Meets.{dependency};
 ghost use Rattle.unmet_world.specs.Exclusion.{conflict_between, shared_name_at_places};
 ghost use Rattle.unmet_world.specs.Refutation.{wanted};
-ghost use Rattle.unmet_world.specs.Lines.{needs_text, with_texts, missing_lines, want_lines, only_lines, conflict_text, sharing_text, exclusion_lines, step_lines, most_printed_lines, refutation_lines, world_lines, printed_line, text_of_at_most_ten_lines, explanation_lines, explanation_text};
+ghost use Rattle.unmet_world.specs.Lines.{needs_text, with_texts, missing_lines, want_lines, only_candidate_lines, conflict_text, shared_name_text, exclusion_lines, step_lines, most_printed_lines, refutation_lines, world_lines, printed_line, text_of_at_most_ten_lines, explanation_lines, explanation_text};
 
 use crate::exclusion::{conflict_between, shared_name_at_places};
 use crate::refutation::{Owner, Refutation, Step, Want, candidate, wanted};
-use crate::texts::{Sources, add_candidate_at, add_dep, add_once, add_owner, offers_line};
+use crate::texts::{Sources, add_candidate_at, add_dep, add_once, add_owner, offers_line_of_name};
 use base_core::Text;
 use dep_core::Dep;
 use hint_core::push_printed;
@@ -20,7 +20,7 @@ const MOST_LINES: usize = 10;
 
 // ---- steps
 
-// What an owner needs.
+// The text that an owner needs a dependency.
 fn needs(
     alloc: Global,
     sources: &Sources<'_>,
@@ -38,7 +38,8 @@ fn needs(
     Ok(line)
 }
 
-// Adds what there is of the name of a dependency, if no candidate that may be selected meets it.
+// Adds the line of what there is of a dependency's name, if no candidate that may be selected meets
+// the dependency.
 fn add_missing(
     alloc: Global,
     lines: &mut Vec<Text>,
@@ -53,11 +54,11 @@ fn add_missing(
     if !options.is_empty() {
         return Ok(());
     }
-    let line = offers_line(alloc, sources, dep.name)?;
+    let line = offers_line_of_name(alloc, sources, dep.name)?;
     add_once(lines, line)
 }
 
-// Adds what is wanted.
+// Adds the lines of what is wanted.
 fn add_want(
     alloc: Global,
     lines: &mut Vec<Text>,
@@ -79,7 +80,7 @@ fn add_want(
     }
 }
 
-// Adds the only candidate that is left for what is wanted.
+// Adds the line that says which candidate is the only one left for what is wanted.
 fn add_only(
     alloc: Global,
     lines: &mut Vec<Text>,
@@ -89,7 +90,7 @@ fn add_only(
 ) -> Result<(), AllocError>
     requires { sources.now.world.now ≡ sources.now.pool.now.world }
     ensures { OnOk result (lines.new.items ≡ with_texts lines.old.items
-        (only_lines sources.now.pool.now sources.now.listed.now sources.now.repositories.now
+        (only_candidate_lines sources.now.pool.now sources.now.listed.now sources.now.repositories.now
         want.owner id (wanted sources.now.pool.now want))) }
 {
     let owner = want.owner;
@@ -104,7 +105,7 @@ fn add_only(
     }
 }
 
-// A candidate has a conflict that another one meets.
+// The text that a candidate has a conflict, which another candidate meets.
 fn conflict(
     alloc: Global,
     sources: &Sources<'_>,
@@ -124,7 +125,7 @@ fn conflict(
     Ok(Text::from_vec(line))
 }
 
-// Two candidates both occupy a name.
+// The text that two candidates both occupy a name.
 fn sharing(
     alloc: Global,
     sources: &Sources<'_>,
@@ -132,7 +133,7 @@ fn sharing(
     b: CandId,
     name: &[u8],
 ) -> Result<Text, AllocError>
-    ensures { IfOk result (λ line. line ≡ sharing_text sources.now.pool.now
+    ensures { IfOk result (λ line. line ≡ shared_name_text sources.now.pool.now
         sources.now.repositories.now a b name.now) }
 {
     let mut line = Vec::new(alloc);
@@ -144,7 +145,7 @@ fn sharing(
     Ok(Text::from_vec(line))
 }
 
-// By what two candidates exclude each other, if they do.
+// The text that says by what two candidates exclude each other, if they do.
 fn exclusion(
     alloc: Global,
     sources: &Sources<'_>,
@@ -153,7 +154,8 @@ fn exclusion(
 ) -> Result<Option<Text>, AllocError>
     ensures { IfOk result (λ line. option_to_list line ≡ exclusion_lines sources.now.pool.now
         sources.now.repositories.now a b (conflict_between sources.now.pool.now a b)
-        (conflict_between sources.now.pool.now b a) (shared_name_at_places sources.now.pool.now a b)) }
+        (conflict_between sources.now.pool.now b a)
+        (shared_name_at_places sources.now.pool.now a b)) }
 {
     if let Some(dep) = conflict_between(sources.pool, a, b) {
         return Ok(Some(conflict(alloc, sources, a, b, &dep)?));
@@ -167,7 +169,7 @@ fn exclusion(
     }
 }
 
-// Adds by what two candidates exclude each other, if they do.
+// Adds the line that says by what two candidates exclude each other, if they do.
 fn add_exclusion(
     alloc: Global,
     lines: &mut Vec<Text>,
@@ -178,7 +180,8 @@ fn add_exclusion(
     ensures { OnOk result (lines.new.items ≡ with_texts lines.old.items
         (exclusion_lines sources.now.pool.now
         sources.now.repositories.now a b (conflict_between sources.now.pool.now a b)
-        (conflict_between sources.now.pool.now b a) (shared_name_at_places sources.now.pool.now a b))) }
+        (conflict_between sources.now.pool.now b a)
+        (shared_name_at_places sources.now.pool.now a b))) }
 {
     match exclusion(alloc, sources, a, b)? {
         None => Ok(()),

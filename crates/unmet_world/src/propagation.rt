@@ -26,9 +26,9 @@ struct Open {
 /// A candidate among the options of what is wanted.
 #[derive(Clone, Copy)]
 struct Listed {
-    /// The index of what is wanted.
+    /// The index in `open` of what is wanted.
     open: usize,
-    /// The index of the place of the same candidate that was listed before.
+    /// The index in `listed` of the previous entry of the same candidate.
     before: Option<usize>,
 }
 
@@ -43,11 +43,11 @@ struct Known {
     out: Option<usize>,
     /// The index of the step that makes it sure.
     sure: Option<usize>,
-    /// The index of its latest place among some options.
+    /// The index in `listed` of its latest entry.
     listed: Option<usize>,
-    /// The index of what it wants first.
+    /// The index in `open` of what it wants first.
     first: usize,
-    /// The index after what it wants last.
+    /// The index in `open` after what it wants last.
     end: usize,
 }
 
@@ -155,7 +155,7 @@ impl<'p> Propagation<'p> {
         Ok(())
     }
 
-    // Looks at what has few options, and else at the next candidate; false if nothing is left.
+    // Looks at what has few options, and else at the next candidate. Returns false if there is neither.
     fn go_on(&mut self) -> Result<bool, AllocError> {
         if let Some(open) = self.few.get(self.few_done).copied() {
             self.few_done = self.few_done.saturating_add(1);
@@ -223,7 +223,7 @@ impl<'p> Propagation<'p> {
         Ok(())
     }
 
-    // Lists the options of what is wanted; how many of them are left.
+    // Lists the options of what is wanted, and returns how many of them are left.
     fn list_all(&mut self, open: usize, options: &Options) -> Result<usize, AllocError> {
         let mut left: usize = 0;
         for i in 0..options.len() {
@@ -235,7 +235,7 @@ impl<'p> Propagation<'p> {
         Ok(left)
     }
 
-    // Lists an option of what is wanted; whether it is left.
+    // Lists an option of what is wanted, and returns whether it is left.
     fn list(&mut self, open: usize, id: CandId) -> Result<bool, AllocError> {
         let mut known = self.known_of(id);
         let place = self.listed.len();
@@ -316,7 +316,8 @@ impl<'p> Propagation<'p> {
         Ok(())
     }
 
-    // One option less is left for what is wanted, by a place of the option; its place before that.
+    // One option less is left for what is wanted, by the index in `listed` of the option. Returns the
+    // index of the previous entry of the same candidate.
     fn one_less(&mut self, place: usize) -> Result<Option<usize>, AllocError> {
         let Some(listed) = self.listed.get(place).copied() else {
             return Ok(None);

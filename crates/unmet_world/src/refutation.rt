@@ -5,7 +5,7 @@ ghost use Rattle.std.specs.Prelude.{◌≡◌, ◌<◌, ◌∷◌, ◌++◌, [],
 ghost use Rattle.dep_core.specs.Meets.{dependency};
 ghost use Rattle.search_tables.specs.candidate_core.Options.{IsIn};
 ghost use Rattle.search_tables.specs.Selection.{AreAllMembersOf, depends_at};
-ghost use Rattle.unmet_world.specs.Refutation.{Follows, IsMetOnlyBy, IsRefutation, IsSureOwner, if_positive, ids_made_sure_by_step, dependencies_of_owner, ids_ruled_out_by_step, wanted};
+ghost use Rattle.unmet_world.specs.Refutation.{IsDerivationStep, IsMetOnlyBy, IsRefutation, IsSureOwner, if_positive, ids_made_sure_by_step, dependencies_of_owner, ids_ruled_out_by_step, wanted};
 
 use crate::exclusion::exclude_each_other;
 use dep_core::{Dep, World};
@@ -98,7 +98,7 @@ impl Checked {
     ) -> Result<bool, AllocError>
         requires { world.now ≡ pool.now.world }
         ensures { IfOk result (λ follows. follows ≡ true →
-            Follows pool.now self.now.out self.now.sure step) }
+            IsDerivationStep pool.now self.now.out self.now.sure step) }
     {
         match step {
             Step::Broken { id, index } => {
@@ -122,8 +122,10 @@ impl Checked {
 
     // Adds what a step rules out or makes sure.
     fn add(&mut self, step: Step) -> Result<(), AllocError>
-        ensures out { OnOk result (AreAllMembersOf self.new.out (ids_ruled_out_by_step step ++ self.old.out)) }
-        ensures sure { OnOk result (AreAllMembersOf self.new.sure (ids_made_sure_by_step step ++ self.old.sure)) }
+        ensures out { OnOk result (AreAllMembersOf self.new.out (ids_ruled_out_by_step step
+            ++ self.old.out)) }
+        ensures sure { OnOk result (AreAllMembersOf self.new.sure (ids_made_sure_by_step step
+            ++ self.old.sure)) }
     {
         match step {
             Step::Broken { id, index: _ } => self.out.add(candidate(id)),

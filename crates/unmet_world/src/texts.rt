@@ -7,7 +7,7 @@ ghost use Rattle.dep_core.specs.DependencyText.{dep_text};
 ghost use Rattle.dep_core.specs.Meets.{dependency};
 ghost use Rattle.search_tables.specs.candidate_core.Candidates.{uses_tag, is_allowed};
 ghost use Rattle.unmet_world.specs.Exclusion.{is_conflict_met_by};
-ghost use Rattle.unmet_world.specs.Lines.{origin_text, name_and_version_text, candidate_text, candidate_text_at, is_named, is_same_text, is_entry_of_file, entry_origin, entry_origin_text, dependency_owner_text, world_conflict_text, world_conflict_reason_text, offer_text, offer_text_at, with_text_once, with_texts, joined_texts, most_shown_offers, dots_if, is_like_file, no_package_text, note_on_file, offered_text, offers_line};
+ghost use Rattle.unmet_world.specs.Lines.{origin_text, name_and_version_text, candidate_text, candidate_text_at, is_named, is_same_text, is_entry_of_file, entry_origin, entry_origin_text, dependency_owner_text, world_conflict_text, world_conflict_reason_text, offer_text, offer_text_at, with_text_once, with_texts, joined_texts, most_shown_offers, dots_if, is_like_file, no_package_text, note_on_file, offered_text, offers_line_of_name};
 
 use crate::exclusion::is_conflict_met_by;
 use crate::refutation::{Owner, candidate};
@@ -122,7 +122,7 @@ pub(crate) fn add_dep(text: &mut Vec<u8>, dep: &Dep<'_>) -> Result<(), AllocErro
 
 // ---- entries of world
 
-// The entry of world that has a name.
+// The entry of world that has a name, if there is one.
 fn entry_named<'a>(world: &'a World, name: &[u8]) -> Option<Dep<'a>>
     ensures { option_map dependency result ≡ find (is_named name.now) world.now }
 {
@@ -455,14 +455,14 @@ fn dots_if(more: bool) -> &'static [u8]
 }
 
 /// What there is of a name, as a line.
-pub(crate) fn offers_line(
+pub(crate) fn offers_line_of_name(
     alloc: Global,
     sources: &Sources<'_>,
     name: &[u8],
 ) -> Result<Text, AllocError>
     requires { sources.now.world.now ≡ sources.now.pool.now.world }
     ensures { IfOk result (λ line. line
-        ≡ offers_line sources.now.pool.now sources.now.listed.now name.now) }
+        ≡ offers_line_of_name sources.now.pool.now sources.now.listed.now name.now) }
 {
     let mut line = Vec::new(alloc);
     line.extend_from_slice(name)?;

@@ -67,7 +67,7 @@ pub fn explanation_of(
     explanation(alloc, &sources, &found)
 }
 
-// A refutation that the search finds, if it is one.
+// The refutation that the search finds, if `is_refutation` accepts it.
 fn longer(alloc: Global, pool: &Sealed<'_>, world: &World) -> Result<Option<Refutation>, AllocError>
     requires { world.now ≡ pool.now.world }
     ensures { IfOk result (λ found. IfSome found (λ r. IsRefutation pool.now r)) }

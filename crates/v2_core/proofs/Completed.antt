@@ -5,7 +5,7 @@ use Rattle.std.specs.Option.{option_and_then, option_map}
 use Rattle.std.proofs.lemmas.List.Folds.{list_any-append}
 use Rattle.dep_core.specs.Dependency.{is_package_name}
 use Rattle.version_core.specs.Order.{is_version, tokens}
-use Rattle.version_core.specs.Token.{component_lexeme, next_lexeme, number_lexeme}
+use Rattle.version_core.specs.Token.{later_component_lexeme, next_lexeme, number_lexeme}
 use Rattle.v2_lines.specs.make_info.Fields.{FieldValue, text, text_value_if}
 use Rattle.v2_lines.specs.InfoFields.{field_of_letter, is_list_info_field}
 use Rattle.v2_lines.specs.Lines.{info_line, record_line_of_letter, record_line_of}
@@ -139,7 +139,7 @@ named = refl
 
 -- `1` is a version
 versioned : is_version (49 ∷ []) ≡ true
-unfolding is_version tokens number_lexeme next_lexeme component_lexeme
+unfolding is_version tokens number_lexeme next_lexeme later_component_lexeme
 versioned = refl
 
 -- fewer lines than up to the one that is told begin a text

@@ -15,7 +15,7 @@ use Rattle.v2_lines.specs.declared.field.InfoField.{InfoField}
 use Rattle.v2_lines.specs.Views.{line_value_view}
 use Rattle.v2_lines.specs.declared.value.Value.{Value}
 use Rattle.v2_lines.specs.declared.value.Value.TheVariants as Values
-use Rattle.v2_core.specs.Database.{value_of_first_or_null, values_for}
+use Rattle.v2_core.specs.Database.{value_of_first_or_null, values_if_line_of_field}
 use Rattle.v2_core.specs.Records.{InfoLine, is_line_of}
 use Rattle.v2_lines.proofs.make_info.Mapped.{with_list}
 use Rattle.v2_core.proofs.Lists.{with_list-append}
@@ -26,17 +26,17 @@ map-both f (x ∷ xs) ys = ap (λ zs. f x ∷ zs) (map-both f xs ys)
 
 -- what these lines say of a field
 abbrev pub plains_of_lines : InfoField → List InfoLine → List Plain
-plains_of_lines f info = map plain_value (flat_map (values_for f) info)
+plains_of_lines f info = map plain_value (flat_map (values_if_line_of_field f) info)
 
-line_at : (f : InfoField) (info : List InfoLine) (i : ℕ) (l d : InfoLine) (values : List FieldValue) → i < length info → l ≡ get_or info i d → values_for f l ≡ values
+line_at : (f : InfoField) (info : List InfoLine) (i : ℕ) (l d : InfoLine) (values : List FieldValue) → i < length info → l ≡ get_or info i d → values_if_line_of_field f l ≡ values
     → plains_of_lines f (drop i info) ≡ map plain_value values ++ plains_of_lines f (drop (i + 1) info)
 line_at f info i l d values within is says =
     ap (plains_of_lines f) (drop_at info i l (slice_get-get_or info i d within ∙ ap (λ y. Some y) (sym is)))
-    ∙ ap (λ vs. map plain_value (vs ++ flat_map (values_for f) (drop (i + 1) info))) says
-    ∙ map-both plain_value values (flat_map (values_for f) (drop (i + 1) info))
+    ∙ ap (λ vs. map plain_value (vs ++ flat_map (values_if_line_of_field f) (drop (i + 1) info))) says
+    ∙ map-both plain_value values (flat_map (values_if_line_of_field f) (drop (i + 1) info))
 
 -- the values of a line are given
-given_line : (f : InfoField) (info : List InfoLine) (i : ℕ) (l d : InfoLine) (values : List FieldValue) (old new whole : DraftState) → i < length info → l ≡ get_or info i d → values_for f l ≡ values
+given_line : (f : InfoField) (info : List InfoLine) (i : ℕ) (l d : InfoLine) (values : List FieldValue) (old new whole : DraftState) → i < length info → l ≡ get_or info i d → values_if_line_of_field f l ≡ values
     → with_list (plains_of_lines f (drop i info)) old ≡ whole → new ≡ with_list (map plain_value values) old → with_list (plains_of_lines f (drop (i + 1) info)) new ≡ whole
 given_line f info i l d values old new whole within is says left one =
     ap (λ (s : DraftState). with_list (plains_of_lines f (drop (i + 1) info)) s) one

@@ -4,7 +4,7 @@ use Rattle.std.specs.Option.{option_map}
 use Rattle.adb_view.specs.Plain.{Plain}
 use Rattle.v2_lines.specs.adb_values.Drafts.{DraftState, draft_with}
 use Rattle.v2_lines.proofs.make_info.Mapped.{with_list}
-use Rattle.v2_core.specs.Records.{with_last_changed}
+use Rattle.v2_core.specs.Records.{list_with_last_changed}
 
 pub map-push : {A B : Type 0} (f : A → B) (xs : List A) (x : A) → map f (xs ++ x ∷ []) ≡ map f xs ++ f x ∷ []
 map-push f [] x = refl
@@ -30,7 +30,7 @@ put_before y ys None = refl
 put_before y ys (Some z) = refl
 
 -- what is made of the last element
-pub with_last-push : {A : Type 0} (f : A → Option A) (xs : List A) (x : A) → with_last_changed f (xs ++ x ∷ []) ≡ option_map (λ y. xs ++ y ∷ []) (f x)
+pub with_last-push : {A : Type 0} (f : A → Option A) (xs : List A) (x : A) → list_with_last_changed f (xs ++ x ∷ []) ≡ option_map (λ y. xs ++ y ∷ []) (f x)
 with_last-push f [] x = refl
 with_last-push f (y ∷ []) x = put_before y [] (f x)
 with_last-push f (y ∷ z ∷ zs) x =

@@ -1,12 +1,12 @@
 -- The payload of what was read.
 use Rattle.std.proofs.Common.{◌≡◌, ℕ, List, [], ◌∷◌, map, Result, Ok, Err, sym, ◌∙◌, ap}
-use Rattle.adb_view.specs.Plain.{Plain, none, more, arr_value, obj_value}
+use Rattle.adb_view.specs.Plain.{Plain, none, more, array_or_null, trimmed_object_or_null}
 use Rattle.v2_lines.specs.adb_values.Drafts.{DraftState, draft_with, draft_with_open_list, empty_draft}
 use Rattle.v2_lines.proofs.adb_values.Lists.{Closes}
 use Rattle.v2_lines.specs.adb_write.Canonical.{PayloadCounts, payload_or_overflow}
 use Rattle.v2_lines.specs.make_info.Values.{plains_of_list}
 use Rattle.v2_core.specs.Database.{array_of, record_value, value_of_records}
-use Rattle.v2_core.specs.Payload.{IsV2Fault, or_too_large, payload_if_sound, written_payload}
+use Rattle.v2_core.specs.Payload.{IsV2Fault, or_too_large, payload_if_sound, payload_of_records}
 use Rattle.v2_core.specs.Records.{Record}
 use Rattle.v2_core.specs.Writing.{IsLineFault, draft_with_database, draft_with_records}
 use Rattle.v2_core.specs.declared.read.V2Fault.{V2Fault}
@@ -15,7 +15,7 @@ use Rattle.v2_lines.proofs.make_info.Mapped.{with_list}
 
 -- what a draft of the database ends with is the payload, or the counts at which it overflows
 pub finished : (read : Result (List Record) ℕ) (start d : DraftState) (answer : Result (List ℕ) PayloadCounts) → start ≡ empty_draft → draft_with_database read start ≡ Ok d
-    → ((v : Plain) → d ≡ draft_with v empty_draft → payload_or_overflow v ≡ answer) → written_payload read ≡ or_too_large answer
+    → ((v : Plain) → d ≡ draft_with v empty_draft → payload_or_overflow v ≡ answer) → payload_of_records read ≡ or_too_large answer
 finished (Ok records) start d answer fresh so end =
     let v : Plain = value_of_records records in
     let same : draft_with v start ≡ d = cc in
@@ -23,8 +23,8 @@ finished (Ok records) start d answer fresh so end =
 finished (Err line) start d answer fresh so end = absurd cc
 
 -- a bad line is why there is no payload
-pub line_fault : (fault : V2Fault) (read : Result (List Record) ℕ) → IsLineFault fault read → IsV2Fault fault (written_payload read)
-line_fault (Bad cause) read is = ap written_payload is.2 ∙ ap (λ c. Err (Bad c)) (sym is.1)
+pub line_fault : (fault : V2Fault) (read : Result (List Record) ℕ) → IsLineFault fault read → IsV2Fault fault (payload_of_records read)
+line_fault (Bad cause) read is = ap payload_of_records is.2 ∙ ap (λ c. Err (Bad c)) (sym is.1)
 line_fault (TooLarge bytes values) read is = absurd is
 line_fault Memory read is = is
 
@@ -35,7 +35,7 @@ untested_fault (TooLarge bytes values) written is = ap payload_if_sound is
 untested_fault Memory written is = is
 
 -- the packages make the database
-pub database_closed : (read : Result (List Record) ℕ) (a b c d e f : DraftState) → b ≡ draft_with_open_list a → c ≡ draft_with_open_list b → draft_with_records read c ≡ Ok d → Closes arr_value d e → Closes obj_value e f
+pub database_closed : (read : Result (List Record) ℕ) (a b c d e f : DraftState) → b ≡ draft_with_open_list a → c ≡ draft_with_open_list b → draft_with_records read c ≡ Ok d → Closes array_or_null d e → Closes trimmed_object_or_null e f
     → draft_with_database read a ≡ Ok f
 database_closed (Ok records) a b c d e f first second so array object =
     let packages : List Plain = map record_value records in

@@ -11,7 +11,7 @@ use Rattle.v2_lines.specs.Accesses.{Access}
 use Rattle.v2_lines.specs.InfoFields.{is_list_info_field}
 use Rattle.v2_lines.specs.Lines.{RecordLine, info_line, folder_access_line, file_line, file_access_line, file_hash_line, record_line_of}
 use Rattle.v2_core.specs.Reading.{records_from, records_of, with_records}
-use Rattle.v2_core.specs.Records.{InfoLine, ListedFile, ListedFolder, Record, empty_record, listed_file_from_parts, file_with_access, file_with_hash, listed_folder_from_parts, folder_with_access, folder_with_file, folder_with_last, has_line_of, lacks_needed_line, record_from_parts, record_if_both_parts, with_last_changed, with_record_line}
+use Rattle.v2_core.specs.Records.{InfoLine, ListedFile, ListedFolder, Record, empty_record, listed_file_from_parts, file_with_access, file_with_hash, listed_folder_from_parts, folder_with_access, folder_with_file, folder_with_last_file_changed, has_line_of, lacks_needed_line, record_from_parts, record_if_both_parts, list_with_last_changed, with_record_line}
 use Rattle.v2_core.specs.Spelling.{AreLines, SpellsRecord, SpellsText, access_lines, file_lines, folder_lines, hash_lines, info_lines, is_one_line, lines_text_before, record_lines, have_no_repeated_single_field}
 use Rattle.v2_core.proofs.Lists.{with_last-push}
 use Rattle.v2_core.proofs.RecordEnds.{good_end}
@@ -37,15 +37,15 @@ after_more r s l ls h = ap (option_and_then (λ q. after q ls)) h
 -- ---- files
 
 -- the last folder of some is changed
-at_folder : (info : List InfoLine) (done : List ListedFolder) (f g : ListedFolder) (change : ListedFolder → Option ListedFolder) → change f ≡ Some g → record_if_both_parts (Some info) (with_last_changed change (done ++ f ∷ [])) ≡ Some (record_from_parts true info (done ++ g ∷ []))
+at_folder : (info : List InfoLine) (done : List ListedFolder) (f g : ListedFolder) (change : ListedFolder → Option ListedFolder) → change f ≡ Some g → record_if_both_parts (Some info) (list_with_last_changed change (done ++ f ∷ [])) ≡ Some (record_from_parts true info (done ++ g ∷ []))
 at_folder info done f g change h =
     ap (record_if_both_parts (Some info)) (with_last-push change done f ∙ ap (option_map (λ y. done ++ y ∷ [])) h)
 
 -- the last file of a folder is changed
-at_file : (folder : ListedFolder) (before : List ListedFile) (f g : ListedFile) (change : ListedFile → Option ListedFile) → folder.files ≡ before ++ f ∷ [] → change f ≡ Some g → folder_with_last change folder ≡ Some (listed_folder_from_parts folder.name folder.access (before ++ g ∷ []))
+at_file : (folder : ListedFolder) (before : List ListedFile) (f g : ListedFile) (change : ListedFile → Option ListedFile) → folder.files ≡ before ++ f ∷ [] → change f ≡ Some g → folder_with_last_file_changed change folder ≡ Some (listed_folder_from_parts folder.name folder.access (before ++ g ∷ []))
 at_file folder before f g change is h =
     ap (option_map (λ files. listed_folder_from_parts folder.name folder.access files))
-    (ap (with_last_changed change) is ∙ (with_last-push change before f ∙ ap (option_map (λ y. before ++ y ∷ [])) h))
+    (ap (list_with_last_changed change) is ∙ (with_last-push change before f ∙ ap (option_map (λ y. before ++ y ∷ [])) h))
 
 abbrev with_files : List InfoLine → List ListedFolder → List ℕ → Option Access → List ListedFile → Record
 with_files info done name access files =
@@ -56,14 +56,14 @@ after_access info done name access before file None = refl
 after_access info done name access before file (Some a) =
     let folder : ListedFolder = listed_folder_from_parts name access (before ++ listed_file_from_parts file None None ∷ []) in
     after_more (with_files info done name access (before ++ listed_file_from_parts file None None ∷ [])) (with_files info done name access (before ++ listed_file_from_parts file (Some a) None ∷ [])) (file_access_line a) []
-    (at_folder info done folder _ (folder_with_last (file_with_access a)) (at_file folder before _ _ (file_with_access a) refl refl))
+    (at_folder info done folder _ (folder_with_last_file_changed (file_with_access a)) (at_file folder before _ _ (file_with_access a) refl refl))
 
 after_hash : (info : List InfoLine) (done : List ListedFolder) (name : List ℕ) (access : Option Access) (before : List ListedFile) (file : List ℕ) (a : Option Access) (hash : Option (List ℕ)) → after (with_files info done name access (before ++ listed_file_from_parts file a None ∷ [])) (hash_lines hash) ≡ Some (with_files info done name access (before ++ listed_file_from_parts file a hash ∷ []))
 after_hash info done name access before file a None = refl
 after_hash info done name access before file a (Some hash) =
     let folder : ListedFolder = listed_folder_from_parts name access (before ++ listed_file_from_parts file a None ∷ []) in
     after_more (with_files info done name access (before ++ listed_file_from_parts file a None ∷ [])) (with_files info done name access (before ++ listed_file_from_parts file a (Some hash) ∷ [])) (file_hash_line hash) []
-    (at_folder info done folder _ (folder_with_last (file_with_hash hash)) (at_file folder before _ _ (file_with_hash hash) refl refl))
+    (at_folder info done folder _ (folder_with_last_file_changed (file_with_hash hash)) (at_file folder before _ _ (file_with_hash hash) refl refl))
 
 after_file : (info : List InfoLine) (done : List ListedFolder) (name : List ℕ) (access : Option Access) (before : List ListedFile) (f : ListedFile) → after (with_files info done name access before) (file_lines f) ≡ Some (with_files info done name access (before ++ f ∷ []))
 after_file info done name access before f =

@@ -3,7 +3,7 @@
 -- paragraph on the value of records; the order of fields in "Schemas", tables 2 to 5, 7 and 9.
 use Rattle.std.specs.Prelude.{ℕ, List, [], ◌∷◌, map, Option, Some, None, if◌then◌else◌}
 use Rattle.std.specs.List.{find, flat_map}
-use Rattle.adb_view.specs.Plain.{Plain, null, int, blob_or_null, arr_value, obj_value}
+use Rattle.adb_view.specs.Plain.{Plain, null, int, blob_or_null, array_or_null, trimmed_object_or_null}
 use Rattle.v2_lines.specs.make_info.Fields.{FieldValue}
 use Rattle.v2_lines.specs.make_info.Information.{plain_value}
 use Rattle.v2_lines.specs.make_info.Values.{plains_of_list}
@@ -14,11 +14,11 @@ use Rattle.v2_core.specs.Records.{InfoLine, ListedFile, ListedFolder, Record, is
 
 -- the array of some values; Null if there are none
 abbrev pub array_of : List Plain → Plain
-array_of vs = arr_value (plains_of_list vs)
+array_of vs = array_or_null (plains_of_list vs)
 
 -- the object of some values, without the last Nulls
 abbrev pub object_of : List Plain → Plain
-object_of vs = obj_value (plains_of_list vs)
+object_of vs = trimmed_object_or_null (plains_of_list vs)
 
 -- ---- the package's information
 
@@ -37,12 +37,12 @@ abbrev pub value_of_single_line_field : InfoField → List InfoLine → Plain
 value_of_single_line_field f info = value_of_line (find (is_line_of f) info)
 
 -- the values of a line if it is of the field, otherwise none
-abbrev pub values_for : InfoField → InfoLine → List FieldValue
-values_for f line = if is_line_of f line then line.values else []
+abbrev pub values_if_line_of_field : InfoField → InfoLine → List FieldValue
+values_if_line_of_field f line = if is_line_of f line then line.values else []
 
 -- the array of all values that the lines of a field give
 abbrev pub array_of_field_values : InfoField → List InfoLine → Plain
-array_of_field_values f info = array_of (map plain_value (flat_map (values_for f) info))
+array_of_field_values f info = array_of (map plain_value (flat_map (values_if_line_of_field f) info))
 
 -- the object of a package's information: the first 18 fields of table 3 in order. The 13th, file-size,
 -- is Null, since the text does not have it, and so are the fields after these
@@ -55,7 +55,8 @@ record_info_value info =
     ∷ value_of_single_line_field Fields.License info ∷ value_of_single_line_field Fields.Origin info
     ∷ value_of_single_line_field Fields.Maintainer info ∷ value_of_single_line_field Fields.Url info
     ∷ value_of_single_line_field Fields.RepoCommit info ∷ value_of_single_line_field Fields.BuildTime info
-    ∷ value_of_single_line_field Fields.InstalledSize info ∷ null ∷ value_of_single_line_field Fields.ProviderPriority info
+    ∷ value_of_single_line_field Fields.InstalledSize info ∷ null
+    ∷ value_of_single_line_field Fields.ProviderPriority info
     ∷ array_of_field_values Fields.Depends info ∷ array_of_field_values Fields.Provides info
     ∷ array_of_field_values Fields.Replaces info ∷ array_of_field_values Fields.InstallIf info ∷ [])
 

@@ -11,17 +11,26 @@ read_lines lines = records_from 0 empty_record lines
 
 -- these lines are the first ones of a text that is read
 pub record BeginsText (front : List (List ℕ)) : Type 0 where
+  -- the other lines of the text
   pub more : List (List ℕ)
+  -- the records of the text
   pub records : List Record
+  -- the text is read as these records
   pub is_read : read_lines (front ++ more) ≡ Ok records
 
 -- The lines up to a number are those of no text in which their last record ends there, and every text
 -- that continues from there is refused with this number; but those up to any smaller number begin a
 -- text.
 pub record IsReportedLine (lines : List (List ℕ)) (number : ℕ) : Type 0 where
+  -- the lines up to the number
   pub front : List (List ℕ)
+  -- the lines after them
   pub rest : List (List ℕ)
+  -- together they are the lines of the text
   pub located : lines ≡ front ++ rest
+  -- there are as many of them as the number says
   pub up_to : length front ≡ number
+  -- if their last record ends there, the text is refused with this number, whatever follows
   pub bad : (more : List (List ℕ)) → read_lines (front ++ [] ∷ more) ≡ Err number
+  -- the first k lines, for a smaller number k, begin a text that is read
   pub earlier : (k : ℕ) → k < number → BeginsText (take k lines)

@@ -1,15 +1,15 @@
 -- passed on: a crate above that names this one need not name these
 pub use Rattle.v2_lines.specs as v2_lines
 -- The definitions of this crate. Each file names the document with its rule.
--- what the contract of `apk` says
+-- cited by the contract of `apk`
 pub mod Records
 pub mod Reading
 pub mod Database
 pub mod Payload
--- what the laws say
+-- cited by the laws
 pub mod FirstBadLine
 pub mod Spelling
--- what only inner contracts and proofs use
+-- used by inner contracts and proofs only
 pub mod Views
 pub mod Columns
 pub mod Writing

@@ -13,31 +13,31 @@ use Rattle.v2_core.specs.Database.{value_of_records}
 use Rattle.v2_core.specs.Reading.{records_of}
 use Rattle.v2_core.specs.Records.{Record}
 
--- a payload, unless a test of it failed, whose fault then refuses the text
-abbrev pub unless_bad : List ℕ → Option Cause → Result (List ℕ) V2Fault
-unless_bad payload None = Ok payload
-unless_bad payload (Some cause) = Err (Bad cause)
+-- a payload that was tested: the payload, or the fault of the test that failed
+abbrev pub payload_unless_fault : List ℕ → Option Cause → Result (List ℕ) V2Fault
+payload_unless_fault payload None = Ok payload
+payload_unless_fault payload (Some cause) = Err (Bad cause)
 
 -- the payload, unless it exceeds a limit of the writer
 abbrev pub or_too_large : Result (List ℕ) PayloadCounts → Result (List ℕ) V2Fault
 or_too_large (Ok payload) = Ok payload
 or_too_large (Err counts) = Err (TooLarge counts.0 counts.1)
 
--- the payload of the database of a text's records, before it is tested
-abbrev pub written_payload : Result (List Record) ℕ → Result (List ℕ) V2Fault
-written_payload (Ok records) = or_too_large (payload_or_overflow (value_of_records records))
-written_payload (Err line) = Err (Bad (TextLine line))
+-- the payload of the database with these records, before it is tested; or the first bad line
+abbrev pub payload_of_records : Result (List Record) ℕ → Result (List ℕ) V2Fault
+payload_of_records (Ok records) = or_too_large (payload_or_overflow (value_of_records records))
+payload_of_records (Err line) = Err (Bad (TextLine line))
 
 -- a payload that passes the tests of an installed database, or the first of them that it fails
 abbrev pub payload_if_sound : Result (List ℕ) V2Fault → Result (List ℕ) V2Fault
-payload_if_sound (Ok payload) = unless_bad payload (payload_fault Idb payload)
+payload_if_sound (Ok payload) = payload_unless_fault payload (payload_fault Idb payload)
 payload_if_sound (Err fault) = Err fault
 
 -- the payload of the installed database of a text; or what is reported: the first bad line, otherwise
 -- the counts of a limit of the writer that is exceeded, otherwise the first test of an installed
 -- database that fails
 unfoldable pub payload_of_text : List ℕ → Result (List ℕ) V2Fault
-payload_of_text text = payload_if_sound (written_payload (records_of text))
+payload_of_text text = payload_if_sound (payload_of_records (records_of text))
 
 -- a fault is the one of this result; out of memory may occur for any text
 abbrev pub IsV2Fault : V2Fault → Result (List ℕ) V2Fault → Type 0

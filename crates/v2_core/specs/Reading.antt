@@ -11,21 +11,22 @@ use Rattle.v2_core.specs.Records.{Record, empty_record, lacks_needed_line, with_
 abbrev pub record_with_text_line : Record → List ℕ → Option Record
 record_with_text_line r line = option_and_then (with_record_line r) (record_line_of line)
 
--- records before others, unless these have a bad line
+-- some records followed by others, unless the others have a bad line
 abbrev pub with_records : List Record → Result (List Record) ℕ → Result (List Record) ℕ
 with_records records (Ok others) = Ok (records ++ others)
 with_records records (Err line) = Err line
 
--- The records from one on that has ended, with this many lines up to its end; a record without a line
--- is none, and one without a name or a version is bad at its last line.
+-- the records from the record `r` on, which ended after this many lines of the text; `others` are
+-- those after it. A record without a line is no record; one without a name or a version is bad, at its
+-- last line
 abbrev pub records_from_record_end : ℕ → Record → Result (List Record) ℕ → Result (List Record) ℕ
 records_from_record_end lines r others =
     if r.has_line
     then (if lacks_needed_line r.info then Err lines else with_records (r ∷ []) others)
     else others
 
--- the records of some lines, after this many lines and a record that these began; or the number of the
--- first bad line
+-- the records of some lines, or the number of the first bad line. `before` is the number of lines
+-- before these, and `r` the record that those lines began
 abbrev pub records_from : ℕ → Record → List (List ℕ) → Result (List Record) ℕ
 records_from before r [] = records_from_record_end before r (Ok [])
 records_from before r (line ∷ lines) =

@@ -10,28 +10,39 @@ use Rattle.v2_lines.specs.Lines.{RecordLine, info_line, folder_line, folder_acce
 use Rattle.v2_lines.specs.declared.field.InfoField.{InfoField}
 use Rattle.v2_lines.specs.declared.field.InfoField.TheVariants as Fields
 
--- one line on a field of the package
+-- one line of a record on a field of the package, and the values in the line
 pub record InfoLine : Type 0 where
+  -- the field
   pub field : InfoField
+  -- the values that the line gives
   pub values : List FieldValue
 
 -- a file, by the lines of a record
 pub record ListedFile : Type 0 where
+  -- its name: one part of a path
   pub name : List ℕ
+  -- its owner and mode, if a line gave them
   pub access : Option Access
+  -- the SHA-1 of its bytes, if a line gave it
   pub hash : Option (List ℕ)
 
 -- a folder, with its files in the order of their lines
 pub record ListedFolder : Type 0 where
+  -- its path; empty for the root folder
   pub name : List ℕ
+  -- its owner and mode, if a line gave them
   pub access : Option Access
+  -- its files, in the order of their lines
   pub files : List ListedFile
 
 -- a record: whether it has a line, and the meaning of its lines; further lines belong to the last
 -- folder and its last file
 pub record Record : Type 0 where
+  -- whether it has a line
   pub has_line : Bool
+  -- its lines on the package, in their order
   pub info : List InfoLine
+  -- its folders, in the order of their lines
   pub folders : List ListedFolder
 
 -- a record by its parts
@@ -61,38 +72,40 @@ listed_folder_from_parts name access files = record { name = name; access = acce
 abbrev pub is_line_of : InfoField → InfoLine → Bool
 is_line_of f line = letter_of line.field == letter_of f
 
--- whether a line of this field was read before
+-- whether one of these lines is of the field
 abbrev pub has_line_of : InfoField → List InfoLine → Bool
 has_line_of f info = list_any (is_line_of f) info
 
--- the information with one more line of a field, which has to be the first one unless the field is a
--- list
+-- the lines on the package with one more line of the field `f`; None if it is a second line of a field
+-- that is no list
 abbrev pub with_info_values : InfoField → List FieldValue → List InfoLine → Option (List InfoLine)
 with_info_values f values info =
     if not (is_list_info_field f) && has_line_of f info then None
     else Some (info ++ info_line_from_parts f values ∷ [])
 
--- a list with its last element changed; None if there is none, or the change is not possible
-abbrev pub with_last_changed : {A : Type 0} → (A → Option A) → List A → Option (List A)
-with_last_changed change [] = None
-with_last_changed change (x ∷ []) = option_map (λ y. y ∷ []) (change x)
-with_last_changed change (x ∷ y ∷ rest) =
-    option_map (λ rest. x ∷ rest) (with_last_changed change (y ∷ rest))
+-- a list whose last element was replaced by the result of `change`; None if the list is empty, or
+-- `change` returns None
+abbrev pub list_with_last_changed : {A : Type 0} → (A → Option A) → List A → Option (List A)
+list_with_last_changed change [] = None
+list_with_last_changed change (x ∷ []) = option_map (λ y. y ∷ []) (change x)
+list_with_last_changed change (x ∷ y ∷ rest) =
+    option_map (λ rest. x ∷ rest) (list_with_last_changed change (y ∷ rest))
 
--- a file with its access, which may be given once
+-- a file with its owner and mode; None if it has them already
 abbrev pub file_with_access : Access → ListedFile → Option ListedFile
 file_with_access a file =
     if is_some file.access then None else Some (listed_file_from_parts file.name (Some a) file.hash)
 
--- a file with its hash, which may be given once
+-- a file with its hash; None if it has one already
 abbrev pub file_with_hash : List ℕ → ListedFile → Option ListedFile
 file_with_hash hash file =
     if is_some file.hash then None else Some (listed_file_from_parts file.name file.access (Some hash))
 
--- a folder with its access, which may be given once
+-- a folder with its owner and mode; None if it has them already
 abbrev pub folder_with_access : Access → ListedFolder → Option ListedFolder
 folder_with_access a folder =
-    if is_some folder.access then None else Some (listed_folder_from_parts folder.name (Some a) folder.files)
+    if is_some folder.access then None else Some
+    (listed_folder_from_parts folder.name (Some a) folder.files)
 
 -- a folder with these files in place of its own
 abbrev pub folder_with_files : ListedFolder → List ListedFile → ListedFolder
@@ -103,30 +116,33 @@ abbrev pub folder_with_file : List ℕ → ListedFolder → Option ListedFolder
 folder_with_file name folder =
     Some (folder_with_files folder (folder.files ++ listed_file_from_parts name None None ∷ []))
 
--- a folder with its last file changed; None if there is none, or the change is not possible
-abbrev pub folder_with_last : (ListedFile → Option ListedFile) → ListedFolder → Option ListedFolder
-folder_with_last change folder =
-    option_map (folder_with_files folder) (with_last_changed change folder.files)
+-- a folder whose last file was replaced by the result of `change`; None if it has no file, or `change`
+-- returns None
+abbrev pub folder_with_last_file_changed : (ListedFile → Option ListedFile) → ListedFolder
+    → Option ListedFolder
+folder_with_last_file_changed change folder =
+    option_map (folder_with_files folder) (list_with_last_changed change folder.files)
 
--- folders and their files with one more line; None if it is not allowed there
+-- some folders and their files with one more line, which begins a folder or belongs to the last one;
+-- None if it is not allowed there. Any other line changes nothing
 abbrev pub with_path_line : RecordLine → List ListedFolder → Option (List ListedFolder)
 with_path_line (info_line f values) folders = Some folders
 with_path_line (folder_line name) folders = Some (folders ++ listed_folder_from_parts name None [] ∷ [])
-with_path_line (folder_access_line a) folders = with_last_changed (folder_with_access a) folders
-with_path_line (file_line name) folders = with_last_changed (folder_with_file name) folders
+with_path_line (folder_access_line a) folders = list_with_last_changed (folder_with_access a) folders
+with_path_line (file_line name) folders = list_with_last_changed (folder_with_file name) folders
 with_path_line (file_access_line a) folders =
-    with_last_changed (folder_with_last (file_with_access a)) folders
+    list_with_last_changed (folder_with_last_file_changed (file_with_access a)) folders
 with_path_line (file_hash_line hash) folders =
-    with_last_changed (folder_with_last (file_with_hash hash)) folders
+    list_with_last_changed (folder_with_last_file_changed (file_with_hash hash)) folders
 with_path_line other_line folders = Some folders
 
--- the information with one more line; None if it is not allowed there
+-- the lines on the package with one more line; None if it is not allowed there. A line that is not on
+-- the package changes nothing
 abbrev pub with_info_line : RecordLine → List InfoLine → Option (List InfoLine)
 with_info_line (info_line f values) info = with_info_values f values info
 with_info_line line info = Some info
 
--- the record of the information and the folders after one more line; None if the line is not allowed
--- for one of them
+-- a record with these lines on the package and these folders; None if one of the two is None
 abbrev pub record_if_both_parts : Option (List InfoLine) → Option (List ListedFolder) → Option Record
 record_if_both_parts None folders = None
 record_if_both_parts (Some info) None = None

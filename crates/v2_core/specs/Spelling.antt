@@ -43,7 +43,8 @@ record_lines r = info_lines r.info ++ flat_map folder_lines r.folders
 abbrev pub have_no_repeated_single_field : List InfoLine → List InfoLine → Bool
 have_no_repeated_single_field before [] = true
 have_no_repeated_single_field before (l ∷ ls) =
-    (is_list_info_field l.field || not (has_line_of l.field before)) && have_no_repeated_single_field (before ++ l ∷
+    (is_list_info_field l.field || not (has_line_of l.field before))
+    && have_no_repeated_single_field (before ++ l ∷
     []) ls
 
 -- whether a text holds no line end
@@ -60,9 +61,13 @@ AreLines (t ∷ ts) (l ∷ ls) =
 
 -- these lines are those of a record, which has a name and a version and each single field only once
 pub record SpellsRecord (lines : List (List ℕ)) (r : Record) : Type 0 where
+  -- the record has a line
   pub begun : r.has_line ≡ true
+  -- it has a name and a version
   pub complete : lacks_needed_line r.info ≡ false
+  -- it has each single field once at most
   pub once : have_no_repeated_single_field [] r.info ≡ true
+  -- the lines are those of the record
   pub lines_say : AreLines lines (record_lines r)
 
 -- the text of some lines, each with its line end (10), followed by another text

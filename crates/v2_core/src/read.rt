@@ -8,7 +8,7 @@ ghost use Rattle.v2_lines.specs.adb_schema.ReadFaults.{IsReadFault};
 ghost use Rattle.v2_core.specs.declared.read.V2Fault.TheVariants.{Bad};
 ghost use Rattle.v2_lines.specs.adb_schema.Soundness.{payload_fault};
 ghost use Rattle.adb_view.specs.declared.tables.Which.TheVariants as Tables;
-ghost use Rattle.v2_core.specs.Payload.{IsV2Fault, payload_of_text, written_payload};
+ghost use Rattle.v2_core.specs.Payload.{IsV2Fault, payload_of_text, payload_of_records};
 ghost use Rattle.v2_core.specs.Reading.{records_from_record_end, records_from, records_of};
 ghost use Rattle.v2_core.specs.Records.{Record as RecordModel, empty_record};
 ghost use Rattle.v2_core.specs.Writing.{IsLineFault, draft_with_database, draft_with_records};
@@ -63,8 +63,9 @@ fn check_database(alloc: Global, payload: &[u8]) -> Result<(), ReadFault>
 // Writes the payload of a text.
 fn write_payload(alloc: Global, bytes: &[u8]) -> Result<Vec<u8>, V2Fault>
     ensures ok { IfOk result
-        (λ payload. written_payload (records_of bytes.now) ≡ Ok payload.items) }
-    ensures err { IfErr result (λ fault. IsV2Fault fault (written_payload (records_of bytes.now))) }
+        (λ payload. payload_of_records (records_of bytes.now) ≡ Ok payload.items) }
+    ensures err { IfErr result (λ fault. IsV2Fault fault (payload_of_records
+        (records_of bytes.now))) }
 {
     let mut draft = Draft::new(alloc);
     write_database(alloc, &mut draft, bytes)?;
@@ -79,6 +80,7 @@ fn write_payload(alloc: Global, bytes: &[u8]) -> Result<Vec<u8>, V2Fault>
 fn write_database(alloc: Global, draft: &mut Draft, bytes: &[u8]) -> Result<(), V2Fault>
     ensures ok { OnOk result
         (draft_with_database (records_of bytes.now) draft.old ≡ Ok draft.new) }
+    // An error is the first bad line, or out of memory.
     ensures bad { IfErr result (λ fault. IsLineFault fault (records_of bytes.now)) }
 {
     draft.open_list()?;
@@ -93,6 +95,7 @@ fn write_database(alloc: Global, draft: &mut Draft, bytes: &[u8]) -> Result<(), 
 #[tactic(auto, unfolding(crate::specs::Reading::records_of))]
 fn write_packages(alloc: Global, draft: &mut Draft, bytes: &[u8]) -> Result<(), V2Fault>
     ensures ok { OnOk result (draft_with_records (records_of bytes.now) draft.old ≡ Ok draft.new) }
+    // An error is the first bad line, or out of memory.
     ensures bad { IfErr result (λ fault. IsLineFault fault (records_of bytes.now)) }
 {
     let mut record = Record::new(alloc);
@@ -118,6 +121,7 @@ fn add_line<'a>(
         → draft_with_records (records_from number text_record.new rest) draft.new
         ≡ draft_with_records (records_from (number - 1) text_record.old (line.entry.now ∷ rest))
         draft.old) }
+    // An error is the first bad line, or out of memory.
     ensures bad { IfErr result (λ fault. (rest : List (List ℕ))
         → IsLineFault fault (records_from (number - 1) text_record.old (line.entry.now ∷ rest))) }
 {
@@ -137,6 +141,7 @@ fn end_record(draft: &mut Draft, text_record: &mut Record<'_>, lines: u64) -> Re
     ensures ok { OnOk result ((others : Result (List RecordModel) ℕ)
         → draft_with_records others draft.new
         ≡ draft_with_records (records_from_record_end lines text_record.old others) draft.old) }
+    // An error is the first bad line, or out of memory.
     ensures bad { IfErr result (λ fault. (others : Result (List RecordModel) ℕ)
         → IsLineFault fault (records_from_record_end lines text_record.old others)) }
 {
@@ -145,12 +150,13 @@ fn end_record(draft: &mut Draft, text_record: &mut Record<'_>, lines: u64) -> Re
     Ok(())
 }
 
-// Writes the package of a record, with this many lines up to its end; a record without a line is
-// none. The clauses hold for any records that follow.
+// Writes the package of a record, which has this many lines of the text up to its end. A record
+// without a line is no record. The clauses hold for any records that follow.
 fn write_record(draft: &mut Draft, text_record: &Record<'_>, lines: u64) -> Result<(), V2Fault>
     ensures ok { OnOk result ((others : Result (List RecordModel) ℕ)
         → draft_with_records others draft.new
         ≡ draft_with_records (records_from_record_end lines text_record.now others) draft.old) }
+    // An error is the first bad line, or out of memory.
     ensures bad { IfErr result (λ fault. (others : Result (List RecordModel) ℕ)
         → IsLineFault fault (records_from_record_end lines text_record.now others)) }
 {
@@ -192,7 +198,7 @@ impl From<AllocError> for V2Fault {
 
     ghost from_gives = { λ _ fault. fault ≡ Memory };
 
-    /// Out of memory as such a fault.
+    /// Out of memory, as the reason why a text has no payload.
     fn from(_: AllocError) -> V2Fault {
         V2Fault::Memory
     }
@@ -204,7 +210,7 @@ impl From<Cause> for V2Fault {
 
     ghost from_gives = { λ cause fault. fault ≡ Bad cause };
 
-    /// A failed test as such a fault.
+    /// A failed test, as the reason why a text has no payload.
     fn from(cause: Cause) -> V2Fault {
         V2Fault::Bad(cause)
     }

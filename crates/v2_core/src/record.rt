@@ -5,7 +5,7 @@ ghost use Rattle.std.specs.List.{find, list_any};
 ghost use Rattle.std.specs.Option.{option_map};
 ghost use Rattle.std.specs.Prelude.{◌≡◌, ◌++◌, ◌∷◌, [], IfOk, None, OnOk, Some, if◌then◌else◌, is_some, option_and_then};
 ghost use Rattle.v2_core.specs.Reading.{record_with_text_line};
-ghost use Rattle.v2_core.specs.Records.{empty_record, listed_file_from_parts, file_with_access, file_with_hash, listed_folder_from_parts, folder_with_access, folder_with_file, folder_with_last, has_line_of, info_line_from_parts, is_line_of, lacks_needed_line, with_info_values, with_last_changed, with_record_line};
+ghost use Rattle.v2_core.specs.Records.{empty_record, listed_file_from_parts, file_with_access, file_with_hash, listed_folder_from_parts, folder_with_access, folder_with_file, folder_with_last_file_changed, has_line_of, info_line_from_parts, is_line_of, lacks_needed_line, with_info_values, list_with_last_changed, with_record_line};
 ghost use Rattle.v2_lines.specs.Accesses.{access_view};
 ghost use Rattle.v2_lines.specs.Lines.{record_line_of};
 ghost use Rattle.v2_lines.specs.Views.{line_view, line_value_view};
@@ -49,7 +49,8 @@ impl<'a> Model for File<'a> {
 
     ghost Value = { ListedFileModel };
 
-    ghost view = { λ file. listed_file_from_parts file.name.now (access_view_if_any file.access) (hash_view file.hash) };
+    ghost view = { λ file. listed_file_from_parts file.name.now (access_view_if_any file.access)
+        (hash_view file.hash) };
 }
 
 impl<'a> File<'a> {
@@ -95,7 +96,8 @@ impl<'a> Model for Folder<'a> {
 
     ghost Value = { ListedFolderModel };
 
-    ghost view = { λ folder. listed_folder_from_parts folder.name.now (access_view_if_any folder.access)
+    ghost view = { λ folder. listed_folder_from_parts folder.name.now
+        (access_view_if_any folder.access)
         folder.files.items };
 }
 
@@ -127,7 +129,7 @@ impl<'a> Folder<'a> {
     /// Sets the last file's owner and mode. False: there is none, or they were given before.
     fn add_file_access(&mut self, access: Access<'a>) -> bool
         ensures { (if result then Some self.new else None)
-            ≡ folder_with_last (file_with_access (access_view access.entry)) self.old }
+            ≡ folder_with_last_file_changed (file_with_access (access_view access.entry)) self.old }
     {
         add_access_to_last(&mut self.files, access)
     }
@@ -135,7 +137,7 @@ impl<'a> Folder<'a> {
     /// Sets the hash of the last file. False: there is none, or it was given before.
     fn add_file_hash(&mut self, hash: Vec<u8>) -> bool
         ensures { (if result then Some self.new else None)
-            ≡ folder_with_last (file_with_hash hash.items) self.old }
+            ≡ folder_with_last_file_changed (file_with_hash hash.items) self.old }
     {
         add_hash_to_last(&mut self.files, hash)
     }
@@ -144,7 +146,7 @@ impl<'a> Folder<'a> {
 // Sets the owner and mode of the last file. False: there is none, or they were given before.
 fn add_access_to_last<'a>(files: &mut Vec<File<'a>>, access: Access<'a>) -> bool
     ensures { (if result then Some files.new.items else None)
-        ≡ with_last_changed (file_with_access (access_view access.entry)) files.old.items }
+        ≡ list_with_last_changed (file_with_access (access_view access.entry)) files.old.items }
 {
     match files.last_mut() {
         Some(file) => file.add_access(access),
@@ -155,7 +157,7 @@ fn add_access_to_last<'a>(files: &mut Vec<File<'a>>, access: Access<'a>) -> bool
 // Sets the hash of the last file. False: there is none, or it was given before.
 fn add_hash_to_last(files: &mut Vec<File<'_>>, hash: Vec<u8>) -> bool
     ensures { (if result then Some files.new.items else None)
-        ≡ with_last_changed (file_with_hash hash.items) files.old.items }
+        ≡ list_with_last_changed (file_with_hash hash.items) files.old.items }
 {
     match files.last_mut() {
         Some(file) => file.add_hash(hash),
@@ -291,7 +293,7 @@ fn add_folder<'a>(
 /// Sets the last folder's owner and mode. False: there is none, or they were given before.
 fn add_access<'a>(folders: &mut Vec<Folder<'a>>, access: Access<'a>) -> bool
     ensures { (if result then Some folders.new.items else None)
-        ≡ with_last_changed (folder_with_access (access_view access.entry)) folders.old.items }
+        ≡ list_with_last_changed (folder_with_access (access_view access.entry)) folders.old.items }
 {
     match folders.last_mut() {
         Some(folder) => folder.add_access(access),
@@ -302,7 +304,7 @@ fn add_access<'a>(folders: &mut Vec<Folder<'a>>, access: Access<'a>) -> bool
 /// Begins a file of the last folder. False: there is none.
 fn add_file<'a>(folders: &mut Vec<Folder<'a>>, name: &'a [u8]) -> Result<bool, AllocError>
     ensures { IfOk result (λ good. (if good then Some folders.new.items else None)
-        ≡ with_last_changed (folder_with_file name.entry.now) folders.old.items) }
+        ≡ list_with_last_changed (folder_with_file name.entry.now) folders.old.items) }
 {
     let Some(folder) = folders.last_mut() else {
         return Ok(false);
@@ -315,7 +317,8 @@ fn add_file<'a>(folders: &mut Vec<Folder<'a>>, name: &'a [u8]) -> Result<bool, A
 /// before.
 fn add_file_access<'a>(folders: &mut Vec<Folder<'a>>, access: Access<'a>) -> bool
     ensures { (if result then Some folders.new.items else None)
-        ≡ with_last_changed (folder_with_last (file_with_access (access_view access.entry)))
+        ≡ list_with_last_changed (folder_with_last_file_changed (file_with_access
+        (access_view access.entry)))
         folders.old.items }
 {
     match folders.last_mut() {
@@ -327,7 +330,8 @@ fn add_file_access<'a>(folders: &mut Vec<Folder<'a>>, access: Access<'a>) -> boo
 /// Sets the hash of the last folder's last file. False: there is none, or it was given before.
 fn add_file_hash<'a>(folders: &mut Vec<Folder<'a>>, hash: Vec<u8>) -> bool
     ensures { (if result then Some folders.new.items else None)
-        ≡ with_last_changed (folder_with_last (file_with_hash hash.items)) folders.old.items }
+        ≡ list_with_last_changed (folder_with_last_file_changed
+        (file_with_hash hash.items)) folders.old.items }
 {
     match folders.last_mut() {
         Some(folder) => folder.add_file_hash(hash),

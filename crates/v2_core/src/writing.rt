@@ -110,7 +110,8 @@ fn write_column(draft: &mut Draft, info: &[InfoLine<'_>], column: Column) -> Res
 
 // Writes the line of a field, or NULL if there is none.
 fn write_once(draft: &mut Draft, info: &[InfoLine<'_>], field: InfoField) -> Result<(), AllocError>
-    ensures { OnOk result (draft.new ≡ draft_with (value_of_single_line_field field info.now) draft.old) }
+    ensures { OnOk result (draft.new
+        ≡ draft_with (value_of_single_line_field field info.now) draft.old) }
 {
     match find_line(info, field) {
         Some(line) => write_first(draft, &line.value),
@@ -144,7 +145,8 @@ fn write_first(draft: &mut Draft, value: &Value<'_>) -> Result<(), AllocError>
 
 // Writes the values of all lines of a field, as an array.
 fn write_list(draft: &mut Draft, info: &[InfoLine<'_>], field: InfoField) -> Result<(), AllocError>
-    ensures { OnOk result (draft.new ≡ draft_with (array_of_field_values field info.now) draft.old) }
+    ensures { OnOk result (draft.new
+        ≡ draft_with (array_of_field_values field info.now) draft.old) }
 {
     draft.open_list()?;
     for line in info {

@@ -11,15 +11,18 @@ use Rattle.v2_lines.specs.declared.access.TheConstants.{COLON}
 -- an access: the owner of a file or a folder, and its mode; the numbers of the user and of the group
 -- are kept as texts
 pub record Access : Type 0 where
+  -- the number of the user, in decimal digits
   pub user : List ℕ
+  -- the number of the group, in decimal digits
   pub group : List ℕ
+  -- the mode bits
   pub mode : ℕ
 
 -- an access by its parts
 abbrev pub access_from_parts : List ℕ → List ℕ → ℕ → Access
 access_from_parts user group mode = record { user = user; group = group; mode = mode }
 
--- the access that a value of the program is, with texts in place of slices
+-- the access that a value of the program represents, with texts in place of slices
 abbrev pub access_view : AccessSlices → Access
 access_view a = access_from_parts a.user.now a.group.now a.mode
 
@@ -49,7 +52,8 @@ octal_number digits =
     if is_octal digits && nat_lt (digits_value 8 digits) (2 ^ 64) then Some (digits_value 8 digits)
     else None
 
--- the access that a text `uid:gid:mode` encodes, if it is one; parts after the third are skipped
+-- the access of a text `uid:gid:mode`; None if the text is no access. Parts after the third are
+-- skipped
 abbrev pub access_in : List ℕ → Option Access
 access_in text =
     let user = before_colon text in

@@ -30,7 +30,7 @@ letter_of Fields.Provides = 112
 letter_of Fields.Replaces = 114
 letter_of Fields.InstallIf = 105
 
--- the fields of the information that a line may give, in the order of those letters
+-- the fields of a package that a line may have, in the order of those letters
 abbrev pub info_fields : List InfoField
 info_fields =
     Fields.Hashes ∷ Fields.Name ∷ Fields.Version ∷ Fields.Arch ∷ Fields.Description ∷ Fields.Url
@@ -38,7 +38,7 @@ info_fields =
     ∷ Fields.BuildTime ∷ Fields.ProviderPriority ∷ Fields.ReplacesPriority ∷ Fields.RepoCommit
     ∷ Fields.Depends ∷ Fields.Provides ∷ Fields.Replaces ∷ Fields.InstallIf ∷ []
 
--- the field of a letter, among some
+-- the first of some fields whose lines begin with this letter
 abbrev pub info_field_among : List InfoField → ℕ → Option InfoField
 info_field_among among letter = find (λ f. letter_of f == letter) among
 

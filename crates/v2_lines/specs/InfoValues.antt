@@ -12,17 +12,18 @@ use Rattle.make_info.specs.Fields.{FieldValue, text, number, decimal_number, dep
 use Rattle.v2_lines.specs.declared.field.Grammar.{Grammar}
 use Rattle.v2_lines.specs.declared.field.Grammar.TheVariants as Grammars
 
--- bytes that were decoded, if they are 20, as many as a SHA-1 has
-abbrev pub twenty_bytes : Result (List ℕ) DecodeError → Option (List ℕ)
-twenty_bytes (Ok bytes) = if length bytes == 20 then Some bytes else None
-twenty_bytes (Err e) = None
+-- the decoded bytes, if there are 20 of them, as many as a SHA-1 has
+abbrev pub bytes_if_twenty : Result (List ℕ) DecodeError → Option (List ℕ)
+bytes_if_twenty (Ok bytes) = if length bytes == 20 then Some bytes else None
+bytes_if_twenty (Err e) = None
 
--- the SHA-1 that a text is, if it is one: `Q1` (81, 49) and the base64 (RFC 4648) of 20 bytes
-abbrev pub sha1_of : List ℕ → Option (List ℕ)
-sha1_of [] = None
-sha1_of (q ∷ []) = None
-sha1_of (q ∷ one ∷ encoded) =
-    if (q == 81) && (one == 49) then twenty_bytes (base64_bytes standard encoded) else None
+-- the SHA-1 in a text of the form `Q1` (81, 49) and the base64 (RFC 4648) of 20 bytes; None for
+-- another text
+abbrev pub sha1_in_text : List ℕ → Option (List ℕ)
+sha1_in_text [] = None
+sha1_in_text (q ∷ []) = None
+sha1_in_text (q ∷ one ∷ encoded) =
+    if (q == 81) && (one == 49) then bytes_if_twenty (base64_bytes standard encoded) else None
 
 -- the values of a field that has one text
 abbrev pub single_text_value : List ℕ → List FieldValue
@@ -32,15 +33,15 @@ single_text_value bytes = text bytes ∷ []
 abbrev pub single_number_value : ℕ → List FieldValue
 single_number_value n = number n ∷ []
 
--- the values of a commit: the bytes of pairs of hexadecimal digits; another text is dropped, and gives
--- none
+-- the values of a commit: its bytes, if the text has pairs of hexadecimal digits only; another text is
+-- dropped, and has no value
 abbrev pub commit_values : Result (List ℕ) FromHexError → List FieldValue
 commit_values (Ok bytes) = single_text_value bytes
 commit_values (Err e) = []
 
--- the values of a text under a grammar; None if it is not in it
+-- the values that a text has under a grammar; None if the text is not in the grammar
 abbrev pub values_under_grammar : Grammar → List ℕ → Option (List FieldValue)
-values_under_grammar Grammars.Sha1Text value = option_map single_text_value (sha1_of value)
+values_under_grammar Grammars.Sha1Text value = option_map single_text_value (sha1_in_text value)
 values_under_grammar Grammars.PackageName value = text_value_if (is_package_name value) value
 values_under_grammar Grammars.PackageVersion value = text_value_if (is_version value) value
 values_under_grammar Grammars.AnyText value = text_value_if true value
@@ -48,6 +49,7 @@ values_under_grammar Grammars.Number value = option_map single_number_value (dec
 values_under_grammar Grammars.Commit value = Some (commit_values (hex_bytes value))
 values_under_grammar Grammars.Dependencies value = dependency_values_in (nonempty_parts value)
 
--- dependencies followed by more of them, unless one of these is none
+-- the dependencies `before`, followed by further ones; None if one of the further ones is no
+-- dependency
 abbrev pub with_needs : List FieldValue → Option (List FieldValue) → Option (List FieldValue)
 with_needs before needs = option_map (λ needs. before ++ needs) needs

@@ -4,10 +4,10 @@ pub use Rattle.make_info.specs as make_info
 pub use Rattle.make_info.specs.adb_values as adb_values
 pub use Rattle.make_info.specs.adb_write as adb_write
 -- The definitions of this crate. Each file names the document with its rule.
--- what the contract of `apk` says
+-- cited by the contract of `apk`
 pub mod InfoFields
 pub mod InfoValues
 pub mod Accesses
 pub mod Lines
--- what only inner contracts and proofs use
+-- used by inner contracts and proofs only
 pub mod Views

@@ -6,7 +6,7 @@ use Rattle.adb_schema.specs.Rules.{is_folder_name, is_one_part}
 use Rattle.make_info.specs.Fields.{FieldValue}
 use Rattle.v2_lines.specs.Accesses.{Access, access_in}
 use Rattle.v2_lines.specs.InfoFields.{field_of_letter, grammar_of}
-use Rattle.v2_lines.specs.InfoValues.{sha1_of, values_under_grammar}
+use Rattle.v2_lines.specs.InfoValues.{sha1_in_text, values_under_grammar}
 use Rattle.v2_lines.specs.declared.field.InfoField.{InfoField}
 use Rattle.v2_lines.specs.declared.line.TheConstants.{MARK, FOLDER, FOLDER_ACCESS, FILE, FILE_ACCESS, FILE_HASH}
 
@@ -42,7 +42,7 @@ record_line_of_letter letter value =
     if letter == FOLDER_ACCESS then option_map folder_access_line (access_in value) else
     if letter == FILE then file_line_if_one_part value else
     if letter == FILE_ACCESS then option_map file_access_line (access_in value) else
-    if letter == FILE_HASH then option_map file_hash_line (sha1_of value) else
+    if letter == FILE_HASH then option_map file_hash_line (sha1_in_text value) else
     info_record_line (field_of_letter letter) value
 
 -- the meaning of a line, which is a letter, a colon and a value; None if it is bad

@@ -38,7 +38,7 @@ pub(crate) fn read_access(text: &[u8]) -> Option<Access<'_>>
     Some(Access { user, group, mode })
 }
 
-// The place of the first colon.
+// The index of the first colon, counted from 0.
 fn colon_in(text: &[u8]) -> Option<usize>
     ensures at { result ≡ position (λ b. b == COLON) text.now }
     ensures within { IfSome result (λ at. at < length text.now) }

@@ -5,7 +5,7 @@ ghost use Rattle.adb_schema.specs.Rules.{is_folder_name, is_one_part};
 ghost use Rattle.std.specs.Option.{option_map};
 ghost use Rattle.std.specs.Prelude.{◌≡◌, IfOk};
 ghost use Rattle.v2_lines.specs.InfoFields.{field_of_letter};
-ghost use Rattle.v2_lines.specs.InfoValues.{sha1_of};
+ghost use Rattle.v2_lines.specs.InfoValues.{sha1_in_text};
 ghost use Rattle.v2_lines.specs.Lines.{file_hash_line, folder_line_if_path, file_line_if_one_part, info_record_line, record_line_of_letter, record_line_of};
 ghost use Rattle.v2_lines.specs.Views.{line_view};
 
@@ -48,7 +48,7 @@ pub enum Line<'a> {
     FileAccess(Access<'a>),
     /// The SHA-1 of the file's bytes.
     FileHash(Vec<u8>),
-    /// Nothing that is kept.
+    /// A line that has no meaning here, and is skipped.
     Other,
 }
 
@@ -106,7 +106,7 @@ fn file_line(name: &[u8]) -> Option<Line<'_>>
 // Reads the line of a file's hash. None: the value is no SHA-1.
 fn read_file_hash<'a>(alloc: Global, value: &[u8]) -> Result<Option<Line<'a>>, AllocError>
     ensures { IfOk result (λ found. option_map line_view found
-        ≡ option_map file_hash_line (sha1_of value.now)) }
+        ≡ option_map file_hash_line (sha1_in_text value.now)) }
 {
     match read_sha1(alloc, value)? {
         Some(bytes) => Ok(Some(Line::FileHash(bytes))),

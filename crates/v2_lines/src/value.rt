@@ -9,7 +9,7 @@ ghost use Rattle.make_info.specs.Reading.{nonempty_part};
 ghost use Rattle.std.specs.Option.{option_map};
 ghost use Rattle.std.specs.Prelude.{◌≡◌, ◌++◌, ◌==◌, IfOk, None, Some, if◌then◌else◌, length};
 ghost use Rattle.v2_lines.specs.InfoFields.{grammar_of};
-ghost use Rattle.v2_lines.specs.InfoValues.{commit_values, single_number_value, single_text_value, sha1_of, twenty_bytes, values_under_grammar, with_needs};
+ghost use Rattle.v2_lines.specs.InfoValues.{commit_values, single_number_value, single_text_value, sha1_in_text, bytes_if_twenty, values_under_grammar, with_needs};
 ghost use Rattle.v2_lines.specs.Views.{bytes_view, needs_view, line_value_view};
 
 use crate::field::{Grammar, InfoField};
@@ -78,10 +78,10 @@ fn number_value<'a>(digits: &[u8]) -> Option<Value<'a>>
     Some(Value::Number(n))
 }
 
-// A hash as a value: `Q1` and its base64. None: the text is none.
+// A hash as a value: `Q1` and its base64. None: the text is no such hash.
 fn read_bytes<'a>(alloc: Global, text: &[u8]) -> Result<Option<Value<'a>>, AllocError>
     ensures { IfOk result (λ found. option_map line_value_view found
-        ≡ option_map single_text_value (sha1_of text.now)) }
+        ≡ option_map single_text_value (sha1_in_text text.now)) }
 {
     match read_sha1(alloc, text)? {
         Some(bytes) => Ok(Some(Value::Bytes(bytes))),
@@ -89,9 +89,9 @@ fn read_bytes<'a>(alloc: Global, text: &[u8]) -> Result<Option<Value<'a>>, Alloc
     }
 }
 
-/// The SHA-1 that a text is: `Q1` and its base64 (RFC 4648).
+/// The SHA-1 in a text of the form `Q1` and its base64 (RFC 4648); None for another text.
 pub(crate) fn read_sha1(alloc: Global, text: &[u8]) -> Result<Option<Vec<u8>>, AllocError>
-    ensures { IfOk result (λ found. option_map bytes_view found ≡ sha1_of text.now) }
+    ensures { IfOk result (λ found. option_map bytes_view found ≡ sha1_in_text text.now) }
 {
     match text {
         [b'Q', b'1', encoded @ ..] => read_twenty_bytes(alloc, encoded),
@@ -102,7 +102,7 @@ pub(crate) fn read_sha1(alloc: Global, text: &[u8]) -> Result<Option<Vec<u8>>, A
 // The bytes of a base64 text, if there are as many as a SHA-1 has.
 fn read_twenty_bytes(alloc: Global, encoded: &[u8]) -> Result<Option<Vec<u8>>, AllocError>
     ensures { IfOk result (λ found. option_map bytes_view found
-        ≡ twenty_bytes (base64_bytes standard encoded.now)) }
+        ≡ bytes_if_twenty (base64_bytes standard encoded.now)) }
 {
     match STANDARD.decode(alloc, encoded) {
         Ok(bytes) if bytes.len() == SHA1_LEN => Ok(Some(bytes)),

@@ -5,7 +5,7 @@ use Rattle.std.specs.Prelude.{is_some}
 use Rattle.std.proofs.lemmas.Bool.Decides.{nat_tests}
 use Rattle.version_core.specs.declared.token.Class.TheVariants.{Stray, Hash, ZeroComponent, Component}
 use Rattle.version_core.specs.declared.lexeme.Lexeme.{Lexeme as LexemeAt}
-use Rattle.version_core.specs.Token.{Lexeme, lexeme, text_token, stray_lexeme, begins_with_zero, is_number, component_lexeme, number_lexeme, hash_lexeme, leading_hex_digits}
+use Rattle.version_core.specs.Token.{Lexeme, lexeme, text_token, stray_lexeme, begins_with_zero, has_number_length, later_component_lexeme, number_lexeme, hash_lexeme, leading_hex_digits}
 use Rattle.version_core.specs.Reading.{AreDigits, hex_digit_at, is_hash, lexeme_view, whole_lexeme, token_view}
 use Rattle.version_core.proofs.Runs.{all_hex, any_hex}
 
@@ -24,20 +24,20 @@ pub hash_lexeme-found : (xs : List ℕ) → is_some (hex_digit_at xs 0) ≡ true
 unfolding hash_lexeme
 hash_lexeme-found xs h = rw (any_hex xs ∙ h) refl
 
-is_number-some : (d : ℕ) (ds : List ℕ) → length (d ∷ ds) ≤ 18 → is_number (d ∷ ds) ≡ true
-is_number-some d ds few = grind (arith, nat_tests)
+has_number_length-some : (d : ℕ) (ds : List ℕ) → length (d ∷ ds) ≤ 18 → has_number_length (d ∷ ds) ≡ true
+has_number_length-some d ds few = grind (arith, nat_tests)
 
 component_by : (b : Bool) (x y : Lexeme) → b ≡ true → x ≡ cond b x y
 component_by b x y h = rw h refl
 
-pub component_lexeme_zero : (ds : List ℕ) → AreDigits ds → length ds ≤ 18 → begins_with_zero ds ≡ true → lexeme (text_token ZeroComponent (leading_hex_digits ds)) (1 + length ds) ≡ component_lexeme ds
-unfolding component_lexeme
+pub component_lexeme_zero : (ds : List ℕ) → AreDigits ds → length ds ≤ 18 → begins_with_zero ds ≡ true → lexeme (text_token ZeroComponent (leading_hex_digits ds)) (1 + length ds) ≡ later_component_lexeme ds
+unfolding later_component_lexeme
 component_lexeme_zero [] digits few zero = absurd (false≢true zero)
 component_lexeme_zero (d ∷ ds) digits few zero =
-    let number = is_number-some d ds few in
-    let both : (is_number (d ∷ ds) && begins_with_zero (d ∷ ds)) ≡ true = rw (number, zero) refl in
+    let number = has_number_length-some d ds few in
+    let both : (has_number_length (d ∷ ds) && begins_with_zero (d ∷ ds)) ≡ true = rw (number, zero) refl in
     ap (λ text. lexeme (text_token ZeroComponent text) (1 + length (d ∷ ds))) (all_hex (d ∷ ds) digits)
-    ∙ component_by (is_number (d ∷ ds) && begins_with_zero (d ∷ ds)) (lexeme (text_token ZeroComponent (d ∷ ds)) (1 + length (d ∷ ds))) (number_lexeme Component 1 (d ∷ ds)) both
+    ∙ component_by (has_number_length (d ∷ ds) && begins_with_zero (d ∷ ds)) (lexeme (text_token ZeroComponent (d ∷ ds)) (1 + length (d ∷ ds))) (number_lexeme Component 1 (d ∷ ds)) both
 
 pub hash_is_stray : (text digits : List ℕ) (found : LexemeAt) (first : Option ℕ) → digits ≡ drop 1 text → first ≡ hex_digit_at digits 0 → is_some first ≡ false → whole_lexeme found ≡ stray_lexeme → found.token.class ≡ Stray → lexeme_view text found ≡ hash_lexeme (leading_hex_digits (drop 1 text))
 hash_is_stray text digits found first behind at none plain class =

@@ -9,7 +9,7 @@ use Rattle.std.specs.Prelude.{slice_range}
 use Rattle.std.proofs.lemmas.List.Sums.{take_while-cons}
 use Rattle.version_core.specs.declared.token.Class.{Class}
 use Rattle.version_core.specs.declared.token.Class.TheVariants.{Revision, SuffixNumber, Letter, ZeroComponent, Component}
-use Rattle.version_core.specs.Token.{Lexeme, number_token, text_token, lexeme, stray_lexeme, is_number, is_component, is_suffix, is_before_hash, is_before_revision, begins_with_zero, is_hex_digit, leading_digits, leading_hex_digits, leading_letters, number_lexeme, component_lexeme, suffix_rank, suffix_lexeme, suffix_lexeme_of_rank, hash_lexeme, revision_lexeme, next_lexeme}
+use Rattle.version_core.specs.Token.{Lexeme, number_token, text_token, lexeme, stray_lexeme, has_number_length, is_component, is_suffix, is_before_hash, is_before_revision, begins_with_zero, is_hex_digit, leading_digits, leading_hex_digits, leading_letters, number_lexeme, later_component_lexeme, suffix_rank, suffix_lexeme, suffix_lexeme_of_rank, hash_lexeme, revision_lexeme, next_lexeme}
 use Rattle.version_core.specs.Order.{is_last_token_class}
 use Rattle.version_core.proofs.Walk.{lexeme_at_within}
 
@@ -64,15 +64,15 @@ number_width_by false class value width h = absurd (false≢true (sym h))
 
 number_width : (class : Class) (mark : ℕ) (ds : List ℕ) → is_last_token_class (number_lexeme class mark ds).token.class ≡ false → (number_lexeme class mark ds).width ≡ mark + length ds
 unfolding number_lexeme
-number_width class mark ds h = number_width_by (is_number ds) class (digits_value 10 ds) (mark + length ds) h
+number_width class mark ds h = number_width_by (has_number_length ds) class (digits_value 10 ds) (mark + length ds) h
 
 component_width_by : (b : Bool) (ds : List ℕ) → is_last_token_class (cond b (lexeme (text_token ZeroComponent ds) (1 + length ds)) (number_lexeme Component 1 ds)).token.class ≡ false → (cond b (lexeme (text_token ZeroComponent ds) (1 + length ds)) (number_lexeme Component 1 ds)).width ≡ 1 + length ds
 component_width_by true ds h = refl
 component_width_by false ds h = number_width Component 1 ds h
 
-component_width : (ds : List ℕ) → is_last_token_class (component_lexeme ds).token.class ≡ false → (component_lexeme ds).width ≡ 1 + length ds
-unfolding component_lexeme
-component_width ds h = component_width_by (is_number ds && begins_with_zero ds) ds h
+component_width : (ds : List ℕ) → is_last_token_class (later_component_lexeme ds).token.class ≡ false → (later_component_lexeme ds).width ≡ 1 + length ds
+unfolding later_component_lexeme
+component_width ds h = component_width_by (has_number_length ds && begins_with_zero ds) ds h
 
 suffix_width_by : (word : List ℕ) (rank : Option ℕ) → is_last_token_class (suffix_lexeme_of_rank word rank).token.class ≡ false → (suffix_lexeme_of_rank word rank).width ≡ 1 + length word
 suffix_width_by word None h = absurd (false≢true (sym h))
@@ -118,7 +118,7 @@ next_local : (last : Class) (b : ℕ) (rest : List ℕ) (n m : ℕ) → IsLocal 
 unfolding next_lexeme
 next_local last b rest n m =
     let one : (x y : Lexeme) → IsLocal (1 + n) (1 + m) x y → IsLocal (suc n) (suc m) x y = λ x y. along (suc n) (suc m) (1 + n) (1 + m) x y (omega arith) (omega arith) in
-    cond_local (suc n) (suc m) (eqb b 46 && is_component last) (component_lexeme (leading_digits (take n rest))) _ (component_lexeme (leading_digits (take m rest))) _ (one _ _ (local_by is_ascii_digit component_lexeme 1 component_width rest n m))
+    cond_local (suc n) (suc m) (eqb b 46 && is_component last) (later_component_lexeme (leading_digits (take n rest))) _ (later_component_lexeme (leading_digits (take m rest))) _ (one _ _ (local_by is_ascii_digit later_component_lexeme 1 component_width rest n m))
     (cond_local (suc n) (suc m) (is_ascii_lowercase b && is_component last) (lexeme (number_token Letter b) 1) _ (lexeme (number_token Letter b) 1) _ (λ token ends fits. refl)
     (cond_local (suc n) (suc m) (eqb b 95 && is_before_hash last) (suffix_lexeme (leading_letters (take n rest))) _ (suffix_lexeme (leading_letters (take m rest))) _ (one _ _ (local_by is_ascii_lowercase suffix_lexeme 1 (λ word. suffix_width_by word (suffix_rank word)) rest n m))
     (cond_local (suc n) (suc m) (is_ascii_digit b && is_suffix last) (number_lexeme SuffixNumber 0 (leading_digits (b ∷ take n rest))) _ (number_lexeme SuffixNumber 0 (leading_digits (b ∷ take m rest))) _ (along (suc n) (suc m) (0 + suc n) (0 + suc m) _ _ (omega arith) (omega arith) (local_by is_ascii_digit (number_lexeme SuffixNumber 0) 0 (number_width SuffixNumber 0) (b ∷ rest) (suc n) (suc m)))

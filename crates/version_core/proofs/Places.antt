@@ -7,10 +7,10 @@ use Rattle.std.proofs.lemmas.List.{length-drop, length-take-le}
 use Rattle.version_core.specs.declared.token.Class.{Class}
 use Rattle.version_core.specs.declared.token.Class.TheVariants as Classes
 use Rattle.version_core.specs.declared.overlapping.Place.{Place}
-use Rattle.version_core.specs.Token.{Token, Lexeme, number_token, text_token, lexeme, stray_lexeme, is_number, is_component, is_suffix, is_before_hash, is_before_revision, begins_with_zero, leading_digits, leading_hex_digits, leading_letters, number_lexeme, component_lexeme, suffix_rank, suffix_lexeme, suffix_lexeme_of_rank, hash_lexeme, revision_lexeme, next_lexeme, lexeme_at}
-use Rattle.version_core.specs.Order.{are_in_grammar, is_last_token_class, is_stray_class, is_version, tokens, tokens_after}
+use Rattle.version_core.specs.Token.{Token, Lexeme, number_token, text_token, lexeme, stray_lexeme, has_number_length, is_component, is_suffix, is_before_hash, is_before_revision, begins_with_zero, leading_digits, leading_hex_digits, leading_letters, number_lexeme, later_component_lexeme, suffix_rank, suffix_lexeme, suffix_lexeme_of_rank, hash_lexeme, revision_lexeme, next_lexeme, lexeme_at}
+use Rattle.version_core.specs.Order.{are_in_grammar, is_last_token_class, is_stray_class, is_version, tokens, tokens_after_class}
 use Rattle.version_core.specs.Overlapping.{IsNextPlace, IsSafeSkip, can_rest_follow_place, is_valid_version_rest, passed_len}
-use Rattle.version_core.proofs.Walk.{after, lexeme_at_within, tokens_after-step}
+use Rattle.version_core.proofs.Walk.{after, lexeme_at_within, tokens_after_class-step}
 use Rattle.version_core.specs.Reading.{is_hash, unread_len}
 use Rattle.version_core.proofs.Local.{drop_range, token_local}
 use Rattle.version_core.proofs.HashDigits.{digits_follow, hash_follow, hash_room, unread_none}
@@ -47,8 +47,8 @@ grammar_by false true ts l s = absurd (false≢true (sym s))
 
 -- ---- places that are not between the digits of a hash
 
-follow_by : (bytes : List ℕ) (place : Place) (end n : ℕ) → unread_len (Some place.class) (slice_range bytes place.at end) ≡ n → can_rest_follow_place bytes place end ≡ are_in_grammar (tokens_after (Some place.class) n (slice_range bytes place.at end))
-follow_by bytes place end n e = ap (λ u. are_in_grammar (tokens_after (Some place.class) u (slice_range bytes place.at end))) e
+follow_by : (bytes : List ℕ) (place : Place) (end n : ℕ) → unread_len (Some place.class) (slice_range bytes place.at end) ≡ n → can_rest_follow_place bytes place end ≡ are_in_grammar (tokens_after_class (Some place.class) n (slice_range bytes place.at end))
+follow_by bytes place end n e = ap (λ u. are_in_grammar (tokens_after_class (Some place.class) u (slice_range bytes place.at end))) e
 
 no_hash_unread : (class : Class) (rest : List ℕ) → is_hash class ≡ false → unread_len (Some class) rest ≡ 0
 no_hash_unread class rest h = ap (λ b. cond b (length (leading_hex_digits rest)) 0) h
@@ -56,11 +56,11 @@ no_hash_unread class rest h = ap (λ b. cond b (length (leading_hex_digits rest)
 -- what is in a range is in the grammar exactly if what follows its first token, no hash, may follow
 -- there
 behind_first : (bytes : List ℕ) (last : Option Class) (at end : ℕ) (found : Lexeme) → lexeme_at last (slice_range bytes at end) ≡ found → is_last_token_class found.token.class ≡ false → is_hash found.token.class ≡ false → at + found.width ≤ end
-    → are_in_grammar (tokens_after last 0 (slice_range bytes at end)) ≡ can_rest_follow_place bytes (record { at = at + found.width; class = found.token.class }) end
+    → are_in_grammar (tokens_after_class last 0 (slice_range bytes at end)) ≡ can_rest_follow_place bytes (record { at = at + found.width; class = found.token.class }) end
 behind_first bytes last at end found is token plain fits =
-    ap are_in_grammar (tokens_after-step last (slice_range bytes at end) ∙ ap (λ (l : Lexeme). l.token ∷ after (slice_range bytes at end) l) is)
-    ∙ grammar_by (is_last_token_class found.token.class) (is_stray_class found.token.class) (tokens_after (Some found.token.class) 0 (drop found.width (slice_range bytes at end))) token (no_last found.token.class token)
-    ∙ ap (λ ts. are_in_grammar (tokens_after (Some found.token.class) 0 ts)) (drop_range bytes at end found.width fits)
+    ap are_in_grammar (tokens_after_class-step last (slice_range bytes at end) ∙ ap (λ (l : Lexeme). l.token ∷ after (slice_range bytes at end) l) is)
+    ∙ grammar_by (is_last_token_class found.token.class) (is_stray_class found.token.class) (tokens_after_class (Some found.token.class) 0 (drop found.width (slice_range bytes at end))) token (no_last found.token.class token)
+    ∙ ap (λ ts. are_in_grammar (tokens_after_class (Some found.token.class) 0 ts)) (drop_range bytes at end found.width fits)
     ∙ sym (follow_by bytes (record { at = at + found.width; class = found.token.class }) end 0 (no_hash_unread found.token.class (slice_range bytes (at + found.width) end) plain))
 
 -- ---- no token but at the end of the text is the end
@@ -75,11 +75,11 @@ cond_no_end false x y f g = g
 
 pub number_no_end : (class : Class) (mark : ℕ) (ds : List ℕ) → (is_last_token_class class ≡ true → is_stray_class class ≡ true) → NoEnd (number_lexeme class mark ds)
 unfolding number_lexeme
-number_no_end class mark ds h = cond_no_end (is_number ds) _ stray_lexeme h (λ _. refl)
+number_no_end class mark ds h = cond_no_end (has_number_length ds) _ stray_lexeme h (λ _. refl)
 
-component_no_end : (ds : List ℕ) → NoEnd (component_lexeme ds)
-unfolding component_lexeme
-component_no_end ds = cond_no_end (is_number ds && begins_with_zero ds) (lexeme (text_token Classes.ZeroComponent ds) (1 + length ds)) (number_lexeme Classes.Component 1 ds) (λ h. h) (number_no_end Classes.Component 1 ds (λ h. h))
+component_no_end : (ds : List ℕ) → NoEnd (later_component_lexeme ds)
+unfolding later_component_lexeme
+component_no_end ds = cond_no_end (has_number_length ds && begins_with_zero ds) (lexeme (text_token Classes.ZeroComponent ds) (1 + length ds)) (number_lexeme Classes.Component 1 ds) (λ h. h) (number_no_end Classes.Component 1 ds (λ h. h))
 
 suffix_class_no_end : (b : Bool) → is_last_token_class (cond b Classes.PreRelease Classes.Suffix) ≡ true → is_stray_class (cond b Classes.PreRelease Classes.Suffix) ≡ true
 suffix_class_no_end true h = h
@@ -101,7 +101,7 @@ revision_no_end (b ∷ rest) h = cond_no_end (eqb b 114) (number_lexeme Classes.
 next_no_end : (last : Class) (b : ℕ) (rest : List ℕ) → NoEnd (next_lexeme last (b ∷ rest))
 unfolding next_lexeme
 next_no_end last b rest =
-    cond_no_end (eqb b 46 && is_component last) (component_lexeme (leading_digits rest)) _ (component_no_end (leading_digits rest))
+    cond_no_end (eqb b 46 && is_component last) (later_component_lexeme (leading_digits rest)) _ (component_no_end (leading_digits rest))
     (cond_no_end (is_ascii_lowercase b && is_component last) (lexeme (number_token Classes.Letter b) 1) _ (λ h. h)
     (cond_no_end (eqb b 95 && is_before_hash last) (suffix_lexeme (leading_letters rest)) _ (suffix_no_end (leading_letters rest) (suffix_rank (leading_letters rest)))
     (cond_no_end (is_ascii_digit b && is_suffix last) (number_lexeme Classes.SuffixNumber 0 (leading_digits (b ∷ rest))) _ (number_no_end Classes.SuffixNumber 0 (leading_digits (b ∷ rest)) (λ h. h))
@@ -116,9 +116,9 @@ stray_by : (stray : Bool) (ts : List Token) → stray ≡ true → (not stray &&
 stray_by true ts h = refl
 stray_by false ts h = absurd (false≢true h)
 
-pub stray_first : (last : Option Class) (text : List ℕ) → NoEnd (lexeme_at last text) → is_last_token_class (lexeme_at last text).token.class ≡ true → are_in_grammar (tokens_after last 0 text) ≡ false
+pub stray_first : (last : Option Class) (text : List ℕ) → NoEnd (lexeme_at last text) → is_last_token_class (lexeme_at last text).token.class ≡ true → are_in_grammar (tokens_after_class last 0 text) ≡ false
 stray_first last text no_end h =
-    ap are_in_grammar (tokens_after-step last text) ∙ stray_by (is_stray_class (lexeme_at last text).token.class) (after text (lexeme_at last text)) (no_end h)
+    ap are_in_grammar (tokens_after_class-step last text) ∙ stray_by (is_stray_class (lexeme_at last text).token.class) (after text (lexeme_at last text)) (no_end h)
 
 -- ---- what the reader finds
 
@@ -150,7 +150,7 @@ component_by false found h = refl
 
 first_plain : (text : List ℕ) → is_hash (lexeme_at None text).token.class ≡ false
 unfolding number_lexeme
-first_plain text = component_by (is_number (leading_digits text)) (lexeme (number_token Classes.Component _) _) refl
+first_plain text = component_by (has_number_length (leading_digits text)) (lexeme (number_token Classes.Component _) _) refl
 
 -- how many bytes of the token that begins a text are skipped at first: of a hash its mark and a digit
 passed_plain : (found : Lexeme) → is_hash found.token.class ≡ false → passed_len found ≡ found.width
@@ -193,7 +193,7 @@ after_plain bytes place end found order within none is token plain =
     }
 
 hash_behind : (bytes : List ℕ) (place : Place) (end other : ℕ) → is_hash (lexeme_at (Some place.class) (slice_range bytes place.at end)).token.class ≡ true → place.at + 2 ≤ other
-    → are_in_grammar (tokens_after (Some place.class) 0 (slice_range bytes place.at other)) ≡ can_rest_follow_place bytes (record { at = place.at + 2; class = Classes.Hash }) other
+    → are_in_grammar (tokens_after_class (Some place.class) 0 (slice_range bytes place.at other)) ≡ can_rest_follow_place bytes (record { at = place.at + 2; class = Classes.Hash }) other
 hash_behind bytes place end other marked fits =
     hash_follow place.class (drop place.at bytes) (end - place.at) (other - place.at) marked (omega arith)
     ∙ ap (is_valid_version_rest (record { at = place.at + 2; class = Classes.Hash })) (drop_range bytes place.at other 2 fits)
@@ -260,6 +260,6 @@ follows_at_end bytes place end past =
     let none : end - place.at ≡ 0 = omega arith in
     ap (λ n. is_valid_version_rest place (take n (drop place.at bytes))) none ∙ good_end (is_hash place.class)
   where
-    good_end : (b : Bool) → are_in_grammar (tokens_after (Some place.class) (cond b 0 0) []) ≡ true
+    good_end : (b : Bool) → are_in_grammar (tokens_after_class (Some place.class) (cond b 0 0) []) ≡ true
     good_end true = refl
     good_end false = refl

@@ -11,10 +11,10 @@ use Rattle.std.proofs.lemmas.List.Sums.{take_while-cons}
 use Rattle.std.proofs.lemmas.List.Folds.{length-prefix_len}
 use Rattle.version_core.specs.declared.token.Class.{Class}
 use Rattle.version_core.specs.declared.token.Class.TheVariants.{Stray, PreRelease, End, Revision, Hash, SuffixNumber, Suffix, Letter, ZeroComponent, Component}
-use Rattle.version_core.specs.Token.{Token, Lexeme, number_token, text_token, lexeme, stray_lexeme, is_number, is_hex_digit, is_component, is_suffix, is_before_hash, is_before_revision, begins_with_zero, leading_digits, leading_hex_digits, leading_letters, number_lexeme, component_lexeme, suffix_rank, suffix_lexeme, suffix_lexeme_of_rank, hash_lexeme, revision_lexeme, next_lexeme}
-use Rattle.version_core.specs.Order.{are_in_grammar, is_last_token_class, is_stray_class, is_version, tokens, tokens_after}
+use Rattle.version_core.specs.Token.{Token, Lexeme, number_token, text_token, lexeme, stray_lexeme, has_number_length, is_hex_digit, is_component, is_suffix, is_before_hash, is_before_revision, begins_with_zero, leading_digits, leading_hex_digits, leading_letters, number_lexeme, later_component_lexeme, suffix_rank, suffix_lexeme, suffix_lexeme_of_rank, hash_lexeme, revision_lexeme, next_lexeme}
+use Rattle.version_core.specs.Order.{are_in_grammar, is_last_token_class, is_stray_class, is_version, tokens, tokens_after_class}
 use Rattle.version_core.specs.Grammar.{Parts, IsSpelledVersion, is_none_or, is_numeral, is_hash_text, is_suffix_part, SuffixPart, later_components_text, letter_text, number_text, suffixes_text, hash_text, revision_text, component_token}
-use Rattle.version_core.proofs.Walk.{after, is_number-pos, tokens_after-step}
+use Rattle.version_core.proofs.Walk.{after, has_number_length-pos, tokens_after_class-step}
 use Rattle.version_core.proofs.Spelled.{first_true, then_true, number_read, component_read, component_is_not_last_by, suffix_whole_by, suffix_class_by, suffix_is_not_last, hash_read, component_before_hash, before_hash_before_revision, suffix_before_hash}
 
 -- ---- runs
@@ -40,19 +40,19 @@ sound_or_stray : (text : List ℕ) (b : Bool) (found : Lexeme) → CountsOnlyRis
 sound_or_stray text true found h = refl
 sound_or_stray text false found h = h
 
-number_goes_on : (text : List ℕ) (class : Class) (mark : ℕ) (ds : List ℕ) → CountsOnlyRise text (number_lexeme class mark ds) → is_number ds ≡ true
+number_goes_on : (text : List ℕ) (class : Class) (mark : ℕ) (ds : List ℕ) → CountsOnlyRise text (number_lexeme class mark ds) → has_number_length ds ≡ true
 unfolding number_lexeme
 number_goes_on text class mark ds h =
-    sound_or_stray text (is_number ds) (lexeme (number_token class (digits_value 10 ds)) (mark + length ds)) h
+    sound_or_stray text (has_number_length ds) (lexeme (number_token class (digits_value 10 ds)) (mark + length ds)) h
 
-component_by : (text ds : List ℕ) (starts : Bool) (found : Lexeme) → CountsOnlyRise text (cond (is_number ds && starts) found (number_lexeme Component 1 ds)) → (b : Bool) → (is_number ds && starts) ≡ b → is_number ds ≡ true
-component_by text ds starts found h true e = first_true (is_number ds) starts e
+component_by : (text ds : List ℕ) (starts : Bool) (found : Lexeme) → CountsOnlyRise text (cond (has_number_length ds && starts) found (number_lexeme Component 1 ds)) → (b : Bool) → (has_number_length ds && starts) ≡ b → has_number_length ds ≡ true
+component_by text ds starts found h true e = first_true (has_number_length ds) starts e
 component_by text ds starts found h false e = number_goes_on text Component 1 ds (subst (λ t. CountsOnlyRise text (cond t found (number_lexeme Component 1 ds))) e h)
 
-component_goes_on : (text ds : List ℕ) → CountsOnlyRise text (component_lexeme ds) → is_number ds ≡ true
-unfolding component_lexeme
+component_goes_on : (text ds : List ℕ) → CountsOnlyRise text (later_component_lexeme ds) → has_number_length ds ≡ true
+unfolding later_component_lexeme
 component_goes_on text ds h =
-    component_by text ds (begins_with_zero ds) (lexeme (text_token ZeroComponent ds) (1 + length ds)) h (is_number ds && begins_with_zero ds) refl
+    component_by text ds (begins_with_zero ds) (lexeme (text_token ZeroComponent ds) (1 + length ds)) h (has_number_length ds && begins_with_zero ds) refl
 
 suffix_by : (text word : List ℕ) (rank : Option ℕ) → CountsOnlyRise text (suffix_lexeme_of_rank word rank) → is_some rank ≡ true
 suffix_by text word None h = h
@@ -63,12 +63,12 @@ unfolding hash_lexeme
 hash_goes_on text ds h = sound_or_stray text (ltb 0 (length ds)) (lexeme (text_token Hash ds) (1 + length ds)) h
 
 -- what follows a lexeme is sound too
-sound_after : (text behind : List ℕ) (found : Lexeme) (token : Token) (width : ℕ) → found ≡ lexeme token width → is_last_token_class token.class ≡ false → drop width text ≡ behind → CountsOnlyRise text found → are_in_grammar (tokens_after (Some token.class) 0 behind) ≡ true
+sound_after : (text behind : List ℕ) (found : Lexeme) (token : Token) (width : ℕ) → found ≡ lexeme token width → is_last_token_class token.class ≡ false → drop width text ≡ behind → CountsOnlyRise text found → are_in_grammar (tokens_after_class (Some token.class) 0 behind) ≡ true
 sound_after text behind found token width e h d sound =
     let here : are_in_grammar (token ∷ after text (lexeme token width)) ≡ true = subst (CountsOnlyRise text) e sound in
     let rest = then_true (not (is_stray_class token.class)) (are_in_grammar (after text (lexeme token width))) here in
-    subst (λ b. are_in_grammar (cond b [] (tokens_after (Some token.class) 0 behind)) ≡ true) h
-    (subst (λ t. are_in_grammar (cond (is_last_token_class token.class) [] (tokens_after (Some token.class) 0 t)) ≡ true) d rest)
+    subst (λ b. are_in_grammar (cond b [] (tokens_after_class (Some token.class) 0 behind)) ≡ true) h
+    (subst (λ t. are_in_grammar (cond (is_last_token_class token.class) [] (tokens_after_class (Some token.class) 0 t)) ≡ true) d rest)
 
 -- ---- the end of a version, after a token of some class
 
@@ -287,14 +287,14 @@ with_revision last ds behind h numeral end = record {
 
 -- what holds of shorter texts
 abbrev Shorter : ℕ → Type 0
-Shorter n = (last : Class) (text : List ℕ) → length text ≤ n → are_in_grammar (tokens_after (Some last) 0 text) ≡ true → IsTail last text
+Shorter n = (last : Class) (text : List ℕ) → length text ≤ n → are_in_grammar (tokens_after_class (Some last) 0 text) ≡ true → IsTail last text
 
 cond_case : (P : Lexeme → Type 0) (b : Bool) (x y : Lexeme) → (b ≡ true → P x) → P y → P (cond b x y)
 cond_case P true x y f g = f refl
 cond_case P false x y f g = g
 
-digits_numeral : (rest : List ℕ) → is_number (leading_digits rest) ≡ true → is_numeral (leading_digits rest) ≡ true
-digits_numeral rest h = and_from (is_number (leading_digits rest)) (list_all is_ascii_digit (leading_digits rest)) h (take_while_passes is_ascii_digit rest)
+digits_numeral : (rest : List ℕ) → has_number_length (leading_digits rest) ≡ true → is_numeral (leading_digits rest) ≡ true
+digits_numeral rest h = and_from (has_number_length (leading_digits rest)) (list_all is_ascii_digit (leading_digits rest)) h (take_while_passes is_ascii_digit rest)
 
 same_byte : (b c : ℕ) → eqb b c ≡ true → c ≡ b
 same_byte b c h = grind (arith, nat_tests)
@@ -309,7 +309,7 @@ component_no_suffix_by : (starts : Bool) (text : List ℕ) (n : ℕ) → is_suff
 component_no_suffix_by true text n = refl
 component_no_suffix_by false text n = refl
 
-component_case : (n : ℕ) → Shorter n → (last : Class) (b : ℕ) (rest : List ℕ) → length rest ≤ n → (eqb b 46 && is_component last) ≡ true → CountsOnlyRise (b ∷ rest) (component_lexeme (leading_digits rest)) → IsTail last (b ∷ rest)
+component_case : (n : ℕ) → Shorter n → (last : Class) (b : ℕ) (rest : List ℕ) → length rest ≤ n → (eqb b 46 && is_component last) ≡ true → CountsOnlyRise (b ∷ rest) (later_component_lexeme (leading_digits rest)) → IsTail last (b ∷ rest)
 component_case n shorter last b rest few guard sound =
     let ds : List ℕ = leading_digits rest in
     let behind : List ℕ = drop (length ds) rest in
@@ -318,7 +318,7 @@ component_case n shorter last b rest few guard sound =
     let class : Class = (component_token ds).class in
     let short : length behind ≤ n = omega (arith, length-drop (length ds) rest) in
     let end = shorter class behind short
-    (sound_after (b ∷ rest) behind (component_lexeme ds) (component_token ds) (1 + length ds) (component_read ds numeral)
+    (sound_after (b ∷ rest) behind (later_component_lexeme ds) (component_token ds) (1 + length ds) (component_read ds numeral)
     (component_is_not_last_by (begins_with_zero ds) ds (digits_value 10 ds)) (drop_one (length ds) b rest) sound) in
     let tail = with_component last class ds behind (then_true (eqb b 46) (is_component last) guard) (component_no_suffix_by (begins_with_zero ds) ds (digits_value 10 ds)) numeral end in
     subst (IsTail last)
@@ -362,7 +362,7 @@ number_case n shorter last b rest few guard sound =
     let behind : List ℕ = drop (length ds) (b ∷ rest) in
     let number = number_goes_on (b ∷ rest) SuffixNumber 0 ds sound in
     let numeral = digits_numeral (b ∷ rest) number in
-    let some = is_number-pos ds number in
+    let some = has_number_length-pos ds number in
     let short : length behind ≤ n = omega (arith, length-drop (length ds) (b ∷ rest)) in
     let same : drop (0 + length ds) (b ∷ rest) ≡ behind = let e : 0 + length ds ≡ length ds = omega arith in ap (λ m. drop m (b ∷ rest)) e in
     let end = shorter SuffixNumber behind short
@@ -410,7 +410,7 @@ lexeme_case : (n : ℕ) → Shorter n → (last : Class) (b : ℕ) (rest : List 
 unfolding next_lexeme
 lexeme_case n shorter last b rest few =
     let P : Lexeme → Type 0 = λ found. CountsOnlyRise (b ∷ rest) found → IsTail last (b ∷ rest) in
-    cond_case P (eqb b 46 && is_component last) (component_lexeme (leading_digits rest)) _ (component_case n shorter last b rest few)
+    cond_case P (eqb b 46 && is_component last) (later_component_lexeme (leading_digits rest)) _ (component_case n shorter last b rest few)
     (cond_case P (is_ascii_lowercase b && is_component last) (lexeme (number_token Letter b) 1) _ (letter_case n shorter last b rest few)
     (cond_case P (eqb b 95 && is_before_hash last) (suffix_lexeme (leading_letters rest)) _ (suffix_case n shorter last b rest few)
     (cond_case P (is_ascii_digit b && is_suffix last) (number_lexeme SuffixNumber 0 (leading_digits (b ∷ rest))) _ (number_case n shorter last b rest few)
@@ -423,14 +423,14 @@ tails zero last [] few sound = at_end last
 tails zero last (b ∷ rest) few sound = absurd (omega arith)
 tails (suc n) last [] few sound = at_end last
 tails (suc n) last (b ∷ rest) few sound =
-    lexeme_case n (tails n) last b rest (omega arith) (ap are_in_grammar (sym (tokens_after-step (Some last) (b ∷ rest))) ∙ sound)
+    lexeme_case n (tails n) last b rest (omega arith) (ap are_in_grammar (sym (tokens_after_class-step (Some last) (b ∷ rest))) ∙ sound)
 
 pub spelled : (text : List ℕ) → is_version text ≡ true → IsSpelledVersion text
 unfolding is_version tokens
 spelled text h =
     let ds : List ℕ = leading_digits text in
     let behind : List ℕ = drop (length ds) text in
-    let here : CountsOnlyRise text (number_lexeme Component 0 ds) = ap are_in_grammar (sym (tokens_after-step None text)) ∙ h in
+    let here : CountsOnlyRise text (number_lexeme Component 0 ds) = ap are_in_grammar (sym (tokens_after_class-step None text)) ∙ h in
     let numeral = digits_numeral text (number_goes_on text Component 0 ds here) in
     let same : drop (0 + length ds) text ≡ behind = let e : 0 + length ds ≡ length ds = omega arith in ap (λ m. drop m text) e in
     let end = tails (length behind) Component behind (omega arith)

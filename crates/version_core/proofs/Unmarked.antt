@@ -11,9 +11,9 @@ use Rattle.std.proofs.lemmas.List.{drop-drop, drop_more, length-drop, length-tak
 use Rattle.std.proofs.lemmas.Slice.Eq.{bytes_eq-Decides}
 use Rattle.version_core.specs.declared.token.Class.{Class}
 use Rattle.version_core.specs.declared.token.Class.TheVariants.{PreRelease, Revision, SuffixNumber, Suffix, Letter, ZeroComponent, Component}
-use Rattle.version_core.specs.Token.{Lexeme, number_token, text_token, lexeme, stray_lexeme, is_number, is_component, is_suffix, is_before_hash, is_before_revision, begins_with_zero, leading_digits, leading_hex_digits, leading_letters, number_lexeme, component_lexeme, suffix_class, suffix_rank, suffix_lexeme_of_rank, hash_lexeme, revision_lexeme, next_lexeme, lexeme_at}
+use Rattle.version_core.specs.Token.{Lexeme, number_token, text_token, lexeme, stray_lexeme, has_number_length, is_component, is_suffix, is_before_hash, is_before_revision, begins_with_zero, leading_digits, leading_hex_digits, leading_letters, number_lexeme, later_component_lexeme, suffix_class, suffix_rank, suffix_lexeme_of_rank, hash_lexeme, revision_lexeme, next_lexeme, lexeme_at}
 use Rattle.version_core.specs.Order.{is_last_token_class, is_stray_class, is_version}
-use Rattle.version_core.specs.Reading.{AreEqualUpTo, AreEqualUpToHash, HasUnmarkedEnd, IsLastMark, begins_with_mark, is_token_mark, is_unmarked}
+use Rattle.version_core.specs.Reading.{AreEqualUpTo, AreEqualUpToPlaceInHash, HasUnmarkedEnd, IsLastMark, begins_with_mark, is_token_mark, is_unmarked}
 use Rattle.version_core.proofs.EqualFront.{IsGood, and_left, and_right, by_mark, cut_text, good_after, good_front, good_whole, goes_on, mark_within, with_mark}
 use Rattle.version_core.proofs.Walk.{lexeme_at_within}
 
@@ -46,7 +46,7 @@ cond_short : (most : ℕ) (b : Bool) (x y : Lexeme) → (b ≡ true → IsShort 
 cond_short most true x y f g = f refl
 cond_short most false x y f g = g
 
-number_few : (ds : List ℕ) → is_number ds ≡ true → length ds ≤ 18
+number_few : (ds : List ℕ) → has_number_length ds ≡ true → length ds ≤ 18
 number_few ds h = grind (arith, nat_tests)
 
 number_room : (mark len after : ℕ) → len ≤ 18 → mark + len + after ≤ mark + 18 + after
@@ -55,15 +55,15 @@ number_room mark len after few = omega (arith, few)
 number_short : (class : Class) (mark : ℕ) (ds : List ℕ) → IsShort (mark + 18 + room class) (number_lexeme class mark ds)
 unfolding number_lexeme
 number_short class mark ds =
-    cond_short (mark + 18 + room class) (is_number ds) (lexeme (number_token class (digits_value 10 ds)) (mark + length ds)) stray_lexeme
+    cond_short (mark + 18 + room class) (has_number_length ds) (lexeme (number_token class (digits_value 10 ds)) (mark + length ds)) stray_lexeme
     (λ h token. number_room mark (length ds) (room class) (number_few ds h))
     (stray_short (mark + 18 + room class))
 
-component_short : (ds : List ℕ) → IsShort 20 (component_lexeme ds)
-unfolding component_lexeme
+component_short : (ds : List ℕ) → IsShort 20 (later_component_lexeme ds)
+unfolding later_component_lexeme
 component_short ds =
-    cond_short 20 (is_number ds && begins_with_zero ds) (lexeme (text_token ZeroComponent ds) (1 + length ds)) (number_lexeme Component 1 ds)
-    (λ h token. number_room 1 (length ds) 1 (number_few ds (and_left (is_number ds) (begins_with_zero ds) h)))
+    cond_short 20 (has_number_length ds && begins_with_zero ds) (lexeme (text_token ZeroComponent ds) (1 + length ds)) (number_lexeme Component 1 ds)
+    (λ h token. number_room 1 (length ds) 1 (number_few ds (and_left (has_number_length ds) (begins_with_zero ds) h)))
     (number_short Component 1 ds)
 
 word_by : (test : Bool) (word literal : List ℕ) (rank n : ℕ) (others : Option ℕ) → (test ≡ true → word ≡ literal) → length literal ≡ n → n ≤ 5 → (is_some others ≡ true → length word ≤ 5) → is_some (cond test (Some rank) others) ≡ true → length word ≤ 5
@@ -123,7 +123,7 @@ suffix_number_short last ds h =
 unmarked_short : (last : Class) (b : ℕ) (rest : List ℕ) → not (is_token_mark b) ≡ true → IsShort (room last) (next_lexeme last (b ∷ rest))
 unfolding next_lexeme
 unmarked_short last b rest bare =
-    cond_short (room last) (eqb b 46 && is_component last) (component_lexeme (leading_digits rest)) _ (no_mark b 46 (is_component last) bare refl)
+    cond_short (room last) (eqb b 46 && is_component last) (later_component_lexeme (leading_digits rest)) _ (no_mark b 46 (is_component last) bare refl)
     (cond_short (room last) (is_ascii_lowercase b && is_component last) (lexeme (number_token Letter b) 1) _ (λ h. letter_short last b (and_right (is_ascii_lowercase b) (is_component last) h))
     (cond_short (room last) (eqb b 95 && is_before_hash last) (suffix_lexeme_of_rank (leading_letters rest) (suffix_rank (leading_letters rest))) _ (no_mark b 95 (is_before_hash last) bare refl)
     (cond_short (room last) (is_ascii_digit b && is_suffix last) (number_lexeme SuffixNumber 0 (leading_digits (b ∷ rest))) _ (λ h. suffix_number_short last (leading_digits (b ∷ rest)) (and_right (is_ascii_digit b) (is_suffix last) h))
@@ -226,11 +226,11 @@ tilde_at left len at found end one =
     sym (ap (λ t. get_or t 0 0) (sym l.rest ∙ drop_more left at 0 (mark_within left len at found))) ∙ is)
 
 -- where the front that they have in common ends without a mark, both are within their hash
-pub parted_in_hash : (left right : List ℕ) (len : ℕ) → AreEqualUpTo left right len → 23 < len → HasUnmarkedEnd (take len left) → is_version left ≡ true → AreEqualUpToHash left right len
+pub parted_in_hash : (left right : List ℕ) (len : ℕ) → AreEqualUpTo left right len → 23 < len → HasUnmarkedEnd (take len left) → is_version left ≡ true → AreEqualUpToPlaceInHash left right len
 parted_in_hash left right len equal many end one =
     let front = take len left in
     let size : length front ≡ len = length-take-le len left equal.within.0 in
-    by_last_mark (AreEqualUpToHash left right len) front
+    by_last_mark (AreEqualUpToPlaceInHash left right len) front
     (λ bare.
     let few : length front ≤ 23 = few_at_front front (drop len left) bare (subst (IsGood None 0) (sym (take-append-drop len left)) (good_whole left one)) in
     absurd (omega (arith, few, size, many)))

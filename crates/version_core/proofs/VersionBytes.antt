@@ -9,7 +9,7 @@ use Rattle.std.proofs.lemmas.Bool.{and_parts, and_from, or_left, or_right}
 use Rattle.std.proofs.lemmas.Bool.Decides.{nat_tests}
 use Rattle.std.proofs.lemmas.List.Folds.{list_all-append}
 use Rattle.version_core.specs.Order.{is_version}
-use Rattle.version_core.specs.Token.{is_hex_digit, is_number, suffix_rank}
+use Rattle.version_core.specs.Token.{is_hex_digit, has_number_length, suffix_rank}
 use Rattle.version_core.specs.Grammar.{IsSpelledVersion, Parts, SuffixPart, are_version_parts, hash_text, is_none_or, is_hash_text, is_numeral, is_suffix_part, later_components_text, letter_text, number_text, revision_text, spelling, suffixes_text, begins_with_digit, is_version_byte}
 use Rattle.version_core.proofs.ReadBack.{spelled}
 
@@ -31,7 +31,7 @@ letter-byte b h =
 
 numeral-bytes : (digits : List ℕ) → is_numeral digits ≡ true → list_all is_version_byte digits ≡ true
 numeral-bytes digits h =
-    all-imp is_ascii_digit is_version_byte digit-byte digits (and_parts (is_number digits) (list_all is_ascii_digit digits) h).1
+    all-imp is_ascii_digit is_version_byte digit-byte digits (and_parts (has_number_length digits) (list_all is_ascii_digit digits) h).1
 
 hex-byte : (b : ℕ) → is_hex_digit b ≡ true → is_version_byte b ≡ true
 hex-byte b h = grind (arith, nat_tests)
@@ -106,7 +106,7 @@ spelling-bytes parts h =
 first-by : (first rest : List ℕ) → is_numeral first ≡ true → begins_with_digit (first ++ rest) ≡ true
 first-by [] rest h = (cc)
 first-by (b ∷ digits) rest h =
-    (and_parts (is_ascii_digit b) (list_all is_ascii_digit digits) (and_parts (is_number (b ∷ digits)) (list_all is_ascii_digit (b ∷ digits)) h).1).0
+    (and_parts (is_ascii_digit b) (list_all is_ascii_digit digits) (and_parts (has_number_length (b ∷ digits)) (list_all is_ascii_digit (b ∷ digits)) h).1).0
 
 pub version-bytes : (text : List ℕ) → is_version text ≡ true → list_all is_version_byte text ≡ true
 version-bytes text h =

@@ -10,9 +10,9 @@ use Rattle.std.proofs.lemmas.List.Folds.{length-prefix_len}
 use Rattle.std.proofs.lemmas.List.Sums.{prefix_len-le-length}
 use Rattle.version_core.specs.declared.token.Class.{Class}
 use Rattle.version_core.specs.declared.token.Class.TheVariants.{Revision, Hash, SuffixNumber, Letter, ZeroComponent, Component}
-use Rattle.version_core.specs.Token.{Token, Lexeme, number_token, text_token, lexeme, stray_lexeme, is_number, is_component, is_suffix, is_before_hash, is_before_revision, begins_with_zero, is_hex_digit, leading_digits, leading_hex_digits, leading_letters, number_lexeme, component_lexeme, suffix_rank, suffix_lexeme, suffix_lexeme_of_rank, hash_lexeme, revision_lexeme, next_lexeme, lexeme_at}
+use Rattle.version_core.specs.Token.{Token, Lexeme, number_token, text_token, lexeme, stray_lexeme, has_number_length, is_component, is_suffix, is_before_hash, is_before_revision, begins_with_zero, is_hex_digit, leading_digits, leading_hex_digits, leading_letters, number_lexeme, later_component_lexeme, suffix_rank, suffix_lexeme, suffix_lexeme_of_rank, hash_lexeme, revision_lexeme, next_lexeme, lexeme_at}
 use Rattle.version_core.specs.declared.lexeme.Lexeme.{Lexeme as LexemeAt}
-use Rattle.version_core.specs.Order.{is_last_token_class, tokens_after}
+use Rattle.version_core.specs.Order.{is_last_token_class, tokens_after_class}
 use Rattle.version_core.specs.Reading.{lexeme_view, token_view, unread_len}
 
 -- a lexeme is no longer than its text, and has a byte at least, unless it is the last
@@ -33,20 +33,20 @@ lexeme_within text token width most some = record { most = most; some = λ _. so
 length-take_while : (q : ℕ → Bool) (xs : List ℕ) → length (take_while q xs) ≤ length xs
 length-take_while q xs = omega (arith, length-prefix_len q xs, prefix_len-le-length q xs)
 
-pub is_number-pos : (ds : List ℕ) → is_number ds ≡ true → 0 < length ds
-is_number-pos ds h = grind (arith, nat_tests)
+pub has_number_length-pos : (ds : List ℕ) → has_number_length ds ≡ true → 0 < length ds
+has_number_length-pos ds h = grind (arith, nat_tests)
 
 number_within : (text : List ℕ) (class : Class) (mark : ℕ) (ds : List ℕ) → mark + length ds ≤ length text → HasNamesAmong text (number_lexeme class mark ds)
 unfolding number_lexeme
 number_within text class mark ds most =
-    cond_within text (is_number ds) (lexeme (number_token class (digits_value 10 ds)) (mark + length ds)) stray_lexeme
-    (λ h. let pos = is_number-pos ds h in lexeme_within text _ (mark + length ds) most (omega arith))
+    cond_within text (has_number_length ds) (lexeme (number_token class (digits_value 10 ds)) (mark + length ds)) stray_lexeme
+    (λ h. let pos = has_number_length-pos ds h in lexeme_within text _ (mark + length ds) most (omega arith))
     (stray_within text)
 
-component_within : (text ds : List ℕ) → 1 + length ds ≤ length text → HasNamesAmong text (component_lexeme ds)
-unfolding component_lexeme
+component_within : (text ds : List ℕ) → 1 + length ds ≤ length text → HasNamesAmong text (later_component_lexeme ds)
+unfolding later_component_lexeme
 component_within text ds most =
-    cond_within text (is_number ds && begins_with_zero ds) (lexeme (text_token ZeroComponent ds) (1 + length ds)) (number_lexeme Component 1 ds)
+    cond_within text (has_number_length ds && begins_with_zero ds) (lexeme (text_token ZeroComponent ds) (1 + length ds)) (number_lexeme Component 1 ds)
     (λ _. lexeme_within text _ (1 + length ds) most (omega arith))
     (number_within text Component 1 ds most)
 
@@ -77,7 +77,7 @@ next_within last (b ∷ rest) =
     let digits : 1 + length (leading_digits rest) ≤ length text = omega (arith, length-take_while is_ascii_digit rest) in
     let word : 1 + length (leading_letters rest) ≤ length text = omega (arith, length-take_while is_ascii_lowercase rest) in
     let hex : 1 + length (leading_hex_digits rest) ≤ length text = omega (arith, length-take_while is_hex_digit rest) in
-    cond_within text (eqb b 46 && is_component last) (component_lexeme (leading_digits rest)) _ (λ _. component_within text (leading_digits rest) digits)
+    cond_within text (eqb b 46 && is_component last) (later_component_lexeme (leading_digits rest)) _ (λ _. component_within text (leading_digits rest) digits)
     (cond_within text (is_ascii_lowercase b && is_component last) (lexeme (number_token Letter b) 1) _ (λ _. lexeme_within text (number_token Letter b) 1 (omega arith) (omega arith))
     (cond_within text (eqb b 95 && is_before_hash last) (suffix_lexeme (leading_letters rest)) _ (λ _. suffix_within_by text (leading_letters rest) (suffix_rank (leading_letters rest)) word)
     (cond_within text (is_ascii_digit b && is_suffix last) (number_lexeme SuffixNumber 0 (leading_digits text)) _ (λ _. number_within text SuffixNumber 0 (leading_digits text) (omega (arith, length-take_while is_ascii_digit text)))
@@ -90,14 +90,14 @@ lexeme_at_within None text = number_within text Component 0 (leading_digits text
 lexeme_at_within (Some last) text = next_within last text
 
 -- the bytes that belong to the token before are skipped
-pub tokens_after-drop : (last : Option Class) (inside : ℕ) (text : List ℕ) → tokens_after last inside text ≡ tokens_after last 0 (drop inside text)
-tokens_after-drop last zero text = refl
-tokens_after-drop last (suc inside) [] = refl
-tokens_after-drop last (suc inside) (b ∷ rest) = tokens_after-drop last inside rest
+pub tokens_after_class-drop : (last : Option Class) (inside : ℕ) (text : List ℕ) → tokens_after_class last inside text ≡ tokens_after_class last 0 (drop inside text)
+tokens_after_class-drop last zero text = refl
+tokens_after_class-drop last (suc inside) [] = refl
+tokens_after_class-drop last (suc inside) (b ∷ rest) = tokens_after_class-drop last inside rest
 
 -- the tokens after a lexeme
 abbrev pub after : List ℕ → Lexeme → List Token
-after text found = cond (is_last_token_class found.token.class) [] (tokens_after (Some found.token.class) 0 (drop found.width text))
+after text found = cond (is_last_token_class found.token.class) [] (tokens_after_class (Some found.token.class) 0 (drop found.width text))
 
 -- what is at the end is the last
 last_at_end : (last : Option Class) → is_last_token_class (lexeme_at last []).token.class ≡ true
@@ -109,21 +109,21 @@ drop-pred : (n : ℕ) (c : ℕ) (rest : List ℕ) → 0 < n → drop (n - 1) res
 drop-pred zero c rest pos = absurd (omega arith)
 drop-pred (suc n) c rest pos = let e : suc n - 1 ≡ n = omega arith in ap (λ m. drop m rest) e
 
-after_by : (b : Bool) (found : Lexeme) (c : ℕ) (rest : List ℕ) → (b ≡ false → 0 < found.width) → cond b [] (tokens_after (Some found.token.class) (found.width - 1) rest) ≡ cond b [] (tokens_after (Some found.token.class) 0 (drop found.width (c ∷ rest)))
+after_by : (b : Bool) (found : Lexeme) (c : ℕ) (rest : List ℕ) → (b ≡ false → 0 < found.width) → cond b [] (tokens_after_class (Some found.token.class) (found.width - 1) rest) ≡ cond b [] (tokens_after_class (Some found.token.class) 0 (drop found.width (c ∷ rest)))
 after_by true found c rest some = refl
 after_by false found c rest some =
-    tokens_after-drop (Some found.token.class) (found.width - 1) rest
-    ∙ ap (tokens_after (Some found.token.class) 0) (drop-pred found.width c rest (some refl))
+    tokens_after_class-drop (Some found.token.class) (found.width - 1) rest
+    ∙ ap (tokens_after_class (Some found.token.class) 0) (drop-pred found.width c rest (some refl))
 
 end_by : (b : Bool) (x : Token) (ts : List Token) → b ≡ true → x ∷ [] ≡ x ∷ cond b [] ts
 end_by b x ts h = rw h refl
 
 -- the tokens of a text are its first, and those after that
-pub tokens_after-step : (last : Option Class) (text : List ℕ) → tokens_after last 0 text ≡ (lexeme_at last text).token ∷ after text (lexeme_at last text)
-tokens_after-step last [] =
+pub tokens_after_class-step : (last : Option Class) (text : List ℕ) → tokens_after_class last 0 text ≡ (lexeme_at last text).token ∷ after text (lexeme_at last text)
+tokens_after_class-step last [] =
     let found = lexeme_at last [] in
-    end_by (is_last_token_class found.token.class) found.token (tokens_after (Some found.token.class) 0 (drop found.width [])) (last_at_end last)
-tokens_after-step last (b ∷ rest) =
+    end_by (is_last_token_class found.token.class) found.token (tokens_after_class (Some found.token.class) 0 (drop found.width [])) (last_at_end last)
+tokens_after_class-step last (b ∷ rest) =
     let found = lexeme_at last (b ∷ rest) in
     ap (λ ts. found.token ∷ ts) (after_by (is_last_token_class found.token.class) found b rest (lexeme_at_within last (b ∷ rest)).some)
 
@@ -134,23 +134,23 @@ advance_within last text found e =
     let width = ap (λ (l : Lexeme). l.width) e in
     omega (arith, within, width)
 
-behind_at : (class : Class) (text : List ℕ) (advance : ℕ) → tokens_after (Some class) 0 (drop (advance + unread_len (Some class) (drop advance text)) text) ≡ tokens_after (Some class) (unread_len (Some class) (drop advance text)) (drop advance text)
+behind_at : (class : Class) (text : List ℕ) (advance : ℕ) → tokens_after_class (Some class) 0 (drop (advance + unread_len (Some class) (drop advance text)) text) ≡ tokens_after_class (Some class) (unread_len (Some class) (drop advance text)) (drop advance text)
 behind_at class text advance =
-    sym (tokens_after-drop (Some class) (unread_len (Some class) (drop advance text)) (drop advance text)
-    ∙ ap (tokens_after (Some class) 0) (drop-drop (unread_len (Some class) (drop advance text)) advance text))
+    sym (tokens_after_class-drop (Some class) (unread_len (Some class) (drop advance text)) (drop advance text)
+    ∙ ap (tokens_after_class (Some class) 0) (drop-drop (unread_len (Some class) (drop advance text)) advance text))
 
-left_at : (last : Option Class) (text : List ℕ) (found : LexemeAt) → lexeme_view text found ≡ lexeme_at last text → tokens_after last 0 text ≡ token_view found.token ∷ cond (is_last_token_class found.token.class) [] (tokens_after (Some found.token.class) (unread_len (Some found.token.class) (drop found.advance text)) (drop found.advance text))
+left_at : (last : Option Class) (text : List ℕ) (found : LexemeAt) → lexeme_view text found ≡ lexeme_at last text → tokens_after_class last 0 text ≡ token_view found.token ∷ cond (is_last_token_class found.token.class) [] (tokens_after_class (Some found.token.class) (unread_len (Some found.token.class) (drop found.advance text)) (drop found.advance text))
 left_at last text found e =
-    tokens_after-step last text
+    tokens_after_class-step last text
     ∙ ap (λ (l : Lexeme). l.token ∷ after text l) (sym e)
     ∙ ap (λ ts. token_view found.token ∷ cond (is_last_token_class found.token.class) [] ts) (behind_at found.token.class text found.advance)
 
-pub left_after : (last : Option Class) (rest text behind : List ℕ) (found : LexemeAt) → text ≡ drop (unread_len last rest) rest → lexeme_view text found ≡ lexeme_at last text → behind ≡ drop found.advance text → tokens_after last (unread_len last rest) rest ≡ token_view found.token ∷ cond (is_last_token_class found.token.class) [] (tokens_after (Some found.token.class) (unread_len (Some found.token.class) behind) behind)
+pub left_after : (last : Option Class) (rest text behind : List ℕ) (found : LexemeAt) → text ≡ drop (unread_len last rest) rest → lexeme_view text found ≡ lexeme_at last text → behind ≡ drop found.advance text → tokens_after_class last (unread_len last rest) rest ≡ token_view found.token ∷ cond (is_last_token_class found.token.class) [] (tokens_after_class (Some found.token.class) (unread_len (Some found.token.class) behind) behind)
 left_after last rest text behind found here e there =
-    tokens_after-drop last (unread_len last rest) rest
-    ∙ ap (tokens_after last 0) (sym here)
+    tokens_after_class-drop last (unread_len last rest) rest
+    ∙ ap (tokens_after_class last 0) (sym here)
     ∙ left_at last text found e
-    ∙ ap (λ b. token_view found.token ∷ cond (is_last_token_class found.token.class) [] (tokens_after (Some found.token.class) (unread_len (Some found.token.class) b) b)) (sym there)
+    ∙ ap (λ b. token_view found.token ∷ cond (is_last_token_class found.token.class) [] (tokens_after_class (Some found.token.class) (unread_len (Some found.token.class) b) b)) (sym there)
 
 fewer_at : (last : Option Class) (text : List ℕ) (found : LexemeAt) → lexeme_view text found ≡ lexeme_at last text → is_last_token_class found.token.class ≡ false → length (drop (unread_len (Some found.token.class) (drop found.advance text)) (drop found.advance text)) < length text
 fewer_at last text found e h =

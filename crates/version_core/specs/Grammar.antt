@@ -8,7 +8,7 @@ use Rattle.std.specs.Char.{is_ascii_digit, is_ascii_lowercase}
 use Rattle.std.specs.List.{list_all}
 use Rattle.std.specs.Str.Parse.{digits_value}
 use Rattle.version_core.specs.declared.token.Class.TheVariants.{End, Revision, Hash, SuffixNumber, Letter, ZeroComponent, Component}
-use Rattle.version_core.specs.Token.{Token, bare_token, number_token, text_token, begins_with_zero, is_hex_digit, is_number, suffix_lexeme, suffix_rank}
+use Rattle.version_core.specs.Token.{Token, token_without_value, number_token, text_token, begins_with_zero, is_hex_digit, has_number_length, suffix_lexeme, suffix_rank}
 
 -- a suffix of a version: its word, and the digits of its number if it has one
 pub record SuffixPart : Type 0 where
@@ -40,7 +40,7 @@ is_none_or test (Some x) = test x
 
 -- a number of a version: 1 to 18 decimal digits
 abbrev pub is_numeral : List ℕ → Bool
-is_numeral digits = is_number digits && list_all is_ascii_digit digits
+is_numeral digits = has_number_length digits && list_all is_ascii_digit digits
 
 -- the text of a hash: one or more lower-case hexadecimal digits
 abbrev pub is_hash_text : List ℕ → Bool
@@ -136,12 +136,14 @@ abbrev pub tokens_of : Parts → List Token
 tokens_of parts =
     number_token Component (digits_value 10 parts.first)
     ∷ (later_component_tokens parts.later ++ (letter_tokens parts.letter ++ (suffix_tokens parts.suffixes
-    ++ (hash_tokens parts.hash ++ (revision_tokens parts.revision ++ bare_token End ∷ [])))))
+    ++ (hash_tokens parts.hash ++ (revision_tokens parts.revision ++ token_without_value End ∷ [])))))
 
 -- a text is spelled after the grammar: some parts of a version spell it
 pub record IsSpelledVersion (text : List ℕ) : Type 0 where
   pub parts : Parts
+  -- each part follows the grammar
   pub sound : are_version_parts parts ≡ true
+  -- the parts spell the text
   pub whole : spelling parts ≡ text
 
 -- ---- the bytes of a version

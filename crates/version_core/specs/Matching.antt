@@ -13,15 +13,16 @@ use Rattle.version_core.specs.Token.{Token}
 abbrev pub operator_if_bits : ℕ → Option ℕ
 operator_if_bits bits = if is_operator_bits bits then Some bits else None
 
--- whether an operator accepts the relation of this match bit
+-- whether this match bit is set in the match bits of an operator
 abbrev pub has_bit : ℕ → ℕ → Bool
 has_bit bits bit = not (bit_and bits bit == 0)
 
--- whether a component that is compared as text begins with the wanted one
+-- whether the text of a found component begins with the text of the wanted one
 abbrev pub is_prefix_of : List ℕ → List ℕ → Bool
 is_prefix_of wanted found = bytes_eq wanted (take (length wanted) found)
 
--- whether a token is a later component that begins with 0
+-- whether a class is that of a component after the first that begins with 0, and so is compared as
+-- text
 abbrev pub is_zero_component : Class → Bool
 is_zero_component ZeroComponent = true
 is_zero_component _ = false
@@ -34,13 +35,14 @@ fits wanted found =
     then is_prefix_of wanted.text found.text else
     is_eq (token_cmp found wanted)
 
--- whether each wanted token, up to the end of the wanted version, fits the found token at its place
+-- whether each token of the wanted version, up to its end, fits the token of the found version at
+-- the same index
 abbrev pub all_fit : List Token → List Token → Bool
 all_fit [] found = true
 all_fit (w ∷ ws) [] = is_last_token_class w.class
 all_fit (w ∷ ws) (f ∷ fs) = is_last_token_class w.class || (fits w f && all_fit ws fs)
 
--- the fuzzy match: whether a version begins with the tokens of the wanted one
+-- the fuzzy match: whether the found version begins with the tokens of the wanted one
 unfoldable pub is_fuzzy_match : List ℕ → List ℕ → Bool
 is_fuzzy_match found wanted = all_fit (tokens wanted) (tokens found)
 

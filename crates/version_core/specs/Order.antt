@@ -9,30 +9,30 @@ use Rattle.version_core.specs.declared.token.Class.{Class}
 use Rattle.version_core.specs.declared.token.Class.TheVariants.{Stray, PreRelease, End, Revision, Hash, SuffixNumber, Suffix, Letter, ZeroComponent, Component}
 use Rattle.version_core.specs.Token.{Token, lexeme_at}
 
--- whether a token is the one for bytes outside the grammar
+-- whether a class is that of bytes outside the grammar
 abbrev pub is_stray_class : Class → Bool
 is_stray_class Stray = true
 is_stray_class _ = false
 
--- whether no token follows one of this class, which is the end or stray
+-- whether a token of this class is the last one of a text: it is the end, or stray
 abbrev pub is_last_token_class : Class → Bool
 is_last_token_class End = true
 is_last_token_class class = is_stray_class class
 
--- the tokens of a text after a token of some class (None: at the front of a version), if its first
--- `inside` bytes still belong to that token
-abbrev pub tokens_after : Option Class → ℕ → List ℕ → List Token
-tokens_after last inside [] = (lexeme_at last []).token ∷ []
-tokens_after last (suc inside) (b ∷ rest) = tokens_after last inside rest
-tokens_after last zero (b ∷ rest) =
+-- the tokens of the rest of a version, after a token of the class `last`; None if the rest is the
+-- whole version. The first `inside` bytes of the rest still belong to the token before
+abbrev pub tokens_after_class : Option Class → ℕ → List ℕ → List Token
+tokens_after_class last inside [] = (lexeme_at last []).token ∷ []
+tokens_after_class last (suc inside) (b ∷ rest) = tokens_after_class last inside rest
+tokens_after_class last zero (b ∷ rest) =
     let found = lexeme_at last (b ∷ rest) in
     found.token
     ∷ (if is_last_token_class found.token.class then []
-    else tokens_after (Some found.token.class) (found.width - 1) rest)
+    else tokens_after_class (Some found.token.class) (found.width - 1) rest)
 
 -- the tokens of a text, the end included; at bytes outside the grammar they stop with a stray one
 unfoldable pub tokens : List ℕ → List Token
-tokens text = tokens_after None 0 text
+tokens text = tokens_after_class None 0 text
 
 -- whether none of the tokens is stray, so that they are those of a version
 abbrev pub are_in_grammar : List Token → Bool

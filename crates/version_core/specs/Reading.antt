@@ -16,7 +16,7 @@ use Rattle.version_core.specs.declared.token.Tokens.{Tokens}
 use Rattle.version_core.specs.declared.lexeme.Lexeme.{Lexeme as LexemeAt}
 use Rattle.version_core.specs.Token.{Token, Lexeme, lexeme, is_hex_digit, leading_hex_digits}
 use Rattle.version_core.specs.Matching.{all_fit}
-use Rattle.version_core.specs.Order.{token_cmp, tokens_after}
+use Rattle.version_core.specs.Order.{token_cmp, tokens_after_class}
 
 -- the token that a token of the code represents: its text ends before the first byte that is no
 -- hexadecimal digit
@@ -37,7 +37,7 @@ unread_len (Some class) rest = if is_hash class then length (leading_hex_digits 
 
 -- the tokens that a reader has not taken yet
 abbrev pub tokens_left : Tokens → List Token
-tokens_left left = tokens_after left.last (unread_len left.last left.rest.now) left.rest.now
+tokens_left left = tokens_after_class left.last (unread_len left.last left.rest.now) left.rest.now
 
 -- the lexeme of the code for a token that is no hash: the reader skips all of its bytes at once
 abbrev pub whole_lexeme : LexemeAt → Lexeme
@@ -106,7 +106,7 @@ pub record AreEqualUpToMark (left right : List ℕ) (at : ℕ) : Type 0 where
   pub last : IsLastMark (take len left) at
 
 -- two texts are equal up to this offset, and the last mark before it is that of a hash, `~`
-pub record AreEqualUpToHash (left right : List ℕ) (len : ℕ) : Type 0 where
+pub record AreEqualUpToPlaceInHash (left right : List ℕ) (len : ℕ) : Type 0 where
   pub at : ℕ
   pub equal : AreEqualUpTo left right len
   pub last : IsLastMark (take len left) at
@@ -116,19 +116,19 @@ pub record AreEqualUpToHash (left right : List ℕ) (len : ℕ) : Type 0 where
 abbrev pub AreEqualUpToParting : List ℕ → List ℕ → Parting → Type 0
 AreEqualUpToParting left right AtFront = Unit {0}
 AreEqualUpToParting left right (AtMark at) = AreEqualUpToMark left right at
-AreEqualUpToParting left right (InHash len) = AreEqualUpToHash left right len
+AreEqualUpToParting left right (InHash len) = AreEqualUpToPlaceInHash left right len
 
 -- the order of two versions by their rests from a place within the hash of both on
 abbrev pub hash_cmp : List ℕ → List ℕ → Ordering
 hash_cmp left right =
     ordering_then (slice_cmp nat_cmp (leading_hex_digits left) (leading_hex_digits right))
-    (slice_cmp token_cmp (tokens_after (Some Hash) (length (leading_hex_digits left)) left)
-    (tokens_after (Some Hash) (length (leading_hex_digits right)) right))
+    (slice_cmp token_cmp (tokens_after_class (Some Hash) (length (leading_hex_digits left)) left)
+    (tokens_after_class (Some Hash) (length (leading_hex_digits right)) right))
 
 -- whether a version matches a wanted one fuzzily, by their rests from a place within the hash of both
 -- on
 abbrev pub hash_fits : List ℕ → List ℕ → Bool
 hash_fits wanted found =
     is_eq (slice_cmp nat_cmp (leading_hex_digits found) (leading_hex_digits wanted))
-    && all_fit (tokens_after (Some Hash) (length (leading_hex_digits wanted)) wanted)
-    (tokens_after (Some Hash) (length (leading_hex_digits found)) found)
+    && all_fit (tokens_after_class (Some Hash) (length (leading_hex_digits wanted)) wanted)
+    (tokens_after_class (Some Hash) (length (leading_hex_digits found)) found)

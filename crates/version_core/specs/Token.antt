@@ -20,8 +20,8 @@ pub record Token : Type 0 where
   pub text : List ℕ
 
 -- a token that has no value besides its class, as the end
-abbrev pub bare_token : Class → Token
-bare_token class = record { class = class; number = 0; text = [] }
+abbrev pub token_without_value : Class → Token
+token_without_value class = record { class = class; number = 0; text = [] }
 
 -- a token that is compared by a number, such as a component
 abbrev pub number_token : Class → ℕ → Token
@@ -35,7 +35,7 @@ text_token class text = record { class = class; number = 0; text = text }
 pub record Lexeme : Type 0 where
   -- the token
   pub token : Token
-  -- how many bytes spell it, its mark counted
+  -- how many bytes spell it, with its mark, such as `.` or `-r`
   pub width : ℕ
 
 -- the lexeme of a token and its width
@@ -44,7 +44,7 @@ lexeme token width = record { token = token; width = width }
 
 -- the lexeme for bytes that are no token of the grammar
 abbrev pub stray_lexeme : Lexeme
-stray_lexeme = lexeme (bare_token Stray) 0
+stray_lexeme = lexeme (token_without_value Stray) 0
 
 -- whether a byte is a lower-case hexadecimal digit
 abbrev pub is_hex_digit : ℕ → Bool
@@ -67,13 +67,13 @@ abbrev pub MOST_DIGITS : ℕ
 MOST_DIGITS = 18
 
 -- whether digits are the number of a component, a suffix or a revision: 1 to 18 of them
-abbrev pub is_number : List ℕ → Bool
-is_number digits = nat_lt 0 (length digits) && nat_le (length digits) MOST_DIGITS
+abbrev pub has_number_length : List ℕ → Bool
+has_number_length digits = nat_lt 0 (length digits) && nat_le (length digits) MOST_DIGITS
 
 -- the lexeme of a number of this class; `mark` is how many bytes precede its digits
 unfoldable pub number_lexeme : Class → ℕ → List ℕ → Lexeme
 number_lexeme class mark digits =
-    if is_number digits
+    if has_number_length digits
     then lexeme (number_token class (digits_value 10 digits)) (mark + length digits)
     else stray_lexeme
 
@@ -84,9 +84,9 @@ begins_with_zero (b ∷ rest) = b == 48
 
 -- the lexeme of a component after the first, compared as text if it begins with 0, else as a number;
 -- its mark is `.`
-unfoldable pub component_lexeme : List ℕ → Lexeme
-component_lexeme digits =
-    if is_number digits && begins_with_zero digits
+unfoldable pub later_component_lexeme : List ℕ → Lexeme
+later_component_lexeme digits =
+    if has_number_length digits && begins_with_zero digits
     then lexeme (text_token ZeroComponent digits) (1 + length digits)
     else number_lexeme Component 1 digits
 
@@ -108,13 +108,14 @@ suffix_rank word =
 abbrev pub suffix_class : ℕ → Class
 suffix_class rank = if nat_lt rank 4 then PreRelease else Suffix
 
--- the lexeme of a suffix with this rank, which is stray if its word has none
+-- the lexeme of a suffix, given its word and the rank of this word; a word without rank makes it
+-- stray
 abbrev pub suffix_lexeme_of_rank : List ℕ → Option ℕ → Lexeme
 suffix_lexeme_of_rank word None = stray_lexeme
 suffix_lexeme_of_rank word (Some rank) =
     lexeme (number_token (suffix_class rank) rank) (1 + length word)
 
--- the lexeme of a suffix by its word, whose mark is one byte more
+-- the lexeme of a suffix, given the word after its mark `_`
 abbrev pub suffix_lexeme : List ℕ → Lexeme
 suffix_lexeme word = suffix_lexeme_of_rank word (suffix_rank word)
 
@@ -153,11 +154,11 @@ abbrev pub is_before_revision : Class → Bool
 is_before_revision Hash = true
 is_before_revision class = is_before_hash class
 
--- the lexeme at the front of a text that follows a token of class `last`
+-- the first lexeme of a text, given the class `last` of the token before it
 unfoldable pub next_lexeme : Class → List ℕ → Lexeme
-next_lexeme last [] = lexeme (bare_token End) 0
+next_lexeme last [] = lexeme (token_without_value End) 0
 next_lexeme last (b ∷ rest) =
-    if (b == 46) && is_component last then component_lexeme (leading_digits rest) else
+    if (b == 46) && is_component last then later_component_lexeme (leading_digits rest) else
     if is_ascii_lowercase b && is_component last then lexeme (number_token Letter b) 1 else
     if (b == 95) && is_before_hash last then suffix_lexeme (leading_letters rest) else
     if is_ascii_digit b && is_suffix last
@@ -166,8 +167,8 @@ next_lexeme last (b ∷ rest) =
     if (b == 45) && is_before_revision last then revision_lexeme rest else
     stray_lexeme
 
--- the lexeme at the front of a text. At the front of a version (None) it is the first component; else
--- the class of the token before it decides
+-- the first lexeme of a text. At the start of a version (None) it is the first component; otherwise
+-- the class `last` of the token before it decides
 abbrev pub lexeme_at : Option Class → List ℕ → Lexeme
 lexeme_at None text = number_lexeme Component 0 (leading_digits text)
 lexeme_at (Some last) text = next_lexeme last text

@@ -1,6 +1,6 @@
-//! The fuzzy match: whether a version begins with the tokens of a wanted one. Their common front is
-//! skipped as plain bytes, as in a comparison. The rule is in `docs/formats.md`, "Versions", below
-//! "An operator has four bits".
+//! The fuzzy match: whether a version begins with the tokens of a wanted one. Their common prefix
+//! is skipped as plain bytes, as in a comparison. The rule is in `docs/formats.md`, "Versions",
+//! below "An operator has four bits".
 
 ghost use Rattle.std.specs.Prelude.{◌≡◌, IsTrue};
 ghost use Rattle.version_core.specs.Matching.{all_fit, is_fuzzy_match};
@@ -24,8 +24,8 @@ pub fn is_fuzzy_match(found: &[u8], wanted: &[u8]) -> bool
     }
 }
 
-/// As `is_fuzzy_match`, for the rests of two versions that are equal up to a place within the hash
-/// of both.
+/// Does the same as `is_fuzzy_match`, for the rests of two versions that are equal up to an offset
+/// within the hash of each.
 fn fits_within_hash(wanted: &[u8], found: &[u8]) -> bool
     ensures { result ≡ hash_fits wanted.now found.now }
 {
@@ -36,7 +36,8 @@ fn fits_within_hash(wanted: &[u8], found: &[u8]) -> bool
     all_fit(Tokens::behind(class, wanted), Tokens::behind(class, found))
 }
 
-/// Whether each token left of the wanted text, up to its end, fits the found token at its place.
+/// Whether each remaining token of the wanted version, up to its end, fits the token of the found
+/// version at the same index.
 fn all_fit(wanted: Tokens<'_>, found: Tokens<'_>) -> bool
     ensures { result ≡ all_fit (tokens_left wanted.entry) (tokens_left found.entry) }
 {

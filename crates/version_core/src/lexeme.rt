@@ -1,6 +1,6 @@
-//! The token at the front of a text, and how many bytes its reader skips. The grammar of the tokens
-//! is in `docs/formats.md`, "Versions" ("A version is a number"). In the clauses `plain` says that
-//! a token is no hash, so the reader skips all of its bytes at once. `digits` and `few` say that
+//! The first token of a text, and how many bytes its reader skips. The grammar of the tokens is in
+//! `docs/formats.md`, "Versions" ("A version is a number"). In the clauses `plain` says that a
+//! token is no hash, so the reader skips all of its bytes at once. `digits` and `few` say that
 //! bytes are digits, and few enough for 64 bits.
 
 ghost use Rattle.std.specs.Prelude.{◌≡◌, ◌≤◌, ◌<◌, false, length, drop, position, not};
@@ -8,7 +8,7 @@ ghost use Rattle.std.specs.Char.{is_ascii_digit, is_ascii_lowercase};
 ghost use Rattle.std.specs.Ordering.{nat_cmp};
 ghost use Rattle.std.specs.Cmp.Lexicographic.{slice_cmp};
 ghost use Rattle.std.specs.Str.Parse.{digits_value};
-ghost use Rattle.version_core.specs.Token.{begins_with_zero, component_lexeme, leading_digits, hash_lexeme, leading_hex_digits, is_hex_digit, lexeme, lexeme_at, next_lexeme, number_lexeme, number_token, revision_lexeme, stray_lexeme, suffix_class, suffix_lexeme, suffix_rank, leading_letters, text_token, MOST_DIGITS};
+ghost use Rattle.version_core.specs.Token.{begins_with_zero, later_component_lexeme, leading_digits, hash_lexeme, leading_hex_digits, is_hex_digit, lexeme, lexeme_at, next_lexeme, number_lexeme, number_token, revision_lexeme, stray_lexeme, suffix_class, suffix_lexeme, suffix_rank, leading_letters, text_token, MOST_DIGITS};
 ghost use Rattle.version_core.specs.Overlapping.{passed_len};
 ghost use Rattle.version_core.specs.Reading.{AreDigits, hex_digit_at, is_hash, lexeme_view, whole_lexeme};
 
@@ -64,8 +64,8 @@ fn stray_lexeme<'a>() -> Lexeme<'a>
     lexeme_of_number(Class::Stray, 0, 0)
 }
 
-/// The lexeme at the front of a text. At the front of a version (None) it is the first component;
-/// else the class of the token before it decides.
+/// The first lexeme of a text. At the start of a version (None) it is the first component;
+/// otherwise the class of the token before it decides.
 pub fn lexeme_at<'a>(last: Option<Class>, text: &'a [u8]) -> Lexeme<'a>
     ensures { lexeme_view text.entry.now result ≡ lexeme_at last text.entry.now }
 {
@@ -89,7 +89,7 @@ pub fn first_token(last: Option<Class>, text: &[u8]) -> (Class, usize)
     (class, lexeme.advance)
 }
 
-/// The lexeme at the front of a text that follows a token of class `last`.
+/// The first lexeme of a text, given the class `last` of the token before it.
 #[tactic(auto, unfolding(crate::specs::Token::next_lexeme))]
 fn next_lexeme<'a>(last: Class, text: &'a [u8]) -> Lexeme<'a>
     ensures { lexeme_view text.entry.now result ≡ next_lexeme last text.entry.now }
@@ -125,10 +125,10 @@ fn number(class: Class, mark: usize, digits: &[u8]) -> Lexeme<'_>
 
 /// The lexeme of a component after the first. It is compared as text if it begins with 0, else as a
 /// number.
-#[tactic(auto, using(crate::proofs::Lexemes::component_lexeme_zero), unfolding(crate::specs::Token::component_lexeme))]
+#[tactic(auto, using(crate::proofs::Lexemes::component_lexeme_zero), unfolding(crate::specs::Token::later_component_lexeme))]
 fn component(digits: &[u8]) -> Lexeme<'_>
     requires { AreDigits digits.now }
-    ensures token { whole_lexeme result ≡ component_lexeme digits.now }
+    ensures token { whole_lexeme result ≡ later_component_lexeme digits.now }
     ensures plain { is_hash result.token.class ≡ false }
 {
     if begins_with_zero(digits) && digits.len() <= MOST_DIGITS {
@@ -144,7 +144,7 @@ fn begins_with_zero(digits: &[u8]) -> bool
     matches!(digits, [b'0', ..])
 }
 
-/// The lexeme of a suffix, by its word.
+/// The lexeme of a suffix, given the word after its mark `_`.
 fn suffix(word: &[u8]) -> Lexeme<'_>
     ensures token { whole_lexeme result ≡ suffix_lexeme word.now }
     ensures plain { is_hash result.token.class ≡ false }

@@ -1,12 +1,12 @@
-//! The order of two versions. Their common front is skipped as plain bytes, whole blocks first, and
-//! the tokens are read from the last mark in it on. No mark is searched within a hash; outside of a
-//! hash marks are near each other. The rule is in `docs/formats.md`, "Versions" ("A version is
+//! The order of two versions. Their common prefix is skipped as plain bytes, whole blocks first,
+//! and the tokens are read from the last mark in it on. No mark is searched within a hash; outside
+//! of a hash marks are near each other. The rule is in `docs/formats.md`, "Versions" ("A version is
 //! compared by its tokens").
 
 ghost use Rattle.std.specs.Prelude.{◌≡◌, ◌≤◌, ◌<◌, IsTrue, IfSome, IfNone, Some, length, take, drop};
 ghost use Rattle.std.specs.Cmp.Lexicographic.{slice_cmp};
 ghost use Rattle.version_core.specs.declared.token.Class.TheVariants.{Component};
-ghost use Rattle.version_core.specs.Order.{is_version, token_cmp, tokens_after, version_cmp};
+ghost use Rattle.version_core.specs.Order.{is_version, token_cmp, tokens_after_class, version_cmp};
 ghost use Rattle.version_core.specs.Reading.{AreEqualUpTo, AreEqualUpToParting, HasUnmarkedEnd, IsLastMark, hash_cmp, is_token_mark, tokens_left};
 
 use crate::lexeme::{behind, compare_hex_digits};
@@ -23,11 +23,11 @@ const MOST_UNMARKED: usize = 23;
 /// The place from which two versions are read; they are equal before it.
 #[derive(Clone, Copy)]
 pub enum Parting {
-    /// At the front of both.
+    /// The start of both versions.
     AtFront,
-    /// At a mark at this offset in both.
+    /// A mark at this offset in both versions.
     AtMark(usize),
-    /// Within the hash of both, at this offset.
+    /// This offset, which is within the hash of each version.
     InHash(usize),
 }
 
@@ -46,7 +46,7 @@ pub fn compare(left: &[u8], right: &[u8]) -> Ordering
     }
 }
 
-/// The place from which two versions have to be read. Their common front is skipped.
+/// The place from which two versions have to be read. Their common prefix is skipped.
 pub fn parting_of(left: &[u8], right: &[u8]) -> Parting
     requires { IsTrue (is_version left.now) }
     ensures { AreEqualUpToParting left.now right.now result }
@@ -61,8 +61,8 @@ pub fn parting_of(left: &[u8], right: &[u8]) -> Parting
     Parting::AtMark(at)
 }
 
-/// As `parting_of`, if both begin with the same `len` bytes and the last of these have no mark.
-/// Then these bytes are few, or they end within the hash of both.
+/// Does the same as `parting_of` for two versions with the same first `len` bytes, the last of
+/// which have no mark. These bytes are few, or they end within the hash of each version.
 fn parting_without_mark(left: &[u8], right: &[u8], len: usize) -> Parting
     requires version { IsTrue (is_version left.now) }
     requires equal { AreEqualUpTo left.now right.now len }
@@ -79,7 +79,7 @@ fn parting_without_mark(left: &[u8], right: &[u8], len: usize) -> Parting
 pub fn tokens_from_mark(text: &[u8], at: usize) -> Tokens<'_>
     requires { at ≤ length text.now }
     ensures { tokens_left result
-        ≡ tokens_after (Some Component) 0 (drop at text.now) }
+        ≡ tokens_after_class (Some Component) 0 (drop at text.now) }
 {
     Tokens::behind(Class::Component, behind(text, at))
 }
@@ -111,7 +111,7 @@ fn compare_tokens(left: Tokens<'_>, right: Tokens<'_>) -> Ordering
     }
 }
 
-/// The length of the common front of two texts.
+/// The length of the common prefix of two texts.
 fn equal_len(left: &[u8], right: &[u8]) -> usize
     ensures { AreEqualUpTo left.now right.now result }
 {
@@ -123,7 +123,7 @@ fn equal_len(left: &[u8], right: &[u8]) -> usize
     len
 }
 
-/// How many bytes of the common front are in whole equal blocks. Comparing slices is faster than
+/// How many bytes of the common prefix are in whole equal blocks. Comparing slices is faster than
 /// comparing byte by byte.
 fn equal_blocks(left: &[u8], right: &[u8]) -> usize
     ensures { AreEqualUpTo left.now right.now result }

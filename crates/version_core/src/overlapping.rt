@@ -131,7 +131,7 @@ impl<'a> OverlappingVersions<'a> {
         if from.at != place.at || from.class != place.class {
             return None;
         }
-        // It leads nowhere, or past the end.
+        // The leap leads nowhere, or past the end.
         if to.at <= place.at || to.at > end {
             return None;
         }
@@ -189,7 +189,8 @@ fn first_place(bytes: &[u8], from: usize, end: usize) -> Option<Place>
     requires order { from ≤ end }
     requires within { end ≤ length bytes.now }
     ensures some { IfSome result (λ place. (place.at ≤ end)
-        × (is_version (slice_range bytes.now from end) ≡ can_rest_follow_place bytes.now place end)) }
+        × (is_version (slice_range bytes.now from end)
+        ≡ can_rest_follow_place bytes.now place end)) }
     ensures none { IfNone result (is_version (slice_range bytes.now from end) ≡ false) }
 {
     let (class, len) = first_token(None, &bytes[from..end]);
@@ -220,7 +221,7 @@ fn place_after_lexeme(bytes: &[u8], place: Place, end: usize) -> Option<Place>
     place_after_token(bytes, place, end)
 }
 
-/// How many digits at the front of a text belong to a hash before it.
+/// How many digits at the start of a text belong to a hash before it.
 fn unread_digits(class: Class, text: &[u8]) -> usize
     ensures { result ≡ unread_len (Some class) text.now }
 {

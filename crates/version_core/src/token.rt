@@ -4,7 +4,7 @@
 
 ghost use Rattle.std.specs.Prelude.{◌≡◌, ◌<◌, Some, false, [], ◌∷◌, drop, if◌then◌else◌};
 ghost use Rattle.version_core.specs.Token.{is_before_hash, is_before_revision, is_component, is_suffix};
-ghost use Rattle.version_core.specs.Order.{class_rank, is_last_token_class, token_cmp, tokens, tokens_after};
+ghost use Rattle.version_core.specs.Order.{class_rank, is_last_token_class, token_cmp, tokens, tokens_after_class};
 ghost use Rattle.version_core.specs.Matching.{fits};
 ghost use Rattle.version_core.specs.Reading.{bytes_left, token_view, tokens_left, unread_len};
 
@@ -87,7 +87,7 @@ impl Class {
 }
 
 /// A token of a version: its class, and its value, a number or a text. Only the hexadecimal digits
-/// at the front of the slice `text` are the value; the slice may go on after them. So a hash is not
+/// at the start of the slice `text` are the value; the slice may go on after them. So a hash is not
 /// read to its end before it is compared.
 #[derive(Clone, Copy)]
 pub struct TokenAt<'a> {
@@ -128,12 +128,12 @@ impl TokenAt<'_> {
 pub struct Tokens<'a> {
     // The bytes that are not skipped yet; the digits of a hash that was taken last are among them.
     rest: &'a [u8],
-    // The class of the token that was taken last; None at the front.
+    // The class of the token that was taken last; None before the first one.
     last: Option<Class>,
 }
 
 impl<'a> Tokens<'a> {
-    /// All tokens of a text, from its front on.
+    /// All tokens of a text, from its start on.
     #[tactic(auto, unfolding(crate::specs::Order::tokens))]
     pub fn of(text: &'a [u8]) -> Tokens<'a>
         ensures { tokens_left result ≡ tokens text.entry.now }
@@ -147,7 +147,8 @@ impl<'a> Tokens<'a> {
     /// The tokens of the text after a token of some class, or between the digits of a hash.
     pub fn behind(class: Class, rest: &'a [u8]) -> Tokens<'a>
         ensures { tokens_left result
-            ≡ tokens_after (Some class) (unread_len (Some class) rest.entry.now) rest.entry.now }
+            ≡ tokens_after_class (Some class) (unread_len
+            (Some class) rest.entry.now) rest.entry.now }
     {
         Tokens {
             rest,
@@ -159,8 +160,10 @@ impl<'a> Tokens<'a> {
     /// one.
     pub fn next(&mut self) -> TokenAt<'a>
         ensures tokens { tokens_left self.old
-            ≡ token_view result ∷ (if is_last_token_class result.class then [] else tokens_left self.new) }
-        ensures shorter { is_last_token_class result.class ≡ false → bytes_left self.new < bytes_left self.old }
+            ≡ token_view result ∷
+            (if is_last_token_class result.class then [] else tokens_left self.new) }
+        ensures shorter { is_last_token_class result.class ≡ false
+            → bytes_left self.new < bytes_left self.old }
     {
         let rest = self.unread_text();
         let lexeme = lexeme_at(self.last, rest);

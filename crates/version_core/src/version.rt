@@ -15,13 +15,13 @@ use std::marker::Model;
 /// The match bit of versions that are equal to the wanted one.
 const EQUAL: u8 = 1;
 
-/// The match bit of versions that are less.
+/// The match bit of versions that are less than the wanted one.
 const LESS: u8 = 2;
 
-/// The match bit of versions that are greater.
+/// The match bit of versions that are greater than the wanted one.
 const GREATER: u8 = 4;
 
-/// The match bit of versions that match fuzzily.
+/// The match bit of versions that begin with the tokens of the wanted one.
 const FUZZY: u8 = 8;
 
 /// An operator of a dependency, as its four match bits: 1 equal, 2 less, 4 greater, 8 the fuzzy
@@ -122,7 +122,7 @@ impl<'a> Version<'a> {
 
     /// The order of two versions: the first tokens that differ decide. Versions that are equal here
     /// may have different texts, as `01` and `1`. It takes time linear in the shorter text; the
-    /// common front is compared at the speed of plain bytes.
+    /// common prefix is compared at the speed of plain bytes.
     pub fn compare(&self, other: &Version<'_>) -> Ordering
         ensures { result ≡ version_cmp self.now other.now }
     {

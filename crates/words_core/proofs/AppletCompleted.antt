@@ -16,7 +16,7 @@ use Rattle.words_core.specs.declared.options.Meaning.TheVariants.{Flag as Plain}
 use Rattle.words_core.specs.declared.reading.AppletSite.{AppletSite}
 use Rattle.words_core.specs.declared.reading.OptionState.{OptionState}
 use Rattle.words_core.specs.declared.reading.Start.{Start}
-use Rattle.words_core.specs.Grammar.{applet_site, spelled_command_from_start, spelled_command, command_read, early_flags, option_state_at_start, is_double_dash, is_option, start_of_command_line, operands_of, option_reading, reading_after_applet, words_reading_from_parts, applet_site_at, site_after_end, applet_site_from_parts, start_from_parts, start_after_site, start_with_early_flags, command_of_reading, flags_with_meaning, flags_with_option_word, flags_with_option}
+use Rattle.words_core.specs.Grammar.{applet_site, spelled_command_from_start, spelled_command, command_from_reading_parts, early_flags, option_state_at_start, is_double_dash, is_option, start_of_command_line, operands_of, option_reading, reading_after_applet, words_reading_from_parts, applet_site_of_word, site_after_end, applet_site_from_parts, start_from_parts, start_after_site, start_with_early_flags, command_of_reading, flags_with_meaning, flags_with_option_word, flags_with_option}
 use Rattle.words_core.specs.Kinds.{can_info_kind_follow}
 use Rattle.words_core.specs.Options.{OptionSpec, applets, common_options, early_option_words, is_early_option_word, option_of_word, options_of}
 use Rattle.words_core.specs.Stuck.{is_stuck_by, are_options_of}
@@ -136,7 +136,7 @@ module _ (applet : Applet) (named : List ℕ) (operands : List (List ℕ))
   IsSought place words = (ended : Bool) × (applet_site place (words ++ more) ≡ Ok (applet_site_from_parts ended (place + length words) applet))
 
   end_sought : (place : ℕ) (word : List ℕ) (words : List (List ℕ)) → is_double_dash word ≡ true → site_after_end (place + 1) words ≡ Err (place + length (word ∷ words)) → IsSought place (word ∷ words)
-  unfolding site_after_end applet_site_at
+  unfolding site_after_end applet_site_of_word
   end_sought place word [] e h = (true, seek_end place word more e ∙ after_end (place + 1))
   end_sought place word (next ∷ words) e h = absurd (let same : place + length (word ∷ (next ∷ words)) ≡ place + 1 = err_here (place + 1) (place + length (word ∷ (next ∷ words))) true next h in omega arith)
 
@@ -183,24 +183,24 @@ module _ (applet : Applet) (named : List ℕ) (operands : List (List ℕ))
       ∙ (ap (early_flags (options_of applet) no_flags 1) (take_stays (length words) words more (omega arith) ∙ take_all words) ∙ flags.1) in
       let is : start_of_command_line (words ++ more) ≡ Ok start = ap (start_after_site (words ++ more)) found.1 ∙ ap (start_with_early_flags site) early in (
         more,
-        command_read (length (words ++ more) + 1) applet reading,
+        command_from_reading_parts (length (words ++ more) + 1) applet reading,
         ap (spelled_command_from_start (words ++ more)) is ∙ (ap (command_of_reading (length (words ++ more) + 1) applet) (from_named start words refl refl) ∙ good (option_state_at_start flags.0) (1 + length words + 1) (length (words ++ more) + 1)),
       )
 
 add_here : (place : ℕ) → applet_site place (codes "add" ∷ []) ≡ Ok (applet_site_from_parts false place Add)
-unfolding applet_site_at
+unfolding applet_site_of_word
 add_here place = refl
 
 add_after : (place : ℕ) → site_after_end place (codes "add" ∷ []) ≡ Ok (applet_site_from_parts true place Add)
-unfolding applet_site_at site_after_end
+unfolding applet_site_of_word site_after_end
 add_after place = refl
 
 del_here : (place : ℕ) → applet_site place (codes "del" ∷ (codes "a" ∷ [])) ≡ Ok (applet_site_from_parts false place Del)
-unfolding applet_site_at
+unfolding applet_site_of_word
 del_here place = refl
 
 del_after : (place : ℕ) → site_after_end place (codes "del" ∷ (codes "a" ∷ [])) ≡ Ok (applet_site_from_parts true place Del)
-unfolding applet_site_at site_after_end
+unfolding applet_site_of_word site_after_end
 del_after place = refl
 
 pub applet_completed : (words : List (List ℕ)) → applet_site 1 words ≡ Err (1 + length words) → list_any (are_options_of words) applets ≡ true → CanBeCompleted words

@@ -15,7 +15,7 @@ use Rattle.words_core.specs.declared.next.NextWord.{NextWord}
 use Rattle.words_core.specs.declared.next.NextWord.TheVariants.{OptionOrCommand, Command as CommandAlone, OptionOrOperand, Value as NextValue, Operand as OperandAlone, Nothing}
 use Rattle.words_core.specs.declared.reading.AppletSite.{AppletSite}
 use Rattle.words_core.specs.declared.reading.OptionState.{OptionState}
-use Rattle.words_core.specs.Grammar.{applet_site, attached_value, is_double_dash, is_option, is_option_or_value, next_word_after_command, next_word_after_option, next_word, next_words, operands_of, option_name, option_reading, or_err_at, or_stop_at_unread_word, words_reading_from_parts, awaited_rule, value_rule_unless_attached, applet_site_at, site_after_end, applet_site_from_parts, can_be_option, state_with_meaning, with_operand, with_option_or_value_word, with_word_if_awaited}
+use Rattle.words_core.specs.Grammar.{applet_site, attached_value, is_double_dash, is_option, is_option_or_value, next_word_after_command, next_word_after_option, next_word, next_word_after_words, operands_of, option_name, option_reading, or_err_at, or_stop_at_unread_word, words_reading_from_parts, awaited_rule, value_rule_unless_attached, applet_site_of_word, site_after_end, applet_site_from_parts, can_be_option, state_with_meaning, with_operand, with_option_or_value_word, with_word_if_awaited}
 use Rattle.words_core.specs.Options.{OptionSpec, applet_of, applet_of_help_or_version_option, common_options, early_option_words, is_early_option_word, option_of_word, options_of}
 use Rattle.words_core.specs.Stuck.{have_options_ended}
 use Rattle.words_core.proofs.GoneOn.{none_is, not_option}
@@ -82,23 +82,23 @@ asking word applet h =
 
 -- ---- where no option can follow, none can later
 
-pub nothing_stays : (words : List (List ℕ)) → next_words Nothing words ≡ Nothing
+pub nothing_stays : (words : List (List ℕ)) → next_word_after_words Nothing words ≡ Nothing
 nothing_stays [] = refl
 nothing_stays (word ∷ words) = nothing_stays words
 
-pub operand_stays : (applet : Applet) (words : List (List ℕ)) → next_words (OperandAlone applet) words ≡ OperandAlone applet
+pub operand_stays : (applet : Applet) (words : List (List ℕ)) → next_word_after_words (OperandAlone applet) words ≡ OperandAlone applet
 operand_stays applet [] = refl
 operand_stays applet (word ∷ words) = operand_stays applet words
 
-pub alone_stays : (words : List (List ℕ)) → can_be_option (next_words CommandAlone words) ≡ false
+pub alone_stays : (words : List (List ℕ)) → can_be_option (next_word_after_words CommandAlone words) ≡ false
 alone_stays [] = refl
 alone_stays (word ∷ words) =
-    elim (applet_of word) as (λ o. can_be_option (next_words (next_word_after_command OperandAlone o) words) ≡ false) [
+    elim (applet_of word) as (λ o. can_be_option (next_word_after_words (next_word_after_command OperandAlone o) words) ≡ false) [
       | None ↦ ap can_be_option (nothing_stays words)
       | Some applet ↦ ap can_be_option (operand_stays applet words)
     ]
 
-pub next_append : (next : NextWord) (words more : List (List ℕ)) → next_words next (words ++ more) ≡ next_words (next_words next words) more
+pub next_append : (next : NextWord) (words more : List (List ℕ)) → next_word_after_words next (words ++ more) ≡ next_word_after_words (next_word_after_words next words) more
 next_append next [] more = refl
 next_append next (word ∷ words) more = next_append (next_word next word) words more
 
@@ -123,10 +123,10 @@ pub next_operand : (applet : Applet) (word : List ℕ) → is_double_dash word �
 next_operand applet word e o = rw e (rw o refl)
 
 -- .. of words that are read one after another
-pub next_step : (next new : NextWord) (words : List (List ℕ)) (i : ℕ) (word : List ℕ) → slice_get words i ≡ Some word → new ≡ next_word next word → next_words next (drop i words) ≡ next_words new (drop (i + 1) words)
-next_step next new words i word at e = ap (next_words next) (left_at words i word at) ∙ ap (λ n. next_words n (drop (i + 1) words)) (sym e)
+pub next_step : (next new : NextWord) (words : List (List ℕ)) (i : ℕ) (word : List ℕ) → slice_get words i ≡ Some word → new ≡ next_word next word → next_word_after_words next (drop i words) ≡ next_word_after_words new (drop (i + 1) words)
+next_step next new words i word at e = ap (next_word_after_words next) (left_at words i word at) ∙ ap (λ n. next_word_after_words n (drop (i + 1) words)) (sym e)
 
-pub next_done : (next : NextWord) (words : List (List ℕ)) (i : ℕ) → length words ≤ i → next_words next (drop i words) ≡ next
+pub next_done : (next : NextWord) (words : List (List ℕ)) (i : ℕ) → length words ≤ i → next_word_after_words next (drop i words) ≡ next
 next_done next [] zero l = refl
 next_done next [] (suc i) l = refl
 next_done next (word ∷ words) zero l = absurd (omega (arith, l))
@@ -135,16 +135,16 @@ next_done next (word ∷ words) (suc i) l = next_done next words i (omega (arith
 -- ---- before the applet
 
 -- where no applet is found and an option can follow, a word that asks offends
-pub asks_first : (place : ℕ) (before after : List (List ℕ)) (word : List ℕ) → HasNoMeaning word → can_be_option (next_words OptionOrCommand before) ≡ true → applet_site place before ≡ Err (place + length before) → applet_site place (before ++ (word ∷ after)) ≡ Err (place + length before)
+pub asks_first : (place : ℕ) (before after : List (List ℕ)) (word : List ℕ) → HasNoMeaning word → can_be_option (next_word_after_words OptionOrCommand before) ≡ true → applet_site place before ≡ Err (place + length before) → applet_site place (before ++ (word ∷ after)) ≡ Err (place + length before)
 asks_first place [] after word m t h = seek_late place word after m.end m.option m.early ∙ (let same : place ≡ place + 0 = omega arith in ap Err same)
 asks_first place (w ∷ before) after word m t h =
     let next : place + length (w ∷ before) ≡ place + 1 + length before = omega arith in
     elim (is_double_dash w) as (λ b. is_double_dash w ≡ b → applet_site place (w ∷ (before ++ (word ∷ after))) ≡ Err (place + length (w ∷ before))) [
-      | true ↦ λ e. absurd (false≢true (sym (ap (λ n. can_be_option (next_words n before)) (next_end w e) ∙ alone_stays before) ∙ t))
+      | true ↦ λ e. absurd (false≢true (sym (ap (λ n. can_be_option (next_word_after_words n before)) (next_end w e) ∙ alone_stays before) ∙ t))
       | false ↦ λ e. elim (is_option w) as (λ b. is_option w ≡ b → applet_site place (w ∷ (before ++ (word ∷ after))) ≡ Err (place + length (w ∷ before))) [
         | true ↦ λ o. elim (is_early_option_word w) as (λ b. is_early_option_word w ≡ b → applet_site place (w ∷ (before ++ (word ∷ after))) ≡ Err (place + length (w ∷ before))) [
           | true ↦ λ y. seek_early place w (before ++ (word ∷ after)) e o y
-              ∙ (asks_first (place + 1) before after word m (sym (ap (λ n. can_be_option (next_words n before)) (next_early w e o)) ∙ t) (sym (seek_early place w before e o y) ∙ (h ∙ ap Err next))
+              ∙ (asks_first (place + 1) before after word m (sym (ap (λ n. can_be_option (next_word_after_words n before)) (next_early w e o)) ∙ t) (sym (seek_early place w before e o y) ∙ (h ∙ ap Err next))
               ∙ ap Err (sym next))
           | false ↦ λ y. absurd (let same : Err place ≡ Err (place + length (w ∷ before)) = sym (seek_late place w before e o y) ∙ h in let is : place ≡ place + length (w ∷ before) = cc in omega arith)
         ] refl
@@ -161,10 +161,10 @@ next_at site = if site.ended then OperandAlone site.applet else OptionOrOperand 
 pub record IsNext (place : ℕ) (words : List (List ℕ)) (site : AppletSite) : Type 0 where
   pub count : ℕ
   pub read : site.read ≡ place + count
-  pub front : next_words OptionOrCommand (take (suc count) words) ≡ next_at site
+  pub front : next_word_after_words OptionOrCommand (take (suc count) words) ≡ next_at site
 
-pub named_site : (ended : Bool) (place : ℕ) (word : List ℕ) (site : AppletSite) → applet_site_at ended place word ≡ Ok site → (applet : Applet) × (applet_of word ≡ Some applet) × (applet_site_from_parts ended place applet ≡ site)
-unfolding applet_site_at
+pub named_site : (ended : Bool) (place : ℕ) (word : List ℕ) (site : AppletSite) → applet_site_of_word ended place word ≡ Ok site → (applet : Applet) × (applet_of word ≡ Some applet) × (applet_site_from_parts ended place applet ≡ site)
+unfolding applet_site_of_word
 named_site ended place word site h =
     elim (applet_of word) as (λ o. or_err_at place (λ applet. Ok (applet_site_from_parts ended place applet)) o ≡ Ok site → (applet : Applet) × (o ≡ Some applet) × (applet_site_from_parts ended place applet ≡ site)) [
       | None ↦ λ (e : Err place ≡ Ok site). absurd (cc)
@@ -194,7 +194,7 @@ found_next place (word ∷ words) site h =
               record {
                 count = suc rest.count;
                 read = omega (arith, rest.read);
-                front = ap (λ n. next_words n (take (suc rest.count) words)) (next_early word e o) ∙ rest.front;
+                front = ap (λ n. next_word_after_words n (take (suc rest.count) words)) (next_early word e o) ∙ rest.front;
               }
           | false ↦ λ y. absurd (let both : Err place ≡ Ok site = sym (seek_late place word words e o y) ∙ h in cc)
         ] refl
@@ -209,23 +209,23 @@ found_next place (word ∷ words) site h =
     ] refl
 
 -- .. and behind it
-pub next_behind : (place : ℕ) (words : List (List ℕ)) (site : AppletSite) (found : IsNext place words site) → next_words OptionOrCommand words ≡ next_words (next_at site) (drop (suc found.count) words)
+pub next_behind : (place : ℕ) (words : List (List ℕ)) (site : AppletSite) (found : IsNext place words site) → next_word_after_words OptionOrCommand words ≡ next_word_after_words (next_at site) (drop (suc found.count) words)
 next_behind place words site found =
-    ap (next_words OptionOrCommand) (sym (take-append-drop (suc found.count) words))
+    ap (next_word_after_words OptionOrCommand) (sym (take-append-drop (suc found.count) words))
     ∙ (next_append OptionOrCommand (take (suc found.count) words) (drop (suc found.count) words)
-    ∙ ap (λ n. next_words n (drop (suc found.count) words)) found.front)
+    ∙ ap (λ n. next_word_after_words n (drop (suc found.count) words)) found.front)
 
 -- where options have ended, only operands can follow
-pub ended_alone : (applet : Applet) (rule : Option ValueRule) (words : List (List ℕ)) → have_options_ended (options_of applet) rule words ≡ true → next_words (next_word_after_option applet rule) words ≡ OperandAlone applet
+pub ended_alone : (applet : Applet) (rule : Option ValueRule) (words : List (List ℕ)) → have_options_ended (options_of applet) rule words ≡ true → next_word_after_words (next_word_after_option applet rule) words ≡ OperandAlone applet
 ended_alone applet None [] h = absurd (false≢true h)
 ended_alone applet (Some rule) [] h = absurd (false≢true h)
 ended_alone applet (Some rule) (word ∷ words) h = ended_alone applet None words h
 ended_alone applet None (word ∷ words) h =
-    elim (is_double_dash word) as (λ b. is_double_dash word ≡ b → (if b then true else if is_option word then have_options_ended (options_of applet) (awaited_rule (options_of applet) word) words else have_options_ended (options_of applet) None words) ≡ true → next_words (next_word (OptionOrOperand applet) word) words ≡ OperandAlone applet) [
-      | true ↦ λ e h. ap (λ n. next_words n words) (next_ended applet word e) ∙ operand_stays applet words
-      | false ↦ λ e. elim (is_option word) as (λ b. is_option word ≡ b → (if b then have_options_ended (options_of applet) (awaited_rule (options_of applet) word) words else have_options_ended (options_of applet) None words) ≡ true → next_words (next_word (OptionOrOperand applet) word) words ≡ OperandAlone applet) [
-        | true ↦ λ o h. ap (λ n. next_words n words) (next_option applet word e o) ∙ ended_alone applet (awaited_rule (options_of applet) word) words h
-        | false ↦ λ o h. ap (λ n. next_words n words) (next_operand applet word e o) ∙ ended_alone applet None words h
+    elim (is_double_dash word) as (λ b. is_double_dash word ≡ b → (if b then true else if is_option word then have_options_ended (options_of applet) (awaited_rule (options_of applet) word) words else have_options_ended (options_of applet) None words) ≡ true → next_word_after_words (next_word (OptionOrOperand applet) word) words ≡ OperandAlone applet) [
+      | true ↦ λ e h. ap (λ n. next_word_after_words n words) (next_ended applet word e) ∙ operand_stays applet words
+      | false ↦ λ e. elim (is_option word) as (λ b. is_option word ≡ b → (if b then have_options_ended (options_of applet) (awaited_rule (options_of applet) word) words else have_options_ended (options_of applet) None words) ≡ true → next_word_after_words (next_word (OptionOrOperand applet) word) words ≡ OperandAlone applet) [
+        | true ↦ λ o h. ap (λ n. next_word_after_words n words) (next_option applet word e o) ∙ ended_alone applet (awaited_rule (options_of applet) word) words h
+        | false ↦ λ o h. ap (λ n. next_word_after_words n words) (next_operand applet word e o) ∙ ended_alone applet None words h
       ] refl
     ] refl h
 
@@ -247,24 +247,24 @@ next_taken applet state more place word t w = by_rule state.awaiting refl t w
         ∙ ap (next_word_after_option applet) (ap (value_rule_unless_attached (attached_value word)) (rule_at_is options word found is) ∙ says.awaiting)))
 
 -- where a value is awaited, no option can follow
-pub awaited_next : (applet : Applet) (state : OptionState) (place : ℕ) (words : List (List ℕ)) (rule : ValueRule) → (option_reading (options_of applet) state place words).state.awaiting ≡ Some rule → (option_reading (options_of applet) state place words).unread ≡ Some (place + length words) → next_words (next_word_after_option applet state.awaiting) words ≡ NextValue applet rule
+pub awaited_next : (applet : Applet) (state : OptionState) (place : ℕ) (words : List (List ℕ)) (rule : ValueRule) → (option_reading (options_of applet) state place words).state.awaiting ≡ Some rule → (option_reading (options_of applet) state place words).unread ≡ Some (place + length words) → next_word_after_words (next_word_after_option applet state.awaiting) words ≡ NextValue applet rule
 awaited_next applet state place [] rule a u = ap (next_word_after_option applet) a
 awaited_next applet state place (word ∷ words) rule a u =
     let next : place + length (word ∷ words) ≡ place + 1 + length words = omega arith in
-    elim (is_option_or_value state word) as (λ b. is_option_or_value state word ≡ b → (if b then or_stop_at_unread_word state place (λ m. option_reading (options_of applet) m (place + 1) words) (with_option_or_value_word (options_of applet) state place word) else if is_double_dash word then words_reading_from_parts state (operands_of (place + 1) words) None else with_operand (operand_at place word) (option_reading (options_of applet) state (place + 1) words)).state.awaiting ≡ Some rule → (if b then or_stop_at_unread_word state place (λ m. option_reading (options_of applet) m (place + 1) words) (with_option_or_value_word (options_of applet) state place word) else if is_double_dash word then words_reading_from_parts state (operands_of (place + 1) words) None else with_operand (operand_at place word) (option_reading (options_of applet) state (place + 1) words)).unread ≡ Some (place + length (word ∷ words)) → next_words (next_word (next_word_after_option applet state.awaiting) word) words ≡ NextValue applet rule) [
-      | true ↦ λ t. elim (with_option_or_value_word (options_of applet) state place word) as (λ w. with_option_or_value_word (options_of applet) state place word ≡ w → (or_stop_at_unread_word state place (λ m. option_reading (options_of applet) m (place + 1) words) w).state.awaiting ≡ Some rule → (or_stop_at_unread_word state place (λ m. option_reading (options_of applet) m (place + 1) words) w).unread ≡ Some (place + length (word ∷ words)) → next_words (next_word (next_word_after_option applet state.awaiting) word) words ≡ NextValue applet rule) [
+    elim (is_option_or_value state word) as (λ b. is_option_or_value state word ≡ b → (if b then or_stop_at_unread_word state place (λ m. option_reading (options_of applet) m (place + 1) words) (with_option_or_value_word (options_of applet) state place word) else if is_double_dash word then words_reading_from_parts state (operands_of (place + 1) words) None else with_operand (operand_at place word) (option_reading (options_of applet) state (place + 1) words)).state.awaiting ≡ Some rule → (if b then or_stop_at_unread_word state place (λ m. option_reading (options_of applet) m (place + 1) words) (with_option_or_value_word (options_of applet) state place word) else if is_double_dash word then words_reading_from_parts state (operands_of (place + 1) words) None else with_operand (operand_at place word) (option_reading (options_of applet) state (place + 1) words)).unread ≡ Some (place + length (word ∷ words)) → next_word_after_words (next_word (next_word_after_option applet state.awaiting) word) words ≡ NextValue applet rule) [
+      | true ↦ λ t. elim (with_option_or_value_word (options_of applet) state place word) as (λ w. with_option_or_value_word (options_of applet) state place word ≡ w → (or_stop_at_unread_word state place (λ m. option_reading (options_of applet) m (place + 1) words) w).state.awaiting ≡ Some rule → (or_stop_at_unread_word state place (λ m. option_reading (options_of applet) m (place + 1) words) w).unread ≡ Some (place + length (word ∷ words)) → next_word_after_words (next_word (next_word_after_option applet state.awaiting) word) words ≡ NextValue applet rule) [
         | None ↦ λ w a (u : Some place ≡ Some (place + length (word ∷ words))). absurd (let same : place ≡ place + length (word ∷ words) = same_Some place (place + length (word ∷ words)) u in omega arith)
-        | Some g ↦ λ w a u. ap (λ n. next_words n words) (next_taken applet state g place word t w) ∙ awaited_next applet g (place + 1) words rule a (u ∙ ap Some next)
+        | Some g ↦ λ w a u. ap (λ n. next_word_after_words n words) (next_taken applet state g place word t w) ∙ awaited_next applet g (place + 1) words rule a (u ∙ ap Some next)
       ] refl
       | false ↦ λ t.
           let parts = or_parts (is_some state.awaiting) (is_option word && not (is_double_dash word)) t in
           let none : state.awaiting ≡ None = none_is state.awaiting parts.0 in
-          elim (is_double_dash word) as (λ b. is_double_dash word ≡ b → (if b then words_reading_from_parts state (operands_of (place + 1) words) None else with_operand (operand_at place word) (option_reading (options_of applet) state (place + 1) words)).state.awaiting ≡ Some rule → (if b then words_reading_from_parts state (operands_of (place + 1) words) None else with_operand (operand_at place word) (option_reading (options_of applet) state (place + 1) words)).unread ≡ Some (place + length (word ∷ words)) → next_words (next_word (next_word_after_option applet state.awaiting) word) words ≡ NextValue applet rule) [
+          elim (is_double_dash word) as (λ b. is_double_dash word ≡ b → (if b then words_reading_from_parts state (operands_of (place + 1) words) None else with_operand (operand_at place word) (option_reading (options_of applet) state (place + 1) words)).state.awaiting ≡ Some rule → (if b then words_reading_from_parts state (operands_of (place + 1) words) None else with_operand (operand_at place word) (option_reading (options_of applet) state (place + 1) words)).unread ≡ Some (place + length (word ∷ words)) → next_word_after_words (next_word (next_word_after_option applet state.awaiting) word) words ≡ NextValue applet rule) [
             | true ↦ λ e a u. absurd (none-some (place + length (word ∷ words)) u)
             | false ↦ λ e a u.
-                ap (λ o. next_words (next_word (next_word_after_option applet o) word) words) none
-                ∙ (ap (λ n. next_words n words) (next_operand applet word e (not_option (is_option word) (is_double_dash word) e parts.1))
-                ∙ (ap (λ o. next_words (next_word_after_option applet o) words) (sym none)
+                ap (λ o. next_word_after_words (next_word (next_word_after_option applet o) word) words) none
+                ∙ (ap (λ n. next_word_after_words n words) (next_operand applet word e (not_option (is_option word) (is_double_dash word) e parts.1))
+                ∙ (ap (λ o. next_word_after_words (next_word_after_option applet o) words) (sym none)
                 ∙ awaited_next applet state (place + 1) words rule a (u ∙ ap Some next)))
           ] refl
     ] refl a u

@@ -15,7 +15,7 @@ use Rattle.command_core.specs.declared.operands.Operand.{Operand}
 use Rattle.command_core.specs.Operands.{operand_at}
 use Rattle.words_core.specs.declared.reading.AppletSite.{AppletSite}
 use Rattle.words_core.specs.Asked.{IsAskedBy}
-use Rattle.words_core.specs.Grammar.{applet_site, help_or_version_option_at, help_or_version_command, help_or_version_or_err, spelled_command_from_start, command_of, spelled_command, start_of_command_line, next_after, spelled_command_or_help_or_version, can_be_option, help_topic_operands}
+use Rattle.words_core.specs.Grammar.{applet_site, help_or_version_option_at, help_or_version_command, help_or_version_or_err, spelled_command_from_start, command_of, spelled_command, start_of_command_line, next_word_of_command_line, spelled_command_or_help_or_version, can_be_option, help_topic_operands}
 use Rattle.words_core.specs.Kinds.{can_info_kind_follow}
 use Rattle.words_core.specs.Lines.{IsLineOf}
 use Rattle.words_core.specs.Options.{applet_word, applet_of_help_or_version_option}
@@ -147,8 +147,8 @@ get_stays (word ∷ words) more (suc i) l = get_stays words more i (omega (arith
 
 pub asked_stays : (words more : List (List ℕ)) (place : ℕ) → place - 1 < length words → help_or_version_option_at (words ++ more) place ≡ help_or_version_option_at words place
 asked_stays words more place l =
-    ap (λ ws. if can_be_option (next_after ws) then option_and_then applet_of_help_or_version_option (slice_get (words ++ more) (place - 1)) else None) (take_stays (place - 1) words more (omega (arith, l)))
-    ∙ ap (λ o. if can_be_option (next_after (take (place - 1) words)) then option_and_then applet_of_help_or_version_option o else None) (get_stays words more (place - 1) l)
+    ap (λ ws. if can_be_option (next_word_of_command_line ws) then option_and_then applet_of_help_or_version_option (slice_get (words ++ more) (place - 1)) else None) (take_stays (place - 1) words more (omega (arith, l)))
+    ∙ ap (λ o. if can_be_option (next_word_of_command_line (take (place - 1) words)) then option_and_then applet_of_help_or_version_option o else None) (get_stays words more (place - 1) l)
 
 pub usage_between_words : (words : List (List ℕ)) (place : ℕ) → command_of words ≡ Err place → (1 ≤ place) × (place ≤ length words + 1)
 usage_between_words words place c = usage_between words place (offends_unasked words place c).offends
@@ -160,7 +160,7 @@ usage_stays_words words more place k c l =
     unasked_is (words ++ more) place (usage_stays words more place k bad.offends l) (asked_stays words more place (omega (arith, between.0, l)) ∙ bad.unasked)
 
 -- words that ask do so whatever follows
-pub same_fault : (before one other : List (List ℕ)) (word : List ℕ) (place : ℕ) → HasNoMeaning word → can_be_option (next_after before) ≡ true → spelled_command (before ++ (word ∷ one)) ≡ Err place → spelled_command (before ++ (word ∷ other)) ≡ Err place
+pub same_fault : (before one other : List (List ℕ)) (word : List ℕ) (place : ℕ) → HasNoMeaning word → can_be_option (next_word_of_command_line before) ≡ true → spelled_command (before ++ (word ∷ one)) ≡ Err place → spelled_command (before ++ (word ∷ other)) ≡ Err place
 same_fault before one other word place m t h = by_both (asked_after before one word m t) (asked_after before other word m t)
   where
     by_both : IsAskedAfter before (before ++ (word ∷ one)) → IsAskedAfter before (before ++ (word ∷ other)) → spelled_command (before ++ (word ∷ other)) ≡ Err place

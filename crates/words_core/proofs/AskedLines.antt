@@ -15,7 +15,7 @@ use Rattle.command_core.specs.Operands.{first_refused_operand}
 use Rattle.words_core.specs.declared.next.NextWord.TheVariants.{OptionOrOperand, Operand as OperandAlone, Value as NextValue}
 use Rattle.words_core.specs.declared.reading.Reading.{Reading}
 use Rattle.words_core.specs.declared.reading.Start.{Start}
-use Rattle.words_core.specs.Grammar.{help_or_version_option_at, spelled_command_from_start, option_state_at_start, spelled_command, start_of_command_line, next_after, next_words, operands_of, option_reading, reading_after_applet, words_reading_from_parts, refused_operand, start_after_site, can_be_option}
+use Rattle.words_core.specs.Grammar.{help_or_version_option_at, spelled_command_from_start, option_state_at_start, spelled_command, start_of_command_line, next_word_of_command_line, next_word_after_words, operands_of, option_reading, reading_after_applet, words_reading_from_parts, refused_operand, start_after_site, can_be_option}
 use Rattle.words_core.specs.Options.{OptionSpec, applet_of_help_or_version_option, options_of}
 use Rattle.words_core.specs.Stuck.{have_options_ended}
 use Rattle.words_core.proofs.Asked.{HasNoMeaning, asks_first, asks_now, awaited_next, ended_alone, found_next, next_at, next_behind, operand_stays}
@@ -27,26 +27,26 @@ use Rattle.words_core.proofs.Sites.{foreign_between, no_start, no_start_stays, s
 
 -- ---- what can follow the words before, by their start
 
-pub next_of_start : (words : List (List ℕ)) (start : Start) → start_of_command_line words ≡ Ok start → next_after words ≡ next_words (if start.ended then OperandAlone start.applet else OptionOrOperand start.applet) (drop start.read words)
+pub next_of_start : (words : List (List ℕ)) (start : Start) → start_of_command_line words ≡ Ok start → next_word_of_command_line words ≡ next_word_after_words (if start.ended then OperandAlone start.applet else OptionOrOperand start.applet) (drop start.read words)
 next_of_start words start s =
     let parts = start_parts words start s in
     let found = found_next 1 words parts.site parts.found in
     let read : suc found.count ≡ parts.site.read = omega (arith, found.read) in
     next_behind 1 words parts.site found
-    ∙ (ap (λ n. next_words (next_at parts.site) (drop n words)) read
-    ∙ ap (λ (x : Start). next_words (if x.ended then OperandAlone x.applet else OptionOrOperand x.applet) (drop x.read words)) parts.same)
+    ∙ (ap (λ n. next_word_after_words (next_at parts.site) (drop n words)) read
+    ∙ ap (λ (x : Start). next_word_after_words (if x.ended then OperandAlone x.applet else OptionOrOperand x.applet) (drop x.read words)) parts.same)
 
 -- where options have ended, none can follow
-pub ended_next : (words : List (List ℕ)) (start : Start) → start_of_command_line words ≡ Ok start → (start.ended || have_options_ended (options_of start.applet) None (drop start.read words)) ≡ true → next_after words ≡ OperandAlone start.applet
+pub ended_next : (words : List (List ℕ)) (start : Start) → start_of_command_line words ≡ Ok start → (start.ended || have_options_ended (options_of start.applet) None (drop start.read words)) ≡ true → next_word_of_command_line words ≡ OperandAlone start.applet
 ended_next words start s h =
     next_of_start words start s
-    ∙ elim start.ended as (λ b. (b || have_options_ended (options_of start.applet) None (drop start.read words)) ≡ true → next_words (if b then OperandAlone start.applet else OptionOrOperand start.applet) (drop start.read words) ≡ OperandAlone start.applet) [
+    ∙ elim start.ended as (λ b. (b || have_options_ended (options_of start.applet) None (drop start.read words)) ≡ true → next_word_after_words (if b then OperandAlone start.applet else OptionOrOperand start.applet) (drop start.read words) ≡ OperandAlone start.applet) [
       | true ↦ λ h. operand_stays start.applet (drop start.read words)
       | false ↦ λ h. ended_alone start.applet None (drop start.read words) h
     ] h
 
 -- where an option can follow, options have not ended
-pub not_ended : (words : List (List ℕ)) (start : Start) → start_of_command_line words ≡ Ok start → can_be_option (next_after words) ≡ true → (start.ended || have_options_ended (options_of start.applet) None (drop start.read words)) ≡ false
+pub not_ended : (words : List (List ℕ)) (start : Start) → start_of_command_line words ≡ Ok start → can_be_option (next_word_of_command_line words) ≡ true → (start.ended || have_options_ended (options_of start.applet) None (drop start.read words)) ≡ false
 not_ended words start s t =
     elim (start.ended || have_options_ended (options_of start.applet) None (drop start.read words)) as (λ b. (start.ended || have_options_ended (options_of start.applet) None (drop start.read words)) ≡ b → b ≡ false) [
       | true ↦ λ e. absurd (false≢true (sym (ap can_be_option (ended_next words start s e)) ∙ t))
@@ -54,12 +54,12 @@ not_ended words start s t =
     ] refl
 
 -- where a value is awaited behind the words, no option can follow
-pub awaited_after : (words : List (List ℕ)) (start : Start) (rule : ValueRule) → start.read ≤ length words → (reading_after_applet start words).state.awaiting ≡ Some rule → (reading_after_applet start words).unread ≡ Some (length words + 1) → next_words (if start.ended then OperandAlone start.applet else OptionOrOperand start.applet) (drop start.read words) ≡ NextValue start.applet rule
+pub awaited_after : (words : List (List ℕ)) (start : Start) (rule : ValueRule) → start.read ≤ length words → (reading_after_applet start words).state.awaiting ≡ Some rule → (reading_after_applet start words).unread ≡ Some (length words + 1) → next_word_after_words (if start.ended then OperandAlone start.applet else OptionOrOperand start.applet) (drop start.read words) ≡ NextValue start.applet rule
 unfolding reading_after_applet
 awaited_after words start rule l a u =
     let left = drop start.read words in
     let ends : length words + 1 ≡ start.read + 1 + length (drop start.read words) = omega (arith, length-drop start.read words) in
-    elim start.ended as (λ b. (if b then words_reading_from_parts (option_state_at_start start.flags) (operands_of (start.read + 1) left) None else option_reading (options_of start.applet) (option_state_at_start start.flags) (start.read + 1) left).state.awaiting ≡ Some rule → (if b then words_reading_from_parts (option_state_at_start start.flags) (operands_of (start.read + 1) left) None else option_reading (options_of start.applet) (option_state_at_start start.flags) (start.read + 1) left).unread ≡ Some (length words + 1) → next_words (if b then OperandAlone start.applet else OptionOrOperand start.applet) (drop start.read words) ≡ NextValue start.applet rule) [
+    elim start.ended as (λ b. (if b then words_reading_from_parts (option_state_at_start start.flags) (operands_of (start.read + 1) left) None else option_reading (options_of start.applet) (option_state_at_start start.flags) (start.read + 1) left).state.awaiting ≡ Some rule → (if b then words_reading_from_parts (option_state_at_start start.flags) (operands_of (start.read + 1) left) None else option_reading (options_of start.applet) (option_state_at_start start.flags) (start.read + 1) left).unread ≡ Some (length words + 1) → next_word_after_words (if b then OperandAlone start.applet else OptionOrOperand start.applet) (drop start.read words) ≡ NextValue start.applet rule) [
       | true ↦ λ a u. absurd (none-some (length words + 1) u)
       | false ↦ λ a u. awaited_next start.applet (option_state_at_start start.flags) (start.read + 1) left rule a (u ∙ ap Some ends)
     ] a u
@@ -88,7 +88,7 @@ first_near low end (Some rule) operands at p l =
       | Some q ↦ λ f. (q, refl, (refused_between rule 0 low end q operands p f).1)
     ] refl
 
-asked_in : (words after : List (List ℕ)) (start : Start) (word : List ℕ) → HasNoMeaning word → start_of_command_line words ≡ Ok start → can_be_option (next_after words) ≡ true → IsAskedIn (length words + 1) start.applet (reading_after_applet start words) (reading_after_applet start (words ++ (word ∷ after)))
+asked_in : (words after : List (List ℕ)) (start : Start) (word : List ℕ) → HasNoMeaning word → start_of_command_line words ≡ Ok start → can_be_option (next_word_of_command_line words) ≡ true → IsAskedIn (length words + 1) start.applet (reading_after_applet start words) (reading_after_applet start (words ++ (word ∷ after)))
 asked_in words after start word m s t = by_going (from_going start words low)
   where
     end : ℕ
@@ -143,7 +143,7 @@ IsAskedAfter before all =
     ((bad : Offends before) × (spelled_command all ≡ Err bad.0))
     ⊎ (AreFine before × (spelled_command all ≡ Err (length before + 1)))
 
-pub asked_after : (before after : List (List ℕ)) (word : List ℕ) → HasNoMeaning word → can_be_option (next_after before) ≡ true → IsAskedAfter before (before ++ (word ∷ after))
+pub asked_after : (before after : List (List ℕ)) (word : List ℕ) → HasNoMeaning word → can_be_option (next_word_of_command_line before) ≡ true → IsAskedAfter before (before ++ (word ∷ after))
 unfolding spelled_command
 asked_after before after word m t =
     elim (start_of_command_line before) as (λ s. start_of_command_line before ≡ s → IsAskedAfter before (before ++ (word ∷ after))) [
@@ -224,7 +224,7 @@ pub get_after : (before after : List (List ℕ)) (word : List ℕ) → slice_get
 get_after [] after word = refl
 get_after (w ∷ before) after word = get_after before after word
 
-pub asked_here : (before after : List (List ℕ)) (word : List ℕ) (applet : Applet) → applet_of_help_or_version_option word ≡ Some applet → can_be_option (next_after before) ≡ true → help_or_version_option_at (before ++ (word ∷ after)) (length before + 1) ≡ Some applet
+pub asked_here : (before after : List (List ℕ)) (word : List ℕ) (applet : Applet) → applet_of_help_or_version_option word ≡ Some applet → can_be_option (next_word_of_command_line before) ≡ true → help_or_version_option_at (before ++ (word ∷ after)) (length before + 1) ≡ Some applet
 asked_here before after word applet a t =
     let count : length before + 1 - 1 ≡ length before = omega arith in
     rw count (rw (take_front before (word ∷ after)) (rw t (rw (get_after before after word) a)))
@@ -234,7 +234,7 @@ pub record HasAsked (words : List (List ℕ)) (place : ℕ) (applet : Applet) : 
   pub word : List ℕ
   pub after : List (List ℕ)
   pub asks : applet_of_help_or_version_option word ≡ Some applet
-  pub option : can_be_option (next_after (take (place - 1) words)) ≡ true
+  pub option : can_be_option (next_word_of_command_line (take (place - 1) words)) ≡ true
   pub whole : words ≡ take (place - 1) words ++ (word ∷ after)
   pub within : place - 1 < length words
 
@@ -245,7 +245,7 @@ get_within (y ∷ xs) (suc i) x e = (let rest = get_within xs i x e in omega (ar
 
 pub asked_parts : (words : List (List ℕ)) (place : ℕ) (applet : Applet) → help_or_version_option_at words place ≡ Some applet → HasAsked words place applet
 asked_parts words place applet h =
-    elim (can_be_option (next_after (take (place - 1) words))) as (λ b. can_be_option (next_after (take (place - 1) words)) ≡ b → (if b then option_and_then applet_of_help_or_version_option (slice_get words (place - 1)) else None) ≡ Some applet → HasAsked words place applet) [
+    elim (can_be_option (next_word_of_command_line (take (place - 1) words))) as (λ b. can_be_option (next_word_of_command_line (take (place - 1) words)) ≡ b → (if b then option_and_then applet_of_help_or_version_option (slice_get words (place - 1)) else None) ≡ Some applet → HasAsked words place applet) [
       | false ↦ λ t (h : None ≡ Some applet). absurd (none-some applet h)
       | true ↦ λ t. elim (slice_get words (place - 1)) as (λ o. slice_get words (place - 1) ≡ o → option_and_then applet_of_help_or_version_option o ≡ Some applet → HasAsked words place applet) [
         | None ↦ λ g (h : None ≡ Some applet). absurd (none-some applet h)

@@ -16,7 +16,7 @@ use Rattle.words_core.specs.declared.next.NextWord.TheVariants.{OptionOrCommand,
 use Rattle.words_core.specs.declared.reading.AppletSite.{AppletSite}
 use Rattle.words_core.specs.declared.reading.Reading.{Reading}
 use Rattle.words_core.specs.declared.reading.Start.{Start}
-use Rattle.words_core.specs.Grammar.{applet_site, help_or_version_option_at, help_or_version_command, spelled_command_from_start, command_of, is_double_dash, is_option, spelled_command, start_of_command_line, next_after, next_words, option_reading, reading_after_applet, words_reading_from_parts, refused_operand, site_after_end, start_after_site, can_be_option}
+use Rattle.words_core.specs.Grammar.{applet_site, help_or_version_option_at, help_or_version_command, spelled_command_from_start, command_of, is_double_dash, is_option, spelled_command, start_of_command_line, next_word_of_command_line, next_word_after_words, option_reading, reading_after_applet, words_reading_from_parts, refused_operand, site_after_end, start_after_site, can_be_option}
 use Rattle.words_core.specs.Options.{OptionSpec, applets, is_early_option_word, options_of}
 use Rattle.words_core.specs.Stuck.{are_stuck, are_stuck_by, awaits_impossible_value, have_options_ended, is_stuck_by, is_required_option_missing, are_options_of}
 use Rattle.words_core.proofs.AppletCompleted.{line_stuck, line_stuck_by, usage_is_first}
@@ -37,22 +37,22 @@ unfolding site_after_end
 end_here place at word left h = err_here place at true word h
 
 -- where no applet was found, `--` says whether an option can follow
-pub first_next : (place : ℕ) (words : List (List ℕ)) → applet_site place words ≡ Err (place + length words) → next_words OptionOrCommand words ≡ (if list_any is_double_dash words then CommandAlone else OptionOrCommand)
+pub first_next : (place : ℕ) (words : List (List ℕ)) → applet_site place words ≡ Err (place + length words) → next_word_after_words OptionOrCommand words ≡ (if list_any is_double_dash words then CommandAlone else OptionOrCommand)
 first_next place [] h = refl
 first_next place (word ∷ words) h =
     let next : place + length (word ∷ words) ≡ place + 1 + length words = omega arith in
-    elim (is_double_dash word) as (λ b. is_double_dash word ≡ b → next_words OptionOrCommand (word ∷ words) ≡ (if b || list_any is_double_dash words then CommandAlone else OptionOrCommand)) [
-      | true ↦ λ e. ap (λ n. next_words n words) (next_end word e) ∙ alone words (sym (seek_end place word words e) ∙ h)
-      | false ↦ λ e. elim (is_option word) as (λ b. is_option word ≡ b → next_words OptionOrCommand (word ∷ words) ≡ (if list_any is_double_dash words then CommandAlone else OptionOrCommand)) [
-        | true ↦ λ o. elim (is_early_option_word word) as (λ b. is_early_option_word word ≡ b → next_words OptionOrCommand (word ∷ words) ≡ (if list_any is_double_dash words then CommandAlone else OptionOrCommand)) [
-          | true ↦ λ y. ap (λ n. next_words n words) (next_early word e o) ∙ first_next (place + 1) words (sym (seek_early place word words e o y) ∙ (h ∙ ap Err next))
+    elim (is_double_dash word) as (λ b. is_double_dash word ≡ b → next_word_after_words OptionOrCommand (word ∷ words) ≡ (if b || list_any is_double_dash words then CommandAlone else OptionOrCommand)) [
+      | true ↦ λ e. ap (λ n. next_word_after_words n words) (next_end word e) ∙ alone words (sym (seek_end place word words e) ∙ h)
+      | false ↦ λ e. elim (is_option word) as (λ b. is_option word ≡ b → next_word_after_words OptionOrCommand (word ∷ words) ≡ (if list_any is_double_dash words then CommandAlone else OptionOrCommand)) [
+        | true ↦ λ o. elim (is_early_option_word word) as (λ b. is_early_option_word word ≡ b → next_word_after_words OptionOrCommand (word ∷ words) ≡ (if list_any is_double_dash words then CommandAlone else OptionOrCommand)) [
+          | true ↦ λ y. ap (λ n. next_word_after_words n words) (next_early word e o) ∙ first_next (place + 1) words (sym (seek_early place word words e o y) ∙ (h ∙ ap Err next))
           | false ↦ λ y. absurd (let same : Err place ≡ Err (place + length (word ∷ words)) = sym (seek_late place word words e o y) ∙ h in let is : place ≡ place + length (word ∷ words) = cc in omega arith)
         ] refl
         | false ↦ λ o. absurd (let same : place + length (word ∷ words) ≡ place = err_here place (place + length (word ∷ words)) false word (sym (seek_here place word words e o) ∙ h) in omega arith)
       ] refl
     ] refl
   where
-    alone : (left : List (List ℕ)) → site_after_end (place + 1) left ≡ Err (place + length (word ∷ left)) → next_words CommandAlone left ≡ CommandAlone
+    alone : (left : List (List ℕ)) → site_after_end (place + 1) left ≡ Err (place + length (word ∷ left)) → next_word_after_words CommandAlone left ≡ CommandAlone
     alone [] e = refl
     alone (v ∷ left) e = absurd (let same : place + length (word ∷ (v ∷ left)) ≡ place + 1 = end_here (place + 1) (place + length (word ∷ (v ∷ left))) v left e in omega arith)
 
@@ -62,7 +62,7 @@ abbrev pub CanBeCommand : List (List ℕ) → Type 0
 CanBeCommand words = (more : List (List ℕ)) × (command : CommandLine) × (command_of (words ++ more) ≡ Ok command)
 
 -- `--help` completes words in which no applet is named, and options have not ended
-asks_help : (words : List (List ℕ)) → spelled_command words ≡ Err (length words + 1) → next_after words ≡ OptionOrCommand → CanBeCommand words
+asks_help : (words : List (List ℕ)) → spelled_command words ≡ Err (length words + 1) → next_word_of_command_line words ≡ OptionOrCommand → CanBeCommand words
 asks_help words e n = (
   codes "--help" ∷ [],
   help_or_version_command (words ++ (codes "--help" ∷ [])) Help,
@@ -151,8 +151,8 @@ module _ (words more : List (List ℕ)) (place : ℕ) (applet : Applet) (offends
       (ap spelled_command here.whole ∙ same_fault before (here.after ++ more) here.after here.word place (asking here.word applet here.asks) here.option (sym (ap spelled_command longer) ∙ offends))
       same
 
-  option : length words ≤ place - 1 → can_be_option (next_words (next_after words) later) ≡ true
-  option l = ap can_be_option (sym (ap (next_words OptionOrCommand) (take_more (place - 1) words more l) ∙ next_append OptionOrCommand words later)) ∙ parts.option
+  option : length words ≤ place - 1 → can_be_option (next_word_after_words (next_word_of_command_line words) later) ≡ true
+  option l = ap can_be_option (sym (ap (next_word_after_words OptionOrCommand) (take_more (place - 1) words more l) ∙ next_append OptionOrCommand words later)) ∙ parts.option
 
   no_applet : (at : ℕ) → applet_site 1 words ≡ Err at → list_any is_double_dash words ≡ true → length words ≤ place - 1 → (at < 1 + length words) ⊎ (1 + length words ≤ at) → ⊥
   unfolding spelled_command
@@ -163,11 +163,11 @@ module _ (words more : List (List ℕ)) (place : ℕ) (applet : Applet) (offends
   no_applet at s e l (inr high) =
       let between : IsBetween 1 (length words + 2) at = subst (λ r. IsSearched 1 (length words + 2) r) s (site_searched 1 1 (length words + 2) words (omega arith) (omega arith)) in
       let is : at ≡ 1 + length words = omega (arith, between.1, high) in
-      let next : next_after words ≡ CommandAlone = first_next 1 words (s ∙ ap Err is) ∙ ap (λ b. if b then CommandAlone else OptionOrCommand) e in
-      false≢true (sym (ap (λ n. can_be_option (next_words n later)) next ∙ alone_stays later) ∙ option l)
+      let next : next_word_of_command_line words ≡ CommandAlone = first_next 1 words (s ∙ ap Err is) ∙ ap (λ b. if b then CommandAlone else OptionOrCommand) e in
+      false≢true (sym (ap (λ n. can_be_option (next_word_after_words n later)) next ∙ alone_stays later) ∙ option l)
 
   ended : (start : Start) → start_of_command_line words ≡ Ok start → (start.ended || have_options_ended (options_of start.applet) None (drop start.read words)) ≡ true → length words ≤ place - 1 → ⊥
-  ended start s e l = false≢true (sym (ap (λ n. can_be_option (next_words n later)) (ended_next words start s e) ∙ ap can_be_option (operand_stays start.applet later)) ∙ option l)
+  ended start s e l = false≢true (sym (ap (λ n. can_be_option (next_word_after_words n later)) (ended_next words start s e) ∙ ap can_be_option (operand_stays start.applet later)) ∙ option l)
 
   -- what was read of all words offends at the place
   judged : (start : Start) (at : ℕ) → start_of_command_line words ≡ Ok start → option_or (refused_operand (operand_rule start.applet (reading_after_applet start (words ++ more)).state.flags) (reading_after_applet start (words ++ more)).operands) (reading_after_applet start (words ++ more)).unread ≡ Some at → at ≡ place
@@ -232,8 +232,8 @@ module _ (words more : List (List ℕ)) (place : ℕ) (applet : Applet) (offends
           let is = p.1 in
           let bound = p.2 in
           let none : place - 1 - length words ≡ 0 = omega (arith, is, bound, l) in
-          let next : next_after words ≡ NextValue start.applet value = next_of_start words start s ∙ awaited_after words start value low a u in
-          false≢true (sym (ap (λ k. can_be_option (next_words (next_after words) (take k more))) none ∙ ap can_be_option next) ∙ option l)
+          let next : next_word_of_command_line words ≡ NextValue start.applet value = next_of_start words start s ∙ awaited_after words start value low a u in
+          false≢true (sym (ap (λ k. can_be_option (next_word_after_words (next_word_of_command_line words) (take k more))) none ∙ ap can_be_option next) ∙ option l)
 
       by_going : IsRemovedPackage options end (start.ended || have_options_ended options None (drop start.read words)) reading (λ rest. reading_after_applet start (words ++ rest)) → ⊥
       by_going (inl stop) = stopped stop.0 stop.1 stop.2 (stop.3 more)

@@ -13,7 +13,7 @@ use Rattle.command_core.specs.declared.values.OptionValue.{OptionValue}
 use Rattle.command_core.specs.declared.values.ValueRule.{ValueRule}
 use Rattle.command_core.specs.Sound.{may_have_flags, value_rules, may_both_be_given, are_allowed_values, are_exclusive_values, is_allowed_value, rule_for}
 use Rattle.command_core.specs.Operands.{operand_at}
-use Rattle.command_core.specs.Values.{excludes, is_excluded_by_earlier_value, is_given, is_single_and_given, is_value, option_value}
+use Rattle.command_core.specs.Values.{excludes, is_excluded_by_earlier_value, is_given, is_single_and_given, is_value_of_kind, option_value_from_place_and_letter}
 use Rattle.words_core.specs.declared.options.Meaning.{Meaning}
 use Rattle.words_core.specs.declared.options.Meaning.TheVariants.{Flag as Plain, Kind, Value}
 use Rattle.words_core.specs.declared.reading.OptionState.{OptionState}
@@ -61,7 +61,7 @@ pub both_false : (a b c : Bool) → (a && (b || c)) ≡ false → ((a && b) ≡ 
 both_false true b c h = or_parts b c h
 both_false false b c h = (refl, refl)
 
-pub apart_by : (rules : List ValueRule) (rule : ValueRule) (w : OptionValue) (text : List ℕ) (place : ℕ) → rule_for rules rule.letter ≡ Some rule → (rule.single && (w.letter == rule.letter)) ≡ false → ((w.letter == rule.letter) && excludes rule.kind w.text text) ≡ false → may_both_be_given rules w (option_value place rule.letter text) ≡ true
+pub apart_by : (rules : List ValueRule) (rule : ValueRule) (w : OptionValue) (text : List ℕ) (place : ℕ) → rule_for rules rule.letter ≡ Some rule → (rule.single && (w.letter == rule.letter)) ≡ false → ((w.letter == rule.letter) && excludes rule.kind w.text text) ≡ false → may_both_be_given rules w (option_value_from_place_and_letter place rule.letter text) ≡ true
 apart_by rules rule w text place own spent excluded =
     elim (w.letter == rule.letter) as (λ b. (w.letter == rule.letter) ≡ b → (rule.single && b) ≡ false → (b && excludes rule.kind w.text text) ≡ false → not (b && are_exclusive_values (rule_for rules w.letter) w.text text) ≡ true) [
       | true ↦ λ e s x.
@@ -76,16 +76,16 @@ apart_by rules rule w text place own spent excluded =
     alone true h = h
     alone false h = h
 
-pub values_push : (rules : List ValueRule) (rule : ValueRule) (text : List ℕ) (place : ℕ) (values : List OptionValue) → rule_for rules rule.letter ≡ Some rule → is_value rule.kind text ≡ true → is_single_and_given rule values ≡ false → is_excluded_by_earlier_value rule text values ≡ false → are_allowed_values rules values ≡ true → are_allowed_values rules (values ++ (option_value place rule.letter text ∷ [])) ≡ true
+pub values_push : (rules : List ValueRule) (rule : ValueRule) (text : List ℕ) (place : ℕ) (values : List OptionValue) → rule_for rules rule.letter ≡ Some rule → is_value_of_kind rule.kind text ≡ true → is_single_and_given rule values ≡ false → is_excluded_by_earlier_value rule text values ≡ false → are_allowed_values rules values ≡ true → are_allowed_values rules (values ++ (option_value_from_place_and_letter place rule.letter text ∷ [])) ≡ true
 values_push rules rule text place [] own good spent excluded are = rw own (rw good refl)
 values_push rules rule text place (w ∷ ws) own good spent excluded are =
     let first = both_false rule.single (w.letter == rule.letter) (is_given rule.letter ws) spent in
     let others = or_parts ((w.letter == rule.letter) && excludes rule.kind w.text text) (is_excluded_by_earlier_value rule text ws) excluded in
     let parts = and_parts (is_allowed_value (rule_for rules w.letter) w.text && list_all (may_both_be_given rules w) ws) (are_allowed_values rules ws) are in
     let both = and_parts (is_allowed_value (rule_for rules w.letter) w.text) (list_all (may_both_be_given rules w) ws) parts.0 in
-    let last : list_all (may_both_be_given rules w) (option_value place rule.letter text ∷ []) ≡ true = and_from (may_both_be_given rules w (option_value place rule.letter text)) true (apart_by rules rule w text place own first.0 others.0) refl in
-    let all : list_all (may_both_be_given rules w) (ws ++ (option_value place rule.letter text ∷ [])) ≡ true = list_all-append (may_both_be_given rules w) ws (option_value place rule.letter text ∷ []) ∙ and_from (list_all (may_both_be_given rules w) ws) _ both.1 last in
-    and_from (is_allowed_value (rule_for rules w.letter) w.text && list_all (may_both_be_given rules w) (ws ++ (option_value place rule.letter text ∷ []))) _
+    let last : list_all (may_both_be_given rules w) (option_value_from_place_and_letter place rule.letter text ∷ []) ≡ true = and_from (may_both_be_given rules w (option_value_from_place_and_letter place rule.letter text)) true (apart_by rules rule w text place own first.0 others.0) refl in
+    let all : list_all (may_both_be_given rules w) (ws ++ (option_value_from_place_and_letter place rule.letter text ∷ [])) ≡ true = list_all-append (may_both_be_given rules w) ws (option_value_from_place_and_letter place rule.letter text ∷ []) ∙ and_from (list_all (may_both_be_given rules w) ws) _ both.1 last in
+    and_from (is_allowed_value (rule_for rules w.letter) w.text && list_all (may_both_be_given rules w) (ws ++ (option_value_from_place_and_letter place rule.letter text ∷ []))) _
     (and_from (is_allowed_value (rule_for rules w.letter) w.text) _ both.0 all)
     (values_push rules rule text place ws own good first.1 others.1 parts.1)
 
@@ -101,9 +101,9 @@ pub record IsGood (applet : Applet) (state : OptionState) : Type 0 where
 
 pub value_good : (applet : Applet) (state more : OptionState) (place : ℕ) (text : List ℕ) (rule : ValueRule) → IsGood applet state → rule_for (value_rules applet) rule.letter ≡ Some rule → is_single_and_given rule state.values ≡ false → with_option_value state place text rule ≡ Some more → IsGood applet more
 value_good applet state more place text rule good own spent w =
-    elim (is_value rule.kind text) as (λ b. is_value rule.kind text ≡ b → (if b && not (is_excluded_by_earlier_value rule text state.values) then Some (option_state_from_parts state.flags (state.values ++ (option_value place rule.letter text ∷ [])) None) else None) ≡ Some more → IsGood applet more) [
+    elim (is_value_of_kind rule.kind text) as (λ b. is_value_of_kind rule.kind text ≡ b → (if b && not (is_excluded_by_earlier_value rule text state.values) then Some (option_state_from_parts state.flags (state.values ++ (option_value_from_place_and_letter place rule.letter text ∷ [])) None) else None) ≡ Some more → IsGood applet more) [
       | false ↦ λ v (h : None ≡ Some more). absurd (none-some more h)
-      | true ↦ λ v. elim (is_excluded_by_earlier_value rule text state.values) as (λ b. is_excluded_by_earlier_value rule text state.values ≡ b → (if not b then Some (option_state_from_parts state.flags (state.values ++ (option_value place rule.letter text ∷ [])) None) else None) ≡ Some more → IsGood applet more) [
+      | true ↦ λ v. elim (is_excluded_by_earlier_value rule text state.values) as (λ b. is_excluded_by_earlier_value rule text state.values ≡ b → (if not b then Some (option_state_from_parts state.flags (state.values ++ (option_value_from_place_and_letter place rule.letter text ∷ [])) None) else None) ≡ Some more → IsGood applet more) [
         | true ↦ λ x (h : None ≡ Some more). absurd (none-some more h)
         | false ↦ λ x h. subst (λ (g : OptionState). IsGood applet g) (same_Some _ more h) (record {
           flags = good.flags;

@@ -19,8 +19,8 @@ use Rattle.command_core.specs.Flags.{has_command_kind_flag, with_flag}
 use Rattle.command_core.specs.Operands.{at_least, exactly, first_refused_operand, is_operand_of_kind}
 use Rattle.words_core.specs.declared.reading.Reading.{Reading}
 use Rattle.words_core.specs.declared.reading.Start.{Start}
-use Rattle.words_core.specs.Grammar.{spelled_command_from_start, spelled_command, command_read, attached_value, start_of_command_line, option_name, option_reading, reading_after_applet, words_reading_from_parts, refused_operand, option_state_from_parts, command_of_reading}
-use Rattle.words_core.specs.Kinds.{can_info_kind_follow, can_info_kind_follow_if_started, can_info_kind_follow_start, is_info_applet}
+use Rattle.words_core.specs.Grammar.{spelled_command_from_start, spelled_command, command_from_reading_parts, attached_value, start_of_command_line, option_name, option_reading, reading_after_applet, words_reading_from_parts, refused_operand, option_state_from_parts, command_of_reading}
+use Rattle.words_core.specs.Kinds.{can_info_kind_follow, can_info_kind_follow_if_started, can_started_words_get_info_kind, is_info_applet}
 use Rattle.words_core.specs.Options.{common_options, options_of}
 use Rattle.words_core.specs.Stuck.{have_options_ended}
 use Rattle.words_core.proofs.GoneOn.{IsRemovedPackage, from_going}
@@ -110,7 +110,7 @@ none_before rule low end last place operands new unread placed far behind judged
           )
     ] refl
 
-module _ (words rest : List (List ℕ)) (start : Start) (at place : ℕ) (known : IsPlain start (1 + length words)) (can : can_info_kind_follow_start words start ≡ true) (found : start_of_command_line words ≡ Ok start)
+module _ (words rest : List (List ℕ)) (start : Start) (at place : ℕ) (known : IsPlain start (1 + length words)) (can : can_started_words_get_info_kind words start ≡ true) (found : start_of_command_line words ≡ Ok start)
     (bad : command_of_reading (length words + 1) start.applet (reading_after_applet start words) ≡ Err at) (before : at ≤ length words)
     (later : command_of_reading (length (words ++ rest) + 1) start.applet (reading_after_applet start (words ++ rest)) ≡ Err place) (far : length words + 1 ≤ place) (all : length words ≤ length (words ++ rest)) where
   abbrev end : ℕ
@@ -183,7 +183,7 @@ module _ (words rest : List (List ℕ)) (start : Start) (at place : ℕ) (known 
         let last : ℕ = length (words ++ (codes "-W" ∷ [])) + 1 in
         let read : Reading = behind reading.operands (words_reading_from_parts (option_state_from_parts (with_flag WhoOwns reading.state.flags) reading.state.values None) [] None) in (
           codes "-W" ∷ [],
-          command_read last Info read,
+          command_from_reading_parts last Info read,
           ap (spelled_command_from_start (words ++ (codes "-W" ∷ []))) (start_stays words (codes "-W" ∷ []) start found)
               ∙ (ap (command_of_reading last start.applet) owner
               ∙ (ap (λ (a : Applet). command_of_reading last a read) is

@@ -18,7 +18,7 @@ use Rattle.words_core.specs.declared.options.Meaning.{Meaning}
 use Rattle.words_core.specs.declared.options.Meaning.TheVariants.{Flag as Plain, Kind, Value}
 use Rattle.words_core.specs.declared.reading.AppletSite.{AppletSite}
 use Rattle.words_core.specs.declared.reading.Start.{Start}
-use Rattle.words_core.specs.Grammar.{applet_site, early_flags, is_double_dash, is_option, start_of_command_line, or_err_at, applet_site_at, site_after_end, applet_site_from_parts, start_from_parts, start_after_site, start_with_early_flags, flags_with_meaning, flags_with_option_word, flags_with_option}
+use Rattle.words_core.specs.Grammar.{applet_site, early_flags, is_double_dash, is_option, start_of_command_line, or_err_at, applet_site_of_word, site_after_end, applet_site_from_parts, start_from_parts, start_after_site, start_with_early_flags, flags_with_meaning, flags_with_option_word, flags_with_option}
 use Rattle.words_core.specs.Options.{OptionSpec, applet_of, common_options, is_early_option_word, option_of_word, options_of}
 
 -- ---- tests on lists
@@ -321,8 +321,8 @@ pub record IsSite (site : AppletSite) (behind : ℕ) : Type 0 where
   pub low : 1 ≤ site.read
   pub read : site.read < behind
 
-pub named_known : (ended : Bool) (place behind : ℕ) (word : List ℕ) → 1 ≤ place → place < behind → IfOk (applet_site_at ended place word) (λ s. IsSite s behind)
-unfolding applet_site_at
+pub named_known : (ended : Bool) (place behind : ℕ) (word : List ℕ) → 1 ≤ place → place < behind → IfOk (applet_site_of_word ended place word) (λ s. IsSite s behind)
+unfolding applet_site_of_word
 named_known ended place behind word low l =
     elim (applet_of word) as (λ o. applet_of word ≡ o → IfOk (or_err_at place (λ applet. Ok (applet_site_from_parts ended place applet)) o) (λ s. IsSite s behind)) [
       | None ↦ λ e. tt
@@ -339,9 +339,9 @@ site_known place behind [] low l = tt
 site_known place behind (word ∷ words) low l =
     let less : place + 1 + length words ≤ behind = omega arith in
     let next : 1 ≤ place + 1 = omega arith in
-    elim (is_double_dash word) as (λ b. IfOk (if b then site_after_end (place + 1) words else if is_option word then (if is_early_option_word word then applet_site (place + 1) words else Err place) else applet_site_at false place word) (λ s. IsSite s behind)) [
+    elim (is_double_dash word) as (λ b. IfOk (if b then site_after_end (place + 1) words else if is_option word then (if is_early_option_word word then applet_site (place + 1) words else Err place) else applet_site_of_word false place word) (λ s. IsSite s behind)) [
       | true ↦ after_end_known (place + 1) behind words next less
-      | false ↦ elim (is_option word) as (λ b. IfOk (if b then (if is_early_option_word word then applet_site (place + 1) words else Err place) else applet_site_at false place word) (λ s. IsSite s behind)) [
+      | false ↦ elim (is_option word) as (λ b. IfOk (if b then (if is_early_option_word word then applet_site (place + 1) words else Err place) else applet_site_of_word false place word) (λ s. IsSite s behind)) [
         | true ↦ elim (is_early_option_word word) as (λ b. IfOk (if b then applet_site (place + 1) words else Err place) (λ s. IsSite s behind)) [
           | true ↦ site_known (place + 1) behind words next less
           | false ↦ tt

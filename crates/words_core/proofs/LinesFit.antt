@@ -13,7 +13,7 @@ use Rattle.command_core.specs.declared.values.OptionValue.{OptionValue}
 use Rattle.command_core.specs.declared.values.ValueRule.{ValueRule}
 use Rattle.command_core.specs.Sound.{allowed_flags, may_have_flags, are_flags_allowed, has_at_most_one, may_both_be_given, are_allowed_values, are_exclusive_values, is_allowed_value, rule_for}
 use Rattle.command_core.specs.Flags.{has_flag, has_command_kind_flag, kinds, with_flag}
-use Rattle.command_core.specs.Values.{excludes, is_excluded_by_earlier_value, is_given, is_single_and_given, is_value, option_value}
+use Rattle.command_core.specs.Values.{excludes, is_excluded_by_earlier_value, is_given, is_single_and_given, is_value_of_kind, option_value_from_place_and_letter}
 use Rattle.words_core.specs.declared.options.Meaning.{Meaning}
 use Rattle.words_core.specs.declared.options.Meaning.TheVariants.{Flag as Plain, Kind, Value}
 use Rattle.words_core.specs.declared.reading.OptionState.{OptionState}
@@ -112,10 +112,10 @@ flag_made applet flags next (Value rule) r s f m = absurd (none-some rule (sym r
 -- a value among those of a command: its option was not spent, and it fits
 pub record Fits (rule : ValueRule) (text : List ℕ) (before : List OptionValue) : Type 0 where
   pub spent : is_single_and_given rule before ≡ false
-  pub good : is_value rule.kind text ≡ true
+  pub good : is_value_of_kind rule.kind text ≡ true
   pub excluded : is_excluded_by_earlier_value rule text before ≡ false
 
-pub apart_back : (rules : List ValueRule) (rule : ValueRule) (w : OptionValue) (text : List ℕ) (place : ℕ) → rule_for rules rule.letter ≡ Some rule → may_both_be_given rules w (option_value place rule.letter text) ≡ true → ((rule.single && (w.letter == rule.letter)) ≡ false) × (((w.letter == rule.letter) && excludes rule.kind w.text text) ≡ false)
+pub apart_back : (rules : List ValueRule) (rule : ValueRule) (w : OptionValue) (text : List ℕ) (place : ℕ) → rule_for rules rule.letter ≡ Some rule → may_both_be_given rules w (option_value_from_place_and_letter place rule.letter text) ≡ true → ((rule.single && (w.letter == rule.letter)) ≡ false) × (((w.letter == rule.letter) && excludes rule.kind w.text text) ≡ false)
 apart_back rules rule w text place own apart =
     elim (w.letter == rule.letter) as (λ b. (w.letter == rule.letter) ≡ b → not (b && are_exclusive_values (rule_for rules w.letter) w.text text) ≡ true → ((rule.single && b) ≡ false) × ((b && excludes rule.kind w.text text) ≡ false)) [
       | true ↦ λ e h.
@@ -135,9 +135,9 @@ joined_spent false b c x y = refl
 joined_spent true true c x y = x
 joined_spent true false c x y = y
 
-pub fits_in : (rules : List ValueRule) (rule : ValueRule) (text : List ℕ) (place : ℕ) (before behind : List OptionValue) → rule_for rules rule.letter ≡ Some rule → are_allowed_values rules (before ++ (option_value place rule.letter text ∷ behind)) ≡ true → Fits rule text before
+pub fits_in : (rules : List ValueRule) (rule : ValueRule) (text : List ℕ) (place : ℕ) (before behind : List OptionValue) → rule_for rules rule.letter ≡ Some rule → are_allowed_values rules (before ++ (option_value_from_place_and_letter place rule.letter text ∷ behind)) ≡ true → Fits rule text before
 fits_in rules rule text place [] behind own are =
-    let v = option_value place rule.letter text in
+    let v = option_value_from_place_and_letter place rule.letter text in
     let parts = and_parts (is_allowed_value (rule_for rules rule.letter) text && list_all (may_both_be_given rules v) behind) (are_allowed_values rules behind) are in
     let good = (and_parts (is_allowed_value (rule_for rules rule.letter) text) (list_all (may_both_be_given rules v) behind) parts.0).0 in
     record {
@@ -146,7 +146,7 @@ fits_in rules rule text place [] behind own are =
       excluded = refl;
     }
 fits_in rules rule text place (w ∷ ws) behind own are =
-    let v = option_value place rule.letter text in
+    let v = option_value_from_place_and_letter place rule.letter text in
     let all = ws ++ (v ∷ behind) in
     let parts = and_parts (is_allowed_value (rule_for rules w.letter) w.text && list_all (may_both_be_given rules w) all) (are_allowed_values rules all) are in
     let apart = (and_parts (is_allowed_value (rule_for rules w.letter) w.text) (list_all (may_both_be_given rules w) all) parts.0).1 in
@@ -159,7 +159,7 @@ fits_in rules rule text place (w ∷ ws) behind own are =
       excluded = rw here.1 rest.excluded;
     }
 
-pub value_made : (state : OptionState) (place : ℕ) (text : List ℕ) (rule : ValueRule) → Fits rule text state.values → with_option_value state place text rule ≡ Some (option_state_from_parts state.flags (state.values ++ (option_value place rule.letter text ∷ [])) None)
+pub value_made : (state : OptionState) (place : ℕ) (text : List ℕ) (rule : ValueRule) → Fits rule text state.values → with_option_value state place text rule ≡ Some (option_state_from_parts state.flags (state.values ++ (option_value_from_place_and_letter place rule.letter text ∷ [])) None)
 value_made state place text rule fits = rw fits.good (rw fits.excluded refl)
 
 -- values behind others

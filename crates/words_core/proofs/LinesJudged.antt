@@ -12,7 +12,7 @@ use Rattle.command_core.specs.Command.{CommandLine}
 use Rattle.command_core.specs.Operands.{first_refused_operand, allows_one_more, is_operand_of_kind}
 use Rattle.command_core.specs.Values.{is_required_value_missing}
 use Rattle.words_core.specs.declared.reading.Reading.{Reading}
-use Rattle.words_core.specs.Grammar.{command_of_reading, command_read, lacks_operand, refused_operand}
+use Rattle.words_core.specs.Grammar.{command_of_reading, command_from_reading_parts, lacks_operand, refused_operand}
 
 -- there is room for one more where as many more fit
 pub room_by : (most : Option ℕ) (before more : ℕ) → is_count_within_limit most (before + (more + 1)) ≡ true → allows_one_more most before ≡ true
@@ -59,9 +59,9 @@ operands_taken (Some rule) operands h =
       enough = le-ltb (length operands) rule.least (leb-true rule.least (length operands) count.0);
     }
 
-pub sound_judged : (behind : ℕ) (applet : Applet) (reading : Reading) → reading.unread ≡ None → is_valid_command (command_read behind applet reading) ≡ true → command_of_reading behind applet reading ≡ Ok (command_read behind applet reading)
+pub sound_judged : (behind : ℕ) (applet : Applet) (reading : Reading) → reading.unread ≡ None → is_valid_command (command_from_reading_parts behind applet reading) ≡ true → command_of_reading behind applet reading ≡ Ok (command_from_reading_parts behind applet reading)
 unfolding command_of_reading
 sound_judged behind applet reading u s =
-    let parts = has_parts (command_read behind applet reading) s in
+    let parts = has_parts (command_from_reading_parts behind applet reading) s in
     let taken = operands_taken (operand_rule applet reading.state.flags) reading.operands parts.operands in
     rw taken.taken (rw u (rw taken.enough (rw (not-true (is_required_value_missing (required_option_letter applet) reading.state.values) parts.needed) refl)))

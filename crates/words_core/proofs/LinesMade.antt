@@ -16,14 +16,14 @@ use Rattle.command_core.specs.Sound.{may_have_flags, value_rules, is_valid_comma
 use Rattle.command_core.specs.Command.{CommandLine, command_from_parts}
 use Rattle.command_core.specs.Flags.{no_flags}
 use Rattle.command_core.specs.Operands.{operand_at}
-use Rattle.command_core.specs.Values.{is_single_and_given, option_value}
+use Rattle.command_core.specs.Values.{is_single_and_given, option_value_from_place_and_letter}
 use Rattle.words_core.specs.declared.options.Meaning.{Meaning}
 use Rattle.words_core.specs.declared.options.Meaning.TheVariants.{Flag as Plain, Kind, Value}
 use Rattle.words_core.specs.declared.reading.AppletSite.{AppletSite}
 use Rattle.words_core.specs.declared.reading.OptionState.{OptionState}
 use Rattle.words_core.specs.declared.reading.Reading.{Reading}
 use Rattle.words_core.specs.declared.reading.Start.{Start}
-use Rattle.words_core.specs.Grammar.{applet_site, spelled_command_from_start, command_read, early_flags, option_state_at_start, attached_value, is_double_dash, is_option, spelled_command, start_of_command_line, operands_of, option_name, option_reading, or_err_at, reading_after_applet, words_reading_from_parts, awaited_rule, value_rule_of_meaning, value_rule_unless_attached, applet_site_at, site_after_end, applet_site_from_parts, start_from_parts, start_after_site, start_with_early_flags, option_state_from_parts, command_of_reading, flags_with_meaning, state_with_meaning, flags_with_option_word, flags_with_option, with_option_word, with_word_if_awaited}
+use Rattle.words_core.specs.Grammar.{applet_site, spelled_command_from_start, command_from_reading_parts, early_flags, option_state_at_start, attached_value, is_double_dash, is_option, spelled_command, start_of_command_line, operands_of, option_name, option_reading, or_err_at, reading_after_applet, words_reading_from_parts, awaited_rule, value_rule_of_meaning, value_rule_unless_attached, applet_site_of_word, site_after_end, applet_site_from_parts, start_from_parts, start_after_site, start_with_early_flags, option_state_from_parts, command_of_reading, flags_with_meaning, state_with_meaning, flags_with_option_word, flags_with_option, with_option_word, with_word_if_awaited}
 use Rattle.words_core.specs.Lines.{IsLineOf, flags_after, flags_with_held_meaning, operand_words, attached_values, words_that_are_options, may_precede_applet, values_of}
 use Rattle.words_core.specs.Options.{OptionSpec, applet_of, common_options, early_option_words, is_early_option_word, option_of_word, options_of}
 use Rattle.words_core.proofs.GivenKept.{IsOwn, all_own, found_own}
@@ -72,7 +72,7 @@ made_value applet state more all place word words rule are rest made =
     options = options_of applet
 
     v : OptionValue
-    v = option_value place rule.letter word
+    v = option_value_from_place_and_letter place rule.letter word
 
     next : OptionState
     next = option_state_from_parts state.flags (state.values ++ (v ∷ [])) None
@@ -95,7 +95,7 @@ pub meaning_made : (applet : Applet) (state : OptionState) (next : Flags) (place
 meaning_made applet state next place None (Value rule) a s f m room =
     rw room (ap Some (ap (λ x. option_state_from_parts x state.values (Some rule)) (same_Some state.flags next f) ∙ ap (λ vs. option_state_from_parts next vs (Some rule)) (sym (append-nil state.values))))
 meaning_made applet state next place (Some text) (Value rule) a s f m room =
-    rw room.spent (value_made state place text rule room ∙ ap (λ x. Some (option_state_from_parts x (state.values ++ (option_value place rule.letter text ∷ [])) None)) (same_Some state.flags next f))
+    rw room.spent (value_made state place text rule room ∙ ap (λ x. Some (option_state_from_parts x (state.values ++ (option_value_from_place_and_letter place rule.letter text ∷ [])) None)) (same_Some state.flags next f))
 meaning_made applet state next place (Some text) (Plain flag) a s f m room = absurd (none-some next f)
 meaning_made applet state next place (Some text) (Kind flag) a s f m room = absurd (none-some next f)
 meaning_made applet state next place None (Plain flag) a s f m room =
@@ -110,12 +110,12 @@ pub record ComesFirst (rule : ValueRule) (all : List OptionValue) : Type 0 where
   pub place : ℕ
   pub text : List ℕ
   pub more : List OptionValue
-  pub same : option_value place rule.letter text ∷ more ≡ all
+  pub same : option_value_from_place_and_letter place rule.letter text ∷ more ≡ all
 
 pub comes_first : (options : List OptionSpec) (rule : ValueRule) (place : ℕ) (words : List (List ℕ)) (all : List OptionValue) → values_of options (Some rule) place words ≡ Some all → ComesFirst rule all
 comes_first options rule place [] all h = absurd (none-some all h)
 comes_first options rule place (word ∷ words) all h =
-    let one = joined_one (option_value place rule.letter word) all (values_of options None (place + 1) words) h in
+    let one = joined_one (option_value_from_place_and_letter place rule.letter word) all (values_of options None (place + 1) words) h in
     record { place = place; text = word; more = one.more; same = one.same }
 
 pub room_for : (applet : Applet) (state : OptionState) (all : List OptionValue) (place : ℕ) (words : List (List ℕ)) (held : Option (List ℕ)) (meaning : Meaning) → IsOwn applet meaning → are_allowed_values (value_rules applet) all ≡ true → option_map (λ vs. state.values ++ vs) (option_map (λ vs. attached_values place (value_rule_of_meaning meaning) held ++ vs) (values_of (options_of applet) (value_rule_unless_attached held (value_rule_of_meaning meaning)) (place + 1) words)) ≡ Some all → IsOutputPathFree state held meaning
@@ -127,7 +127,7 @@ room_for applet state all place words None (Value rule) own are h =
     (fits_in (value_rules applet) rule first.text first.place state.values first.more own
     (subst (λ vs. are_allowed_values (value_rules applet) vs ≡ true) (sym (ap (λ vs. state.values ++ vs) first.same ∙ outer.same)) are)).spent
 room_for applet state all place words (Some text) (Value rule) own are h =
-    let v = option_value place rule.letter text in
+    let v = option_value_from_place_and_letter place rule.letter text in
     let outer = joined state.values all (option_map (λ vs. (v ∷ []) ++ vs) (values_of (options_of applet) None (place + 1) words)) h in
     let inner = joined (v ∷ []) outer.more (values_of (options_of applet) None (place + 1) words) outer.some in
     fits_in (value_rules applet) rule text place state.values inner.more own
@@ -242,8 +242,8 @@ free_place options None place (word ∷ words) first rest h =
     by_operands (next ∷ left) e = (let same : place + 1 ≡ first.place = ap (λ (x : Operand). x.place) (same_head (operand_at (place + 1) next) first _ rest e) in omega arith)
 
 -- a word that names an applet is found
-pub at_named : (ended : Bool) (place : ℕ) (word : List ℕ) (applet : Applet) → applet_of word ≡ Some applet → applet_site_at ended place word ≡ Ok (applet_site_from_parts ended place applet)
-unfolding applet_site_at
+pub at_named : (ended : Bool) (place : ℕ) (word : List ℕ) (applet : Applet) → applet_of word ≡ Some applet → applet_site_of_word ended place word ≡ Ok (applet_site_from_parts ended place applet)
+unfolding applet_site_of_word
 at_named ended place word applet n = ap (or_err_at place (λ a. Ok (applet_site_from_parts ended place a))) n
 
 -- the applet is found, where a word names it
@@ -385,13 +385,13 @@ made_line words command line =
         let give : values_of options None 1 words ≡ Some command.values = subst (λ a. values_of (options_of a) None 1 words ≡ Some command.values) (sym applet) line.values in
         let values : value_rest start.ended options (start.read + 1) (drop start.read words) ≡ Some command.values = ap (λ n. value_rest start.ended options (start.read + 1) (drop n words)) (sym at) ∙ (sym from.values ∙ give) in
         let whole : Reading = words_reading_from_parts (option_state_from_parts command.flags command.values None) command.operands None in
-        let sound : is_valid_command (command_read (length words + 1) start.applet whole) ≡ true =
+        let sound : is_valid_command (command_from_reading_parts (length words + 1) start.applet whole) ≡ true =
         subst (λ a. is_valid_command (command_from_parts a command.flags command.operands command.values (length words + 1)) ≡ true) (sym applet)
         (ap (λ n. is_valid_command (command_from_parts command.applet command.flags command.operands command.values n)) (sym line.behind) ∙ line.sound) in
-        let parts = has_parts (command_read (length words + 1) start.applet whole) sound in
+        let parts = has_parts (command_from_reading_parts (length words + 1) start.applet whole) sound in
         let read : reading_after_applet start words ≡ whole = from_made start command.flags command.values words flags values parts.flags parts.values ∙ ap (λ os. words_reading_from_parts (option_state_from_parts command.flags command.values None) os None) operands in
         ap (spelled_command_from_start words) s
         ∙ (ap (command_of_reading (length words + 1) start.applet) read
         ∙ (sound_judged (length words + 1) start.applet whole refl sound
-        ∙ (ap (λ a. Ok (command_read (length words + 1) a whole)) applet
-        ∙ ap (λ n. Ok (command_read n command.applet whole)) (sym line.behind))))
+        ∙ (ap (λ a. Ok (command_from_reading_parts (length words + 1) a whole)) applet
+        ∙ ap (λ n. Ok (command_from_reading_parts n command.applet whole)) (sym line.behind))))

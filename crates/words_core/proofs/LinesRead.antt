@@ -19,14 +19,14 @@ use Rattle.command_core.specs.Command.{CommandLine}
 use Rattle.command_core.specs.Sound.{is_valid_command}
 use Rattle.command_core.specs.Flags.{has_flag, has_command_kind_flag, no_flags, with_flag}
 use Rattle.command_core.specs.Operands.{operand_at}
-use Rattle.command_core.specs.Values.{is_excluded_by_earlier_value, is_single_and_given, is_value, is_required_value_missing, option_value}
+use Rattle.command_core.specs.Values.{is_excluded_by_earlier_value, is_single_and_given, is_value_of_kind, is_required_value_missing, option_value_from_place_and_letter}
 use Rattle.words_core.specs.declared.options.Meaning.{Meaning}
 use Rattle.words_core.specs.declared.options.Meaning.TheVariants.{Flag as Plain, Kind, Value}
 use Rattle.words_core.specs.declared.reading.AppletSite.{AppletSite}
 use Rattle.words_core.specs.declared.reading.OptionState.{OptionState}
 use Rattle.words_core.specs.declared.reading.Reading.{Reading}
 use Rattle.words_core.specs.declared.reading.Start.{Start}
-use Rattle.words_core.specs.Grammar.{applet_site, spelled_command_from_start, command_read, early_flags, option_state_at_start, attached_value, is_double_dash, is_option, is_option_or_value, lacks_operand, lacks_word, spelled_command, start_of_command_line, operands_of, option_name, option_reading, or_err_at, or_stop_at_unread_word, reading_after_applet, words_reading_from_parts, refused_operand, value_rule_of_word, awaited_rule, value_rule_of_meaning, value_rule_unless_attached, applet_site_at, site_after_end, applet_site_from_parts, start_from_parts, option_state_from_parts, unless_refused_at, command_of_reading, with_flags_if_some, with_value_or_awaited, flags_with_meaning, state_with_meaning, with_operand, flags_with_option_word, flags_with_option, with_option_word, with_option_value, with_option_or_value_word, with_word_if_awaited}
+use Rattle.words_core.specs.Grammar.{applet_site, spelled_command_from_start, command_from_reading_parts, early_flags, option_state_at_start, attached_value, is_double_dash, is_option, is_option_or_value, lacks_operand, lacks_word, spelled_command, start_of_command_line, operands_of, option_name, option_reading, or_err_at, or_stop_at_unread_word, reading_after_applet, words_reading_from_parts, refused_operand, value_rule_of_word, awaited_rule, value_rule_of_meaning, value_rule_unless_attached, applet_site_of_word, site_after_end, applet_site_from_parts, start_from_parts, option_state_from_parts, unless_refused_at, command_of_reading, with_flags_if_some, with_value_or_awaited, flags_with_meaning, state_with_meaning, with_operand, flags_with_option_word, flags_with_option, with_option_word, with_option_value, with_option_or_value_word, with_word_if_awaited}
 use Rattle.words_core.specs.Lines.{IsLineOf, flags_after, flags_with_held_meaning, operand_words, attached_values, words_that_are_options, may_precede_applet, values_of}
 use Rattle.words_core.specs.Options.{OptionSpec, applet_of, early_option_words, is_early_option_word, option_of_word, options_of}
 use Rattle.words_core.specs.Steps.{IsSoundReading}
@@ -109,10 +109,10 @@ one_joined before v None = refl
 one_joined before v (Some vs) = ap Some (sym (append_assoc before (v ∷ []) vs))
 
 -- what a value says that was taken
-pub value_says : (state more : OptionState) (place : ℕ) (text : List ℕ) (rule : ValueRule) → with_option_value state place text rule ≡ Some more → option_state_from_parts state.flags (state.values ++ (option_value place rule.letter text ∷ [])) None ≡ more
+pub value_says : (state more : OptionState) (place : ℕ) (text : List ℕ) (rule : ValueRule) → with_option_value state place text rule ≡ Some more → option_state_from_parts state.flags (state.values ++ (option_value_from_place_and_letter place rule.letter text ∷ [])) None ≡ more
 value_says state more place text rule w =
-    elim (is_value rule.kind text && not (is_excluded_by_earlier_value rule text state.values)) as (λ b. (if b then Some (option_state_from_parts state.flags (state.values ++ (option_value place rule.letter text ∷ [])) None) else None) ≡ Some more → option_state_from_parts state.flags (state.values ++ (option_value place rule.letter text ∷ [])) None ≡ more) [
-      | true ↦ λ (h : Some (option_state_from_parts state.flags (state.values ++ (option_value place rule.letter text ∷ [])) None) ≡ Some more). same_Some _ _ h
+    elim (is_value_of_kind rule.kind text && not (is_excluded_by_earlier_value rule text state.values)) as (λ b. (if b then Some (option_state_from_parts state.flags (state.values ++ (option_value_from_place_and_letter place rule.letter text ∷ [])) None) else None) ≡ Some more → option_state_from_parts state.flags (state.values ++ (option_value_from_place_and_letter place rule.letter text ∷ [])) None ≡ more) [
+      | true ↦ λ (h : Some (option_state_from_parts state.flags (state.values ++ (option_value_from_place_and_letter place rule.letter text ∷ [])) None) ≡ Some more). same_Some _ _ h
       | false ↦ λ (h : None ≡ Some more). absurd (none-some more h)
     ] w
 
@@ -193,15 +193,15 @@ whole_value options state place word words rule a rest = by_value (with_option_v
     by_value None w = subst (λ r. IsWellFormed r (operand_words options None (place + 1) words) (flags_after options state.flags (words_that_are_options options None words)) state.values (values_of options (Some rule) place (word ∷ words))) (sym (taken None w)) (unread_not state place _ _ _ _)
     by_value (Some more) w = subst (λ r. IsWellFormed r (operand_words options None (place + 1) words) (flags_after options state.flags (words_that_are_options options None words)) state.values (values_of options (Some rule) place (word ∷ words))) (sym (taken (Some more) w)) behind_it
       where
-        says : option_state_from_parts state.flags (state.values ++ (option_value place rule.letter word ∷ [])) None ≡ more
+        says : option_state_from_parts state.flags (state.values ++ (option_value_from_place_and_letter place rule.letter word ∷ [])) None ≡ more
         says = value_says state more place word rule w
 
         behind_it : IsWellFormed (option_reading options more (place + 1) words) (operand_words options None (place + 1) words) (flags_after options state.flags (words_that_are_options options None words)) state.values (values_of options (Some rule) place (word ∷ words))
         behind_it h =
-            let left : IsWellFormed (option_reading options more (place + 1) words) (operand_words options None (place + 1) words) (flags_after options state.flags (words_that_are_options options None words)) (state.values ++ (option_value place rule.letter word ∷ [])) (values_of options None (place + 1) words) =
+            let left : IsWellFormed (option_reading options more (place + 1) words) (operand_words options None (place + 1) words) (flags_after options state.flags (words_that_are_options options None words)) (state.values ++ (option_value_from_place_and_letter place rule.letter word ∷ [])) (values_of options None (place + 1) words) =
             subst (λ (g : OptionState). IsWellFormed (option_reading options more (place + 1) words) (operand_words options g.awaiting (place + 1) words) (flags_after options g.flags (words_that_are_options options g.awaiting words)) g.values (values_of options g.awaiting (place + 1) words)) (sym says) (rest more) in
             let all = left h in
-            (all.0, all.1, one_joined state.values (option_value place rule.letter word) (values_of options None (place + 1) words) ∙ all.2)
+            (all.0, all.1, one_joined state.values (option_value_from_place_and_letter place rule.letter word) (values_of options None (place + 1) words) ∙ all.2)
 
 -- an option
 pub whole_option : (options : List OptionSpec) (state : OptionState) (place : ℕ) (word : List ℕ) (words : List (List ℕ)) → state.awaiting ≡ None → is_double_dash word ≡ false → is_option word ≡ true → ((more : OptionState) → IsWholeAt options more (place + 1) words more.awaiting) → IsWholeAt options state place (word ∷ words) None
@@ -306,8 +306,8 @@ IsFromSite flags place words site =
     (more : Flags) → early_flags (options_of site.applet) flags place (take (site.read - place) words) ≡ Ok more → IsFrom flags place words (start_from_parts site more)
 
 -- the site is no earlier than the words
-named_low : (ended : Bool) (place low : ℕ) (word : List ℕ) → low ≤ place → IfOk (applet_site_at ended place word) (λ s. low ≤ s.read)
-unfolding applet_site_at
+named_low : (ended : Bool) (place low : ℕ) (word : List ℕ) → low ≤ place → IfOk (applet_site_of_word ended place word) (λ s. low ≤ s.read)
+unfolding applet_site_of_word
 named_low ended place low word l =
     elim (applet_of word) as (λ o. IfOk (or_err_at place (λ applet. Ok (applet_site_from_parts ended place applet)) o) (λ s. low ≤ s.read)) [
       | None ↦ tt
@@ -322,9 +322,9 @@ end_low place (word ∷ words) = named_low true (place + 1) place word (omega ar
 pub site_low : (place : ℕ) (words : List (List ℕ)) → IfOk (applet_site place words) (λ s. place ≤ s.read)
 site_low place [] = tt
 site_low place (word ∷ words) =
-    elim (is_double_dash word) as (λ b. IfOk (if b then site_after_end (place + 1) words else if is_option word then (if is_early_option_word word then applet_site (place + 1) words else Err place) else applet_site_at false place word) (λ s. place ≤ s.read)) [
+    elim (is_double_dash word) as (λ b. IfOk (if b then site_after_end (place + 1) words else if is_option word then (if is_early_option_word word then applet_site (place + 1) words else Err place) else applet_site_of_word false place word) (λ s. place ≤ s.read)) [
       | true ↦ end_low place words
-      | false ↦ elim (is_option word) as (λ b. IfOk (if b then (if is_early_option_word word then applet_site (place + 1) words else Err place) else applet_site_at false place word) (λ s. place ≤ s.read)) [
+      | false ↦ elim (is_option word) as (λ b. IfOk (if b then (if is_early_option_word word then applet_site (place + 1) words else Err place) else applet_site_of_word false place word) (λ s. place ≤ s.read)) [
         | true ↦ elim (is_early_option_word word) as (λ b. IfOk (if b then applet_site (place + 1) words else Err place) (λ s. place ≤ s.read)) [
           | true ↦ IfOk-weaker (applet_site (place + 1) words) (λ s. place + 1 ≤ s.read) (λ s. place ≤ s.read) (λ s l. omega (arith, l)) (site_low (place + 1) words)
           | false ↦ tt
@@ -335,7 +335,7 @@ site_low place (word ∷ words) =
 
 -- the applet behind `--`
 pub from_end : (flags : Flags) (place : ℕ) (word : List ℕ) (words : List (List ℕ)) → is_double_dash word ≡ true → IfOk (site_after_end (place + 1) words) (λ s. IsFromSite flags place (word ∷ words) s)
-unfolding site_after_end applet_site_at
+unfolding site_after_end applet_site_of_word
 from_end flags place word [] e = tt
 from_end flags place word (next ∷ words) e =
     elim (applet_of next) as (λ o. applet_of next ≡ o → IfOk (or_err_at (place + 1) (λ applet. Ok (applet_site_from_parts true (place + 1) applet)) o) (λ s. IsFromSite flags place (word ∷ (next ∷ words)) s)) [
@@ -357,8 +357,8 @@ from_end flags place word (next ∷ words) e =
     ] refl
 
 -- the applet at a word
-pub from_named : (flags : Flags) (place : ℕ) (word : List ℕ) (words : List (List ℕ)) → is_double_dash word ≡ false → is_option word ≡ false → IfOk (applet_site_at false place word) (λ s. IsFromSite flags place (word ∷ words) s)
-unfolding applet_site_at
+pub from_named : (flags : Flags) (place : ℕ) (word : List ℕ) (words : List (List ℕ)) → is_double_dash word ≡ false → is_option word ≡ false → IfOk (applet_site_of_word false place word) (λ s. IsFromSite flags place (word ∷ words) s)
+unfolding applet_site_of_word
 from_named flags place word words e o =
     elim (applet_of word) as (λ a. applet_of word ≡ a → IfOk (or_err_at place (λ applet. Ok (applet_site_from_parts false place applet)) a) (λ s. IsFromSite flags place (word ∷ words) s)) [
       | None ↦ λ n. tt
@@ -489,14 +489,14 @@ from_step flags place word words site e o y low rest more f = by_option (flags_w
 pub site_from : (place : ℕ) (words : List (List ℕ)) → IfOk (applet_site place words) (λ s. (flags : Flags) → IsFromSite flags place words s)
 site_from place [] = tt
 site_from place (word ∷ words) =
-    elim (is_double_dash word) as (λ b. is_double_dash word ≡ b → IfOk (if b then site_after_end (place + 1) words else if is_option word then (if is_early_option_word word then applet_site (place + 1) words else Err place) else applet_site_at false place word) (λ s. (flags : Flags) → IsFromSite flags place (word ∷ words) s)) [
+    elim (is_double_dash word) as (λ b. is_double_dash word ≡ b → IfOk (if b then site_after_end (place + 1) words else if is_option word then (if is_early_option_word word then applet_site (place + 1) words else Err place) else applet_site_of_word false place word) (λ s. (flags : Flags) → IsFromSite flags place (word ∷ words) s)) [
       | true ↦ λ e. each (site_after_end (place + 1) words) (λ flags. from_end flags place word words e)
-      | false ↦ λ e. elim (is_option word) as (λ b. is_option word ≡ b → IfOk (if b then (if is_early_option_word word then applet_site (place + 1) words else Err place) else applet_site_at false place word) (λ s. (flags : Flags) → IsFromSite flags place (word ∷ words) s)) [
+      | false ↦ λ e. elim (is_option word) as (λ b. is_option word ≡ b → IfOk (if b then (if is_early_option_word word then applet_site (place + 1) words else Err place) else applet_site_of_word false place word) (λ s. (flags : Flags) → IsFromSite flags place (word ∷ words) s)) [
         | true ↦ λ o. elim (is_early_option_word word) as (λ b. is_early_option_word word ≡ b → IfOk (if b then applet_site (place + 1) words else Err place) (λ s. (flags : Flags) → IsFromSite flags place (word ∷ words) s)) [
           | true ↦ λ y. later (applet_site (place + 1) words) (site_low (place + 1) words) (site_from (place + 1) words) e o y
           | false ↦ λ y. tt
         ] refl
-        | false ↦ λ o. each (applet_site_at false place word) (λ flags. from_named flags place word words e o)
+        | false ↦ λ o. each (applet_site_of_word false place word) (λ flags. from_named flags place word words e o)
       ] refl
     ] refl
   where
@@ -518,13 +518,13 @@ line_from words start s =
 -- a command that is judged good
 pub record IsJudged (behind : ℕ) (applet : Applet) (reading : Reading) (command : CommandLine) : Type 0 where
   pub whole : reading.unread ≡ None
-  pub same : command_read behind applet reading ≡ command
-  pub sound : is_valid_command (command_read behind applet reading) ≡ true
+  pub same : command_from_reading_parts behind applet reading ≡ command
+  pub sound : is_valid_command (command_from_reading_parts behind applet reading) ≡ true
 
 pub judged_good : (behind : ℕ) (applet : Applet) (reading : Reading) (command : CommandLine) → IsSoundReading applet reading → command_of_reading behind applet reading ≡ Ok command → IsJudged behind applet reading command
 unfolding command_of_reading
 judged_good behind applet reading command m j =
-    elim (operand_rule applet reading.state.flags) as (λ r. operand_rule applet reading.state.flags ≡ r → unless_refused_at (option_or (refused_operand r reading.operands) reading.unread) (if lacks_word applet r reading then Err behind else Ok (command_read behind applet reading)) ≡ Ok command → IsJudged behind applet reading command) [
+    elim (operand_rule applet reading.state.flags) as (λ r. operand_rule applet reading.state.flags ≡ r → unless_refused_at (option_or (refused_operand r reading.operands) reading.unread) (if lacks_word applet r reading then Err behind else Ok (command_from_reading_parts behind applet reading)) ≡ Ok command → IsJudged behind applet reading command) [
       | None ↦ λ r h. absurd (no_kind reading.unread h)
       | Some rule ↦ λ r h. by_rule rule r (refused_operand (Some rule) reading.operands) refl reading.unread refl (lacks_word applet (Some rule) reading) refl h
     ] refl j
@@ -533,7 +533,7 @@ judged_good behind applet reading command m j =
     no_kind None h = cc
     no_kind (Some place) h = cc
 
-    by_rule : (rule : OperandRule) → operand_rule applet reading.state.flags ≡ Some rule → (refused : Option ℕ) → refused_operand (Some rule) reading.operands ≡ refused → (unread : Option ℕ) → reading.unread ≡ unread → (lacking : Bool) → lacks_word applet (Some rule) reading ≡ lacking → unless_refused_at (option_or refused unread) (if lacking then Err behind else Ok (command_read behind applet reading)) ≡ Ok command → IsJudged behind applet reading command
+    by_rule : (rule : OperandRule) → operand_rule applet reading.state.flags ≡ Some rule → (refused : Option ℕ) → refused_operand (Some rule) reading.operands ≡ refused → (unread : Option ℕ) → reading.unread ≡ unread → (lacking : Bool) → lacks_word applet (Some rule) reading ≡ lacking → unless_refused_at (option_or refused unread) (if lacking then Err behind else Ok (command_from_reading_parts behind applet reading)) ≡ Ok command → IsJudged behind applet reading command
     by_rule rule r (Some place) f unread u lacking l h = absurd (cc)
     by_rule rule r None f (Some place) u lacking l h = absurd (cc)
     by_rule rule r None f None u true l h = absurd (cc)

@@ -12,7 +12,7 @@ use Rattle.words_core.specs.declared.reading.AppletSite.{AppletSite}
 use Rattle.words_core.specs.declared.reading.OptionState.{OptionState}
 use Rattle.words_core.specs.declared.reading.Reading.{Reading}
 use Rattle.words_core.specs.declared.reading.Start.{Start}
-use Rattle.words_core.specs.Grammar.{applet_site, spelled_command_from_start, spelled_command, command_read, option_state_at_start, is_double_dash, is_option, is_option_or_value, lacks_word, start_of_command_line, operands_of, option_reading, or_err_at, or_stop_at_unread_word, reading_after_applet, words_reading_from_parts, reading_at_end_of_words, refused_operand, applet_site_at, site_after_end, applet_site_from_parts, unless_refused_at, command_of_reading, with_operand, with_option_or_value_word}
+use Rattle.words_core.specs.Grammar.{applet_site, spelled_command_from_start, spelled_command, command_from_reading_parts, option_state_at_start, is_double_dash, is_option, is_option_or_value, lacks_word, start_of_command_line, operands_of, option_reading, or_err_at, or_stop_at_unread_word, reading_after_applet, words_reading_from_parts, reading_at_end_of_words, refused_operand, applet_site_of_word, site_after_end, applet_site_from_parts, unless_refused_at, command_of_reading, with_operand, with_option_or_value_word}
 use Rattle.words_core.specs.Options.{OptionSpec, applet_of, is_early_option_word, options_of}
 use Rattle.words_core.proofs.KindsKept.{IsPlain, start_known}
 use Rattle.words_core.proofs.Sites.{IsForeign, foreign_between, no_start}
@@ -112,10 +112,10 @@ pub judged_at : (applet : Applet) (reading : Reading) (behind place : ℕ) → c
 unfolding command_of_reading
 judged_at applet reading behind place h =
     let rule = operand_rule applet reading.state.flags in
-    elim (option_or (refused_operand rule reading.operands) reading.unread) as (λ o. unless_refused_at o (if lacks_word applet rule reading then Err behind else Ok (command_read behind applet reading)) ≡ Err place → IsJudgedAt behind o place) [
-      | None ↦ elim (lacks_word applet rule reading) as (λ b. (if b then Err behind else Ok (command_read behind applet reading)) ≡ Err place → IsJudgedAt behind None place) [
+    elim (option_or (refused_operand rule reading.operands) reading.unread) as (λ o. unless_refused_at o (if lacks_word applet rule reading then Err behind else Ok (command_from_reading_parts behind applet reading)) ≡ Err place → IsJudgedAt behind o place) [
+      | None ↦ elim (lacks_word applet rule reading) as (λ b. (if b then Err behind else Ok (command_from_reading_parts behind applet reading)) ≡ Err place → IsJudgedAt behind None place) [
         | true ↦ λ (e : Err behind ≡ Err place). inr (refl, cc)
-        | false ↦ λ (e : Ok (command_read behind applet reading) ≡ Err place). absurd (cc)
+        | false ↦ λ (e : Ok (command_from_reading_parts behind applet reading) ≡ Err place). absurd (cc)
       ]
       | Some at ↦ λ (e : Err at ≡ Err place). inl cc
     ] h
@@ -123,15 +123,15 @@ judged_at applet reading behind place h =
 pub judged_bad : (applet : Applet) (reading : Reading) (behind place : ℕ) → option_or (refused_operand (operand_rule applet reading.state.flags) reading.operands) reading.unread ≡ Some place → command_of_reading behind applet reading ≡ Err place
 unfolding command_of_reading
 judged_bad applet reading behind place h =
-    ap (λ o. unless_refused_at o (if lacks_word applet (operand_rule applet reading.state.flags) reading then Err behind else Ok (command_read behind applet reading))) h
+    ap (λ o. unless_refused_at o (if lacks_word applet (operand_rule applet reading.state.flags) reading then Err behind else Ok (command_from_reading_parts behind applet reading))) h
 
 -- where the search for the applet ends
 abbrev pub IsSearched : ℕ → ℕ → Result AppletSite ℕ → Type 0
 IsSearched low behind (Ok site) = Unit {0}
 IsSearched low behind (Err place) = IsBetween low behind place
 
-pub named_searched : (ended : Bool) (place low behind : ℕ) (word : List ℕ) → IsBetween low behind place → IsSearched low behind (applet_site_at ended place word)
-unfolding applet_site_at
+pub named_searched : (ended : Bool) (place low behind : ℕ) (word : List ℕ) → IsBetween low behind place → IsSearched low behind (applet_site_of_word ended place word)
+unfolding applet_site_of_word
 named_searched ended place low behind word h =
     elim (applet_of word) as (λ o. IsSearched low behind (or_err_at place (λ applet. Ok (applet_site_from_parts ended place applet)) o)) [
       | None ↦ h
@@ -148,9 +148,9 @@ site_searched place low behind [] l h = (omega arith, omega arith)
 site_searched place low behind (word ∷ words) l h =
     let less : place + 1 + length words < behind = omega arith in
     let here : IsBetween low behind place = (omega arith, omega arith) in
-    elim (is_double_dash word) as (λ b. IsSearched low behind (if b then site_after_end (place + 1) words else if is_option word then (if is_early_option_word word then applet_site (place + 1) words else Err place) else applet_site_at false place word)) [
+    elim (is_double_dash word) as (λ b. IsSearched low behind (if b then site_after_end (place + 1) words else if is_option word then (if is_early_option_word word then applet_site (place + 1) words else Err place) else applet_site_of_word false place word)) [
       | true ↦ end_searched (place + 1) low behind words (omega arith, omega arith)
-      | false ↦ elim (is_option word) as (λ b. IsSearched low behind (if b then (if is_early_option_word word then applet_site (place + 1) words else Err place) else applet_site_at false place word)) [
+      | false ↦ elim (is_option word) as (λ b. IsSearched low behind (if b then (if is_early_option_word word then applet_site (place + 1) words else Err place) else applet_site_of_word false place word)) [
         | true ↦ elim (is_early_option_word word) as (λ b. IsSearched low behind (if b then applet_site (place + 1) words else Err place)) [
           | true ↦ site_searched (place + 1) low behind words (omega arith) less
           | false ↦ here

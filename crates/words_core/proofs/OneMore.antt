@@ -7,7 +7,7 @@ use Rattle.command_core.specs.declared.operands.Operand.{Operand}
 use Rattle.command_core.specs.Operands.{operand_at}
 use Rattle.words_core.specs.declared.reading.OptionState.{OptionState}
 use Rattle.words_core.specs.declared.reading.Reading.{Reading}
-use Rattle.words_core.specs.Grammar.{applet_site, early_flags, is_double_dash, is_option, is_option_or_value, operands_of, option_reading, or_err_at, or_stop_at_unread_word, words_reading_from_parts, applet_site_at, site_after_end, with_operand, flags_with_option_word, flags_with_option, with_option_or_value_word}
+use Rattle.words_core.specs.Grammar.{applet_site, early_flags, is_double_dash, is_option, is_option_or_value, operands_of, option_reading, or_err_at, or_stop_at_unread_word, words_reading_from_parts, applet_site_of_word, site_after_end, with_operand, flags_with_option_word, flags_with_option, with_option_or_value_word}
 use Rattle.words_core.specs.Options.{OptionSpec, is_early_option_word, option_of_word}
 use Rattle.words_core.specs.Steps.{IsReadingStep}
 
@@ -40,7 +40,7 @@ option_found options flags word found result more f r m = sym (ap (option_and_th
 pub site_ended : (words : List (List ℕ)) (i : ℕ) (word : List ℕ) → slice_get words i ≡ Some word → is_double_dash word ≡ true → applet_site (i + 1) (drop i words) ≡ site_after_end (i + 1 + 1) (drop (i + 1) words)
 site_ended words i word at e = rw (left_at words i word at) (rw e refl)
 
-pub site_named : (words : List (List ℕ)) (i : ℕ) (word : List ℕ) → slice_get words i ≡ Some word → is_double_dash word ≡ false → is_option word ≡ false → applet_site (i + 1) (drop i words) ≡ applet_site_at false (i + 1) word
+pub site_named : (words : List (List ℕ)) (i : ℕ) (word : List ℕ) → slice_get words i ≡ Some word → is_double_dash word ≡ false → is_option word ≡ false → applet_site (i + 1) (drop i words) ≡ applet_site_of_word false (i + 1) word
 site_named words i word at e o = rw (left_at words i word at) (rw e (rw o refl))
 
 pub site_unread : (words : List (List ℕ)) (i : ℕ) (word : List ℕ) → slice_get words i ≡ Some word → is_double_dash word ≡ false → is_option word ≡ true → is_early_option_word word ≡ false → applet_site (i + 1) (drop i words) ≡ Err (i + 1)

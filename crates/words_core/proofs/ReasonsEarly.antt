@@ -12,7 +12,7 @@ use Rattle.words_core.specs.declared.options.Meaning.{Meaning}
 use Rattle.words_core.specs.declared.options.Meaning.TheVariants.{Flag as Plain, Kind, Value}
 use Rattle.words_core.specs.declared.reading.AppletSite.{AppletSite}
 use Rattle.words_core.specs.declared.usage.UsageReason.TheVariants.{CommandUnknown, OptionEarly}
-use Rattle.words_core.specs.Grammar.{applet_site, early_flags, is_double_dash, is_option, next_after, next_word, option_name, or_err_at, applet_site_at, site_after_end, applet_site_from_parts, flags_with_meaning, flags_with_option_word, flags_with_option}
+use Rattle.words_core.specs.Grammar.{applet_site, early_flags, is_double_dash, is_option, next_word_of_command_line, next_word, option_name, or_err_at, applet_site_of_word, site_after_end, applet_site_from_parts, flags_with_meaning, flags_with_option_word, flags_with_option}
 use Rattle.words_core.specs.Options.{OptionSpec, applet_of, is_early_option_word, option_of_word, options_of}
 use Rattle.words_core.specs.Reasons.{IsUsageReason}
 use Rattle.words_core.specs.Usage.{command_reason}
@@ -37,7 +37,7 @@ pub record IsNoCommand (words : List (List ℕ)) (place : ℕ) : Type 0 where
   pub word : List ℕ
   pub at : slice_get words (place - 1) ≡ Some word
   pub names : applet_of word ≡ None
-  pub next : (next_after (take (place - 1) words) ≡ CommandAlone) ⊎ ((next_after (take (place - 1) words) ≡ OptionOrCommand) × (is_option word ≡ false))
+  pub next : (next_word_of_command_line (take (place - 1) words) ≡ CommandAlone) ⊎ ((next_word_of_command_line (take (place - 1) words) ≡ OptionOrCommand) × (is_option word ≡ false))
 
 -- an option that cannot be before the command
 pub record IsLateOption (words : List (List ℕ)) (place : ℕ) : Type 0 where
@@ -45,13 +45,13 @@ pub record IsLateOption (words : List (List ℕ)) (place : ℕ) : Type 0 where
   pub at : slice_get words (place - 1) ≡ Some word
   pub option : is_option word ≡ true
   pub early : is_early_option_word word ≡ false
-  pub next : next_after (take (place - 1) words) ≡ OptionOrCommand
+  pub next : next_word_of_command_line (take (place - 1) words) ≡ OptionOrCommand
 
 abbrev pub IsSoughtErr : List (List ℕ) → ℕ → Type 0
 IsSoughtErr words place = (place ≡ length words + 1) ⊎ (IsNoCommand words place ⊎ IsLateOption words place)
 
-no_name : (ended : Bool) (place at : ℕ) (word : List ℕ) → applet_site_at ended place word ≡ Err at → applet_of word ≡ None
-unfolding applet_site_at
+no_name : (ended : Bool) (place at : ℕ) (word : List ℕ) → applet_site_of_word ended place word ≡ Err at → applet_of word ≡ None
+unfolding applet_site_of_word
 no_name ended place at word h =
     elim (applet_of word) as (λ o. or_err_at place (λ applet. Ok (applet_site_from_parts ended place applet)) o ≡ Err at → o ≡ None) [
       | None ↦ λ e. refl
@@ -59,7 +59,7 @@ no_name ended place at word h =
     ] h
 
 -- the word behind some names no command
-nameless : (front words : List (List ℕ)) (word : List ℕ) (ended : Bool) (place at : ℕ) → place ≡ length front + 1 → applet_site_at ended place word ≡ Err at → (next_after front ≡ CommandAlone) ⊎ ((next_after front ≡ OptionOrCommand) × (is_option word ≡ false)) → IsNoCommand (front ++ (word ∷ words)) at
+nameless : (front words : List (List ℕ)) (word : List ℕ) (ended : Bool) (place at : ℕ) → place ≡ length front + 1 → applet_site_of_word ended place word ≡ Err at → (next_word_of_command_line front ≡ CommandAlone) ⊎ ((next_word_of_command_line front ≡ OptionOrCommand) × (is_option word ≡ false)) → IsNoCommand (front ++ (word ∷ words)) at
 nameless front words word ended place at p h n =
     let here : at ≡ place = err_here place at ended word h in
     let count : length front ≡ at - 1 = omega (arith, here, p) in
@@ -67,16 +67,16 @@ nameless front words word ended place at p h n =
       word = word;
       at = subst (λ k. slice_get (front ++ (word ∷ words)) k ≡ Some word) count (get_after front words word);
       names = no_name ended place at word h;
-      next = subst (λ k. (next_after (take k (front ++ (word ∷ words))) ≡ CommandAlone) ⊎ ((next_after (take k (front ++ (word ∷ words))) ≡ OptionOrCommand) × (is_option word ≡ false))) count
-          (subst (λ ws. (next_after ws ≡ CommandAlone) ⊎ ((next_after ws ≡ OptionOrCommand) × (is_option word ≡ false))) (sym (take_front front (word ∷ words))) n);
+      next = subst (λ k. (next_word_of_command_line (take k (front ++ (word ∷ words))) ≡ CommandAlone) ⊎ ((next_word_of_command_line (take k (front ++ (word ∷ words))) ≡ OptionOrCommand) × (is_option word ≡ false))) count
+          (subst (λ ws. (next_word_of_command_line ws ≡ CommandAlone) ⊎ ((next_word_of_command_line ws ≡ OptionOrCommand) × (is_option word ≡ false))) (sym (take_front front (word ∷ words))) n);
     }
 
-end_sought : (front words : List (List ℕ)) (at : ℕ) → next_after front ≡ CommandAlone → site_after_end (length front + 1) words ≡ Err at → IsSoughtErr (front ++ words) at
+end_sought : (front words : List (List ℕ)) (at : ℕ) → next_word_of_command_line front ≡ CommandAlone → site_after_end (length front + 1) words ≡ Err at → IsSoughtErr (front ++ words) at
 unfolding site_after_end
 end_sought front [] at n h = (let same : length front + 1 ≡ at = cc in inl (sym same ∙ ap (λ ws. length ws + 1) (sym (append-none front))))
 end_sought front (word ∷ words) at n h = inr (inl (nameless front words word true (length front + 1) at refl h (inl n)))
 
-pub sought_err : (front words : List (List ℕ)) (at : ℕ) → next_after front ≡ OptionOrCommand → applet_site (length front + 1) words ≡ Err at → IsSoughtErr (front ++ words) at
+pub sought_err : (front words : List (List ℕ)) (at : ℕ) → next_word_of_command_line front ≡ OptionOrCommand → applet_site (length front + 1) words ≡ Err at → IsSoughtErr (front ++ words) at
 sought_err front [] at n h = (let same : length front + 1 ≡ at = cc in inl (sym same ∙ ap (λ ws. length ws + 1) (sym (append-none front))))
 sought_err front (word ∷ words) at n h =
     elim (is_double_dash word) as (λ b. is_double_dash word ≡ b → IsSoughtErr (front ++ (word ∷ words)) at) [
@@ -99,27 +99,27 @@ sought_err front (word ∷ words) at n h =
                 at = subst (λ k. slice_get (front ++ (word ∷ words)) k ≡ Some word) count (get_after front words word);
                 option = o;
                 early = y;
-                next = subst (λ k. next_after (take k (front ++ (word ∷ words))) ≡ OptionOrCommand) count (ap next_after (take_front front (word ∷ words)) ∙ n);
+                next = subst (λ k. next_word_of_command_line (take k (front ++ (word ∷ words))) ≡ OptionOrCommand) count (ap next_word_of_command_line (take_front front (word ∷ words)) ∙ n);
               }))
         ] refl
         | false ↦ λ o. inr (inl (nameless front words word false (length front + 1) at refl (sym (seek_here (length front + 1) word words e o) ∙ h) (inr (n, o))))
       ] refl
     ] refl
 
-pub command_why : (words : List (List ℕ)) (place : ℕ) → applet_site 1 words ≡ Err place → IsSoughtErr words place → IsUsageReason (command_reason (next_after (take (place - 1) words)) (slice_get words (place - 1))) words place
+pub command_why : (words : List (List ℕ)) (place : ℕ) → applet_site 1 words ≡ Err place → IsSoughtErr words place → IsUsageReason (command_reason (next_word_of_command_line (take (place - 1) words)) (slice_get words (place - 1))) words place
 command_why words place s (inl e) =
     let far : length words ≤ place - 1 = omega (arith, e) in
-    subst (λ o. IsUsageReason (command_reason (next_after (take (place - 1) words)) o) words place) (sym (get_none words (place - 1) far))
+    subst (λ o. IsUsageReason (command_reason (next_word_of_command_line (take (place - 1) words)) o) words place) (sym (get_none words (place - 1) far))
     (e, ap (λ r. not (is_ok r)) s)
 command_why words place s (inr (inl k)) =
-    subst (λ o. IsUsageReason (command_reason (next_after (take (place - 1) words)) o) words place) (sym k.at)
-    (elim k.next as (λ _. IsUsageReason (command_reason (next_after (take (place - 1) words)) (Some k.word)) words place) [
+    subst (λ o. IsUsageReason (command_reason (next_word_of_command_line (take (place - 1) words)) o) words place) (sym k.at)
+    (elim k.next as (λ _. IsUsageReason (command_reason (next_word_of_command_line (take (place - 1) words)) (Some k.word)) words place) [
       | inl n ↦ subst (λ x. IsUsageReason (command_reason x (Some k.word)) words place) (sym n) (k.word, k.at, k.names)
       | inr n ↦ subst (λ x. IsUsageReason (command_reason x (Some k.word)) words place) (sym n.0)
           (subst (λ b. IsUsageReason (if b then OptionEarly else CommandUnknown) words place) (sym n.1) (k.word, k.at, k.names))
     ])
 command_why words place s (inr (inr k)) =
-    subst (λ o. IsUsageReason (command_reason (next_after (take (place - 1) words)) o) words place) (sym k.at)
+    subst (λ o. IsUsageReason (command_reason (next_word_of_command_line (take (place - 1) words)) o) words place) (sym k.at)
     (subst (λ x. IsUsageReason (command_reason x (Some k.word)) words place) (sym k.next)
     (subst (λ b. IsUsageReason (if b then OptionEarly else CommandUnknown) words place) (sym k.option) (k.word, k.at, (k.option, ap not k.early))))
 

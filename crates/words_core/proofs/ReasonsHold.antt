@@ -17,7 +17,7 @@ use Rattle.command_core.specs.declared.values.ValueRule.{ValueRule}
 use Rattle.command_core.specs.Applets.{required_option_letter, operand_rule}
 use Rattle.command_core.specs.Flags.{has_flag, has_command_kind_flag, no_flags, with_flag}
 use Rattle.command_core.specs.Operands.{at_least, first_refused_operand, allows_one_more, is_operand_of_kind, takes}
-use Rattle.command_core.specs.Values.{excludes, is_excluded_by_earlier_value, is_given, is_single_and_given, is_value, is_required_value_missing, option_value}
+use Rattle.command_core.specs.Values.{excludes, is_excluded_by_earlier_value, is_given, is_single_and_given, is_value_of_kind, is_required_value_missing, option_value_from_place_and_letter}
 use Rattle.words_core.specs.declared.next.NextWord.{NextWord}
 use Rattle.words_core.specs.declared.next.NextWord.TheVariants.{OptionOrCommand, OptionOrOperand, Value as NextValue, Operand as OperandAlone}
 use Rattle.words_core.specs.declared.options.Meaning.{Meaning}
@@ -27,7 +27,7 @@ use Rattle.words_core.specs.declared.reading.Reading.{Reading}
 use Rattle.words_core.specs.declared.reading.Start.{Start}
 use Rattle.words_core.specs.declared.usage.UsageReason.{UsageReason}
 use Rattle.words_core.specs.declared.usage.UsageReason.TheVariants.{OptionRepeated, OperandBad, ScriptRepeated, SecondKind, TooManyOperands, ValueBad}
-use Rattle.words_core.specs.Grammar.{applet_site, spelled_command_from_start, command_of, command_read, option_state_at_start, attached_value, is_double_dash, is_option, lacks_operand, lacks_word, spelled_command, start_of_command_line, next_after, next_word_after_option, next_words, operands_of, option_name, option_reading, reading_after_applet, words_reading_from_parts, refused_operand, value_rule_of_meaning, option_state_from_parts, command_of_reading, with_flags_if_some, state_with_meaning, with_option_value, with_word_if_awaited}
+use Rattle.words_core.specs.Grammar.{applet_site, spelled_command_from_start, command_of, command_from_reading_parts, option_state_at_start, attached_value, is_double_dash, is_option, lacks_operand, lacks_word, spelled_command, start_of_command_line, next_word_of_command_line, next_word_after_option, next_word_after_words, operands_of, option_name, option_reading, reading_after_applet, words_reading_from_parts, refused_operand, value_rule_of_meaning, option_state_from_parts, command_of_reading, with_flags_if_some, state_with_meaning, with_option_value, with_word_if_awaited}
 use Rattle.words_core.specs.Options.{OptionSpec, option_of_word, options_of}
 use Rattle.words_core.specs.Reasons.{IsUsageReason, IsValueRuleOfWord, HasOptionValue}
 use Rattle.words_core.specs.Usage.{early_reason, end_reason, line_reason, operand_rule_of_words, meaning_reason, missing_reason, operand_reason, option_reason, usage_reason_after_start, repeated_value_reason, usage_reason, value_reason, word_reason}
@@ -53,7 +53,7 @@ get_taken (suc count) (suc i) (w ∷ words) word h = get_taken count i words wor
 record IsRefused (applet : Applet) (words : List (List ℕ)) (rule : OperandRule) (end place : ℕ) : Type 0 where
   word : List ℕ
   at : slice_get words (place - 1) ≡ Some word
-  next : IsOperandNext applet (next_after (take (place - 1) words)) word
+  next : IsOperandNext applet (next_word_of_command_line (take (place - 1) words)) word
   count : ℕ
   less : count < end
   refuses : takes rule count word ≡ false
@@ -120,18 +120,18 @@ module _ (words : List (List ℕ)) (start : Start) (s : start_of_command_line wo
   whole : take start.read words ++ drop start.read words ≡ words
   whole = take-append-drop start.read words
 
-  next_front : next_after (take start.read words) ≡ (if start.ended then OperandAlone start.applet else OptionOrOperand start.applet)
+  next_front : next_word_of_command_line (take start.read words) ≡ (if start.ended then OperandAlone start.applet else OptionOrOperand start.applet)
   next_front =
       let parts = start_parts words start s in
       let found = found_next 1 words parts.site parts.found in
       let read : suc found.count ≡ parts.site.read = omega (arith, found.read) in
-      subst (λ (x : Start). next_after (take x.read words) ≡ (if x.ended then OperandAlone x.applet else OptionOrOperand x.applet)) parts.same
-      (ap (λ k. next_after (take k words)) (sym read) ∙ found.front)
+      subst (λ (x : Start). next_word_of_command_line (take x.read words) ≡ (if x.ended then OperandAlone x.applet else OptionOrOperand x.applet)) parts.same
+      (ap (λ k. next_word_of_command_line (take k words)) (sym read) ∙ found.front)
 
   operands : AreOperandsAt start.applet words (reading_after_applet start words).operands
   unfolding reading_after_applet
   operands =
-      elim start.ended as (λ b. next_after front ≡ (if b then OperandAlone applet else OptionOrOperand applet) → AreOperandsAt applet words (if b then words_reading_from_parts (option_state_at_start start.flags) (operands_of (start.read + 1) left) None else option_reading (options_of applet) (option_state_at_start start.flags) (start.read + 1) left).operands) [
+      elim start.ended as (λ b. next_word_of_command_line front ≡ (if b then OperandAlone applet else OptionOrOperand applet) → AreOperandsAt applet words (if b then words_reading_from_parts (option_state_at_start start.flags) (operands_of (start.read + 1) left) None else option_reading (options_of applet) (option_state_at_start start.flags) (start.read + 1) left).operands) [
         | true ↦ λ n. subst (λ ws. AreOperandsAt applet ws (operands_of (start.read + 1) left)) whole (subst (λ k. AreOperandsAt applet (front ++ left) (operands_of (k + 1) left)) size (texts_at applet front left n))
         | false ↦ λ n. subst (λ ws. AreOperandsAt applet ws (option_reading (options_of applet) (option_state_at_start start.flags) (start.read + 1) left).operands) whole
             (subst (λ k. AreOperandsAt applet (front ++ left) (option_reading (options_of applet) (option_state_at_start start.flags) (k + 1) left).operands) size (operands_at applet (option_state_at_start start.flags) front left n))
@@ -140,39 +140,39 @@ module _ (words : List (List ℕ)) (start : Start) (s : start_of_command_line wo
   unread : (place : ℕ) → (reading_after_applet start words).unread ≡ Some place → IsUnreadAt start.applet words place (reading_after_applet start words).state
   unfolding reading_after_applet
   unread place =
-      elim start.ended as (λ b. next_after front ≡ (if b then OperandAlone applet else OptionOrOperand applet) → (if b then words_reading_from_parts (option_state_at_start start.flags) (operands_of (start.read + 1) left) None else option_reading (options_of applet) (option_state_at_start start.flags) (start.read + 1) left).unread ≡ Some place → IsUnreadAt applet words place (if b then words_reading_from_parts (option_state_at_start start.flags) (operands_of (start.read + 1) left) None else option_reading (options_of applet) (option_state_at_start start.flags) (start.read + 1) left).state) [
+      elim start.ended as (λ b. next_word_of_command_line front ≡ (if b then OperandAlone applet else OptionOrOperand applet) → (if b then words_reading_from_parts (option_state_at_start start.flags) (operands_of (start.read + 1) left) None else option_reading (options_of applet) (option_state_at_start start.flags) (start.read + 1) left).unread ≡ Some place → IsUnreadAt applet words place (if b then words_reading_from_parts (option_state_at_start start.flags) (operands_of (start.read + 1) left) None else option_reading (options_of applet) (option_state_at_start start.flags) (start.read + 1) left).state) [
         | true ↦ λ n u. absurd (none-some place u)
         | false ↦ λ n. subst (λ k. (option_reading (options_of applet) (option_state_at_start start.flags) (k + 1) left).unread ≡ Some place → IsUnreadAt applet words place (option_reading (options_of applet) (option_state_at_start start.flags) (k + 1) left).state) size
             (λ u. subst (λ ws. IsUnreadAt applet ws place (option_reading (options_of applet) (option_state_at_start start.flags) (length front + 1) left).state) whole (unread_at applet (option_state_at_start start.flags) front left place n u))
       ] next_front
 
-  free : (reading_after_applet start words).unread ≡ None → IsFreeNext start.applet (next_after words)
+  free : (reading_after_applet start words).unread ≡ None → IsFreeNext start.applet (next_word_of_command_line words)
   unfolding reading_after_applet
   free =
-      elim start.ended as (λ b. next_after front ≡ (if b then OperandAlone applet else OptionOrOperand applet) → (if b then words_reading_from_parts (option_state_at_start start.flags) (operands_of (start.read + 1) left) None else option_reading (options_of applet) (option_state_at_start start.flags) (start.read + 1) left).unread ≡ None → IsFreeNext applet (next_after words)) [
-        | true ↦ λ n u. inl (ap next_after (sym whole) ∙ (next_append OptionOrCommand front left ∙ (ap (λ x. next_words x left) n ∙ operand_stays applet left)))
-        | false ↦ λ n. subst (λ k. (option_reading (options_of applet) (option_state_at_start start.flags) (k + 1) left).unread ≡ None → IsFreeNext applet (next_after words)) size
-            (λ u. subst (λ ws. IsFreeNext applet (next_after ws)) whole (end_at applet (option_state_at_start start.flags) front left n u))
+      elim start.ended as (λ b. next_word_of_command_line front ≡ (if b then OperandAlone applet else OptionOrOperand applet) → (if b then words_reading_from_parts (option_state_at_start start.flags) (operands_of (start.read + 1) left) None else option_reading (options_of applet) (option_state_at_start start.flags) (start.read + 1) left).unread ≡ None → IsFreeNext applet (next_word_of_command_line words)) [
+        | true ↦ λ n u. inl (ap next_word_of_command_line (sym whole) ∙ (next_append OptionOrCommand front left ∙ (ap (λ x. next_word_after_words x left) n ∙ operand_stays applet left)))
+        | false ↦ λ n. subst (λ k. (option_reading (options_of applet) (option_state_at_start start.flags) (k + 1) left).unread ≡ None → IsFreeNext applet (next_word_of_command_line words)) size
+            (λ u. subst (λ ws. IsFreeNext applet (next_word_of_command_line ws)) whole (end_at applet (option_state_at_start start.flags) front left n u))
       ] next_front
 
   -- ---- the reason, by the word there
 
-  reason_is : (place : ℕ) → usage_reason words place ≡ line_reason start.applet (operand_rule_of_words words start) (next_after (take (place - 1) words)) (slice_get words (place - 1))
+  reason_is : (place : ℕ) → usage_reason words place ≡ line_reason start.applet (operand_rule_of_words words start) (next_word_of_command_line (take (place - 1) words)) (slice_get words (place - 1))
   unfolding usage_reason
   reason_is place = ap (usage_reason_after_start words place) s
 
-  word_is : (place : ℕ) (word : List ℕ) (next : NextWord) → slice_get words (place - 1) ≡ Some word → next_after (take (place - 1) words) ≡ next → usage_reason words place ≡ word_reason (operand_rule_of_words words start) word next
+  word_is : (place : ℕ) (word : List ℕ) (next : NextWord) → slice_get words (place - 1) ≡ Some word → next_word_of_command_line (take (place - 1) words) ≡ next → usage_reason words place ≡ word_reason (operand_rule_of_words words start) word next
   word_is place word next at n =
       reason_is place
-      ∙ (ap (line_reason start.applet (operand_rule_of_words words start) (next_after (take (place - 1) words))) at
+      ∙ (ap (line_reason start.applet (operand_rule_of_words words start) (next_word_of_command_line (take (place - 1) words))) at
       ∙ ap (word_reason (operand_rule_of_words words start) word) n)
 
-  end_is : (place : ℕ) (next : NextWord) → place ≡ length words + 1 → next_after words ≡ next → usage_reason words place ≡ end_reason start.applet (operand_rule_of_words words start) next
+  end_is : (place : ℕ) (next : NextWord) → place ≡ length words + 1 → next_word_of_command_line words ≡ next → usage_reason words place ≡ end_reason start.applet (operand_rule_of_words words start) next
   end_is place next e n =
       let far : length words ≤ place - 1 = omega (arith, e) in
       reason_is place
-      ∙ (ap (line_reason start.applet (operand_rule_of_words words start) (next_after (take (place - 1) words))) (get_none words (place - 1) far)
-      ∙ ap (end_reason start.applet (operand_rule_of_words words start)) (ap next_after (take_all (place - 1) words far) ∙ n))
+      ∙ (ap (line_reason start.applet (operand_rule_of_words words start) (next_word_of_command_line (take (place - 1) words))) (get_none words (place - 1) far)
+      ∙ ap (end_reason start.applet (operand_rule_of_words words start)) (ap next_word_of_command_line (take_all (place - 1) words far) ∙ n))
 
   holds : (place : ℕ) (reason : UsageReason) → usage_reason words place ≡ reason → IsUsageReason reason words place → IsUsageReason (usage_reason words place) words place
   holds place reason e h = subst (λ r. IsUsageReason r words place) (sym e) h
@@ -181,8 +181,8 @@ module _ (words : List (List ℕ)) (start : Start) (s : start_of_command_line wo
   refused_why : (place : ℕ) (rule : OperandRule) → operand_rule_of_words words start ≡ Some rule → IsRefused start.applet words rule (0 + length (reading_after_applet start words).operands) place → IsUsageReason (usage_reason words place) words place
   refused_why place rule r h =
       holds place (operand_reason h.word (Some rule))
-      (word_is place h.word (next_after (take (place - 1) words)) h.at refl
-      ∙ (operand_why start.applet (operand_rule_of_words words start) h.word (next_after (take (place - 1) words)) h.next
+      (word_is place h.word (next_word_of_command_line (take (place - 1) words)) h.at refl
+      ∙ (operand_why start.applet (operand_rule_of_words words start) h.word (next_word_of_command_line (take (place - 1) words)) h.next
       ∙ ap (operand_reason h.word) r))
       (elim (is_operand_of_kind rule.kind h.word) as (λ b. is_operand_of_kind rule.kind h.word ≡ b → IsUsageReason (if b then TooManyOperands else OperandBad rule.kind) words place) [
         | true ↦ λ k. too_many k (allows_one_more rule.most h.count) refl (sym (ap (λ b. allows_one_more rule.most h.count && b) k) ∙ h.refuses)
@@ -200,26 +200,26 @@ module _ (words : List (List ℕ)) (start : Start) (s : start_of_command_line wo
   -- a text that is no value of an option
   value_why : (place : ℕ) (word : List ℕ) (rule : ValueRule) (text : List ℕ) → slice_get words (place - 1) ≡ Some word → IsValueRuleOfWord start (reading_after_applet start words) word rule
       → ((P : ValueRule → List ℕ → Type 0) → P rule text → HasOptionValue start (reading_after_applet start words) word P)
-      → ((is_value rule.kind text && not (is_excluded_by_earlier_value rule text (reading_after_applet start words).state.values)) ≡ false) ⊎ (is_single_and_given rule (reading_after_applet start words).state.values ≡ true)
+      → ((is_value_of_kind rule.kind text && not (is_excluded_by_earlier_value rule text (reading_after_applet start words).state.values)) ≡ false) ⊎ (is_single_and_given rule (reading_after_applet start words).state.values ≡ true)
       → IsUsageReason (value_reason rule text) words place
   value_why place word rule text at own as_value bad =
-      elim (is_value rule.kind text) as (λ b. is_value rule.kind text ≡ b → IsUsageReason (if b then repeated_value_reason rule else ValueBad rule.kind) words place) [
+      elim (is_value_of_kind rule.kind text) as (λ b. is_value_of_kind rule.kind text ≡ b → IsUsageReason (if b then repeated_value_reason rule else ValueBad rule.kind) words place) [
         | true ↦ λ v. repeated v bad
-        | false ↦ λ v. (word, at, (start, s, as_value (λ r t. (r.kind ≡ rule.kind) × (is_value rule.kind t ≡ false)) (refl, v)))
+        | false ↦ λ v. (word, at, (start, s, as_value (λ r t. (r.kind ≡ rule.kind) × (is_value_of_kind rule.kind t ≡ false)) (refl, v)))
       ] refl
     where
       values : List OptionValue
       values = (reading_after_applet start words).state.values
 
-      given_is : is_value rule.kind text ≡ true → ((is_value rule.kind text && not (is_excluded_by_earlier_value rule text (reading_after_applet start words).state.values)) ≡ false) ⊎ (is_single_and_given rule (reading_after_applet start words).state.values ≡ true) → is_given rule.letter (reading_after_applet start words).state.values ≡ true
-      given_is v (inl e) = excluded_given rule text values (not_both (is_value rule.kind text) (is_excluded_by_earlier_value rule text values) v e)
+      given_is : is_value_of_kind rule.kind text ≡ true → ((is_value_of_kind rule.kind text && not (is_excluded_by_earlier_value rule text (reading_after_applet start words).state.values)) ≡ false) ⊎ (is_single_and_given rule (reading_after_applet start words).state.values ≡ true) → is_given rule.letter (reading_after_applet start words).state.values ≡ true
+      given_is v (inl e) = excluded_given rule text values (not_both (is_value_of_kind rule.kind text) (is_excluded_by_earlier_value rule text values) v e)
       given_is v (inr e) = (and_parts rule.single (is_given rule.letter values) e).1
 
-      excluded_is : is_value rule.kind text ≡ true → rule.single ≡ false → ((is_value rule.kind text && not (is_excluded_by_earlier_value rule text (reading_after_applet start words).state.values)) ≡ false) ⊎ (is_single_and_given rule (reading_after_applet start words).state.values ≡ true) → is_excluded_by_earlier_value rule text (reading_after_applet start words).state.values ≡ true
-      excluded_is v g (inl e) = not_both (is_value rule.kind text) (is_excluded_by_earlier_value rule text values) v e
+      excluded_is : is_value_of_kind rule.kind text ≡ true → rule.single ≡ false → ((is_value_of_kind rule.kind text && not (is_excluded_by_earlier_value rule text (reading_after_applet start words).state.values)) ≡ false) ⊎ (is_single_and_given rule (reading_after_applet start words).state.values ≡ true) → is_excluded_by_earlier_value rule text (reading_after_applet start words).state.values ≡ true
+      excluded_is v g (inl e) = not_both (is_value_of_kind rule.kind text) (is_excluded_by_earlier_value rule text values) v e
       excluded_is v g (inr e) = absurd (true≢false (sym (and_parts rule.single (is_given rule.letter values) e).0 ∙ g))
 
-      repeated : is_value rule.kind text ≡ true → ((is_value rule.kind text && not (is_excluded_by_earlier_value rule text (reading_after_applet start words).state.values)) ≡ false) ⊎ (is_single_and_given rule (reading_after_applet start words).state.values ≡ true) → IsUsageReason (repeated_value_reason rule) words place
+      repeated : is_value_of_kind rule.kind text ≡ true → ((is_value_of_kind rule.kind text && not (is_excluded_by_earlier_value rule text (reading_after_applet start words).state.values)) ≡ false) ⊎ (is_single_and_given rule (reading_after_applet start words).state.values ≡ true) → IsUsageReason (repeated_value_reason rule) words place
       repeated v bad =
           elim rule.single as (λ b. rule.single ≡ b → IsUsageReason (if b then OptionRepeated else ScriptRepeated) words place) [
             | true ↦ λ g. (word, at, (start, s, (rule, g, given_is v bad, own)))
@@ -233,15 +233,15 @@ module _ (words : List (List ℕ)) (start : Start) (s : start_of_command_line wo
   meaning_why place word option at o (Some text) h (Kind flag) m u = (word, at, (start, s, ((option, o, ap value_rule_of_meaning m), ap is_some h)))
   meaning_why place word option at o (Some text) h (Value rule) m u =
       value_why place word rule text at (inr (option, o, m)) (λ P p. inr (option, o, (rule, text, m, h, p)))
-      (elim (is_single_and_given rule (reading_after_applet start words).state.values) as (λ b. is_single_and_given rule (reading_after_applet start words).state.values ≡ b → (if b then None else with_option_value (reading_after_applet start words).state place text rule) ≡ None → ((is_value rule.kind text && not (is_excluded_by_earlier_value rule text (reading_after_applet start words).state.values)) ≡ false) ⊎ (is_single_and_given rule (reading_after_applet start words).state.values ≡ true)) [
+      (elim (is_single_and_given rule (reading_after_applet start words).state.values) as (λ b. is_single_and_given rule (reading_after_applet start words).state.values ≡ b → (if b then None else with_option_value (reading_after_applet start words).state place text rule) ≡ None → ((is_value_of_kind rule.kind text && not (is_excluded_by_earlier_value rule text (reading_after_applet start words).state.values)) ≡ false) ⊎ (is_single_and_given rule (reading_after_applet start words).state.values ≡ true)) [
         | true ↦ λ e n. inr e
         | false ↦ λ e n. inl (no_value rule text place n)
       ] refl u)
     where
-      no_value : (rule : ValueRule) (text : List ℕ) (place : ℕ) → with_option_value (reading_after_applet start words).state place text rule ≡ None → (is_value rule.kind text && not (is_excluded_by_earlier_value rule text (reading_after_applet start words).state.values)) ≡ false
+      no_value : (rule : ValueRule) (text : List ℕ) (place : ℕ) → with_option_value (reading_after_applet start words).state place text rule ≡ None → (is_value_of_kind rule.kind text && not (is_excluded_by_earlier_value rule text (reading_after_applet start words).state.values)) ≡ false
       no_value rule text place n =
-          elim (is_value rule.kind text && not (is_excluded_by_earlier_value rule text (reading_after_applet start words).state.values)) as (λ b. (if b then Some (option_state_from_parts (reading_after_applet start words).state.flags ((reading_after_applet start words).state.values ++ (option_value place rule.letter text ∷ [])) None) else None) ≡ None → b ≡ false) [
-            | true ↦ λ (k : Some (option_state_from_parts (reading_after_applet start words).state.flags ((reading_after_applet start words).state.values ++ (option_value place rule.letter text ∷ [])) None) ≡ None). absurd (none-some (option_state_from_parts (reading_after_applet start words).state.flags ((reading_after_applet start words).state.values ++ (option_value place rule.letter text ∷ [])) None) (sym k))
+          elim (is_value_of_kind rule.kind text && not (is_excluded_by_earlier_value rule text (reading_after_applet start words).state.values)) as (λ b. (if b then Some (option_state_from_parts (reading_after_applet start words).state.flags ((reading_after_applet start words).state.values ++ (option_value_from_place_and_letter place rule.letter text ∷ [])) None) else None) ≡ None → b ≡ false) [
+            | true ↦ λ (k : Some (option_state_from_parts (reading_after_applet start words).state.flags ((reading_after_applet start words).state.values ++ (option_value_from_place_and_letter place rule.letter text ∷ [])) None) ≡ None). absurd (none-some (option_state_from_parts (reading_after_applet start words).state.flags ((reading_after_applet start words).state.values ++ (option_value_from_place_and_letter place rule.letter text ∷ [])) None) (sym k))
             | false ↦ λ k. refl
           ] n
   meaning_why place word option at o None h (Plain flag) m u = absurd (none-some (option_state_from_parts (with_flag flag (reading_after_applet start words).state.flags) (reading_after_applet start words).state.values (reading_after_applet start words).state.awaiting) (sym u))
@@ -267,10 +267,10 @@ module _ (words : List (List ℕ)) (start : Start) (s : start_of_command_line wo
       state : OptionState
       state = (reading_after_applet start words).state
 
-      no_value : (rule : ValueRule) → with_option_value (reading_after_applet start words).state place u.word rule ≡ None → (is_value rule.kind u.word && not (is_excluded_by_earlier_value rule u.word (reading_after_applet start words).state.values)) ≡ false
+      no_value : (rule : ValueRule) → with_option_value (reading_after_applet start words).state place u.word rule ≡ None → (is_value_of_kind rule.kind u.word && not (is_excluded_by_earlier_value rule u.word (reading_after_applet start words).state.values)) ≡ false
       no_value rule n =
-          elim (is_value rule.kind u.word && not (is_excluded_by_earlier_value rule u.word (reading_after_applet start words).state.values)) as (λ b. (if b then Some (option_state_from_parts (reading_after_applet start words).state.flags ((reading_after_applet start words).state.values ++ (option_value place rule.letter u.word ∷ [])) None) else None) ≡ None → b ≡ false) [
-            | true ↦ λ (k : Some (option_state_from_parts (reading_after_applet start words).state.flags ((reading_after_applet start words).state.values ++ (option_value place rule.letter u.word ∷ [])) None) ≡ None). absurd (none-some (option_state_from_parts (reading_after_applet start words).state.flags ((reading_after_applet start words).state.values ++ (option_value place rule.letter u.word ∷ [])) None) (sym k))
+          elim (is_value_of_kind rule.kind u.word && not (is_excluded_by_earlier_value rule u.word (reading_after_applet start words).state.values)) as (λ b. (if b then Some (option_state_from_parts (reading_after_applet start words).state.flags ((reading_after_applet start words).state.values ++ (option_value_from_place_and_letter place rule.letter u.word ∷ [])) None) else None) ≡ None → b ≡ false) [
+            | true ↦ λ (k : Some (option_state_from_parts (reading_after_applet start words).state.flags ((reading_after_applet start words).state.values ++ (option_value_from_place_and_letter place rule.letter u.word ∷ [])) None) ≡ None). absurd (none-some (option_state_from_parts (reading_after_applet start words).state.flags ((reading_after_applet start words).state.values ++ (option_value_from_place_and_letter place rule.letter u.word ∷ [])) None) (sym k))
             | false ↦ λ k. refl
           ] n
 
@@ -368,7 +368,7 @@ module _ (words : List (List ℕ)) (start : Start) (s : start_of_command_line wo
 
       lacking : refused_operand (operand_rule_of_words words start) (reading_after_applet start words).operands ≡ None → (reading_after_applet start words).unread ≡ None → (b : Bool) → lacks_word start.applet (operand_rule_of_words words start) (reading_after_applet start words) ≡ b → lacks_word start.applet (operand_rule_of_words words start) (reading_after_applet start words) ≡ true
       lacking r u true k = k
-      lacking r u false k = absurd (let good : Ok (command_read (length words + 1) start.applet (reading_after_applet start words)) ≡ Err place = sym (judged_good start.applet (reading_after_applet start words) (length words + 1) r u k) ∙ h in cc)
+      lacking r u false k = absurd (let good : Ok (command_from_reading_parts (length words + 1) start.applet (reading_after_applet start words)) ≡ Err place = sym (judged_good start.applet (reading_after_applet start words) (length words + 1) r u k) ∙ h in cc)
 
 pub reason_so : (words : List (List ℕ)) (place : ℕ) → command_of words ≡ Err place → IsUsageReason (usage_reason words place) words place
 unfolding spelled_command usage_reason
@@ -378,12 +378,12 @@ reason_so words place c =
       | Err at ↦ λ s (h : Err at ≡ Err place). (let same : at ≡ place = cc in early_why (s ∙ ap Err same))
     ] refl (offends_unasked words place c).offends
   where
-    early_why : start_of_command_line words ≡ Err place → IsUsageReason (early_reason (applet_site 1 words) (next_after (take (place - 1) words)) (slice_get words (place - 1))) words place
+    early_why : start_of_command_line words ≡ Err place → IsUsageReason (early_reason (applet_site 1 words) (next_word_of_command_line (take (place - 1) words)) (slice_get words (place - 1))) words place
     early_why s =
-        elim (no_start words place s) as (λ _. IsUsageReason (early_reason (applet_site 1 words) (next_after (take (place - 1) words)) (slice_get words (place - 1))) words place) [
-          | inl e ↦ subst (λ r. IsUsageReason (early_reason r (next_after (take (place - 1) words)) (slice_get words (place - 1))) words place) (sym e)
+        elim (no_start words place s) as (λ _. IsUsageReason (early_reason (applet_site 1 words) (next_word_of_command_line (take (place - 1) words)) (slice_get words (place - 1))) words place) [
+          | inl e ↦ subst (λ r. IsUsageReason (early_reason r (next_word_of_command_line (take (place - 1) words)) (slice_get words (place - 1))) words place) (sym e)
               (command_why words place e (sought_err [] words place refl e))
-          | inr f ↦ subst (λ r. IsUsageReason (early_reason r (next_after (take (place - 1) words)) (slice_get words (place - 1))) words place) (sym f.found)
+          | inr f ↦ subst (λ r. IsUsageReason (early_reason r (next_word_of_command_line (take (place - 1) words)) (slice_get words (place - 1))) words place) (sym f.found)
               (let word = foreign_word no_flags 1 place words f.site f.found f.early in
               (word.word, word.at, (f.site, f.found, unspelled f.site.applet word.flags word.word word.early word.refused)))
         ]

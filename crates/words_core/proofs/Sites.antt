@@ -6,14 +6,14 @@ use Rattle.command_core.specs.declared.command.Flags.{Flags}
 use Rattle.command_core.specs.Flags.{no_flags}
 use Rattle.words_core.specs.declared.reading.AppletSite.{AppletSite}
 use Rattle.words_core.specs.declared.reading.Start.{Start}
-use Rattle.words_core.specs.Grammar.{applet_site, early_flags, is_double_dash, is_option, start_of_command_line, or_err_at, applet_site_at, site_after_end, applet_site_from_parts, start_after_site, start_with_early_flags, flags_with_option_word}
+use Rattle.words_core.specs.Grammar.{applet_site, early_flags, is_double_dash, is_option, start_of_command_line, or_err_at, applet_site_of_word, site_after_end, applet_site_from_parts, start_after_site, start_with_early_flags, flags_with_option_word}
 use Rattle.words_core.specs.Options.{applet_of, OptionSpec, is_early_option_word, options_of}
 use Rattle.words_core.proofs.KindsKept.{IsSite, site_known, start_parts}
 
 pub seek_end : (place : ℕ) (word : List ℕ) (words : List (List ℕ)) → is_double_dash word ≡ true → applet_site place (word ∷ words) ≡ site_after_end (place + 1) words
 seek_end place word words e = rw e refl
 
-pub seek_here : (place : ℕ) (word : List ℕ) (words : List (List ℕ)) → is_double_dash word ≡ false → is_option word ≡ false → applet_site place (word ∷ words) ≡ applet_site_at false place word
+pub seek_here : (place : ℕ) (word : List ℕ) (words : List (List ℕ)) → is_double_dash word ≡ false → is_option word ≡ false → applet_site place (word ∷ words) ≡ applet_site_of_word false place word
 seek_here place word words e o = rw e (rw o refl)
 
 pub seek_early : (place : ℕ) (word : List ℕ) (words : List (List ℕ)) → is_double_dash word ≡ false → is_option word ≡ true → is_early_option_word word ≡ true → applet_site place (word ∷ words) ≡ applet_site (place + 1) words
@@ -29,8 +29,8 @@ pub flags_step : (options : List OptionSpec) (flags : Flags) (place : ℕ) (word
 flags_step options flags place word words more e m = rw e (rw m refl)
 
 -- a word that names no applet offends itself
-pub err_here : (place at : ℕ) (ended : Bool) (word : List ℕ) → applet_site_at ended place word ≡ Err at → at ≡ place
-unfolding applet_site_at
+pub err_here : (place at : ℕ) (ended : Bool) (word : List ℕ) → applet_site_of_word ended place word ≡ Err at → at ≡ place
+unfolding applet_site_of_word
 err_here place at ended word h =
     elim (applet_of word) as (λ o. or_err_at place (λ applet. Ok (applet_site_from_parts ended place applet)) o ≡ Err at → at ≡ place) [
       | None ↦ λ (e : Err place ≡ Err at). cc
@@ -53,9 +53,9 @@ pub site_stays : (place : ℕ) (words more : List (List ℕ)) → IsKnown (place
 site_stays place [] more k = absurd (omega (arith, k))
 site_stays place (word ∷ words) more k =
     let next : place + length (word ∷ words) ≡ place + 1 + length words = omega arith in
-    elim (is_double_dash word) as (λ b. is_double_dash word ≡ b → IsKnown (place + length (word ∷ words)) (if b then site_after_end (place + 1) words else if is_option word then (if is_early_option_word word then applet_site (place + 1) words else Err place) else applet_site_at false place word) → applet_site place (word ∷ (words ++ more)) ≡ (if b then site_after_end (place + 1) words else if is_option word then (if is_early_option_word word then applet_site (place + 1) words else Err place) else applet_site_at false place word)) [
+    elim (is_double_dash word) as (λ b. is_double_dash word ≡ b → IsKnown (place + length (word ∷ words)) (if b then site_after_end (place + 1) words else if is_option word then (if is_early_option_word word then applet_site (place + 1) words else Err place) else applet_site_of_word false place word) → applet_site place (word ∷ (words ++ more)) ≡ (if b then site_after_end (place + 1) words else if is_option word then (if is_early_option_word word then applet_site (place + 1) words else Err place) else applet_site_of_word false place word)) [
       | true ↦ λ e h. seek_end place word (words ++ more) e ∙ end_stays (place + 1) words more (subst (λ n. IsKnown n (site_after_end (place + 1) words)) next h)
-      | false ↦ λ e. elim (is_option word) as (λ b. is_option word ≡ b → IsKnown (place + length (word ∷ words)) (if b then (if is_early_option_word word then applet_site (place + 1) words else Err place) else applet_site_at false place word) → applet_site place (word ∷ (words ++ more)) ≡ (if b then (if is_early_option_word word then applet_site (place + 1) words else Err place) else applet_site_at false place word)) [
+      | false ↦ λ e. elim (is_option word) as (λ b. is_option word ≡ b → IsKnown (place + length (word ∷ words)) (if b then (if is_early_option_word word then applet_site (place + 1) words else Err place) else applet_site_of_word false place word) → applet_site place (word ∷ (words ++ more)) ≡ (if b then (if is_early_option_word word then applet_site (place + 1) words else Err place) else applet_site_of_word false place word)) [
         | true ↦ λ o. elim (is_early_option_word word) as (λ b. is_early_option_word word ≡ b → IsKnown (place + length (word ∷ words)) (if b then applet_site (place + 1) words else Err place) → applet_site place (word ∷ (words ++ more)) ≡ (if b then applet_site (place + 1) words else Err place)) [
           | true ↦ λ y h. seek_early place word (words ++ more) e o y ∙ site_stays (place + 1) words more (subst (λ n. IsKnown n (applet_site (place + 1) words)) next h)
           | false ↦ λ y h. seek_late place word (words ++ more) e o y

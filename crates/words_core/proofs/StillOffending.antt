@@ -17,7 +17,7 @@ use Rattle.command_core.specs.Operands.{first_refused_operand}
 use Rattle.words_core.specs.declared.reading.Reading.{Reading}
 use Rattle.words_core.specs.declared.reading.Start.{Start}
 use Rattle.words_core.specs.Grammar.{spelled_command_from_start, command_of_reading, spelled_command, start_of_command_line, operands_of, option_reading, reading_after_applet, refused_operand}
-use Rattle.words_core.specs.Kinds.{can_info_kind_follow, can_info_kind_follow_if_started, can_info_kind_follow_start, is_info_applet}
+use Rattle.words_core.specs.Kinds.{can_info_kind_follow, can_info_kind_follow_if_started, can_started_words_get_info_kind, is_info_applet}
 use Rattle.words_core.specs.Options.{OptionSpec, options_of}
 use Rattle.words_core.specs.Stuck.{have_options_ended}
 use Rattle.words_core.proofs.GivenKept.{IsAwaited, IsGood, from_good}
@@ -68,7 +68,7 @@ end_at end at None h = absurd (none-some at h)
 end_at end at (Some rule) h = (let same : end ≡ at = same_Some end at h in omega arith)
 
 -- or a word cannot be read, and it changes nothing
-pub longer_or_same : (words more : List (List ℕ)) (start : Start) → IsPlain start (1 + length words) → can_info_kind_follow_start words start ≡ false
+pub longer_or_same : (words more : List (List ℕ)) (start : Start) → IsPlain start (1 + length words) → can_started_words_get_info_kind words start ≡ false
     → ((reading_after_applet start (words ++ more) ≡ reading_after_applet start words) × ((reading_after_applet start words).unread ≡ None → ⊥)) ⊎ IsLonger start.applet (length words + 1) (reading_after_applet start words) (reading_after_applet start (words ++ more))
 longer_or_same words more start known k = by_going (from_going start words low)
   where
@@ -127,7 +127,7 @@ first_stays applet end reading longer place long l h =
         ∙ ap (λ o. option_or o longer.unread) (ap (first_refused_operand rule 0) long.operands ∙ refused_append rule 0 place reading.operands long.new e)
 
 -- what is said of words is so from where their applet was found
-pub cannot_from : (words : List (List ℕ)) (start : Start) → can_info_kind_follow words ≡ false → start_of_command_line words ≡ Ok start → can_info_kind_follow_start words start ≡ false
+pub cannot_from : (words : List (List ℕ)) (start : Start) → can_info_kind_follow words ≡ false → start_of_command_line words ≡ Ok start → can_started_words_get_info_kind words start ≡ false
 unfolding can_info_kind_follow
 cannot_from words start k s = sym (ap (can_info_kind_follow_if_started words) s) ∙ k
 

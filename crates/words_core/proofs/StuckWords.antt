@@ -16,14 +16,14 @@ use Rattle.command_core.specs.declared.values.ValueKind.TheVariants.{Script}
 use Rattle.command_core.specs.declared.values.ValueRule.{ValueRule}
 use Rattle.command_core.specs.Applets.{required_option_letter, operand_rule}
 use Rattle.command_core.specs.Command.{CommandLine}
-use Rattle.command_core.specs.Files.{is_file}
+use Rattle.command_core.specs.Files.{is_file_argument}
 use Rattle.command_core.specs.Flags.{no_flags}
-use Rattle.command_core.specs.Values.{is_excluded_by_earlier_value, is_value, is_required_value_missing, option_value, script_file, script_type, script_types}
+use Rattle.command_core.specs.Values.{is_excluded_by_earlier_value, is_value_of_kind, is_required_value_missing, option_value_from_place_and_letter, script_file, script_type, script_types}
 use Rattle.words_core.specs.declared.reading.AppletSite.{AppletSite}
 use Rattle.words_core.specs.declared.reading.OptionState.{OptionState}
 use Rattle.words_core.specs.declared.reading.Reading.{Reading}
 use Rattle.words_core.specs.declared.reading.Start.{Start}
-use Rattle.words_core.specs.Grammar.{applet_site, spelled_command_from_start, spelled_command, command_read, early_flags, is_double_dash, is_option, lacks_operand, lacks_word, start_of_command_line, option_reading, or_err_at, reading_after_applet, words_reading_from_parts, refused_operand, applet_site_at, site_after_end, applet_site_from_parts, start_after_site, start_with_early_flags, option_state_from_parts, unless_refused_at, command_of_reading, with_word_if_awaited}
+use Rattle.words_core.specs.Grammar.{applet_site, spelled_command_from_start, spelled_command, command_from_reading_parts, early_flags, is_double_dash, is_option, lacks_operand, lacks_word, start_of_command_line, option_reading, or_err_at, reading_after_applet, words_reading_from_parts, refused_operand, applet_site_of_word, site_after_end, applet_site_from_parts, start_after_site, start_with_early_flags, option_state_from_parts, unless_refused_at, command_of_reading, with_word_if_awaited}
 use Rattle.words_core.specs.Options.{OptionSpec, applet_of, applet_word, applets, is_early_option_word, options_of}
 use Rattle.words_core.specs.Stuck.{are_stuck_by, awaits_impossible_value, has_script, have_options_ended, has_all_possible_values, is_stuck, is_stuck_by, is_required_option_missing, are_options_of}
 use Rattle.words_core.proofs.GoneOn.{IsRemovedPackage, from_going}
@@ -41,7 +41,7 @@ IsBad applet reading = (end : ℕ) → (place : ℕ) × (command_of_reading end 
 pub unread_bad : (applet : Applet) (reading : Reading) (at : ℕ) → reading.unread ≡ Some at → IsBad applet reading
 unfolding command_of_reading
 unread_bad applet reading at u end =
-    let rest = if lacks_word applet (operand_rule applet reading.state.flags) reading then Err end else Ok (command_read end applet reading) in
+    let rest = if lacks_word applet (operand_rule applet reading.state.flags) reading then Err end else Ok (command_from_reading_parts end applet reading) in
     elim (refused_operand (operand_rule applet reading.state.flags) reading.operands) as (λ o. (place : ℕ) × (unless_refused_at (option_or o reading.unread) rest ≡ Err place)) [
       | None ↦ (at, ap (λ x. unless_refused_at x rest) u)
       | Some place ↦ (place, refl)
@@ -63,7 +63,7 @@ bad_by (Some at) lacking end command e = (at, refl)
 pub lacking_bad : (applet : Applet) (reading : Reading) → is_required_option_missing applet reading.state ≡ true → IsBad applet reading
 unfolding command_of_reading
 lacking_bad applet reading h end =
-    bad_by (option_or (refused_operand (operand_rule applet reading.state.flags) reading.operands) reading.unread) (lacks_word applet (operand_rule applet reading.state.flags) reading) end (command_read end applet reading) (lacks_by_option applet reading h)
+    bad_by (option_or (refused_operand (operand_rule applet reading.state.flags) reading.operands) reading.unread) (lacks_word applet (operand_rule applet reading.state.flags) reading) end (command_from_reading_parts end applet reading) (lacks_by_option applet reading h)
 
 -- a value of an option that can have no value more
 pub both_at : (p q : List ℕ → Bool) (xs : List (List ℕ)) → list_all p xs ≡ true → list_any q xs ≡ true → (x : List ℕ) × (p x ≡ true) × (q x ≡ true)
@@ -75,23 +75,23 @@ both_at p q (x ∷ xs) a h =
       | inr later ↦ both_at p q xs parts.1 later
     ]
 
-pub no_fit : (letter : ℕ) (single : Bool) (kind : ValueKind) (values : List OptionValue) (text : List ℕ) → has_all_possible_values kind letter values ≡ true → (is_value kind text && not (is_excluded_by_earlier_value (rule_by letter single kind) text values)) ≡ false
+pub no_fit : (letter : ℕ) (single : Bool) (kind : ValueKind) (values : List OptionValue) (text : List ℕ) → has_all_possible_values kind letter values ≡ true → (is_value_of_kind kind text && not (is_excluded_by_earlier_value (rule_by letter single kind) text values)) ≡ false
 no_fit letter single Script values text h =
     let excluded = is_excluded_by_earlier_value (rule_by letter single Script) text values in
-    elim (list_any (λ t. bytes_eq t (script_type text)) script_types) as (λ b. list_any (λ t. bytes_eq t (script_type text)) script_types ≡ b → ((b && is_file (script_file text)) && not excluded) ≡ false) [
+    elim (list_any (λ t. bytes_eq t (script_type text)) script_types) as (λ b. list_any (λ t. bytes_eq t (script_type text)) script_types ≡ b → ((b && is_file_argument (script_file text)) && not excluded) ≡ false) [
       | false ↦ λ e. refl
       | true ↦ λ e.
           let one = both_at (has_script letter values) (λ t. bytes_eq t (script_type text)) script_types h e in
           let same : one.0 ≡ script_type text = (bytes_eq-Decides one.0 (script_type text)).0 one.2 in
           let is : is_excluded_by_earlier_value (rule_by letter single Script) text values ≡ true = ap (has_script letter values) (sym same) ∙ one.1 in
-          and_right (is_file (script_file text)) _ (not_from_true excluded is)
+          and_right (is_file_argument (script_file text)) _ (not_from_true excluded is)
     ] refl
 no_fit letter single kind values text h = absurd (false≢true h)
 
 pub awaited_whole : (options : List OptionSpec) (state : OptionState) (end : ℕ) (rule : ValueRule) (more : List (List ℕ)) → state.awaiting ≡ Some rule → has_all_possible_values rule.kind rule.letter state.values ≡ true → option_reading options state end more ≡ words_reading_from_parts state [] (Some end)
 awaited_whole options state end rule [] a f = ap (λ o. words_reading_from_parts state [] (option_map (λ (r : ValueRule). end) o)) a
 awaited_whole options state end rule (word ∷ words) a f =
-    let next : OptionState = option_state_from_parts state.flags (state.values ++ (option_value end rule.letter word ∷ [])) None in
+    let next : OptionState = option_state_from_parts state.flags (state.values ++ (option_value_from_place_and_letter end rule.letter word ∷ [])) None in
     step_taken options state end word words None (awaited_taken state word rule a)
     (ap (with_word_if_awaited options state end word) a ∙ ap (λ b. if b then Some next else None) (no_fit rule.letter rule.single rule.kind state.values word f))
 
@@ -153,8 +153,8 @@ pub record IsNotFirst (words more : List (List ℕ)) (place : ℕ) (site : Apple
   pub names : applet_of word ≡ Some site.applet
   pub late : place + length words ≤ site.read
 
-named_later : (ended : Bool) (place at : ℕ) (words more : List (List ℕ)) (word : List ℕ) → at + length words ≤ place → IfOk (applet_site_at ended place word) (λ s. IsNotFirst words more at s)
-unfolding applet_site_at
+named_later : (ended : Bool) (place at : ℕ) (words more : List (List ℕ)) (word : List ℕ) → at + length words ≤ place → IfOk (applet_site_of_word ended place word) (λ s. IsNotFirst words more at s)
+unfolding applet_site_of_word
 named_later ended place at words more word l =
     elim (applet_of word) as (λ o. applet_of word ≡ o → IfOk (or_err_at place (λ applet. Ok (applet_site_from_parts ended place applet)) o) (λ s. IsNotFirst words more at s)) [
       | None ↦ λ e. tt
@@ -170,9 +170,9 @@ any_later : (place at : ℕ) (words more : List (List ℕ)) (left : List (List �
 any_later place at words more [] l = tt
 any_later place at words more (word ∷ left) l =
     let next : at + length words ≤ place + 1 = omega arith in
-    elim (is_double_dash word) as (λ b. IfOk (if b then site_after_end (place + 1) left else if is_option word then (if is_early_option_word word then applet_site (place + 1) left else Err place) else applet_site_at false place word) (λ s. IsNotFirst words more at s)) [
+    elim (is_double_dash word) as (λ b. IfOk (if b then site_after_end (place + 1) left else if is_option word then (if is_early_option_word word then applet_site (place + 1) left else Err place) else applet_site_of_word false place word) (λ s. IsNotFirst words more at s)) [
       | true ↦ end_later (place + 1) at words more left next
-      | false ↦ elim (is_option word) as (λ b. IfOk (if b then (if is_early_option_word word then applet_site (place + 1) left else Err place) else applet_site_at false place word) (λ s. IsNotFirst words more at s)) [
+      | false ↦ elim (is_option word) as (λ b. IfOk (if b then (if is_early_option_word word then applet_site (place + 1) left else Err place) else applet_site_of_word false place word) (λ s. IsNotFirst words more at s)) [
         | true ↦ elim (is_early_option_word word) as (λ b. IfOk (if b then applet_site (place + 1) left else Err place) (λ s. IsNotFirst words more at s)) [
           | true ↦ any_later (place + 1) at words more left next
           | false ↦ tt

@@ -11,8 +11,8 @@ use Rattle.command_core.specs.Operands.{first_refused_operand, operand_at}
 use Rattle.words_core.specs.declared.reading.OptionState.{OptionState}
 use Rattle.words_core.specs.declared.reading.Reading.{Reading}
 use Rattle.words_core.specs.declared.reading.Start.{Start}
-use Rattle.words_core.specs.Grammar.{spelled_command_from_start, spelled_command, command_read, option_state_at_start, is_double_dash, is_option_or_value, lacks_word, start_of_command_line, operands_of, option_reading, or_stop_at_unread_word, reading_after_applet, words_reading_from_parts, refused_operand, unless_refused_at, command_of_reading, with_operand, with_option_or_value_word}
-use Rattle.words_core.specs.Kinds.{can_info_kind_follow, can_info_kind_follow_start}
+use Rattle.words_core.specs.Grammar.{spelled_command_from_start, spelled_command, command_from_reading_parts, option_state_at_start, is_double_dash, is_option_or_value, lacks_word, start_of_command_line, operands_of, option_reading, or_stop_at_unread_word, reading_after_applet, words_reading_from_parts, refused_operand, unless_refused_at, command_of_reading, with_operand, with_option_or_value_word}
+use Rattle.words_core.specs.Kinds.{can_info_kind_follow, can_started_words_get_info_kind}
 use Rattle.words_core.specs.Options.{OptionSpec, options_of}
 use Rattle.words_core.proofs.KindsKept.{IsPlain, start_known}
 use Rattle.words_core.proofs.MoreWords.{drop_append, operands_append}
@@ -84,12 +84,12 @@ IsGood applet reading = (rule : OperandRule) × (operand_rule applet reading.sta
 pub good_of : (applet : Applet) (reading : Reading) (behind : ℕ) (command : CommandLine) → command_of_reading behind applet reading ≡ Ok command → IsGood applet reading
 unfolding command_of_reading
 good_of applet reading behind command h =
-    elim (operand_rule applet reading.state.flags) as (λ r. operand_rule applet reading.state.flags ≡ r → unless_refused_at (option_or (refused_operand r reading.operands) reading.unread) (if lacks_word applet r reading then Err behind else Ok (command_read behind applet reading)) ≡ Ok command → IsGood applet reading) [
+    elim (operand_rule applet reading.state.flags) as (λ r. operand_rule applet reading.state.flags ≡ r → unless_refused_at (option_or (refused_operand r reading.operands) reading.unread) (if lacks_word applet r reading then Err behind else Ok (command_from_reading_parts behind applet reading)) ≡ Ok command → IsGood applet reading) [
       | None ↦ λ r. elim reading.unread as (λ u. unless_refused_at (option_or None u) (Err behind) ≡ Ok command → IsGood applet reading) [
         | None ↦ λ (e : Err behind ≡ Ok command). absurd (cc)
         | Some at ↦ λ (e : Err at ≡ Ok command). absurd (cc)
       ]
-      | Some rule ↦ λ r. elim (option_or (first_refused_operand rule 0 reading.operands) reading.unread) as (λ o. option_or (first_refused_operand rule 0 reading.operands) reading.unread ≡ o → unless_refused_at o (if lacks_word applet (Some rule) reading then Err behind else Ok (command_read behind applet reading)) ≡ Ok command → IsGood applet reading) [
+      | Some rule ↦ λ r. elim (option_or (first_refused_operand rule 0 reading.operands) reading.unread) as (λ o. option_or (first_refused_operand rule 0 reading.operands) reading.unread ≡ o → unless_refused_at o (if lacks_word applet (Some rule) reading then Err behind else Ok (command_from_reading_parts behind applet reading)) ≡ Ok command → IsGood applet reading) [
         | None ↦ λ o e. (let both = both_none (first_refused_operand rule 0 reading.operands) reading.unread o in (rule, r, both.0, both.1))
         | Some at ↦ λ o (e : Err at ≡ Ok command). absurd (cc)
       ] refl
@@ -103,7 +103,7 @@ offends_after words more command place k c h =
       | Ok start ↦ λ s e. by_start start s e
     ] refl c
   where
-    rule_goes : (start : Start) → IsPlain start (1 + length words) → can_info_kind_follow_start words start ≡ false → (rule : OperandRule) → operand_rule start.applet (reading_after_applet start words).state.flags ≡ Some rule → (reading_after_applet start words).unread ≡ None
+    rule_goes : (start : Start) → IsPlain start (1 + length words) → can_started_words_get_info_kind words start ≡ false → (rule : OperandRule) → operand_rule start.applet (reading_after_applet start words).state.flags ≡ Some rule → (reading_after_applet start words).unread ≡ None
         → operand_rule start.applet (reading_after_applet start (words ++ more)).state.flags ≡ Some rule
     rule_goes start known fixed rule r u =
         elim (longer_or_same words more start known fixed) as (λ _. operand_rule start.applet (reading_after_applet start (words ++ more)).state.flags ≡ Some rule) [
@@ -111,7 +111,7 @@ offends_after words more command place k c h =
           | inr long ↦ long.rule rule r
         ]
 
-    by_first : (start : Start) → IsPlain start (1 + length words) → can_info_kind_follow_start words start ≡ false → IsGood start.applet (reading_after_applet start words) → option_or (refused_operand (operand_rule start.applet (reading_after_applet start (words ++ more)).state.flags) (reading_after_applet start (words ++ more)).operands) (reading_after_applet start (words ++ more)).unread ≡ Some place → length words < place
+    by_first : (start : Start) → IsPlain start (1 + length words) → can_started_words_get_info_kind words start ≡ false → IsGood start.applet (reading_after_applet start words) → option_or (refused_operand (operand_rule start.applet (reading_after_applet start (words ++ more)).state.flags) (reading_after_applet start (words ++ more)).operands) (reading_after_applet start (words ++ more)).unread ≡ Some place → length words < place
     by_first start known fixed good first =
         let low : start.read ≤ length words = omega (arith, known.read) in
         let longer = reading_after_applet start (words ++ more) in

@@ -29,11 +29,11 @@ use Rattle.command_core.specs.Sound.{allowed_flags, may_have_flags, are_flags_al
 use Rattle.command_core.specs.Command.{CommandLine}
 use Rattle.command_core.specs.Flags.{has_flag, has_command_kind_flag, kinds, with_flag}
 use Rattle.command_core.specs.Operands.{at_least, exactly, first_refused_operand, is_operand_of_kind, operand_at, takes}
-use Rattle.command_core.specs.Values.{excludes, is_excluded_by_earlier_value, is_given, is_script, is_value, is_required_value_missing, option_value, output_rule, script_type, script_types}
+use Rattle.command_core.specs.Values.{excludes, is_excluded_by_earlier_value, is_given, is_script_argument, is_value_of_kind, is_required_value_missing, option_value_from_place_and_letter, output_rule, script_type, script_types}
 use Rattle.words_core.specs.declared.reading.OptionState.{OptionState}
 use Rattle.words_core.specs.declared.reading.Reading.{Reading}
 use Rattle.words_core.specs.declared.reading.Start.{Start}
-use Rattle.words_core.specs.Grammar.{spelled_command_from_start, spelled_command, command_read, attached_value, lacks_word, start_of_command_line, operands_of, option_name, option_reading, reading_after_applet, words_reading_from_parts, refused_operand, option_state_from_parts, command_of_reading, with_operand, with_word_if_awaited}
+use Rattle.words_core.specs.Grammar.{spelled_command_from_start, spelled_command, command_from_reading_parts, attached_value, lacks_word, start_of_command_line, operands_of, option_name, option_reading, reading_after_applet, words_reading_from_parts, refused_operand, option_state_from_parts, command_of_reading, with_operand, with_word_if_awaited}
 use Rattle.words_core.specs.Options.{OptionSpec, common_options, options_of}
 use Rattle.words_core.specs.Stuck.{awaits_impossible_value, has_script, have_options_ended, has_all_possible_values, is_stuck, is_required_option_missing}
 use Rattle.words_core.proofs.GivenKept.{from_kept}
@@ -60,12 +60,12 @@ pub one_more : (os : List Operand) (o : Operand) → nat_lt (length (os ++ (o �
 one_more [] o = refl
 one_more (p ∷ os) o = le-ltb (length (p ∷ (os ++ (o ∷ [])))) 1 (omega arith)
 
-pub judged_good : (applet : Applet) (reading : Reading) (end : ℕ) → refused_operand (operand_rule applet reading.state.flags) reading.operands ≡ None → reading.unread ≡ None → lacks_word applet (operand_rule applet reading.state.flags) reading ≡ false → command_of_reading end applet reading ≡ Ok (command_read end applet reading)
+pub judged_good : (applet : Applet) (reading : Reading) (end : ℕ) → refused_operand (operand_rule applet reading.state.flags) reading.operands ≡ None → reading.unread ≡ None → lacks_word applet (operand_rule applet reading.state.flags) reading ≡ false → command_of_reading end applet reading ≡ Ok (command_from_reading_parts end applet reading)
 unfolding command_of_reading
 judged_good applet reading end taken u enough = rw taken (rw u (rw enough refl))
 
 abbrev pub IsJudgedGood : Applet → Reading → Type 0
-IsJudgedGood applet reading = (end : ℕ) → command_of_reading end applet reading ≡ Ok (command_read end applet reading)
+IsJudgedGood applet reading = (end : ℕ) → command_of_reading end applet reading ≡ Ok (command_from_reading_parts end applet reading)
 
 -- ---- operands that can follow
 
@@ -220,7 +220,7 @@ abbrev pub rule_by : ℕ → Bool → ValueKind → ValueRule
 rule_by letter single kind = record { letter = letter; single = single; kind = kind }
 
 abbrev pub IsFitting : ValueRule → List OptionValue → List ℕ → Type 0
-IsFitting rule values text = (is_value rule.kind text && not (is_excluded_by_earlier_value rule text values)) ≡ true
+IsFitting rule values text = (is_value_of_kind rule.kind text && not (is_excluded_by_earlier_value rule text values)) ≡ true
 
 pub none_excluded : (letter : ℕ) (kind : ValueKind) (text : List ℕ) (values : List OptionValue) → ((a b : List ℕ) → excludes kind a b ≡ false) → list_any (λ (v : OptionValue). (v.letter == letter) && excludes kind v.text text) values ≡ false
 none_excluded letter kind text [] n = refl
@@ -241,7 +241,7 @@ abbrev pub a_script : List ℕ → List ℕ
 a_script t = t ++ codes ":a"
 
 abbrev pub is_its_script : List ℕ → Bool
-is_its_script t = is_script (a_script t) && bytes_eq (script_type (a_script t)) t
+is_its_script t = is_script_argument (a_script t) && bytes_eq (script_type (a_script t)) t
 
 pub all_scripts : list_all is_its_script script_types ≡ true
 unfolding is_name is_utf8 chars encode
@@ -249,9 +249,9 @@ all_scripts = refl
 
 pub script_fits : (letter : ℕ) (single : Bool) (values : List OptionValue) (t : List ℕ) → is_its_script t ≡ true → has_script letter values t ≡ false → IsFitting (rule_by letter single Script) values (a_script t)
 script_fits letter single values t is none =
-    let parts = and_parts (is_script (a_script t)) (bytes_eq (script_type (a_script t)) t) is in
+    let parts = and_parts (is_script_argument (a_script t)) (bytes_eq (script_type (a_script t)) t) is in
     let same : script_type (a_script t) ≡ t = (bytes_eq-Decides (script_type (a_script t)) t).0 parts.1 in
-    and_from (is_script (a_script t)) _ parts.0 (not_from_false _ (ap (has_script letter values) same ∙ none))
+    and_from (is_script_argument (a_script t)) _ parts.0 (not_from_false _ (ap (has_script letter values) same ∙ none))
 
 pub fitting : (letter : ℕ) (single : Bool) (kind : ValueKind) (values : List OptionValue) → has_all_possible_values kind letter values ≡ false → (text : List ℕ) × IsFitting (rule_by letter single kind) values text
 unfolding is_name is_utf8 chars encode
@@ -262,9 +262,9 @@ fitting letter single Output values h = (codes "a", not_from_false _ (none_exclu
 fitting letter single Uncompressed values h = (codes "none", not_from_false _ (none_excluded letter Uncompressed (codes "none") values (λ a b. refl)))
 fitting letter single Script values h = (let some = some_fails (has_script letter values) is_its_script script_types all_scripts h in (a_script some.0, script_fits letter single values some.0 some.1 some.2))
 
-pub value_read : (options : List OptionSpec) (state : OptionState) (at : ℕ) (text : List ℕ) (rule : ValueRule) (more : List (List ℕ)) → state.awaiting ≡ Some rule → IsFitting rule state.values text → option_reading options state at (text ∷ more) ≡ option_reading options (option_state_from_parts state.flags (state.values ++ (option_value at rule.letter text ∷ [])) None) (at + 1) more
+pub value_read : (options : List OptionSpec) (state : OptionState) (at : ℕ) (text : List ℕ) (rule : ValueRule) (more : List (List ℕ)) → state.awaiting ≡ Some rule → IsFitting rule state.values text → option_reading options state at (text ∷ more) ≡ option_reading options (option_state_from_parts state.flags (state.values ++ (option_value_from_place_and_letter at rule.letter text ∷ [])) None) (at + 1) more
 value_read options state at text rule more a f =
-    let next : OptionState = option_state_from_parts state.flags (state.values ++ (option_value at rule.letter text ∷ [])) None in
+    let next : OptionState = option_state_from_parts state.flags (state.values ++ (option_value_from_place_and_letter at rule.letter text ∷ [])) None in
     step_taken options state at text more (Some next) (awaited_taken state text rule a)
     (ap (with_word_if_awaited options state at text) a ∙ ap (λ b. if b then Some next else None) f)
 
@@ -277,7 +277,7 @@ gone_on applet flags values os at more = behind os (option_reading (options_of a
 abbrev pub CanGoOn : Applet → Flags → List OptionValue → List Operand → ℕ → Type 0
 CanGoOn applet flags values os at = (more : List (List ℕ)) × IsJudgedGood applet (gone_on applet flags values os at more)
 
-pub output_read : (flags : Flags) (values : List OptionValue) (at : ℕ) → is_given OUTPUT values ≡ false → option_reading (options_of Mkndx) (option_state_from_parts flags values None) at (codes "-o" ∷ (codes "a" ∷ [])) ≡ words_reading_from_parts (option_state_from_parts flags (values ++ (option_value (at + 1) OUTPUT (codes "a") ∷ [])) None) [] None
+pub output_read : (flags : Flags) (values : List OptionValue) (at : ℕ) → is_given OUTPUT values ≡ false → option_reading (options_of Mkndx) (option_state_from_parts flags values None) at (codes "-o" ∷ (codes "a" ∷ [])) ≡ words_reading_from_parts (option_state_from_parts flags (values ++ (option_value_from_place_and_letter (at + 1) OUTPUT (codes "a") ∷ [])) None) [] None
 unfolding common_options options_of option_name attached_value is_name is_utf8 chars encode
 output_read flags values at g =
     step_taken (options_of Mkndx) (option_state_from_parts flags values None) at (codes "-o") (codes "a" ∷ []) (Some (option_state_from_parts flags values (Some output_rule))) refl
@@ -285,7 +285,7 @@ output_read flags values at g =
     ∙ value_read (options_of Mkndx) (option_state_from_parts flags values (Some output_rule)) (at + 1) (codes "a") output_rule [] refl
     (not_from_false _ (none_excluded OUTPUT Output (codes "a") values (λ a b. refl)))
 
-pub given_last : (place letter : ℕ) (text : List ℕ) (values : List OptionValue) → (letter == letter) ≡ true → is_given letter (values ++ (option_value place letter text ∷ [])) ≡ true
+pub given_last : (place letter : ℕ) (text : List ℕ) (values : List OptionValue) → (letter == letter) ≡ true → is_given letter (values ++ (option_value_from_place_and_letter place letter text ∷ [])) ≡ true
 given_last place letter text [] e = rw e refl
 given_last place letter text (v ∷ vs) e = or_right (v.letter == letter) _ (given_last place letter text vs e)
 
@@ -318,7 +318,7 @@ texts_taken before (o ∷ os) = texts_taken (before + 1) os
 pub options_follow : (applet : Applet) (flags : Flags) (values : List OptionValue) (os : List Operand) (at : ℕ) → may_have_flags applet flags ≡ true → is_required_option_missing applet (option_state_from_parts flags values None) ≡ true → refused_operand (operand_rule applet flags) os ≡ None → CanGoOn applet flags values os at
 unfolding common_options options_of option_name attached_value
 options_follow Mkndx flags values os at m k h =
-    let more : List OptionValue = values ++ (option_value (at + 1) OUTPUT (codes "a") ∷ []) in
+    let more : List OptionValue = values ++ (option_value_from_place_and_letter (at + 1) OUTPUT (codes "a") ∷ []) in
     (codes "-o" ∷ (codes "a" ∷ []), subst (λ r. IsJudgedGood Mkndx (behind os r)) (sym (output_read flags values at (not-true (is_given OUTPUT values) k))) (index_good (option_state_from_parts flags more None) os h (given_last (at + 1) OUTPUT (codes "a") values refl)))
 options_follow Version flags values os at m k h =
     let none = no_kind flags (lacks_kind flags k) in
@@ -421,7 +421,7 @@ completed_from words start k s h = by_going (from_going start words low)
     complete : (more : List (List ℕ)) → IsJudgedGood start.applet (reading_after_applet start (words ++ more)) → CanBeCompleted words
     complete more good = (
       more,
-      command_read (length (words ++ more) + 1) start.applet (reading_after_applet start (words ++ more)),
+      command_from_reading_parts (length (words ++ more) + 1) start.applet (reading_after_applet start (words ++ more)),
       ap (spelled_command_from_start (words ++ more)) (start_stays words more start s) ∙ good (length (words ++ more) + 1),
     )
 
@@ -431,7 +431,7 @@ completed_from words start k s h = by_going (from_going start words low)
         complete can.0 (subst (λ r. IsJudgedGood start.applet r) (sym (on can.0 ∙ ap (λ o. behind reading.operands (option_reading options (option_state_from_parts reading.state.flags reading.state.values o) end can.0)) a)) can.1)
     by_awaiting (Some rule) a on =
         let text = fitting rule.letter rule.single rule.kind reading.state.values (ap (λ o. awaits_impossible_value o reading.state.values) (sym a) ∙ free.1) in
-        let can = can_go_on start.applet reading.state.flags (reading.state.values ++ (option_value end rule.letter text.0 ∷ [])) reading.operands (end + 1) own taken in
+        let can = can_go_on start.applet reading.state.flags (reading.state.values ++ (option_value_from_place_and_letter end rule.letter text.0 ∷ [])) reading.operands (end + 1) own taken in
         complete (text.0 ∷ can.0) (subst (λ r. IsJudgedGood start.applet r) (sym (on (text.0 ∷ can.0) ∙ ap (behind reading.operands) (value_read options reading.state end text.0 rule can.0 a text.1))) can.1)
 
     by_going : IsRemovedPackage options end ended reading (λ more. reading_after_applet start (words ++ more)) → CanBeCompleted words

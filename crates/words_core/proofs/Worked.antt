@@ -12,11 +12,11 @@ use Rattle.command_core.specs.declared.values.ValueKind.TheVariants.{Any, File, 
 use Rattle.command_core.specs.declared.values.ValueRule.{ValueRule}
 use Rattle.command_core.specs.Flags.{no_flags, with_flag}
 use Rattle.command_core.specs.Operands.{operand_at}
-use Rattle.command_core.specs.Values.{is_value, option_value}
+use Rattle.command_core.specs.Values.{is_value_of_kind, option_value_from_place_and_letter}
 use Rattle.words_core.specs.declared.options.Meaning.TheVariants.{Flag as Plain, Kind, Value}
 use Rattle.words_core.specs.declared.reading.OptionState.{OptionState}
 use Rattle.words_core.specs.declared.reading.Reading.{Reading}
-use Rattle.words_core.specs.Grammar.{command_of, option_state_at_start, attached_value, spelled_command, option_name, option_reading, reading_after_applet, words_reading_from_parts, applet_site_at, site_after_end, option_state_from_parts, command_of_reading}
+use Rattle.words_core.specs.Grammar.{command_of, option_state_at_start, attached_value, spelled_command, option_name, option_reading, reading_after_applet, words_reading_from_parts, applet_site_of_word, site_after_end, option_state_from_parts, command_of_reading}
 use Rattle.words_core.specs.Kinds.{can_info_kind_follow}
 use Rattle.words_core.specs.Options.{OptionSpec, common_options, early_option_words, options_of}
 use Rattle.words_core.specs.Stuck.{are_stuck}
@@ -56,50 +56,50 @@ up_to values place = words_reading_from_parts (giving values) [] (Some place)
 
 -- ---- where the value of an option is, and whose place it has
 
-after_short : read (codes "-o" ∷ (codes "a" ∷ [])) ≡ whole (option_value 3 OUTPUT (codes "a") ∷ [])
+after_short : read (codes "-o" ∷ (codes "a" ∷ [])) ≡ whole (option_value_from_place_and_letter 3 OUTPUT (codes "a") ∷ [])
 unfolding option_name attached_value
 after_short = refl
 
-in_short : read (codes "-oa" ∷ []) ≡ whole (option_value 2 OUTPUT (codes "a") ∷ [])
+in_short : read (codes "-oa" ∷ []) ≡ whole (option_value_from_place_and_letter 2 OUTPUT (codes "a") ∷ [])
 unfolding option_name attached_value
 in_short = refl
 
-after_long : read (codes "--output" ∷ (codes "a" ∷ [])) ≡ whole (option_value 3 OUTPUT (codes "a") ∷ [])
+after_long : read (codes "--output" ∷ (codes "a" ∷ [])) ≡ whole (option_value_from_place_and_letter 3 OUTPUT (codes "a") ∷ [])
 unfolding option_name attached_value
 after_long = refl
 
-in_long : read (codes "--output=a" ∷ []) ≡ whole (option_value 2 OUTPUT (codes "a") ∷ [])
+in_long : read (codes "--output=a" ∷ []) ≡ whole (option_value_from_place_and_letter 2 OUTPUT (codes "a") ∷ [])
 unfolding option_name attached_value
 in_long = refl
 
 -- what is behind the first `=` is the value, and behind a letter even the `=` is of it
-empty_in_long : read (codes "--output=" ∷ []) ≡ whole (option_value 2 OUTPUT [] ∷ [])
+empty_in_long : read (codes "--output=" ∷ []) ≡ whole (option_value_from_place_and_letter 2 OUTPUT [] ∷ [])
 unfolding option_name attached_value
 empty_in_long = refl
 
-equals_in_long : read (codes "--output=a=b" ∷ []) ≡ whole (option_value 2 OUTPUT (codes "a=b") ∷ [])
+equals_in_long : read (codes "--output=a=b" ∷ []) ≡ whole (option_value_from_place_and_letter 2 OUTPUT (codes "a=b") ∷ [])
 unfolding option_name attached_value
 equals_in_long = refl
 
-equals_in_short : read (codes "-o=a" ∷ []) ≡ whole (option_value 2 OUTPUT (codes "=a") ∷ [])
+equals_in_short : read (codes "-o=a" ∷ []) ≡ whole (option_value_from_place_and_letter 2 OUTPUT (codes "=a") ∷ [])
 unfolding option_name attached_value
 equals_in_short = refl
 
 -- the word behind an option is its value, whatever it looks like
-end_is_value : read (codes "-o" ∷ (codes "--" ∷ [])) ≡ whole (option_value 3 OUTPUT (codes "--") ∷ [])
+end_is_value : read (codes "-o" ∷ (codes "--" ∷ [])) ≡ whole (option_value_from_place_and_letter 3 OUTPUT (codes "--") ∷ [])
 unfolding option_name attached_value
 end_is_value = refl
 
-option_is_value : read (codes "-o" ∷ (codes "-o" ∷ [])) ≡ whole (option_value 3 OUTPUT (codes "-o") ∷ [])
+option_is_value : read (codes "-o" ∷ (codes "-o" ∷ [])) ≡ whole (option_value_from_place_and_letter 3 OUTPUT (codes "-o") ∷ [])
 unfolding option_name attached_value
 option_is_value = refl
 
-empty_is_value : read (codes "-o" ∷ ([] ∷ [])) ≡ whole (option_value 3 OUTPUT [] ∷ [])
+empty_is_value : read (codes "-o" ∷ ([] ∷ [])) ≡ whole (option_value_from_place_and_letter 3 OUTPUT [] ∷ [])
 unfolding option_name attached_value
 empty_is_value = refl
 
 -- and behind a value that its word holds comes the next word: an operand, or the end of the options
-operands_after : read (codes "-oa" ∷ (codes "b" ∷ (codes "--" ∷ (codes "-o" ∷ [])))) ≡ words_reading_from_parts (giving (option_value 2 OUTPUT (codes "a") ∷ [])) (operand_at 3 (codes "b") ∷ (operand_at 5 (codes "-o") ∷ [])) None
+operands_after : read (codes "-oa" ∷ (codes "b" ∷ (codes "--" ∷ (codes "-o" ∷ [])))) ≡ words_reading_from_parts (giving (option_value_from_place_and_letter 2 OUTPUT (codes "a") ∷ [])) (operand_at 3 (codes "b") ∷ (operand_at 5 (codes "-o") ∷ [])) None
 unfolding option_name attached_value
 operands_after = refl
 
@@ -109,43 +109,43 @@ missing : read (codes "-o" ∷ []) ≡ words_reading_from_parts (option_state_fr
 unfolding option_name attached_value
 missing = refl
 
-missing_after_others : read (codes "b" ∷ (codes "-oa" ∷ (codes "--info" ∷ []))) ≡ words_reading_from_parts (option_state_from_parts no_flags (option_value 3 OUTPUT (codes "a") ∷ []) (Some info)) (operand_at 2 (codes "b") ∷ []) (Some 5)
+missing_after_others : read (codes "b" ∷ (codes "-oa" ∷ (codes "--info" ∷ []))) ≡ words_reading_from_parts (option_state_from_parts no_flags (option_value_from_place_and_letter 3 OUTPUT (codes "a") ∷ []) (Some info)) (operand_at 2 (codes "b") ∷ []) (Some 5)
 unfolding option_name attached_value
 missing_after_others = refl
 
 -- ---- which options may stand again
 
-single_twice : read (codes "-o" ∷ (codes "a" ∷ (codes "-o" ∷ (codes "b" ∷ [])))) ≡ up_to (option_value 3 OUTPUT (codes "a") ∷ []) 4
+single_twice : read (codes "-o" ∷ (codes "a" ∷ (codes "-o" ∷ (codes "b" ∷ [])))) ≡ up_to (option_value_from_place_and_letter 3 OUTPUT (codes "a") ∷ []) 4
 unfolding option_name attached_value
 single_twice = refl
 
-single_twice_at_end : read (codes "-o" ∷ (codes "a" ∷ (codes "-o" ∷ []))) ≡ up_to (option_value 3 OUTPUT (codes "a") ∷ []) 4
+single_twice_at_end : read (codes "-o" ∷ (codes "a" ∷ (codes "-o" ∷ []))) ≡ up_to (option_value_from_place_and_letter 3 OUTPUT (codes "a") ∷ []) 4
 unfolding option_name attached_value
 single_twice_at_end = refl
 
-single_in_both_words : read (codes "--output=a" ∷ (codes "-oa" ∷ [])) ≡ up_to (option_value 2 OUTPUT (codes "a") ∷ []) 3
+single_in_both_words : read (codes "--output=a" ∷ (codes "-oa" ∷ [])) ≡ up_to (option_value_from_place_and_letter 2 OUTPUT (codes "a") ∷ []) 3
 unfolding option_name attached_value
 single_in_both_words = refl
 
-repeated : read (codes "-I" ∷ (codes "a" ∷ (codes "-Ia" ∷ (codes "--info=b" ∷ [])))) ≡ whole (option_value 3 73 (codes "a") ∷ (option_value 4 73 (codes "a") ∷ (option_value 5 73 (codes "b") ∷ [])))
+repeated : read (codes "-I" ∷ (codes "a" ∷ (codes "-Ia" ∷ (codes "--info=b" ∷ [])))) ≡ whole (option_value_from_place_and_letter 3 73 (codes "a") ∷ (option_value_from_place_and_letter 4 73 (codes "a") ∷ (option_value_from_place_and_letter 5 73 (codes "b") ∷ [])))
 unfolding option_name attached_value
 repeated = refl
 
-two_options : read (codes "-Ia" ∷ (codes "-ob" ∷ [])) ≡ whole (option_value 2 73 (codes "a") ∷ (option_value 3 OUTPUT (codes "b") ∷ []))
+two_options : read (codes "-Ia" ∷ (codes "-ob" ∷ [])) ≡ whole (option_value_from_place_and_letter 2 73 (codes "a") ∷ (option_value_from_place_and_letter 3 OUTPUT (codes "b") ∷ []))
 unfolding option_name attached_value
 two_options = refl
 
 -- ---- scripts: one of a type
 
-scripts : read (codes "-s" ∷ (codes "trigger:a" ∷ (codes "--script=pre-install:./a" ∷ []))) ≡ whole (option_value 3 115 (codes "trigger:a") ∷ (option_value 4 115 (codes "pre-install:./a") ∷ []))
+scripts : read (codes "-s" ∷ (codes "trigger:a" ∷ (codes "--script=pre-install:./a" ∷ []))) ≡ whole (option_value_from_place_and_letter 3 115 (codes "trigger:a") ∷ (option_value_from_place_and_letter 4 115 (codes "pre-install:./a") ∷ []))
 unfolding option_name attached_value is_name is_utf8 chars encode
 scripts = refl
 
-type_twice : read (codes "-s" ∷ (codes "trigger:a" ∷ (codes "-s" ∷ (codes "trigger:b" ∷ [])))) ≡ words_reading_from_parts (option_state_from_parts no_flags (option_value 3 115 (codes "trigger:a") ∷ []) (Some (record { letter = 115; single = false; kind = Script }))) [] (Some 5)
+type_twice : read (codes "-s" ∷ (codes "trigger:a" ∷ (codes "-s" ∷ (codes "trigger:b" ∷ [])))) ≡ words_reading_from_parts (option_state_from_parts no_flags (option_value_from_place_and_letter 3 115 (codes "trigger:a") ∷ []) (Some (record { letter = 115; single = false; kind = Script }))) [] (Some 5)
 unfolding option_name attached_value is_name is_utf8 chars encode
 type_twice = refl
 
-type_twice_in_word : read (codes "-strigger:a" ∷ (codes "-strigger:a" ∷ [])) ≡ up_to (option_value 2 115 (codes "trigger:a") ∷ []) 3
+type_twice_in_word : read (codes "-strigger:a" ∷ (codes "-strigger:a" ∷ [])) ≡ up_to (option_value_from_place_and_letter 2 115 (codes "trigger:a") ∷ []) 3
 unfolding option_name attached_value is_name is_utf8 chars encode
 type_twice_in_word = refl
 
@@ -171,7 +171,7 @@ empty_after : read (codes "-I" ∷ ([] ∷ [])) ≡ words_reading_from_parts (op
 unfolding option_name attached_value
 empty_after = refl
 
-bad_in_long : read (codes "-Ia" ∷ (codes "--info=" ∷ [])) ≡ up_to (option_value 2 73 (codes "a") ∷ []) 3
+bad_in_long : read (codes "-Ia" ∷ (codes "--info=" ∷ [])) ≡ up_to (option_value_from_place_and_letter 2 73 (codes "a") ∷ []) 3
 unfolding option_name attached_value
 bad_in_long = refl
 
@@ -193,27 +193,27 @@ flag_alone : read (codes "-t" ∷ (codes "a" ∷ [])) ≡ words_reading_from_par
 unfolding option_name attached_value
 flag_alone = refl
 
-no_option : read (codes "-oa" ∷ (codes "--outpu=b" ∷ [])) ≡ up_to (option_value 2 OUTPUT (codes "a") ∷ []) 3
+no_option : read (codes "-oa" ∷ (codes "--outpu=b" ∷ [])) ≡ up_to (option_value_from_place_and_letter 2 OUTPUT (codes "a") ∷ []) 3
 unfolding option_name attached_value
 no_option = refl
 
 -- ---- kinds of values
 
-none_is_uncompressed : is_value Uncompressed (codes "none") ≡ true
+none_is_uncompressed : is_value_of_kind Uncompressed (codes "none") ≡ true
 none_is_uncompressed = refl
 
-level_is_not : is_value Uncompressed (codes "none:9") ≡ false
+level_is_not : is_value_of_kind Uncompressed (codes "none:9") ≡ false
 level_is_not = refl
 
-output_of_1016 : is_value Output (codes "./" ++ repeat 1016 (codes "a")) ≡ true
+output_of_1016 : is_value_of_kind Output (codes "./" ++ repeat 1016 (codes "a")) ≡ true
 unfolding is_name is_utf8 chars encode
 output_of_1016 = refl
 
-output_of_1017 : is_value Output (repeat 1017 (codes "a")) ≡ false
+output_of_1017 : is_value_of_kind Output (repeat 1017 (codes "a")) ≡ false
 unfolding is_name is_utf8 chars encode
 output_of_1017 = refl
 
-file_of_1017 : is_value File (repeat 1017 (codes "a")) ≡ true
+file_of_1017 : is_value_of_kind File (repeat 1017 (codes "a")) ≡ true
 unfolding is_name is_utf8 chars encode
 file_of_1017 = refl
 
@@ -221,108 +221,108 @@ file_of_1017 = refl
 
 -- the options have ended, and the kind is lacking
 no_kind_follows : are_stuck (codes "version" ∷ (codes "a" ∷ (codes "--" ∷ []))) ≡ true
-unfolding are_stuck command_of spelled_command command_of_reading reading_after_applet applet_site_at site_after_end early_option_words common_options options_of option_name attached_value is_name is_utf8 chars encode
+unfolding are_stuck command_of spelled_command command_of_reading reading_after_applet applet_site_of_word site_after_end early_option_words common_options options_of option_name attached_value is_name is_utf8 chars encode
 no_kind_follows = refl
 
 no_kind_follows_early : are_stuck (codes "--" ∷ (codes "version" ∷ [])) ≡ true
-unfolding are_stuck command_of spelled_command command_of_reading reading_after_applet applet_site_at site_after_end early_option_words common_options options_of option_name attached_value is_name is_utf8 chars encode
+unfolding are_stuck command_of spelled_command command_of_reading reading_after_applet applet_site_of_word site_after_end early_option_words common_options options_of option_name attached_value is_name is_utf8 chars encode
 no_kind_follows_early = refl
 
 kind_is_given : are_stuck (codes "version" ∷ (codes "-t" ∷ (codes "--" ∷ (codes "a" ∷ [])))) ≡ false
-unfolding are_stuck command_of spelled_command command_of_reading reading_after_applet applet_site_at site_after_end early_option_words common_options options_of option_name attached_value is_name is_utf8 chars encode
+unfolding are_stuck command_of spelled_command command_of_reading reading_after_applet applet_site_of_word site_after_end early_option_words common_options options_of option_name attached_value is_name is_utf8 chars encode
 kind_is_given = refl
 
 kind_follows : are_stuck (codes "version" ∷ (codes "a" ∷ [])) ≡ false
-unfolding are_stuck command_of spelled_command command_of_reading reading_after_applet applet_site_at site_after_end early_option_words common_options options_of option_name attached_value is_name is_utf8 chars encode
+unfolding are_stuck command_of spelled_command command_of_reading reading_after_applet applet_site_of_word site_after_end early_option_words common_options options_of option_name attached_value is_name is_utf8 chars encode
 kind_follows = refl
 
 no_output_follows : are_stuck (codes "mkndx" ∷ (codes "--" ∷ (codes "a" ∷ []))) ≡ true
-unfolding are_stuck command_of spelled_command command_of_reading reading_after_applet applet_site_at site_after_end early_option_words common_options options_of option_name attached_value is_name is_utf8 chars encode
+unfolding are_stuck command_of spelled_command command_of_reading reading_after_applet applet_site_of_word site_after_end early_option_words common_options options_of option_name attached_value is_name is_utf8 chars encode
 no_output_follows = refl
 
 output_is_given : are_stuck (codes "mkndx" ∷ (codes "-oi" ∷ (codes "--" ∷ []))) ≡ false
-unfolding are_stuck command_of spelled_command command_of_reading reading_after_applet applet_site_at site_after_end early_option_words common_options options_of option_name attached_value is_name is_utf8 chars encode
+unfolding are_stuck command_of spelled_command command_of_reading reading_after_applet applet_site_of_word site_after_end early_option_words common_options options_of option_name attached_value is_name is_utf8 chars encode
 output_is_given = refl
 
 -- `--` as a value ends nothing
 end_as_value : are_stuck (codes "mkndx" ∷ (codes "-d" ∷ (codes "--" ∷ []))) ≡ false
-unfolding are_stuck command_of spelled_command command_of_reading reading_after_applet applet_site_at site_after_end early_option_words common_options options_of option_name attached_value is_name is_utf8 chars encode
+unfolding are_stuck command_of spelled_command command_of_reading reading_after_applet applet_site_of_word site_after_end early_option_words common_options options_of option_name attached_value is_name is_utf8 chars encode
 end_as_value = refl
 
 end_after_value : are_stuck (codes "mkndx" ∷ (codes "-d" ∷ (codes "--" ∷ (codes "--" ∷ [])))) ≡ true
-unfolding are_stuck command_of spelled_command command_of_reading reading_after_applet applet_site_at site_after_end early_option_words common_options options_of option_name attached_value is_name is_utf8 chars encode
+unfolding are_stuck command_of spelled_command command_of_reading reading_after_applet applet_site_of_word site_after_end early_option_words common_options options_of option_name attached_value is_name is_utf8 chars encode
 end_after_value = refl
 
 nothing_is_lacking : are_stuck (codes "--" ∷ (codes "mkpkg" ∷ [])) ≡ false
-unfolding are_stuck command_of spelled_command command_of_reading reading_after_applet applet_site_at site_after_end early_option_words common_options options_of option_name attached_value is_name is_utf8 chars encode
+unfolding are_stuck command_of spelled_command command_of_reading reading_after_applet applet_site_of_word site_after_end early_option_words common_options options_of option_name attached_value is_name is_utf8 chars encode
 nothing_is_lacking = refl
 
 -- a script is awaited, and there is one of each type
 no_script_follows : are_stuck (codes "mkpkg" ∷ (codes "-strigger:a" ∷ (codes "-spre-install:a" ∷ (codes "-spost-install:a" ∷ (codes "-spre-deinstall:a" ∷ (codes "-spost-deinstall:a" ∷ (codes "-spre-upgrade:a" ∷ (codes "-spost-upgrade:a" ∷ (codes "-s" ∷ []))))))))) ≡ true
-unfolding are_stuck command_of spelled_command command_of_reading reading_after_applet applet_site_at site_after_end early_option_words common_options options_of option_name attached_value is_name is_utf8 chars encode
+unfolding are_stuck command_of spelled_command command_of_reading reading_after_applet applet_site_of_word site_after_end early_option_words common_options options_of option_name attached_value is_name is_utf8 chars encode
 no_script_follows = refl
 
 script_follows : are_stuck (codes "mkpkg" ∷ (codes "-spre-install:a" ∷ (codes "-spost-install:a" ∷ (codes "-spre-deinstall:a" ∷ (codes "-spost-deinstall:a" ∷ (codes "-spre-upgrade:a" ∷ (codes "-spost-upgrade:a" ∷ (codes "-s" ∷ [])))))))) ≡ false
-unfolding are_stuck command_of spelled_command command_of_reading reading_after_applet applet_site_at site_after_end early_option_words common_options options_of option_name attached_value is_name is_utf8 chars encode
+unfolding are_stuck command_of spelled_command command_of_reading reading_after_applet applet_site_of_word site_after_end early_option_words common_options options_of option_name attached_value is_name is_utf8 chars encode
 script_follows = refl
 
 scripts_are_given : are_stuck (codes "mkpkg" ∷ (codes "-strigger:a" ∷ (codes "-spre-install:a" ∷ (codes "-spost-install:a" ∷ (codes "-spre-deinstall:a" ∷ (codes "-spost-deinstall:a" ∷ (codes "-spre-upgrade:a" ∷ (codes "-spost-upgrade:a" ∷ [])))))))) ≡ false
-unfolding are_stuck command_of spelled_command command_of_reading reading_after_applet applet_site_at site_after_end early_option_words common_options options_of option_name attached_value is_name is_utf8 chars encode
+unfolding are_stuck command_of spelled_command command_of_reading reading_after_applet applet_site_of_word site_after_end early_option_words common_options options_of option_name attached_value is_name is_utf8 chars encode
 scripts_are_given = refl
 
 -- options before the applet that no applet has: only `--help` and `--version` can follow
 no_applet_has_them : are_stuck (codes "--initdb" ∷ (codes "--purge" ∷ (codes "--" ∷ []))) ≡ true
-unfolding are_stuck command_of spelled_command command_of_reading reading_after_applet applet_site_at site_after_end early_option_words common_options options_of option_name attached_value is_name is_utf8 chars encode
+unfolding are_stuck command_of spelled_command command_of_reading reading_after_applet applet_site_of_word site_after_end early_option_words common_options options_of option_name attached_value is_name is_utf8 chars encode
 no_applet_has_them = refl
 
 help_follows : are_stuck (codes "--initdb" ∷ (codes "--purge" ∷ [])) ≡ false
-unfolding are_stuck command_of spelled_command command_of_reading reading_after_applet applet_site_at site_after_end early_option_words common_options options_of option_name attached_value is_name is_utf8 chars encode
+unfolding are_stuck command_of spelled_command command_of_reading reading_after_applet applet_site_of_word site_after_end early_option_words common_options options_of option_name attached_value is_name is_utf8 chars encode
 help_follows = refl
 
 -- a word asks, and what follows it says nothing
 help_is_asked : are_stuck (codes "version" ∷ (codes "--help" ∷ (codes "--" ∷ []))) ≡ false
-unfolding are_stuck command_of spelled_command command_of_reading reading_after_applet applet_site_at site_after_end early_option_words common_options options_of option_name attached_value is_name is_utf8 chars encode
+unfolding are_stuck command_of spelled_command command_of_reading reading_after_applet applet_site_of_word site_after_end early_option_words common_options options_of option_name attached_value is_name is_utf8 chars encode
 help_is_asked = refl
 
 each_has_them : are_stuck (codes "--no-scripts" ∷ (codes "--allow-untrusted" ∷ [])) ≡ false
-unfolding are_stuck command_of spelled_command command_of_reading reading_after_applet applet_site_at site_after_end early_option_words common_options options_of option_name attached_value is_name is_utf8 chars encode
+unfolding are_stuck command_of spelled_command command_of_reading reading_after_applet applet_site_of_word site_after_end early_option_words common_options options_of option_name attached_value is_name is_utf8 chars encode
 each_has_them = refl
 
 -- an applet can follow
 no_applet : are_stuck (codes "--" ∷ []) ≡ false
-unfolding are_stuck command_of spelled_command command_of_reading reading_after_applet applet_site_at site_after_end early_option_words common_options options_of option_name attached_value is_name is_utf8 chars encode
+unfolding are_stuck command_of spelled_command command_of_reading reading_after_applet applet_site_of_word site_after_end early_option_words common_options options_of option_name attached_value is_name is_utf8 chars encode
 no_applet = refl
 
 -- ---- words of `info` that can still get a kind
 
 kind_may_follow : can_info_kind_follow (codes "info" ∷ (codes "usr/x" ∷ [])) ≡ true
-unfolding can_info_kind_follow reading_after_applet applet_site_at site_after_end early_option_words common_options options_of option_name attached_value is_name is_utf8 chars encode
+unfolding can_info_kind_follow reading_after_applet applet_site_of_word site_after_end early_option_words common_options options_of option_name attached_value is_name is_utf8 chars encode
 kind_may_follow = refl
 
 kind_may_follow_none : can_info_kind_follow (codes "info" ∷ []) ≡ true
-unfolding can_info_kind_follow reading_after_applet applet_site_at site_after_end early_option_words common_options options_of option_name attached_value is_name is_utf8 chars encode
+unfolding can_info_kind_follow reading_after_applet applet_site_of_word site_after_end early_option_words common_options options_of option_name attached_value is_name is_utf8 chars encode
 kind_may_follow_none = refl
 
 kind_may_follow_packages : can_info_kind_follow (codes "--no-scripts" ∷ (codes "info" ∷ (codes "a" ∷ (codes "b" ∷ [])))) ≡ true
-unfolding can_info_kind_follow reading_after_applet applet_site_at site_after_end early_option_words common_options options_of option_name attached_value is_name is_utf8 chars encode
+unfolding can_info_kind_follow reading_after_applet applet_site_of_word site_after_end early_option_words common_options options_of option_name attached_value is_name is_utf8 chars encode
 kind_may_follow_packages = refl
 
 no_kind_after_end : can_info_kind_follow (codes "info" ∷ (codes "--" ∷ (codes "usr/x" ∷ []))) ≡ false
-unfolding can_info_kind_follow reading_after_applet applet_site_at site_after_end early_option_words common_options options_of option_name attached_value is_name is_utf8 chars encode
+unfolding can_info_kind_follow reading_after_applet applet_site_of_word site_after_end early_option_words common_options options_of option_name attached_value is_name is_utf8 chars encode
 no_kind_after_end = refl
 
 no_kind_after_early_end : can_info_kind_follow (codes "--" ∷ (codes "info" ∷ (codes "usr/x" ∷ []))) ≡ false
-unfolding can_info_kind_follow reading_after_applet applet_site_at site_after_end early_option_words common_options options_of option_name attached_value is_name is_utf8 chars encode
+unfolding can_info_kind_follow reading_after_applet applet_site_of_word site_after_end early_option_words common_options options_of option_name attached_value is_name is_utf8 chars encode
 no_kind_after_early_end = refl
 
 no_second_kind : can_info_kind_follow (codes "info" ∷ (codes "a" ∷ (codes "-e" ∷ []))) ≡ false
-unfolding can_info_kind_follow reading_after_applet applet_site_at site_after_end early_option_words common_options options_of option_name attached_value is_name is_utf8 chars encode
+unfolding can_info_kind_follow reading_after_applet applet_site_of_word site_after_end early_option_words common_options options_of option_name attached_value is_name is_utf8 chars encode
 no_second_kind = refl
 
 no_kind_after_bad_word : can_info_kind_follow (codes "info" ∷ (codes "usr/x" ∷ (codes "--bad" ∷ []))) ≡ false
-unfolding can_info_kind_follow reading_after_applet applet_site_at site_after_end early_option_words common_options options_of option_name attached_value is_name is_utf8 chars encode
+unfolding can_info_kind_follow reading_after_applet applet_site_of_word site_after_end early_option_words common_options options_of option_name attached_value is_name is_utf8 chars encode
 no_kind_after_bad_word = refl
 
 kind_of_version : can_info_kind_follow (codes "version" ∷ (codes "a" ∷ [])) ≡ false
-unfolding can_info_kind_follow reading_after_applet applet_site_at site_after_end early_option_words common_options options_of option_name attached_value is_name is_utf8 chars encode
+unfolding can_info_kind_follow reading_after_applet applet_site_of_word site_after_end early_option_words common_options options_of option_name attached_value is_name is_utf8 chars encode
 kind_of_version = refl

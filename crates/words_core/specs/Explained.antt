@@ -6,7 +6,7 @@ use Rattle.std.specs.Str.{bytes_eq}
 use Rattle.command_core.specs.declared.command.Applet.{Applet}
 use Rattle.command_core.specs.declared.command.Flag.TheVariants.{AllowUntrusted}
 use Rattle.words_core.specs.HelpTexts.{HelpLine, listed_commands}
-use Rattle.words_core.specs.Options.{OptionSpec, applet_word, flag_spec}
+use Rattle.words_core.specs.Options.{OptionSpec, applet_word, flag_option_of_long_and_short}
 
 -- an option as a line of help spells it: its short word or spaces, and its long word
 abbrev pub spelled_option : OptionSpec → List ℕ
@@ -24,11 +24,12 @@ are_help_of [] [] = true
 are_help_of (line ∷ lines) (option ∷ options) = is_help_of line option && are_help_of lines options
 are_help_of lines options = false
 
--- the options that ask, as lines of help spell them; what they say is not looked at
+-- `--help` and `--version`, as lines of help spell them. The flag in each is a placeholder: *is_help_of*
+-- does not look at it
 abbrev pub help_and_version_options : List OptionSpec
 help_and_version_options =
-    flag_spec (codes "--help") (codes "-h") AllowUntrusted
-    ∷ (flag_spec (codes "--version") (codes "-V") AllowUntrusted ∷ [])
+    flag_option_of_long_and_short (codes "--help") (codes "-h") AllowUntrusted
+    ∷ (flag_option_of_long_and_short (codes "--version") (codes "-V") AllowUntrusted ∷ [])
 
 -- whether the word of each of some applets is that of a command that help lists
 abbrev pub are_listed : List Applet → Bool

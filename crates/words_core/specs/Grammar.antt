@@ -15,7 +15,7 @@ use Rattle.command_core.specs.Applets.{required_option_letter, operand_rule}
 use Rattle.command_core.specs.Command.{CommandLine, command_from_parts}
 use Rattle.command_core.specs.Flags.{has_flag, has_command_kind_flag, no_flags, with_flag}
 use Rattle.command_core.specs.Operands.{first_refused_operand, operand_at}
-use Rattle.command_core.specs.Values.{is_excluded_by_earlier_value, is_single_and_given, is_value, is_required_value_missing, option_value}
+use Rattle.command_core.specs.Values.{is_excluded_by_earlier_value, is_single_and_given, is_value_of_kind, is_required_value_missing, option_value_from_place_and_letter}
 use Rattle.words_core.specs.declared.options.Meaning.{Meaning}
 use Rattle.words_core.specs.declared.options.Meaning.TheVariants.{Flag as Plain, Kind, Value}
 use Rattle.words_core.specs.declared.next.NextWord.{NextWord}
@@ -55,24 +55,27 @@ attached_value word =
 
 -- ---- flags
 
--- flags with the meaning of an option; None if it is no flag, or a second kind
+-- flags with the meaning of an option added. None if the option takes a value, or if it selects a kind of
+-- the command other than that of an earlier flag
 abbrev pub flags_with_meaning : Flags → Meaning → Option Flags
 flags_with_meaning flags (Plain flag) = Some (with_flag flag flags)
 flags_with_meaning flags (Kind flag) =
     if has_command_kind_flag flags && not (has_flag flag flags) then None else Some (with_flag flag flags)
 flags_with_meaning flags (Value rule) = None
 
--- flags with an option; None if it is no flag, or a second kind
+-- flags with an option added; None in the cases of *flags_with_meaning*
 abbrev pub flags_with_option : Flags → OptionSpec → Option Flags
 flags_with_option flags option = flags_with_meaning flags option.meaning
 
--- flags with the option that a word is; None if it is none, has a value, or is a second kind
+-- flags with the option that a word spells added; None if it spells no option, or in the cases of
+-- *flags_with_meaning*
 abbrev pub flags_with_option_word : List OptionSpec → Flags → List ℕ → Option Flags
-flags_with_option_word options flags word = option_and_then (flags_with_option flags) (option_of_word options word)
+flags_with_option_word options flags word =
+    option_and_then (flags_with_option flags) (option_of_word options word)
 
 -- ---- up to the applet
 
--- the next result from what was read, or a refusal at this place if nothing was read
+-- the result of `next` on the value, if there is one; otherwise an error at this place
 abbrev pub or_err_at : {A B : Type 0} → ℕ → (A → Result B ℕ) → Option A → Result B ℕ
 or_err_at place next None = Err place
 or_err_at place next (Some x) = next x
@@ -83,13 +86,15 @@ abbrev pub applet_site_from_parts : Bool → ℕ → Applet → AppletSite
 applet_site_from_parts ended place applet = record { applet = applet; ended = ended; read = place }
 
 -- the site of the applet that the word at a place names, or this place if it names none
-unfoldable pub applet_site_at : Bool → ℕ → List ℕ → Result AppletSite ℕ
-applet_site_at ended place word = or_err_at place (λ applet. Ok (applet_site_from_parts ended place applet)) (applet_of word)
+unfoldable pub applet_site_of_word : Bool → ℕ → List ℕ → Result AppletSite ℕ
+applet_site_of_word ended place word =
+    or_err_at place (λ applet. Ok (applet_site_from_parts ended place applet)) (applet_of word)
 
--- the site of the applet after `--`, which the next word names; this is the place of the next word
+-- the site of the applet that the first of these words names, after `--`; `place` is the place of that
+-- word
 unfoldable pub site_after_end : ℕ → List (List ℕ) → Result AppletSite ℕ
 site_after_end place [] = Err place
-site_after_end place (word ∷ words) = applet_site_at true place word
+site_after_end place (word ∷ words) = applet_site_of_word true place word
 
 -- the site of the applet in the words from a place on, or the first wrong place: only some options and
 -- `--` may precede the applet
@@ -97,8 +102,9 @@ abbrev pub applet_site : ℕ → List (List ℕ) → Result AppletSite ℕ
 applet_site place [] = Err place
 applet_site place (word ∷ words) =
     if is_double_dash word then site_after_end (place + 1) words else
-    if is_option word then (if is_early_option_word word then applet_site (place + 1) words else Err place) else
-    applet_site_at false place word
+    if is_option word then (if is_early_option_word word then applet_site
+    (place + 1) words else Err place) else
+    applet_site_of_word false place word
 
 -- the flags of the words before the applet, from a place on, or the first wrong place: each word is an
 -- option of the applet, up to `--`
@@ -114,7 +120,7 @@ abbrev pub start_from_parts : AppletSite → Flags → Start
 start_from_parts site flags =
     record { applet = site.applet; flags = flags; ended = site.ended; read = site.read }
 
--- the start with the flags before the applet, or the place that offends there
+-- the start with the flags before the applet, or the place of the first wrong word among them
 abbrev pub start_with_early_flags : AppletSite → Result Flags ℕ → Result Start ℕ
 start_with_early_flags site (Err place) = Err place
 start_with_early_flags site (Ok flags) = Ok (start_from_parts site flags)
@@ -123,7 +129,8 @@ start_with_early_flags site (Ok flags) = Ok (start_from_parts site flags)
 abbrev pub start_after_site : List (List ℕ) → Result AppletSite ℕ → Result Start ℕ
 start_after_site words (Err place) = Err place
 start_after_site words (Ok site) =
-    start_with_early_flags site (early_flags (options_of site.applet) no_flags 1 (take (site.read - 1) words))
+    start_with_early_flags site
+    (early_flags (options_of site.applet) no_flags 1 (take (site.read - 1) words))
 
 -- the start of a command line, or the first place that offends before the applet or is it
 abbrev pub start_of_command_line : List (List ℕ) → Result Start ℕ
@@ -133,7 +140,8 @@ start_of_command_line words = start_after_site words (applet_site 1 words)
 
 -- the effect of options: flags, values, and the option whose value is the next word, if there is one
 abbrev pub option_state_from_parts : Flags → List OptionValue → Option ValueRule → OptionState
-option_state_from_parts flags values awaiting = record { flags = flags; values = values; awaiting = awaiting }
+option_state_from_parts flags values awaiting =
+    record { flags = flags; values = values; awaiting = awaiting }
 
 -- the state after the applet: the flags before it, no values, and none awaited
 abbrev pub option_state_at_start : Flags → OptionState
@@ -142,14 +150,15 @@ option_state_at_start flags = option_state_from_parts flags [] None
 -- a state with a value of an option; None if the option does not have that value
 abbrev pub with_option_value : OptionState → ℕ → List ℕ → ValueRule → Option OptionState
 with_option_value state place text rule =
-    if is_value rule.kind text && not (is_excluded_by_earlier_value rule text state.values) then
+    if is_value_of_kind rule.kind text && not (is_excluded_by_earlier_value rule text state.values) then
     Some (option_state_from_parts state.flags
-    (state.values ++ (option_value place rule.letter text ∷ [])) None) else
+    (state.values ++ (option_value_from_place_and_letter place rule.letter text ∷ [])) None) else
     None
 
 -- a state with an option that has values and the value that its word holds, if it holds one
 abbrev pub with_value_or_awaited : OptionState → ℕ → ValueRule → Option (List ℕ) → Option OptionState
-with_value_or_awaited state place rule None = Some (option_state_from_parts state.flags state.values (Some rule))
+with_value_or_awaited state place rule None =
+    Some (option_state_from_parts state.flags state.values (Some rule))
 with_value_or_awaited state place rule (Some text) = with_option_value state place text rule
 
 -- a state with an option that has values; None if it can have no more
@@ -157,9 +166,10 @@ abbrev pub with_value_option : OptionState → ℕ → Option (List ℕ) → Val
 with_value_option state place held rule =
     if is_single_and_given rule state.values then None else with_value_or_awaited state place rule held
 
--- a state with other flags
+-- a state with these flags in place of its own; None if there are none
 abbrev pub with_flags_if_some : OptionState → Option Flags → Option OptionState
-with_flags_if_some state flags = option_map (λ more. option_state_from_parts more state.values state.awaiting) flags
+with_flags_if_some state flags =
+    option_map (λ more. option_state_from_parts more state.values state.awaiting) flags
 
 -- a state with the meaning of an option, whose word holds this value or none; None if it may not be
 -- given so: a flag has no value
@@ -192,14 +202,16 @@ with_word_if_awaited options state place word (Some rule) = with_option_value st
 -- a state with the word at a place, which is the value that the state awaits, or an option; None if it
 -- cannot be read
 abbrev pub with_option_or_value_word : List OptionSpec → OptionState → ℕ → List ℕ → Option OptionState
-with_option_or_value_word options state place word = with_word_if_awaited options state place word state.awaiting
+with_option_or_value_word options state place word =
+    with_word_if_awaited options state place word state.awaiting
 
 -- ---- after the applet
 
 -- the reading of words: the effect of options, the operands, and the place of the word that cannot be
 -- read, if one ended the reading
 abbrev pub words_reading_from_parts : OptionState → List Operand → Option ℕ → Reading
-words_reading_from_parts state operands unread = record { state = state; operands = operands; unread = unread }
+words_reading_from_parts state operands unread =
+    record { state = state; operands = operands; unread = unread }
 
 -- some words as operands, the first of which is at a place
 abbrev pub operands_of : ℕ → List (List ℕ) → List Operand
@@ -210,8 +222,8 @@ operands_of place (word ∷ words) = operand_at place word ∷ operands_of (plac
 abbrev pub with_operand : Operand → Reading → Reading
 with_operand operand reading = record reading { operands = operand ∷ reading.operands }
 
--- the next reading, after a word that was read; a word at this place that cannot be read ends the
--- reading
+-- the reading after the word at a place: if the word gives a new state, `next` continues from it;
+-- otherwise the word cannot be read, and the reading ends there
 abbrev pub or_stop_at_unread_word : OptionState → ℕ → (OptionState → Reading) → Option OptionState → Reading
 or_stop_at_unread_word state place next None = words_reading_from_parts state [] (Some place)
 or_stop_at_unread_word state place next (Some more) = next more
@@ -237,7 +249,8 @@ unfoldable pub reading_after_applet : Start → List (List ℕ) → Reading
 reading_after_applet start words =
     let left = drop start.read words in
     if start.ended then
-    words_reading_from_parts (option_state_at_start start.flags) (operands_of (start.read + 1) left) None else
+    words_reading_from_parts (option_state_at_start start.flags)
+    (operands_of (start.read + 1) left) None else
     option_reading (options_of start.applet) (option_state_at_start start.flags) (start.read + 1) left
 
 -- ---- the command, or the first wrong place
@@ -257,11 +270,12 @@ lacks_operand (Some rule) operands = nat_lt (length operands) rule.least
 -- needs
 abbrev pub lacks_word : Applet → Option OperandRule → Reading → Bool
 lacks_word applet rule reading =
-    lacks_operand rule reading.operands || is_required_value_missing (required_option_letter applet) reading.state.values
+    lacks_operand rule reading.operands
+    || is_required_value_missing (required_option_letter applet) reading.state.values
 
 -- the command of a reading, with the place after the last word
-abbrev pub command_read : ℕ → Applet → Reading → CommandLine
-command_read behind applet reading =
+abbrev pub command_from_reading_parts : ℕ → Applet → Reading → CommandLine
+command_from_reading_parts behind applet reading =
     command_from_parts applet reading.state.flags reading.operands reading.state.values behind
 
 -- a refusal at a wrong place, if there is one, and otherwise this result
@@ -275,7 +289,8 @@ unfoldable pub command_of_reading : ℕ → Applet → Reading → Result Comman
 command_of_reading behind applet reading =
     let rule = operand_rule applet reading.state.flags in
     unless_refused_at (option_or (refused_operand rule reading.operands) reading.unread)
-    (if lacks_word applet rule reading then Err behind else Ok (command_read behind applet reading))
+    (if lacks_word applet rule reading then Err behind else Ok
+    (command_from_reading_parts behind applet reading))
 
 -- the command of the words, by the start that was found in them; or the first place that offends
 abbrev pub spelled_command_from_start : List (List ℕ) → Result Start ℕ → Result CommandLine ℕ
@@ -308,7 +323,8 @@ value_rule_unless_attached (Some text) rule = None
 
 -- the rule of the option that a word spells, if its value is the next word
 abbrev pub awaited_rule : List OptionSpec → List ℕ → Option ValueRule
-awaited_rule options word = value_rule_unless_attached (attached_value word) (value_rule_of_word options word)
+awaited_rule options word =
+    value_rule_unless_attached (attached_value word) (value_rule_of_word options word)
 
 -- what the word after an option of an applet can be, by the rule of its value, if that is the next word
 abbrev pub next_word_after_option : Applet → Option ValueRule → NextWord
@@ -320,7 +336,7 @@ abbrev pub next_word_after_command : (Applet → NextWord) → Option Applet →
 next_word_after_command next None = Nothing
 next_word_after_command next (Some applet) = next applet
 
--- what the word after a word can be, by what the word can be
+-- what the word after this one can be, by what this word itself could be
 abbrev pub next_word : NextWord → List ℕ → NextWord
 next_word OptionOrCommand word =
     if is_double_dash word then CommandAlone else
@@ -335,14 +351,14 @@ next_word (NextValue applet rule) word = OptionOrOperand applet
 next_word (OperandAlone applet) word = OperandAlone applet
 next_word Nothing word = Nothing
 
--- what the word after some words can be, by what the first of them can be
-abbrev pub next_words : NextWord → List (List ℕ) → NextWord
-next_words next [] = next
-next_words next (word ∷ words) = next_words (next_word next word) words
+-- what the word after these words can be, by what the first of these words could be
+abbrev pub next_word_after_words : NextWord → List (List ℕ) → NextWord
+next_word_after_words next [] = next
+next_word_after_words next (word ∷ words) = next_word_after_words (next_word next word) words
 
 -- what the word after the first words of a command line can be
-abbrev pub next_after : List (List ℕ) → NextWord
-next_after words = next_words OptionOrCommand words
+abbrev pub next_word_of_command_line : List (List ℕ) → NextWord
+next_word_of_command_line words = next_word_after_words OptionOrCommand words
 
 -- whether an option can be the next word
 abbrev pub can_be_option : NextWord → Bool
@@ -355,7 +371,7 @@ can_be_option next = false
 -- the applet that the word at a place asks for, if it asks and an option can be there
 abbrev pub help_or_version_option_at : List (List ℕ) → ℕ → Option Applet
 help_or_version_option_at words place =
-    if can_be_option (next_after (take (place - 1) words)) then
+    if can_be_option (next_word_of_command_line (take (place - 1) words)) then
     option_and_then applet_of_help_or_version_option (slice_get words (place - 1)) else
     None
 
@@ -374,7 +390,7 @@ abbrev pub help_or_version_command : List (List ℕ) → Applet → CommandLine
 help_or_version_command words applet =
     command_from_parts applet no_flags (operands_of_help_or_version words applet) [] (length words + 1)
 
--- the command that the word at a place asks for, or that the word is wrong there
+-- the command for the applet that the word at a place asks for; an error at the place if it asks for none
 abbrev pub help_or_version_or_err : List (List ℕ) → ℕ → Option Applet → Result CommandLine ℕ
 help_or_version_or_err words place None = Err place
 help_or_version_or_err words place (Some applet) = Ok (help_or_version_command words applet)
@@ -382,7 +398,8 @@ help_or_version_or_err words place (Some applet) = Ok (help_or_version_command w
 -- the command that was spelled, or otherwise the one that the first wrong word asks for, if it asks
 abbrev pub spelled_command_or_help_or_version : List (List ℕ) → Result CommandLine ℕ → Result CommandLine ℕ
 spelled_command_or_help_or_version words (Ok command) = Ok command
-spelled_command_or_help_or_version words (Err place) = help_or_version_or_err words place (help_or_version_option_at words place)
+spelled_command_or_help_or_version words (Err place) =
+    help_or_version_or_err words place (help_or_version_option_at words place)
 
 -- the command of the words, or the first place that offends
 unfoldable pub command_of : List (List ℕ) → Result CommandLine ℕ

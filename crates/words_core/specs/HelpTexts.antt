@@ -32,13 +32,13 @@ abbrev pub spaces : List ℕ
 spaces = codes "                          "
 
 -- the spaces after a subject, up to a column; none if the subject is longer
-abbrev pub spaces_after : ℕ → List ℕ → List ℕ
-spaces_after column subject = take (column - length subject) spaces
+abbrev pub padding_to_column : ℕ → List ℕ → List ℕ
+padding_to_column column subject = take (column - length subject) spaces
 
 -- a line of help as it is printed: explanations begin in one column
 abbrev pub line_text : ℕ → HelpLine → List ℕ
 line_text column line =
-    codes "  " ++ line.subject ++ spaces_after column line.subject ++ line.text ++ codes "\n"
+    codes "  " ++ line.subject ++ padding_to_column column line.subject ++ line.text ++ codes "\n"
 
 -- lines of help, one after another
 abbrev pub lines_text : ℕ → List HelpLine → List ℕ
@@ -50,10 +50,11 @@ abbrev pub section_text : List ℕ → ℕ → List HelpLine → List ℕ
 section_text heading column [] = []
 section_text heading column lines = heading ++ lines_text column lines
 
--- the columns of the explanations of commands, and of options and operands
+-- the column at which the explanations of commands begin
 abbrev pub command_column : ℕ
 command_column = 10
 
+-- the column at which the explanations of options and operands begin
 abbrev pub option_column : ℕ
 option_column = 26
 
@@ -106,12 +107,15 @@ purpose ProgramVersion = []
 
 -- ---- options
 
+-- the help line of `--initdb`
 abbrev pub initdb_help : HelpLine
 initdb_help = help_line (codes "    --initdb") (codes "begin a package database if there is none")
 
+-- the help line of `--simulate`
 abbrev pub simulate_help : HelpLine
 simulate_help = help_line (codes "-s, --simulate") (codes "print the changes, and make none")
 
+-- the help line of `--compression`
 abbrev pub compression_help : HelpLine
 compression_help = help_line (codes "-c, --compression none") (codes "no other compression is known")
 
@@ -148,8 +152,8 @@ option_help Version =
 option_help applet = []
 
 -- the lines of the options of every command
-abbrev pub common_help : List HelpLine
-common_help =
+abbrev pub common_option_help : List HelpLine
+common_option_help =
     help_line (codes "    --allow-untrusted") (codes "needed once etc/apk/repositories names an index")
     ∷ (help_line (codes "    --no-scripts") (codes "make changes; run no scripts, no triggers")
     ∷ (help_line (codes "-h, --help") (codes "print this help, or that of a command")
@@ -170,12 +174,15 @@ field_help applet = []
 
 -- ---- operands
 
+-- the help line of an operand NAME
 abbrev pub name_help : HelpLine
 name_help = help_line (codes "NAME") (codes "the name of a package")
 
+-- the help line of an operand FILE
 abbrev pub file_help : HelpLine
 file_help = help_line (codes "FILE") (codes "the path of a container below this folder")
 
+-- the help line of an operand PATTERN
 abbrev pub pattern_help : HelpLine
 pattern_help = help_line (codes "PATTERN") (codes "a name, in which each * stands for any text")
 
@@ -211,21 +218,22 @@ operand_help applet = []
 
 -- a line with the usage of a command, after a prefix
 abbrev pub usage_line : List ℕ → List ℕ → List ℕ
-usage_line front line = front ++ line ++ codes "\n"
+usage_line prefix line = prefix ++ line ++ codes "\n"
 
--- how a command is called, a line each: the first after `usage: `, the others below it
-abbrev pub usage_lines_after : List ℕ → List (List ℕ) → List ℕ
-usage_lines_after front [] = []
-usage_lines_after front (line ∷ lines) = usage_line front line ++ usage_lines_after (codes "       ")
+-- how a command is called, a line each: the first one after this prefix, the others after seven spaces
+abbrev pub usage_lines_with_first_prefix : List ℕ → List (List ℕ) → List ℕ
+usage_lines_with_first_prefix prefix [] = []
+usage_lines_with_first_prefix prefix (line ∷ lines) =
+    usage_line prefix line ++ usage_lines_with_first_prefix (codes "       ")
     lines
 
 -- the help of a command
 abbrev pub command_help : Applet → List ℕ
 command_help applet =
-    usage_lines_after (codes "usage: ") (synopsis applet)
+    usage_lines_with_first_prefix (codes "usage: ") (synopsis applet)
     ++ codes "\n" ++ purpose applet ++ codes "\n"
     ++ codes "\nOptions:\n" ++ lines_text option_column (option_help applet)
-    ++ lines_text option_column common_help
+    ++ lines_text option_column common_option_help
     ++ section_text (codes "\nFields that -I takes:\n") option_column (field_help applet)
     ++ section_text (codes "\nOperands:\n") option_column (operand_help applet)
     ++ codes "\nManual page: apk(8)\n"
@@ -243,21 +251,21 @@ listed_commands =
     (Verify ∷ (Adbdump ∷ (Adbgen ∷ (Mkpkg ∷ (Mkndx ∷ (Version ∷ (Demo ∷ []))))))))))))))))
 
 -- the line of a command: its word, and what it does
-abbrev pub command_line : Applet → HelpLine
-command_line applet = help_line (applet_word applet) (purpose applet)
+abbrev pub command_help_line : Applet → HelpLine
+command_help_line applet = help_line (applet_word applet) (purpose applet)
 
 -- the commands, and what each does
 unfoldable pub commands_text : List ℕ
 commands_text =
-    codes "\nCommands:\n" ++ lines_text command_column (map command_line listed_commands)
+    codes "\nCommands:\n" ++ lines_text command_column (map command_help_line listed_commands)
 
 -- the options of every command
-unfoldable pub common_text : List ℕ
-common_text = codes "\nOptions of every command:\n" ++ lines_text option_column common_help
+unfoldable pub common_options_text : List ℕ
+common_options_text = codes "\nOptions of every command:\n" ++ lines_text option_column common_option_help
 
 -- where paths begin, how a package is installed, and where to read on
-unfoldable pub first_steps : List ℕ
-first_steps =
+unfoldable pub first_steps_text : List ℕ
+first_steps_text =
     codes "\nPaths are below the current folder, which is the root.\n"
     ++ codes "\nTo install a package, name an index of packages in etc/apk/repositories, and run\n"
     ++ codes "  apk add --initdb --allow-untrusted NAME\n"
@@ -265,7 +273,7 @@ first_steps =
 
 -- the help of the program
 abbrev pub program_help : List ℕ
-program_help = program_usage ++ commands_text ++ common_text ++ first_steps
+program_help = program_usage ++ commands_text ++ common_options_text ++ first_steps_text
 
 -- the help of a command, if one is asked about, and else that of the program
 abbrev pub help_of_topic : Option Applet → List ℕ

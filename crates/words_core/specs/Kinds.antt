@@ -17,16 +17,17 @@ is_info_applet applet = false
 
 -- whether words whose applet was found can still get a kind: they are `info` without one, each of
 -- them can be read, and options can follow
-abbrev pub can_info_kind_follow_start : List (List ℕ) → Start → Bool
-can_info_kind_follow_start words start =
+abbrev pub can_started_words_get_info_kind : List (List ℕ) → Start → Bool
+can_started_words_get_info_kind words start =
     let reading = reading_after_applet start words in
-    is_info_applet start.applet && not (has_command_kind_flag reading.state.flags) && not (is_some reading.unread)
+    is_info_applet start.applet && not (has_command_kind_flag reading.state.flags)
+    && not (is_some reading.unread)
     && not (start.ended || have_options_ended (options_of start.applet) None (drop start.read words))
 
 -- whether words can still get a kind, by their start; without a start they are not `info`
 abbrev pub can_info_kind_follow_if_started : List (List ℕ) → Result Start ℕ → Bool
 can_info_kind_follow_if_started words (Err place) = false
-can_info_kind_follow_if_started words (Ok start) = can_info_kind_follow_start words start
+can_info_kind_follow_if_started words (Ok start) = can_started_words_get_info_kind words start
 
 -- whether words are `info` without a kind, and one of its four options can still follow
 unfoldable pub can_info_kind_follow : List (List ℕ) → Bool

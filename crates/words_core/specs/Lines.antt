@@ -12,7 +12,7 @@ use Rattle.command_core.specs.Command.{CommandLine}
 use Rattle.command_core.specs.Sound.{IsValidCommand}
 use Rattle.command_core.specs.Flags.{no_flags, with_flag}
 use Rattle.command_core.specs.Operands.{operand_at}
-use Rattle.command_core.specs.Values.{option_value}
+use Rattle.command_core.specs.Values.{option_value_from_place_and_letter}
 use Rattle.words_core.specs.declared.options.Meaning.{Meaning}
 use Rattle.words_core.specs.declared.options.Meaning.TheVariants.{Flag as Plain, Kind, Value}
 use Rattle.words_core.specs.Grammar.{attached_value, is_double_dash, is_option, operands_of, option_name, value_rule_of_word, awaited_rule}
@@ -42,7 +42,8 @@ words_that_are_options options None (word ∷ words) =
 abbrev pub attached_values : ℕ → Option ValueRule → Option (List ℕ) → List OptionValue
 attached_values place None held = []
 attached_values place (Some rule) None = []
-attached_values place (Some rule) (Some text) = option_value place rule.letter text ∷ []
+attached_values place (Some rule) (Some text) =
+    option_value_from_place_and_letter place rule.letter text ∷ []
 
 -- the values of the options, each with the place of the word that holds it; None if one is missing.
 -- With a rule the first word is the value of its option
@@ -51,12 +52,13 @@ abbrev pub values_of : List OptionSpec → Option ValueRule → ℕ → List (Li
 values_of options None place [] = Some []
 values_of options (Some rule) place [] = None
 values_of options (Some rule) place (word ∷ words) =
-    option_map (λ values. option_value place rule.letter word ∷ values)
+    option_map (λ values. option_value_from_place_and_letter place rule.letter word ∷ values)
     (values_of options None (place + 1) words)
 values_of options None place (word ∷ words) =
     if is_double_dash word then Some [] else
     if is_option word then
-    option_map (λ values. attached_values place (value_rule_of_word options word) (attached_value word) ++ values)
+    option_map (λ values. attached_values place (value_rule_of_word options word) (attached_value word)
+    ++ values)
     (values_of options (awaited_rule options word) (place + 1) words) else
     values_of options None (place + 1) words
 
@@ -75,7 +77,8 @@ abbrev pub flags_after : List OptionSpec → Flags → List (List ℕ) → Optio
 flags_after options flags [] = Some flags
 flags_after options flags (word ∷ words) =
     option_and_then (λ (e : OptionSpec). option_and_then (λ more. flags_after options more words)
-    (flags_with_held_meaning flags (attached_value word) e.meaning)) (option_of_word options (option_name word))
+    (flags_with_held_meaning flags (attached_value word) e.meaning))
+    (option_of_word options (option_name word))
 
 -- whether a word may precede the applet: `--`, or one of the five options
 abbrev pub may_precede_applet : List ℕ → Bool

@@ -18,71 +18,74 @@ pub record OptionSpec : Type 0 where
   pub short : List ℕ
   pub meaning : Meaning
 
--- the option without a value of these words, which gives this flag
-abbrev pub flag_spec : List ℕ → List ℕ → Flag → OptionSpec
-flag_spec long short flag = record { long = long; short = short; meaning = Plain flag }
+-- the option that these words spell, which takes no value and sets this flag
+abbrev pub flag_option_of_long_and_short : List ℕ → List ℕ → Flag → OptionSpec
+flag_option_of_long_and_short long short flag = record { long = long; short = short; meaning = Plain flag }
 
--- the option of these words whose flag selects the kind of the command
-abbrev pub kind_spec : List ℕ → List ℕ → Flag → OptionSpec
-kind_spec long short flag = record { long = long; short = short; meaning = Kind flag }
+-- the option that these words spell, whose flag selects the kind of the command
+abbrev pub kind_option_of_long_and_short : List ℕ → List ℕ → Flag → OptionSpec
+kind_option_of_long_and_short long short flag = record { long = long; short = short; meaning = Kind flag }
 
--- the option with values of these words, which has this rule
-abbrev pub value_spec : List ℕ → List ℕ → ValueRule → OptionSpec
-value_spec long short rule = record { long = long; short = short; meaning = Value rule }
+-- the option that these words spell, which takes values by this rule
+abbrev pub value_option_of_long_and_short : List ℕ → List ℕ → ValueRule → OptionSpec
+value_option_of_long_and_short long short rule = record { long = long; short = short; meaning = Value rule }
 
 -- the options of every applet that a word names
 unfoldable pub common_options : List OptionSpec
 common_options =
-    flag_spec (codes "--allow-untrusted") [] AllowUntrusted ∷
-    (flag_spec (codes "--no-scripts") [] NoScripts ∷ [])
+    flag_option_of_long_and_short (codes "--allow-untrusted") [] AllowUntrusted ∷
+    (flag_option_of_long_and_short (codes "--no-scripts") [] NoScripts ∷ [])
 
 -- `--initdb`: a database is begun if there is none
 abbrev pub initdb_option : OptionSpec
-initdb_option = flag_spec (codes "--initdb") [] Initdb
+initdb_option = flag_option_of_long_and_short (codes "--initdb") [] Initdb
 
 -- `--simulate`: the change is reported, and not made
 abbrev pub simulate_option : OptionSpec
-simulate_option = flag_spec (codes "--simulate") (codes "-s") Simulate
+simulate_option = flag_option_of_long_and_short (codes "--simulate") (codes "-s") Simulate
 
 -- `--purge`: protected configuration files are removed too
 abbrev pub purge_option : OptionSpec
-purge_option = flag_spec (codes "--purge") [] Purge
+purge_option = flag_option_of_long_and_short (codes "--purge") [] Purge
 
 -- the options of `info`, each of which selects the kind
 abbrev pub info_options : List OptionSpec
 info_options =
-    kind_spec (codes "--installed") (codes "-e") Installed ∷
-    (kind_spec (codes "--contents") (codes "-L") Contents ∷
-    (kind_spec (codes "--depends") (codes "-R") Depends ∷
-    (kind_spec (codes "--who-owns") (codes "-W") WhoOwns ∷ [])))
+    kind_option_of_long_and_short (codes "--installed") (codes "-e") Installed ∷
+    (kind_option_of_long_and_short (codes "--contents") (codes "-L") Contents ∷
+    (kind_option_of_long_and_short (codes "--depends") (codes "-R") Depends ∷
+    (kind_option_of_long_and_short (codes "--who-owns") (codes "-W") WhoOwns ∷ [])))
 
 -- the option of `list`, under which only packages that are installed are listed
 abbrev pub list_options : List OptionSpec
-list_options = kind_spec (codes "--installed") (codes "-I") Installed ∷ []
+list_options = kind_option_of_long_and_short (codes "--installed") (codes "-I") Installed ∷ []
 
 -- the options of `version`, each of which selects the kind
 abbrev pub version_options : List OptionSpec
 version_options =
-    kind_spec (codes "--test") (codes "-t") Test ∷
-    (kind_spec (codes "--check") (codes "-c") Check ∷ [])
+    kind_option_of_long_and_short (codes "--test") (codes "-t") Test ∷
+    (kind_option_of_long_and_short (codes "--check") (codes "-c") Check ∷ [])
 
 -- the options of `mkpkg` and `mkndx` that say where and how their output is written
-abbrev pub output_options : List OptionSpec
-output_options =
-    value_spec (codes "--output") (codes "-o") output_rule ∷
-    (value_spec (codes "--compression") (codes "-c") compression_rule ∷ [])
+abbrev pub output_and_compression_options : List OptionSpec
+output_and_compression_options =
+    value_option_of_long_and_short (codes "--output") (codes "-o") output_rule ∷
+    (value_option_of_long_and_short (codes "--compression") (codes "-c") compression_rule ∷ [])
 
 -- the options of `mkpkg`
 abbrev pub mkpkg_options : List OptionSpec
 mkpkg_options =
-    value_spec (codes "--info") (codes "-I") info_rule ∷
-    (value_spec (codes "--script") (codes "-s") script_rule ∷
-    (value_spec (codes "--trigger") (codes "-t") trigger_rule ∷
-    (value_spec (codes "--files") (codes "-F") files_rule ∷ output_options)))
+    value_option_of_long_and_short (codes "--info") (codes "-I") info_rule ∷
+    (value_option_of_long_and_short (codes "--script") (codes "-s") script_rule ∷
+    (value_option_of_long_and_short (codes "--trigger") (codes "-t") trigger_rule ∷
+    (value_option_of_long_and_short (codes "--files") (codes "-F") files_rule
+    ∷ output_and_compression_options)))
 
 -- the options of `mkndx`
 abbrev pub mkndx_options : List OptionSpec
-mkndx_options = value_spec (codes "--description") (codes "-d") description_rule ∷ output_options
+mkndx_options =
+    value_option_of_long_and_short (codes "--description") (codes "-d") description_rule
+    ∷ output_and_compression_options
 
 -- the options that are an applet's own
 abbrev pub own_options : Applet → List OptionSpec

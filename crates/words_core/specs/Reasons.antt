@@ -10,7 +10,7 @@ use Rattle.command_core.specs.declared.values.ValueRule.{ValueRule}
 use Rattle.command_core.specs.Applets.{required_option_letter}
 use Rattle.command_core.specs.Flags.{has_flag, has_command_kind_flag}
 use Rattle.command_core.specs.Operands.{is_operand_of_kind}
-use Rattle.command_core.specs.Values.{is_excluded_by_earlier_value, is_given, is_value}
+use Rattle.command_core.specs.Values.{is_excluded_by_earlier_value, is_given, is_value_of_kind}
 use Rattle.words_core.specs.declared.options.Meaning.{Meaning}
 use Rattle.words_core.specs.declared.options.Meaning.TheVariants.{Kind, Value}
 use Rattle.words_core.specs.declared.reading.AppletSite.{AppletSite}
@@ -38,7 +38,7 @@ IsAfterLastWord words place = place ≡ length words + 1
 abbrev pub HasApplet : List (List ℕ) → (Applet → Type 0) → Type 0
 HasApplet words P = (site : AppletSite) × (applet_site 1 words ≡ Ok site) × P site.applet
 
--- P holds of the start that was found, and of what was read behind it
+-- P holds of the start that was found, and of what was read after it
 abbrev pub HasReading : List (List ℕ) → (Start → Reading → Type 0) → Type 0
 HasReading words P =
     (start : Start) × (start_of_command_line words ≡ Ok start) × P start (reading_after_applet start words)
@@ -70,7 +70,7 @@ HasOperandRule words start P =
 
 -- ---- the reasons
 
--- a reason that words are a usage error at a place is so
+-- the reason why words are a usage error at a place is true
 abbrev pub IsUsageReason : UsageReason → List (List ℕ) → ℕ → Type 0
 IsUsageReason CommandMissing words place =
     IsAfterLastWord words place × IsTrue (not (is_ok (applet_site 1 words)))
@@ -97,10 +97,12 @@ IsUsageReason ValueMissing words place =
     reading.state.awaiting))
 IsUsageReason (ValueBad kind) words place =
     HasWordAt words place (λ word. HasReading words (λ start reading.
-    HasOptionValue start reading word (λ rule text. (rule.kind ≡ kind) × (is_value kind text ≡ false))))
+    HasOptionValue start reading word
+    (λ rule text. (rule.kind ≡ kind) × (is_value_of_kind kind text ≡ false))))
 IsUsageReason ScriptRepeated words place =
     HasWordAt words place (λ word. HasReading words (λ start reading.
-    HasOptionValue start reading word (λ rule text. IsTrue (is_excluded_by_earlier_value rule text reading.state.values))))
+    HasOptionValue start reading word
+    (λ rule text. IsTrue (is_excluded_by_earlier_value rule text reading.state.values))))
 IsUsageReason TooManyOperands words place =
     HasReading words (λ start reading. HasOperandRule words start (λ rule. (most : ℕ)
     × (rule.most ≡ Some most) × (most < length reading.operands)))
@@ -111,7 +113,8 @@ IsUsageReason (OperandMissing kind) words place =
     IsAfterLastWord words place × HasReading words (λ start reading. HasOperandRule words start (λ rule.
     (rule.kind ≡ kind) × (length reading.operands < rule.least)))
 IsUsageReason KindMissing words place =
-    IsAfterLastWord words place × HasReading words (λ start reading. operand_rule_of_words words start ≡ None)
+    IsAfterLastWord words place
+    × HasReading words (λ start reading. operand_rule_of_words words start ≡ None)
 IsUsageReason OptionMissing words place =
     IsAfterLastWord words place × HasReading words (λ start reading. (letter : ℕ)
     × (required_option_letter start.applet ≡ Some letter) × (is_given letter reading.state.values ≡ false))

@@ -17,7 +17,8 @@ abbrev pub IsReadingStep : Bool → OptionState → OptionState → Option Optio
 IsReadingStep true old new more = more ≡ Some new
 IsReadingStep false old new more = (more ≡ None) × (new ≡ old)
 
--- what was read after an applet is its own: at most one kind, and values that may be combined
+-- the flags and values that were read are allowed for the applet: at most one flag selects its kind, and
+-- the values may be combined
 abbrev pub IsSoundReading : Applet → Reading → Type 0
 IsSoundReading applet reading =
     IsTrue (may_have_flags applet reading.state.flags)
@@ -31,13 +32,14 @@ is_option_without_value option = not (is_some (value_rule_of_meaning option.mean
 unfoldable pub has_no_values : Applet → Bool
 has_no_values applet = list_all is_option_without_value (options_of applet)
 
--- flags with the option that a word spells; None if it spells none, holds a value, or is a second kind
+-- flags with the option that a word spells added. None if it spells no flag, holds a value, or selects a
+-- kind of the command other than that of an earlier flag
 abbrev pub flags_with_spelled_option : List OptionSpec → Flags → List ℕ → Option Flags
 flags_with_spelled_option options flags word =
     if is_some (attached_value word) then None else
     option_and_then (flags_with_option flags) (option_of_word options (option_name word))
 
--- whether the operands of an applet are others under other flags
+-- whether the flags decide which operands an applet takes
 abbrev pub operands_depend_on_flags : Applet → Bool
 operands_depend_on_flags Info = true
 operands_depend_on_flags Version = true

@@ -13,7 +13,7 @@ use Rattle.command_core.specs.declared.values.ValueKind.TheVariants.{Any as AnyT
 use Rattle.command_core.specs.declared.values.ValueRule.{ValueRule}
 use Rattle.command_core.specs.Applets.{required_option_letter, operand_rule}
 use Rattle.command_core.specs.Operands.{is_operand_of_kind}
-use Rattle.command_core.specs.Values.{is_value}
+use Rattle.command_core.specs.Values.{is_value_of_kind}
 use Rattle.words_core.specs.declared.next.NextWord.{NextWord}
 use Rattle.words_core.specs.declared.next.NextWord.TheVariants.{OptionOrCommand, Command as CommandAlone, OptionOrOperand, Value as NextValue, Operand as OperandAlone, Nothing}
 use Rattle.words_core.specs.declared.options.Meaning.{Meaning}
@@ -22,7 +22,7 @@ use Rattle.words_core.specs.declared.reading.AppletSite.{AppletSite}
 use Rattle.words_core.specs.declared.reading.Start.{Start}
 use Rattle.words_core.specs.declared.usage.UsageReason.{UsageReason}
 use Rattle.words_core.specs.declared.usage.UsageReason.TheVariants.{CommandMissing, CommandUnknown, OptionEarly, OptionUnknown, OptionRepeated, SecondKind, ValueGiven, ValueMissing, ValueBad, ScriptRepeated, TooManyOperands, OperandBad, OperandMissing, KindMissing, OptionMissing}
-use Rattle.words_core.specs.Grammar.{applet_site, attached_value, is_double_dash, is_option, start_of_command_line, next_after, option_name, reading_after_applet}
+use Rattle.words_core.specs.Grammar.{applet_site, attached_value, is_double_dash, is_option, start_of_command_line, next_word_of_command_line, option_name, reading_after_applet}
 use Rattle.words_core.specs.HelpTexts.{program_usage}
 use Rattle.words_core.specs.Options.{OptionSpec, applet_word, option_of_word, options_of}
 
@@ -35,7 +35,7 @@ repeated_value_reason rule = if rule.single then OptionRepeated else ScriptRepea
 -- why a text is no value of an option
 abbrev pub value_reason : ValueRule → List ℕ → UsageReason
 value_reason rule text =
-    if is_value rule.kind text then repeated_value_reason rule else ValueBad rule.kind
+    if is_value_of_kind rule.kind text then repeated_value_reason rule else ValueBad rule.kind
 
 -- why an option of the command cannot be given, by what it means and the value in its word
 abbrev pub meaning_reason : Option (List ℕ) → Meaning → UsageReason
@@ -92,31 +92,33 @@ command_reason next None = CommandMissing
 command_reason OptionOrCommand (Some word) = if is_option word then OptionEarly else CommandUnknown
 command_reason next (Some word) = CommandUnknown
 
--- why a place before the command is wrong: no command is found, or the option there is none of it
+-- why a place before the command is wrong: no command is found, or the option there is none of the
+-- command's
 abbrev pub early_reason : Result AppletSite ℕ → NextWord → Option (List ℕ) → UsageReason
 early_reason (Err place) next word = command_reason next word
 early_reason (Ok site) next word = OptionUnknown
 
--- the operands of the command that was found, under all flags that are read
+-- which operands the command that was found takes, under all flags that are read
 abbrev pub operand_rule_of_words : List (List ℕ) → Start → Option OperandRule
 operand_rule_of_words words start = operand_rule start.applet (reading_after_applet start words).state.flags
 
 -- why a place offends, by the start that was found in the words
 abbrev pub usage_reason_after_start : List (List ℕ) → ℕ → Result Start ℕ → UsageReason
 usage_reason_after_start words place (Err at) =
-    early_reason (applet_site 1 words) (next_after (take (place - 1) words))
+    early_reason (applet_site 1 words) (next_word_of_command_line (take (place - 1) words))
     (slice_get words (place - 1))
 usage_reason_after_start words place (Ok start) =
-    line_reason start.applet (operand_rule_of_words words start) (next_after (take (place - 1) words))
+    line_reason start.applet (operand_rule_of_words words start)
+    (next_word_of_command_line (take (place - 1) words))
     (slice_get words (place - 1))
 
 -- why the words are a usage error at a place
 unfoldable pub usage_reason : List (List ℕ) → ℕ → UsageReason
 usage_reason words place = usage_reason_after_start words place (start_of_command_line words)
 
--- ---- its text
+-- ---- the text of a reason
 
--- what a value of an option is
+-- how the line describes a value of an option of this kind
 abbrev pub value_kind_description : ValueKind → List ℕ
 value_kind_description AnyText = codes "a text"
 value_kind_description Nonempty = codes "a text that is not empty"
@@ -126,7 +128,7 @@ value_kind_description Uncompressed = codes "none"
 value_kind_description Script =
     codes "TYPE:FILE with TYPE trigger or (pre|post)-(install|deinstall|upgrade)"
 
--- what an operand is
+-- how the line describes an operand of this kind
 abbrev pub operand_kind_description : OperandKind → List ℕ
 operand_kind_description File = codes "a path below this folder"
 operand_kind_description Any = codes "a text"
@@ -173,7 +175,7 @@ texts_joined (text ∷ texts) = text ++ texts_joined texts
 abbrev pub most_shown_bytes : ℕ
 most_shown_bytes = 64
 
--- a hexadecimal digit, in lower case
+-- the hexadecimal digit of a number below 16, in lower case, as an ASCII code
 abbrev pub hex_digit : ℕ → ℕ
 hex_digit n = if nat_lt n 10 then 48 + n else 87 + n
 
@@ -197,20 +199,23 @@ abbrev pub text_before_shown_word : ℕ → List ℕ
 text_before_shown_word place = texts_joined (codes "word " ∷ (decimal place ∷ (codes ", \"" ∷ [])))
 
 -- what follows a word that is shown; two dots say that it is longer
-abbrev pub text_after_shown_word : List ℕ → List ℕ
-text_after_shown_word word = if nat_lt most_shown_bytes (length word) then codes "..\": " else codes "\": "
+abbrev pub closing_quote_of_shown_word : List ℕ → List ℕ
+closing_quote_of_shown_word word =
+    if nat_lt most_shown_bytes (length word) then codes "..\": " else codes "\": "
 
 -- the wrong word, with its place; nothing if a word is missing
 abbrev pub shown_word_with_place : ℕ → Option (List ℕ) → List ℕ
 shown_word_with_place place None = []
 shown_word_with_place place (Some word) =
-    text_before_shown_word place ++ shown_bytes (take most_shown_bytes word) ++ text_after_shown_word word
+    text_before_shown_word place ++ shown_bytes (take most_shown_bytes word)
+    ++ closing_quote_of_shown_word word
 
--- the word of the command whose help is named, after a space; nothing if none was found
+-- the space before the word of the command whose help is named; nothing if no command was found
 abbrev pub space_before_help_topic : Result AppletSite ℕ → List ℕ
 space_before_help_topic (Err place) = []
 space_before_help_topic (Ok site) = codes " "
 
+-- the word of the command whose help is named; nothing if no command was found
 abbrev pub help_topic_word : Result AppletSite ℕ → List ℕ
 help_topic_word (Err place) = []
 help_topic_word (Ok site) = applet_word site.applet
@@ -223,7 +228,8 @@ usage_if_no_words (word ∷ words) = []
 -- the end of the line: the reason, and whose help to read
 abbrev pub end_of_usage_hint : List (List ℕ) → UsageReason → List (List ℕ)
 end_of_usage_hint words reason =
-    reason_text reason ∷ (description_of_expected_kind reason ∷ (codes "; see apk" ∷ (space_before_help_topic (applet_site 1 words)
+    reason_text reason ∷ (description_of_expected_kind reason
+    ∷ (codes "; see apk" ∷ (space_before_help_topic (applet_site 1 words)
     ∷ (help_topic_word (applet_site 1 words) ∷ (codes " --help\n" ∷ (usage_if_no_words words ∷ []))))))
 
 -- the line that says why the words are a usage error at a place

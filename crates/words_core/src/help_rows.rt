@@ -1,7 +1,7 @@
 //! The texts of `--help`: a row for each command, option and operand, and for fields of a package.
 //! They are shown in `docs/commands.md`, "Help".
 ghost use Rattle.std.specs.Prelude.{◌≡◌, map};
-ghost use Rattle.words_core.specs.HelpTexts.{common_help, field_help, listed_commands, operand_help, option_help, purpose, synopsis};
+ghost use Rattle.words_core.specs.HelpTexts.{common_option_help, field_help, listed_commands, operand_help, option_help, purpose, synopsis};
 ghost use Rattle.words_core.specs.Rows.{help_row_line};
 
 use command_core::Applet;
@@ -338,8 +338,8 @@ pub(crate) fn purpose(applet: Applet) -> &'static [u8]
 }
 
 /// The lines of the options of every command.
-pub(crate) fn common_help() -> &'static [HelpRow]
-    ensures { map help_row_line result.now ≡ common_help }
+pub(crate) fn common_option_help() -> &'static [HelpRow]
+    ensures { map help_row_line result.now ≡ common_option_help }
 {
     &COMMON_OPTIONS
 }

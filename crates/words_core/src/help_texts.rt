@@ -1,12 +1,12 @@
 //! The texts of `--help` and `--version`, put together from the rows of `help_rows`. The texts are
 //! shown in `docs/commands.md`, "Help".
 ghost use Rattle.std.specs.Prelude.{◌≡◌, ◌≤◌, ◌++◌, IfOk, OnOk, codes, map};
-ghost use Rattle.words_core.specs.HelpTexts.{command_help, command_line, commands_text, common_text, first_steps, help_text, line_text, lines_text, program_help, program_usage, section_text, spaces_after, help_topic_of, usage_line, usage_lines_after, version_line};
+ghost use Rattle.words_core.specs.HelpTexts.{command_help, command_help_line, commands_text, common_options_text, first_steps_text, help_text, line_text, lines_text, program_help, program_usage, section_text, padding_to_column, help_topic_of, usage_line, usage_lines_with_first_prefix, version_line};
 ghost use Rattle.words_core.specs.Rows.{help_row_line};
 
 use crate::help_rows::{
-    HelpRow, LISTED_COMMANDS, PROGRAM_USAGE, common_help, field_help, operand_help, option_help,
-    purpose, synopsis,
+    HelpRow, LISTED_COMMANDS, PROGRAM_USAGE, common_option_help, field_help, operand_help,
+    option_help, purpose, synopsis,
 };
 use crate::options::{applet_of, applet_word};
 use base_core::Text;
@@ -89,7 +89,7 @@ fn push_commands(text: &mut Vec<u8>) -> Result<(), AllocError>
 // Adds a line for each command.
 fn push_command_lines(text: &mut Vec<u8>, commands: &[Applet]) -> Result<(), AllocError>
     ensures { OnOk result (text.new.items
-        ≡ text.old.items ++ lines_text COMMAND_COLUMN (map command_line commands.now)) }
+        ≡ text.old.items ++ lines_text COMMAND_COLUMN (map command_help_line commands.now)) }
 {
     for i in 0..commands.len() {
         let row = HelpRow {
@@ -102,19 +102,19 @@ fn push_command_lines(text: &mut Vec<u8>, commands: &[Applet]) -> Result<(), All
 }
 
 // Adds the options of every command.
-#[tactic(auto, unfolding(crate::specs::HelpTexts::common_text))]
+#[tactic(auto, unfolding(crate::specs::HelpTexts::common_options_text))]
 fn push_common(text: &mut Vec<u8>) -> Result<(), AllocError>
-    ensures { OnOk result (text.new.items ≡ text.old.items ++ common_text) }
+    ensures { OnOk result (text.new.items ≡ text.old.items ++ common_options_text) }
 {
     text.extend_from_slice(b"\nOptions of every command:\n")?;
-    push_lines(text, common_help())?;
+    push_lines(text, common_option_help())?;
     Ok(())
 }
 
 // Adds where paths begin, how a package is installed, and where to read on.
-#[tactic(auto, unfolding(crate::specs::HelpTexts::first_steps))]
+#[tactic(auto, unfolding(crate::specs::HelpTexts::first_steps_text))]
 fn push_first_steps(text: &mut Vec<u8>) -> Result<(), AllocError>
-    ensures { OnOk result (text.new.items ≡ text.old.items ++ first_steps) }
+    ensures { OnOk result (text.new.items ≡ text.old.items ++ first_steps_text) }
 {
     text.extend_from_slice(b"\nPaths are below the current folder, which is the root.\n")?;
     text.extend_from_slice(
@@ -134,7 +134,7 @@ fn push_command_help(text: &mut Vec<u8>, applet: Applet) -> Result<(), AllocErro
     text.extend_from_slice(b"\n")?;
     text.extend_from_slice(b"\nOptions:\n")?;
     push_lines(text, option_help(applet))?;
-    push_lines(text, common_help())?;
+    push_lines(text, common_option_help())?;
     push_section(text, b"\nFields that -I takes:\n", field_help(applet))?;
     push_section(text, b"\nOperands:\n", operand_help(applet))?;
     text.extend_from_slice(b"\nManual page: apk(8)\n")?;
@@ -144,7 +144,7 @@ fn push_command_help(text: &mut Vec<u8>, applet: Applet) -> Result<(), AllocErro
 // Adds how a command is called, a line each.
 fn push_usage(text: &mut Vec<u8>, lines: &[&[u8]]) -> Result<(), AllocError>
     ensures { OnOk result (text.new.items ≡ text.old.items
-        ++ usage_lines_after (codes "usage: ") (map (λ line. line.now) lines.now)) }
+        ++ usage_lines_with_first_prefix (codes "usage: ") (map (λ line. line.now) lines.now)) }
 {
     let mut front = b"usage: ";
     for i in 0..lines.len() {
@@ -194,15 +194,15 @@ fn push_line(text: &mut Vec<u8>, column: usize, row: &HelpRow) -> Result<(), All
 {
     text.extend_from_slice(b"  ")?;
     text.extend_from_slice(row.subject)?;
-    text.extend_from_slice(spaces_after(column, row.subject))?;
+    text.extend_from_slice(padding_to_column(column, row.subject))?;
     text.extend_from_slice(row.text)?;
     text.extend_from_slice(b"\n")
 }
 
 // The spaces after a subject, up to a column.
-fn spaces_after(column: usize, subject: &[u8]) -> &'static [u8]
+fn padding_to_column(column: usize, subject: &[u8]) -> &'static [u8]
     requires { column ≤ OPTION_COLUMN }
-    ensures { result.now ≡ spaces_after column subject.now }
+    ensures { result.now ≡ padding_to_column column subject.now }
 {
     &SPACES[..column.saturating_sub(subject.len())]
 }

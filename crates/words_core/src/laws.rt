@@ -10,7 +10,7 @@ ghost use Rattle.words_core.specs.Kinds.{can_info_kind_follow};
 ghost use Rattle.words_core.specs.Lines.{IsLineOf};
 ghost use Rattle.words_core.specs.Options.{applets, common_options, own_options};
 ghost use Rattle.words_core.specs.Explained.{are_help_of, are_listed, help_and_version_options};
-ghost use Rattle.words_core.specs.HelpTexts.{common_help, option_help};
+ghost use Rattle.words_core.specs.HelpTexts.{common_option_help, option_help};
 ghost use Rattle.words_core.specs.Reasons.{IsUsageReason};
 ghost use Rattle.words_core.specs.Rows.{has_letter_of_short_word};
 ghost use Rattle.words_core.specs.Usage.{usage_reason};
@@ -75,7 +75,7 @@ pub fn letters_are_those_of_short_words()
     ensures { (applet : Applet) → IsTrue (list_all has_letter_of_short_word (own_options applet)) }
 {}
 
-/// The reason that the line after a usage error gives is so, of the word at the place or of the
+/// The reason that the line after a usage error gives is true, of the word at the place or of the
 /// words before it.
 pub fn a_reason_is_so()
     ensures { (words : List (List ℕ)) (place : ℕ) → command_of words ≡ Err place →
@@ -87,6 +87,7 @@ pub fn a_reason_is_so()
 pub fn help_explains_each_option()
     ensures own { (applet : Applet) → IsTrue (are_help_of (option_help applet) (own_options
         applet)) }
-    ensures common { IsTrue (are_help_of common_help (common_options ++ help_and_version_options)) }
+    ensures common { IsTrue (are_help_of common_option_help (common_options
+        ++ help_and_version_options)) }
     ensures listed { IsTrue (are_listed applets) }
 {}

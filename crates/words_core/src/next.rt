@@ -1,7 +1,7 @@
 //! What the next word of a command line can be, and what a word asks for if an option can be there:
 //! help, or the version of the program. The rules are in `docs/commands.md`, "Words" and "Help".
 ghost use Rattle.std.specs.Prelude.{◌≡◌, ◌+◌, ◌≤◌, IsTrue, length, take};
-ghost use Rattle.words_core.specs.Grammar.{help_or_version_option_at, is_option, next_after, next_word, awaited_rule, can_be_option};
+ghost use Rattle.words_core.specs.Grammar.{help_or_version_option_at, is_option, next_word_of_command_line, next_word, awaited_rule, can_be_option};
 ghost use Rattle.words_core.specs.Options.{options_of};
 ghost use Rattle.words_core.specs.declared.next.NextWord.TheVariants.{OptionOrCommand, OptionOrOperand};
 
@@ -28,7 +28,7 @@ pub(crate) enum NextWord {
 }
 
 impl NextWord {
-    // What the word after a word can be.
+    // What the word after this one can be, if `self` is what this word could be.
     fn after(self, word: &[u8]) -> NextWord
         ensures { result ≡ next_word self word.now }
     {
@@ -56,7 +56,8 @@ impl NextWord {
     }
 }
 
-// What the word after a word can be, if that is an option before the command, `--`, or the command.
+// What the word after this one can be, if this one is an option before the command, `--`, or the
+// command.
 fn after_start(word: &[u8]) -> NextWord
     ensures { result ≡ next_word OptionOrCommand word.now }
 {
@@ -72,7 +73,8 @@ fn after_start(word: &[u8]) -> NextWord
     }
 }
 
-// What the word after a word can be, if that is an option of the command, `--`, or an operand.
+// What the word after this one can be, if this one is an option of the command, `--`, or an
+// operand.
 fn after_applet(applet: Applet, word: &[u8]) -> NextWord
     ensures { result ≡ next_word (OptionOrOperand applet) word.now }
 {
@@ -102,10 +104,10 @@ fn awaited_rule(applet: Applet, word: &[u8]) -> Option<ValueRule>
     }
 }
 
-/// What the word after the first words of a command line can be, this many of them.
-pub(crate) fn next_after(words: &Words, count: usize) -> NextWord
+/// What the word after the first `count` words of a command line can be.
+pub(crate) fn next_word_of_command_line(words: &Words, count: usize) -> NextWord
     requires { count ≤ length words.now }
-    ensures { result ≡ next_after (take count words.now) }
+    ensures { result ≡ next_word_of_command_line (take count words.now) }
 {
     let mut next = NextWord::OptionOrCommand;
     for i in 0..count {
@@ -121,7 +123,7 @@ pub(crate) fn help_or_version_option_at(words: &Words, place: u32) -> Option<App
     ensures { result ≡ help_or_version_option_at words.now place }
 {
     let before = place as usize - 1;
-    if !next_after(words, before).can_be_option() {
+    if !next_word_of_command_line(words, before).can_be_option() {
         return None;
     }
     if before == words.len() {

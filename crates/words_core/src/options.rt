@@ -332,8 +332,7 @@ fn find_option(options: &[OptionRow], word: &[u8]) -> Option<OptionRow>
         .find(|option| option.is_spelled(word))
 }
 
-/// Flags with an option, if there is one. None if there is none, if it is no flag, or if it is a
-/// second kind.
+/// Flags with an option added. None if there is no option, or in the cases of `Meaning::with`.
 pub(crate) fn flags_with_option_word(flags: Flags, option: Option<OptionRow>) -> Option<Flags>
     ensures { result ≡ option_and_then (flags_with_option flags) (option_map option_spec option) }
 {
@@ -361,7 +360,8 @@ impl Meaning {
         }
     }
 
-    /// These flags and the option's. None if it is no flag, or a second kind.
+    /// These flags and that of the option. None if the option takes a value, or if it selects a
+    /// kind of the command other than that of an earlier flag.
     pub(crate) fn with(self, flags: Flags) -> Option<Flags>
         ensures { result ≡ flags_with_meaning flags self }
     {

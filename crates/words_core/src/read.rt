@@ -21,7 +21,7 @@ pub enum WordsFault {
     /// The place of the first wrong word, counted from 1, or the place after the last one if a word
     /// is missing.
     Usage { place: u32 },
-    /// There was no memory.
+    /// Out of memory.
     Memory,
 }
 
@@ -31,7 +31,7 @@ impl From<AllocError> for WordsFault {
 
     ghost from_gives = { λ _ fault. fault ≡ Memory };
 
-    /// Without memory there is no command.
+    /// Out of memory, as the reason that there is no command.
     fn from(_: AllocError) -> WordsFault {
         WordsFault::Memory
     }
@@ -47,7 +47,8 @@ impl From<AllocError> for WordsFault {
 pub fn read_words(alloc: Global, words: &Words) -> Result<Command, WordsFault>
     ensures ok { IfOk result (λ command. command_of words.now ≡ Ok command) }
     ensures usage { IfErr result (λ fault. IsWordsFault fault (command_of words.now)) }
-    ensures memory { IfErr result (λ fault. HasStartIfOutOfMemory fault (start_of_command_line words.now)) }
+    ensures memory { IfErr result (λ fault. HasStartIfOutOfMemory fault
+        (start_of_command_line words.now)) }
 {
     match read_line(alloc, words) {
         Ok(command) => Ok(command),
@@ -62,7 +63,8 @@ fn read_asked(alloc: Global, words: &Words, place: u32) -> Result<Command, Words
     requires { spelled_command words.now ≡ Err place }
     ensures ok { IfOk result (λ command. command_of words.now ≡ Ok command) }
     ensures usage { IfErr result (λ fault. IsWordsFault fault (command_of words.now)) }
-    ensures memory { IfErr result (λ fault. HasStartIfOutOfMemory fault (start_of_command_line words.now)) }
+    ensures memory { IfErr result (λ fault. HasStartIfOutOfMemory fault
+        (start_of_command_line words.now)) }
 {
     let Some(applet) = help_or_version_option_at(words, place) else {
         return Err(WordsFault::Usage { place });
@@ -98,7 +100,8 @@ fn help_or_version_command(
 
 // The operands of `Help`: the word of the applet, if there is one.
 fn topic(alloc: Global, words: &Words) -> Result<Operands, AllocError>
-    ensures ok { IfOk result (λ operands. operands ≡ help_topic_operands (applet_site 1 words.now)) }
+    ensures ok { IfOk result (λ operands. operands
+        ≡ help_topic_operands (applet_site 1 words.now)) }
     ensures memory { OnErr result (IsTrue (is_ok (applet_site 1 words.now))) }
 {
     let mut operands = Operands::new(alloc);
@@ -114,7 +117,8 @@ fn topic(alloc: Global, words: &Words) -> Result<Operands, AllocError>
 fn read_line(alloc: Global, words: &Words) -> Result<Command, WordsFault>
     ensures ok { IfOk result (λ command. spelled_command words.now ≡ Ok command) }
     ensures usage { IfErr result (λ fault. IsWordsFault fault (spelled_command words.now)) }
-    ensures memory { IfErr result (λ fault. HasStartIfOutOfMemory fault (start_of_command_line words.now)) }
+    ensures memory { IfErr result (λ fault. HasStartIfOutOfMemory fault
+        (start_of_command_line words.now)) }
 {
     let start = match read_start(words) {
         Ok(start) => start,

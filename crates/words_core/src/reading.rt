@@ -6,7 +6,7 @@ ghost use Rattle.std.specs.Option.{option_map};
 ghost use Rattle.command_core.specs.Applets.{required_option_letter};
 ghost use Rattle.command_core.specs.Flags.{no_flags};
 ghost use Rattle.command_core.specs.Values.{is_required_value_missing};
-ghost use Rattle.words_core.specs.Grammar.{applet_site, early_flags, option_state_at_start, is_option, is_option_or_value, start_of_command_line, operands_of, option_reading, reading_after_applet, words_reading_from_parts, reading_at_end_of_words, applet_site_at, site_after_end, with_flags_if_some, flags_with_meaning, state_with_meaning, with_value_option, with_option_word, with_option_value, with_option_or_value_word};
+ghost use Rattle.words_core.specs.Grammar.{applet_site, early_flags, option_state_at_start, is_option, is_option_or_value, start_of_command_line, operands_of, option_reading, reading_after_applet, words_reading_from_parts, reading_at_end_of_words, applet_site_of_word, site_after_end, with_flags_if_some, flags_with_meaning, state_with_meaning, with_value_option, with_option_word, with_option_value, with_option_or_value_word};
 ghost use Rattle.words_core.specs.Options.{options_of};
 ghost use Rattle.words_core.specs.Steps.{IsReadingStep};
 
@@ -79,7 +79,7 @@ pub(crate) fn find_applet(words: &Words) -> Result<AppletSite, u32>
     Err(place_after_word(words.len()))
 }
 
-// The applet that the first word after `--` names, if this many words are read.
+// The applet that the first word after `--` names. The first `before` words end with `--`.
 #[tactic(auto, unfolding(crate::specs::Grammar::site_after_end), using(crate::proofs::OneMore::left_at))]
 fn applet_after_end(words: &Words, before: usize) -> Result<AppletSite, u32>
     requires { before ≤ length words.now }
@@ -91,11 +91,11 @@ fn applet_after_end(words: &Words, before: usize) -> Result<AppletSite, u32>
     applet_at(words.word(before), true, before)
 }
 
-// The applet that a word names, if this many words precede it.
-#[tactic(auto, unfolding(crate::specs::Grammar::applet_site_at))]
+// The applet that a word names, which `before` words precede.
+#[tactic(auto, unfolding(crate::specs::Grammar::applet_site_of_word))]
 fn applet_at(word: &[u8], ended: bool, before: usize) -> Result<AppletSite, u32>
     requires { before < MOST_PLACES }
-    ensures { result ≡ applet_site_at ended (before + 1) word.now }
+    ensures { result ≡ applet_site_of_word ended (before + 1) word.now }
 {
     match applet_of(word) {
         Some(applet) => Ok(AppletSite {
@@ -163,7 +163,8 @@ impl OptionState {
     // be read, and then nothing changes.
     fn read_word(&mut self, applet: Applet, place: u32, word: &[u8]) -> Result<bool, AllocError>
         requires { IsTrue (is_option_or_value self.old word.now) }
-        ensures { IfOk result (λ good. IsReadingStep good self.old self.new (with_option_or_value_word
+        ensures { IfOk result (λ good. IsReadingStep good self.old self.new
+            (with_option_or_value_word
             (options_of applet) self.old place word.now)) }
     {
         match self.awaiting {
@@ -174,7 +175,8 @@ impl OptionState {
 
     /// Whether the option that an applet needs was given.
     pub(crate) fn has_needed(&self, applet: Applet) -> bool
-        ensures { result ≡ not (is_required_value_missing (required_option_letter applet) self.now.values) }
+        ensures { result ≡ not (is_required_value_missing
+            (required_option_letter applet) self.now.values) }
     {
         match applet.required_option_letter() {
             Some(letter) => self.values.is_given(letter),
@@ -204,7 +206,8 @@ impl OptionState {
         meaning: Meaning,
     ) -> Result<bool, AllocError>
         ensures { IfOk result (λ good. IsReadingStep good self.old self.new
-            (state_with_meaning self.old place (option_map (λ text. text.now) held.entry) meaning)) }
+            (state_with_meaning self.old place (option_map
+            (λ text. text.now) held.entry) meaning)) }
     {
         match meaning {
             Meaning::Value(rule) => self.read_rule(place, held, rule),
@@ -303,7 +306,8 @@ impl Reading {
 
     // The reading if the words end at a place: an awaited value is missing there.
     fn ended(place: u32, state: OptionState, operands: Operands) -> Reading
-        ensures { result ≡ words_reading_from_parts state operands (reading_at_end_of_words state place).unread }
+        ensures { result ≡ words_reading_from_parts state operands
+            (reading_at_end_of_words state place).unread }
     {
         match state.awaiting {
             Some(_) => Reading::up_to(place, state, operands),
@@ -334,7 +338,8 @@ pub(crate) fn read_after_applet(
 fn read_options(alloc: Global, words: &Words, start: &Start) -> Result<Reading, AllocError>
     requires { start.now.read ≤ length words.now }
     ensures { IfOk result (λ reading.
-        reading ≡ option_reading (options_of start.now.applet) (option_state_at_start start.now.flags)
+        reading ≡ option_reading (options_of start.now.applet)
+        (option_state_at_start start.now.flags)
         (start.now.read + 1) (drop start.now.read words.now)) }
 {
     let mut state = OptionState::new(alloc, start.flags);
@@ -356,7 +361,7 @@ fn read_options(alloc: Global, words: &Words, start: &Start) -> Result<Reading, 
     Ok(Reading::ended(place_after_word(words.len()), state, operands))
 }
 
-// Adds each word after the first ones, this many of them, as an operand.
+// Adds each word after the first `before` words as an operand.
 fn add_operands(operands: &mut Operands, words: &Words, before: usize) -> Result<(), AllocError>
     requires { before ≤ length words.now }
     ensures { OnOk result (operands.new ≡ operands.old

@@ -4,15 +4,15 @@ ghost use Rattle.std.specs.Prelude.{◌≡◌, ◌-◌, ◌+◌, ◌<◌, ◌≤
 ghost use Rattle.std.specs.Option.{option_map};
 ghost use Rattle.base_core.specs.Sink.{sink_before_and_after};
 ghost use Rattle.base_core.specs.Write.{Writes};
-ghost use Rattle.words_core.specs.Grammar.{applet_site, option_state_at_start, is_option, start_of_command_line, next_after, option_reading, reading_after_applet};
+ghost use Rattle.words_core.specs.Grammar.{applet_site, option_state_at_start, is_option, start_of_command_line, next_word_of_command_line, option_reading, reading_after_applet};
 ghost use Rattle.words_core.specs.Options.{options_of};
 ghost use Rattle.words_core.specs.Rows.{option_spec};
 ghost use Rattle.words_core.specs.Steps.{operands_depend_on_flags, flags_with_spelled_option, has_no_values};
 ghost use Rattle.words_core.specs.declared.next.NextWord.TheVariants.{OptionOrOperand};
-ghost use Rattle.words_core.specs.Usage.{space_before_help_topic, help_topic_word, command_reason, early_reason, end_reason, hex_digit, end_of_usage_hint, usage_hint_text, is_plain_byte, line_reason, operand_rule_of_words, most_shown_bytes, meaning_reason, missing_reason, operand_reason, option_reason, shown_word_with_place, repeated_value_reason, shown_byte, shown_bytes, texts_joined, usage_if_no_words, usage_reason, value_reason, text_after_shown_word, text_before_shown_word, word_reason};
+ghost use Rattle.words_core.specs.Usage.{space_before_help_topic, help_topic_word, command_reason, early_reason, end_reason, hex_digit, end_of_usage_hint, usage_hint_text, is_plain_byte, line_reason, operand_rule_of_words, most_shown_bytes, meaning_reason, missing_reason, operand_reason, option_reason, shown_word_with_place, repeated_value_reason, shown_byte, shown_bytes, texts_joined, usage_if_no_words, usage_reason, value_reason, closing_quote_of_shown_word, text_before_shown_word, word_reason};
 
 use crate::help_rows::PROGRAM_USAGE;
-use crate::next::{NextWord, next_after};
+use crate::next::{NextWord, next_word_of_command_line};
 use crate::options::{Meaning, OptionRow, applet_word, flags_with_option_word, option_of_word};
 use crate::reading::{Start, find_applet, read_start};
 use crate::usage_texts::{description_of_expected_kind, reason_text};
@@ -75,13 +75,13 @@ fn usage_reason(words: &Words, place: u32) -> UsageReason
 
 // What the word at a place could have been.
 fn next_before(words: &Words, place: u32) -> NextWord
-    ensures { result ≡ next_after (take (place - 1) words.now) }
+    ensures { result ≡ next_word_of_command_line (take (place - 1) words.now) }
 {
     let before = (place as usize).saturating_sub(1);
     if before < words.len() {
-        next_after(words, before)
+        next_word_of_command_line(words, before)
     } else {
-        next_after(words, words.len())
+        next_word_of_command_line(words, words.len())
     }
 }
 
@@ -169,7 +169,7 @@ fn word_reason(rule: Option<OperandRule>, word: &[u8], next: NextWord) -> UsageR
     }
 }
 
-// Why a word after the command is wrong that is an option or an operand.
+// Why a word after the command is wrong, if the word could be an option or an operand.
 fn free_reason(applet: Applet, rule: Option<OperandRule>, word: &[u8]) -> UsageReason
     ensures { result ≡ word_reason rule word.now (OptionOrOperand applet) }
 {
@@ -234,7 +234,7 @@ fn operand_reason(word: &[u8], rule: Option<OperandRule>) -> UsageReason
 
 // ---- the operands of the command
 
-// The operands of the command that was found, under all flags that are read.
+// Which operands the command that was found takes, under all flags that are read.
 fn operand_rule_of_words(words: &Words, start: &Start) -> Option<OperandRule>
     requires { start_of_command_line words.now ≡ Ok start.now }
     ensures { result ≡ operand_rule_of_words words.now start.now }
@@ -245,7 +245,7 @@ fn operand_rule_of_words(words: &Words, start: &Start) -> Option<OperandRule>
     start.applet.operands(Flags::none())
 }
 
-// Whether the operands of an applet are others under other flags.
+// Whether the flags decide which operands an applet takes.
 fn operands_depend_on_flags(applet: Applet) -> bool
     ensures { result ≡ operands_depend_on_flags applet }
 {
@@ -290,8 +290,8 @@ fn flags_behind(words: &Words, start: &Start) -> Flags
     flags
 }
 
-// Flags with the option that a word is. None: it is none of the command, has a value, or is a
-// second kind.
+// Flags with the option that a word spells added. None if it spells no flag of the command, holds a
+// value, or selects a kind of the command other than that of an earlier flag.
 fn flags_with_held_meaning(applet: Applet, flags: Flags, word: &[u8]) -> Option<Flags>
     requires { IsTrue (is_option word.now) }
     ensures { result ≡ flags_with_spelled_option (options_of applet) flags word.now }
@@ -334,12 +334,13 @@ fn write_word<S: Sink>(place: u32, word: &[u8], sink: &mut S) -> Result<(), Sink
 {
     write_front(place, sink)?;
     write_shown(shown_part(word), sink)?;
-    write_all(sink, text_after_shown_word(word))
+    write_all(sink, closing_quote_of_shown_word(word))
 }
 
 // Writes what precedes a word that is shown.
 fn write_front<S: Sink>(place: u32, sink: &mut S) -> Result<(), SinkFault>
-    ensures { Writes (text_before_shown_word place) (sink_before_and_after S.bytes S.counts sink.old sink.new) result }
+    ensures { Writes (text_before_shown_word place)
+        (sink_before_and_after S.bytes S.counts sink.old sink.new) result }
 {
     let mut digits = Buffer::new();
     write_texts(&[b"word ", digits.format(place).as_bytes(), b", \""], sink)
@@ -358,8 +359,8 @@ pub fn shown_part(word: &[u8]) -> &[u8]
 }
 
 // What follows a word that is shown.
-fn text_after_shown_word(word: &[u8]) -> &'static [u8]
-    ensures { result.now ≡ text_after_shown_word word.now }
+fn closing_quote_of_shown_word(word: &[u8]) -> &'static [u8]
+    ensures { result.now ≡ closing_quote_of_shown_word word.now }
 {
     if word.len() > LONGEST_SHOWN {
         b"..\": "
@@ -381,7 +382,8 @@ fn write_shown<S: Sink>(bytes: &[u8], sink: &mut S) -> Result<(), SinkFault>
 
 // Writes a byte as it is shown.
 fn write_byte<S: Sink>(byte: u8, sink: &mut S) -> Result<(), SinkFault>
-    ensures { Writes (shown_byte byte) (sink_before_and_after S.bytes S.counts sink.old sink.new) result }
+    ensures { Writes (shown_byte byte)
+        (sink_before_and_after S.bytes S.counts sink.old sink.new) result }
 {
     if is_plain_byte(byte) {
         return write_all(sink, &[byte]);

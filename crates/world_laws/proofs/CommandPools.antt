@@ -5,7 +5,7 @@ use Rattle.std.specs.List.{list_any}
 use Rattle.std.proofs.lemmas.Bool.{ltb-false}
 use Rattle.engine_core.specs.adb_fields.FirstPair.{IsIn}
 use Rattle.engine_core.specs.adb_fields.Repeated.{entries_at, list_of}
-use Rattle.engine_core.specs.adb_schema.Soundness.{first_fault, payload_in, root_value}
+use Rattle.engine_core.specs.adb_schema.Soundness.{container_fault_except_contents, payload_in, root_value}
 use Rattle.adb_view.specs.FieldIndexes.{INDEX_PACKAGES}
 use Rattle.adb_view.specs.Values.{entries_in, entry_in}
 use Rattle.adb_view.specs.declared.tables.Which.TheVariants.{Index}
@@ -17,7 +17,7 @@ use Rattle.engine_core.specs.candidate_core.declared.candidate_list.TheConstants
 use Rattle.engine_core.specs.change_inputs.Candidates.{candidates_of_repositories_from, candidates_of, installed_candidate, root_pool}
 use Rattle.engine_core.specs.change_inputs.Chains.{and_then, unless_cause}
 use Rattle.engine_core.specs.change_inputs.Indexes.{index_file, index_files_from, index_in_file, indexes_in_files}
-use Rattle.engine_core.specs.change_inputs.Inputs.{Inputs, first_index_read, index_reads_from, indexes_of, inputs_from_parts, inputs_of, root_for}
+use Rattle.engine_core.specs.change_inputs.Inputs.{Inputs, first_index_read_number, index_reads_from, indexes_of, inputs_from_parts, inputs_of, root_for}
 use Rattle.command_core.specs.Command.{CommandLine}
 use Rattle.dep_core.specs.Repositories.{Repository}
 use Rattle.engine_core.specs.make_info.Reads.{Reads}
@@ -49,7 +49,7 @@ module _ (read : Reads) where
       ((file : List ℕ) × (read n x.path ≡ Some file) × (value ≡ root_value Index (payload_in file))) × AreValues (suc n) rs values
 
   value_in : (number : ℕ) (file : List ℕ) (value : Plain) → index_in_file number file ≡ Ok value → value ≡ root_value Index (payload_in file)
-  value_in number file value e = by (first_fault Index file) e
+  value_in number file value e = by (container_fault_except_contents Index file) e
     where
       by : (fault : Option Cause) → unless_cause (IndexBad number) fault (root_value Index (payload_in file)) ≡ Ok value → value ≡ root_value Index (payload_in file)
       by None e = let same : root_value Index (payload_in file) ≡ value = cc in sym same
@@ -152,18 +152,18 @@ module _ (read : Reads) where
 
   -- ---- with the installed packages
 
-  module _ (inputs : Inputs) (are : AreValues first_index_read inputs.root.repositories inputs.indexes) where
+  module _ (inputs : Inputs) (are : AreValues first_index_read_number inputs.root.repositories inputs.indexes) where
     abbrev offers : List Candidate
     offers = candidates_of_repositories_from 1 inputs.root.repositories inputs.indexes
 
     abbrev packages : List Plain
     packages = inputs.root.database.packages
 
-    one_of : (was : Candidate) → IsIn was offers → IsFromOne first_index_read 1 inputs.root.repositories was
-    one_of was here = from_one first_index_read 1 inputs.root.repositories inputs.indexes was are here
+    one_of : (was : Candidate) → IsIn was offers → IsFromOne first_index_read_number 1 inputs.root.repositories was
+    one_of was here = from_one first_index_read_number 1 inputs.root.repositories inputs.indexes was are here
 
     -- a package of an index, as it counts
-    of_one : (was c : Candidate) → IsFromOne first_index_read 1 inputs.root.repositories was → IsCounted packages was c → IsOfIndex inputs read c
+    of_one : (was c : Candidate) → IsFromOne first_index_read_number 1 inputs.root.repositories was → IsCounted packages was c → IsOfIndex inputs read c
     of_one was c f (inl is) =
         let named : c ≡ candidate_of f.info (Some (1 + f.place)) f.repository.tag true = is.0 ∙ ap as_installed f.is in
         record {
@@ -221,7 +221,7 @@ module _ (read : Reads) where
 
     of_indexes_is : (place : ℕ) (repository : Repository) (info : Plain) → IsIndexed inputs read place repository info → (c : Candidate) × IsIn c (candidates_of inputs) × IsCandidateFor place repository info c
     of_indexes_is place repository info indexed =
-        let here = from_all first_index_read 1 inputs.root.repositories inputs.indexes are place repository info indexed.file indexed.listed indexed.is_index indexed.has in
+        let here = from_all first_index_read_number 1 inputs.root.repositories inputs.indexes are place repository info indexed.file indexed.listed indexed.is_index indexed.has in
         let there = all_there packages offers (candidate_of info (Some (1 + place)) repository.tag false) here in
         (there.0, there.1, candidate_for place repository info (candidate_of info (Some (1 + place)) repository.tag false) there.0 refl there.2)
 
@@ -239,10 +239,10 @@ unfolding inputs_of
 candidates_are command read inputs e =
     let root = and_then_ok (root_for command read) _ inputs e in
     let indexes = and_then_ok (indexes_of read root.0.repositories) (λ indexes. Ok (inputs_from_parts root.0 indexes)) inputs root.2 in
-    let files = and_then_ok (index_files_from 1 (index_reads_from read first_index_read root.0.repositories)) (indexes_in_files 1) indexes.0 indexes.1 in
+    let files = and_then_ok (index_files_from 1 (index_reads_from read first_index_read_number root.0.repositories)) (indexes_in_files 1) indexes.0 indexes.1 in
     let same : inputs_from_parts root.0 indexes.0 ≡ inputs = (let last = indexes.2 in cc) in
     subst (λ (i : Inputs). AreCandidates i read (candidates_of i)) same
-    (are_candidates read (inputs_from_parts root.0 indexes.0) (are_values read first_index_read 1 root.0.repositories files.0 indexes.0 files.1 files.2))
+    (are_candidates read (inputs_from_parts root.0 indexes.0) (are_values read first_index_read_number 1 root.0.repositories files.0 indexes.0 files.1 files.2))
 
 -- the candidates of a pool are not too many, and its world is the new one
 pub record IsRootPool (inputs : Inputs) (upgraded : UpgradedNames) (pool : SealedPool) : Type 0 where

@@ -21,7 +21,7 @@ use Rattle.engine_core.specs.Wishes.{names_to_reinstall, names_to_upgrade, opera
 use Rattle.engine_core.specs.make_info.Reads.{Reads}
 use Rattle.engine_core.specs.package_changes.Placed.{candidates_at}
 use Rattle.report_core.specs.declared.refusal.Refusal.{Refusal}
-use Rattle.engine_core.specs.search_tables.Selection.{IsFirstSelection}
+use Rattle.engine_core.specs.search_tables.Selection.{IsFirstPreferredSelection}
 use Rattle.world_laws.specs.CommandPool.{IsCommandPool, IsToUpgrade}
 use Rattle.world_laws.specs.SatisfiedWorld.{IsNeeded, SatisfyWorld}
 use Rattle.world_laws.proofs.CommandPools.{candidates_are, root_pool_is}
@@ -82,7 +82,7 @@ module _ (command : CommandLine) (read : Reads) where
   record IsTaken (s : InputsAndReplacement) : Type 0 where
     pub pool : SealedPool
     pub trace : List ℕ
-    pub first : IsFirstSelection pool trace
+    pub first : IsFirstPreferredSelection pool trace
     pub selected : candidates_at pool trace ≡ s.replacement.selected
     pub candidates : pool.candidates ≡ candidates_of s.inputs
     pub world : pool.world ≡ s.inputs.root.new_world

@@ -2,7 +2,7 @@
 use Rattle.std.proofs.Common.{◌≡◌, ℕ, List, Result, Ok, Err, refl, ap, subst}
 use Rattle.engine_core.specs.change_inputs.Chains.{and_then, refused_as}
 use Rattle.engine_core.specs.change_inputs.Database.{root_database}
-use Rattle.engine_core.specs.change_inputs.Inputs.{Inputs, Root, database_read, indexes_of, inputs_from_parts, inputs_of, repositories_read, root_by, root_for, text_database_read, world_read}
+use Rattle.engine_core.specs.change_inputs.Inputs.{Inputs, Root, database_read_number, indexes_of, inputs_from_parts, inputs_of, repositories_read_number, root_from_parts, root_for, text_database_read_number, world_read_number}
 use Rattle.engine_core.specs.change_inputs.Repositories.{root_repositories}
 use Rattle.engine_core.specs.change_inputs.World.{root_world, found_text_or_empty}
 use Rattle.command_core.specs.Command.{CommandLine}
@@ -24,15 +24,15 @@ refused_ok refusal (Err e) x is = absurd (cc (is))
 
 module _ (command : CommandLine) (read : Reads) where
   text : List ℕ
-  text = found_text_or_empty (read world_read world_name)
+  text = found_text_or_empty (read world_read_number world_name)
 
   of_root : (root : Root) → root_for command read ≡ Ok root → IsReadWorld command read root
   unfolding text
   of_root root e =
-      let database = and_then_ok (root_database command.flags.initdb (read database_read database_name) (read text_database_read text_database_name)) _ root e in
+      let database = and_then_ok (root_database command.flags.initdb (read database_read_number database_name) (read text_database_read_number text_database_name)) _ root e in
       let world = and_then_ok (root_world text) _ root database.2 in
-      let listed = and_then_ok (root_repositories command.flags.allow_untrusted (found_text_or_empty (read repositories_read repositories_name))) (λ repositories. Ok (root_by command database.0 text world.0 repositories)) root world.2 in
-      let same : root_by command database.0 text world.0 listed.0 ≡ root = (let last = listed.2 in cc) in
+      let listed = and_then_ok (root_repositories command.flags.allow_untrusted (found_text_or_empty (read repositories_read_number repositories_name))) (λ repositories. Ok (root_from_parts command database.0 text world.0 repositories)) root world.2 in
+      let same : root_from_parts command database.0 text world.0 listed.0 ≡ root = (let last = listed.2 in cc) in
       let is : world_of text ≡ Ok world.0 = refused_ok _ (world_of text) world.0 world.1 in
       subst (IsReadWorld command read) same (record {
         file = is;

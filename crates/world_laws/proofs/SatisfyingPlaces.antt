@@ -6,7 +6,7 @@ use Rattle.std.proofs.lemmas.Bool.{and_from, and_parts, or_left, not-true, not_f
 use Rattle.std.proofs.lemmas.Slice.Eq.{bytes_eq-Decides}
 use Rattle.base_core.proofs.AtName.{own_name}
 use Rattle.dep_core.specs.Dependency.{Dependency}
-use Rattle.engine_core.specs.candidate_core.Candidates.{Candidate, Need, entry, entry_occupies, named, has_usable_install_if, is_allowed, is_barred_by, is_eligible, meets_dependency, meets_need, occupies_name}
+use Rattle.engine_core.specs.candidate_core.Candidates.{Candidate, Need, entry, is_name_occupied_by_provides_entry, named, has_usable_install_if, is_allowed, is_barred_by, is_eligible, meets_dependency, meets_need, occupies_name}
 use Rattle.engine_core.specs.candidate_core.Options.{IsIn}
 use Rattle.engine_core.specs.candidate_core.Rank.{SealedPool, candidate_at, candidate_at_passes, is_eligible_at, meets_at}
 use Rattle.engine_core.proofs.candidate_core.Places.{place_of}
@@ -20,7 +20,7 @@ use Rattle.world_laws.proofs.NextNeeds.{all_in}
 use Rattle.world_laws.proofs.SatisfiedWorlds.{IsLedTo, at_in, in_at, test_at}
 
 occupies : (name : List ℕ) (c : Candidate) → bytes_eq name c.name ≡ true → occupies_name name c ≡ true
-occupies name c e = or_left (bytes_eq name c.name) (list_any (entry_occupies name) c.provides) e
+occupies name c e = or_left (bytes_eq name c.name) (list_any (is_name_occupied_by_provides_entry name) c.provides) e
 
 module _ (pool : SealedPool) (packages : List Candidate) (are : SatisfyWorld pool.candidates pool.world packages) where
   -- ---- a place for each package

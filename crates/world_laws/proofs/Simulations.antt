@@ -7,7 +7,7 @@ use Rattle.engine_core.specs.change_files.PlanLists.{paths_with_apk_new_file, ke
 use Rattle.engine_core.specs.change_inputs.Chains.{and_then}
 use Rattle.engine_core.specs.change_inputs.Inputs.{Inputs, inputs_of}
 use Rattle.engine_core.specs.change_outcome.Made.{IsChangeMade}
-use Rattle.engine_core.specs.change_outcome.ChangeOutcome.{ChangeDone, ChangeWishes, change_or_refusal, change_report, file_change, member_size, touched_paths}
+use Rattle.engine_core.specs.change_outcome.ChangeOutcome.{ChangeDone, ChangeWishes, change_or_refusal, change_report, file_change, member_installed_size, touched_paths}
 use Rattle.engine_core.specs.change_outcome.ConfigurationLines.{configuration_lines}
 use Rattle.engine_core.specs.change_outcome.Triggers.{trigger_lines}
 use Rattle.command_core.specs.Command.{CommandLine}
@@ -17,10 +17,10 @@ use Rattle.engine_core.specs.Selecting.{pool_of_command}
 use Rattle.engine_core.specs.Wishes.{wishes_of}
 use Rattle.engine_core.specs.make_info.Reads.{Reads}
 use Rattle.engine_core.specs.package_changes.Changes.{Replacement, changes_of}
-use Rattle.engine_core.specs.package_changes.Report.{candidate_size, simulated_report, still_needed_lines}
+use Rattle.engine_core.specs.package_changes.Report.{candidate_installed_size, simulated_report, still_needed_lines}
 use Rattle.engine_core.specs.path_clashes.Clash.{NamePair}
 use Rattle.engine_core.specs.candidate_core.Rank.{SealedPool}
-use Rattle.report_core.specs.Reports.{change_lines, report_line, sum_text}
+use Rattle.report_core.specs.Reports.{change_lines, report_line, bytes_and_package_count_text}
 use Rattle.report_core.specs.declared.refusal.Refusal.{Refusal}
 use Rattle.world_laws.specs.Simulation.{IsReportPredicted, with_simulation}
 use Rattle.world_laws.proofs.ReadWorlds.{and_then_ok}
@@ -31,14 +31,14 @@ reports_alike r wishes change files =
     let told = change_lines (changes_of r) ++ still_needed_lines r.before r.selected wishes.to_remove in
     let configuration = configuration_lines (paths_with_apk_new_file change files) (kept_paths_of change files) in
     let triggers = trigger_lines (touched_paths change files) change.members in
-    let sum = report_line (sum_text (sum_by member_size change.members) (length change.members)) in
+    let sum = report_line (bytes_and_package_count_text (sum_by member_installed_size change.members) (length change.members)) in
     record {
       told = told;
-      bytes = sum_by candidate_size r.selected;
+      bytes = sum_by candidate_installed_size r.selected;
       packages = length r.selected;
       simulated = refl;
       more = configuration ++ triggers;
-      new_bytes = sum_by member_size change.members;
+      new_bytes = sum_by member_installed_size change.members;
       new_packages = length change.members;
       made = ap (λ (l : List ℕ). l ++ sum) (append_assoc told configuration triggers);
     }

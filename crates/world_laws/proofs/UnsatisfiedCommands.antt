@@ -4,13 +4,13 @@ use Rattle.std.specs.Prelude.{◌+◌, nat_lt, length, if◌then◌else◌}
 use Rattle.base_core.specs.declared.cause.Cause.{Cause}
 use Rattle.engine_core.specs.candidate_core.Rank.{SealedPool, UpgradedNames, sealed_pool_from_parts}
 use Rattle.engine_core.specs.candidate_core.declared.candidate_list.TheConstants.{MOST_CANDIDATES}
-use Rattle.engine_core.specs.adb_schema.Soundness.{first_fault, payload_in, root_value}
+use Rattle.engine_core.specs.adb_schema.Soundness.{container_fault_except_contents, payload_in, root_value}
 use Rattle.adb_view.specs.declared.tables.Which.TheVariants.{Idb, Index}
 use Rattle.engine_core.specs.change_inputs.Candidates.{candidates_of, root_pool}
 use Rattle.engine_core.specs.change_inputs.Chains.{and_then, refused_as, unless_cause}
 use Rattle.engine_core.specs.change_inputs.Database.{payload_database, root_database}
 use Rattle.engine_core.specs.change_inputs.Indexes.{index_file, index_files_from, index_in_file, indexes_in_files}
-use Rattle.engine_core.specs.change_inputs.Inputs.{Inputs, database_read, first_index_read, index_reads_from, inputs_of, repositories_read, root_for, text_database_read, world_read}
+use Rattle.engine_core.specs.change_inputs.Inputs.{Inputs, database_read_number, first_index_read_number, index_reads_from, inputs_of, repositories_read_number, root_for, text_database_read_number, world_read_number}
 use Rattle.engine_core.specs.change_inputs.Repositories.{if_untrusted_allowed, root_repositories}
 use Rattle.engine_core.specs.change_inputs.World.{root_world, found_text_or_empty}
 use Rattle.command_core.specs.Command.{CommandLine}
@@ -71,7 +71,7 @@ payload_other (Err (TooLarge bytes values)) e = cc (e)
 payload_other (Err Memory) e = cc (e)
 
 database_other : (may_begin : Bool) (file text : Option (List ℕ)) → IsOther (root_database may_begin file text)
-database_other may_begin (Some file) text = cause_other DatabaseBad (first_fault Idb file) _ (λ c e. cc (e))
+database_other may_begin (Some file) text = cause_other DatabaseBad (container_fault_except_contents Idb file) _ (λ c e. cc (e))
 database_other may_begin None (Some text) = payload_other (payload_of_text text)
 database_other true None None = λ e. cc (e)
 database_other false None None = λ e. cc (e)
@@ -97,23 +97,23 @@ files_other n (f ∷ found) =
 indexes_other : (n : ℕ) (files : List (List ℕ)) → IsOther (indexes_in_files n files)
 indexes_other n [] = λ e. cc (e)
 indexes_other n (file ∷ files) =
-    chain (index_in_file n file) (λ index. and_then (indexes_in_files (n + 1) files) (λ indexes. Ok (index ∷ indexes))) (cause_other (IndexBad n) (first_fault Index file) (root_value Index (payload_in file)) (λ c e. cc (e)))
+    chain (index_in_file n file) (λ index. and_then (indexes_in_files (n + 1) files) (λ indexes. Ok (index ∷ indexes))) (cause_other (IndexBad n) (container_fault_except_contents Index file) (root_value Index (payload_in file)) (λ c e. cc (e)))
     (λ index. chain (indexes_in_files (n + 1) files) (λ indexes. Ok (index ∷ indexes)) (indexes_other (n + 1) files) (λ indexes e. cc (e)))
 
 module _ (command : CommandLine) (read : Reads) where
   root_other : IsOther (root_for command read)
   root_other =
-      chain (root_database command.flags.initdb (read database_read database_name) (read text_database_read text_database_name)) _ (database_other command.flags.initdb (read database_read database_name) (read text_database_read text_database_name))
-      (λ database. chain (root_world (found_text_or_empty (read world_read world_name))) _ (as_other WorldBad (world_of (found_text_or_empty (read world_read world_name))) (λ n e. cc (e)))
-      (λ world. chain (root_repositories command.flags.allow_untrusted (found_text_or_empty (read repositories_read repositories_name))) _ (repositories_other command.flags.allow_untrusted (found_text_or_empty (read repositories_read repositories_name)))
+      chain (root_database command.flags.initdb (read database_read_number database_name) (read text_database_read_number text_database_name)) _ (database_other command.flags.initdb (read database_read_number database_name) (read text_database_read_number text_database_name))
+      (λ database. chain (root_world (found_text_or_empty (read world_read_number world_name))) _ (as_other WorldBad (world_of (found_text_or_empty (read world_read_number world_name))) (λ n e. cc (e)))
+      (λ world. chain (root_repositories command.flags.allow_untrusted (found_text_or_empty (read repositories_read_number repositories_name))) _ (repositories_other command.flags.allow_untrusted (found_text_or_empty (read repositories_read_number repositories_name)))
       (λ repositories e. cc (e))))
 
   inputs_other : IsOther (inputs_of command read)
   unfolding inputs_of
   inputs_other =
       chain (root_for command read) _ root_other
-      (λ root. chain (and_then (index_files_from 1 (index_reads_from read first_index_read root.repositories)) (indexes_in_files 1)) _
-      (chain (index_files_from 1 (index_reads_from read first_index_read root.repositories)) (indexes_in_files 1) (files_other 1 (index_reads_from read first_index_read root.repositories)) (indexes_other 1))
+      (λ root. chain (and_then (index_files_from 1 (index_reads_from read first_index_read_number root.repositories)) (indexes_in_files 1)) _
+      (chain (index_files_from 1 (index_reads_from read first_index_read_number root.repositories)) (indexes_in_files 1) (files_other 1 (index_reads_from read first_index_read_number root.repositories)) (indexes_other 1))
       (λ indexes e. cc (e)))
 
   pool_other : (inputs : Inputs) → IsOther (pool_of_inputs command inputs)

@@ -12,7 +12,7 @@ use Rattle.engine_core.specs.candidate_core.Candidates.{Candidate, candidate_of,
 use Rattle.engine_core.specs.candidate_core.Rank.{SealedPool, is_upgraded}
 use Rattle.engine_core.specs.candidate_core.declared.candidate_list.TheConstants.{MOST_CANDIDATES}
 use Rattle.engine_core.specs.change_inputs.Candidates.{installed_candidate}
-use Rattle.engine_core.specs.change_inputs.Inputs.{Inputs, first_index_read, inputs_of}
+use Rattle.engine_core.specs.change_inputs.Inputs.{Inputs, first_index_read_number, inputs_of}
 use Rattle.command_core.specs.Command.{CommandLine}
 use Rattle.command_core.specs.declared.command.Applet.{Applet}
 use Rattle.command_core.specs.declared.command.Applet.TheVariants.{Upgrade}
@@ -27,7 +27,7 @@ pub record IsIndexed (inputs : Inputs) (read : Reads) (place : ℕ) (repository 
     (info : Plain) : Type 0 where
   pub listed : slice_get inputs.root.repositories place ≡ Some repository
   pub file : List ℕ
-  pub is_index : read (first_index_read + place) repository.path ≡ Some file
+  pub is_index : read (first_index_read_number + place) repository.path ≡ Some file
   pub has : IsIn info (entries_at INDEX_PACKAGES (root_value Index (payload_in file)))
 
 -- a candidate is this package of the repository at this place, installed or not; repositories are
@@ -83,7 +83,7 @@ IsToUpgrade Upgrade (o ∷ operands) name =
     (named : Operand) × IsIn named (o ∷ operands) × (named.text ≡ name)
 IsToUpgrade applet operands name = ⊥
 
--- ---- both
+-- ---- what a command chooses from
 
 -- a command chooses from its candidates, which are not too many, under the new world
 pub record IsCommandPool (command : CommandLine) (read : Reads) (pool : SealedPool) : Type 0 where

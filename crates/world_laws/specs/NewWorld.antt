@@ -3,7 +3,7 @@
 -- `docs/commands.md`, "`add` and `del`", and in `docs/formats.md`, "World".
 use Rattle.std.specs.Prelude.{◌≡◌, ◌≢◌, ◌⊎◌, ◌↔◌, ℕ, List, [], ◌∷◌, ◌++◌, Some, Ok, unwrap_or}
 use Rattle.engine_core.specs.adb_fields.FirstPair.{IsIn}
-use Rattle.engine_core.specs.change_inputs.Inputs.{Root, world_read}
+use Rattle.engine_core.specs.change_inputs.Inputs.{Root, world_read_number}
 use Rattle.command_core.specs.Command.{CommandLine}
 use Rattle.command_core.specs.declared.command.Applet.{Applet}
 use Rattle.command_core.specs.declared.command.Applet.TheVariants.{Add, Del}
@@ -62,5 +62,5 @@ HasRequestedEntries applet operands before after = after ≡ before
 -- among what a change reads of a root, world before is that of its file, with an absent file read as
 -- empty, and the new one holds what the command asks for
 pub record IsReadWorld (command : CommandLine) (read : Reads) (root : Root) : Type 0 where
-  pub file : world_of (unwrap_or (read world_read world_name) []) ≡ Ok root.world
+  pub file : world_of (unwrap_or (read world_read_number world_name) []) ≡ Ok root.world
   pub asked : HasRequestedEntries command.applet command.operands root.world root.new_world

@@ -4,7 +4,7 @@ use Rattle.std.specs.Prelude.{◌≡◌, ℕ, List, ◌++◌}
 use Rattle.command_core.specs.Command.{CommandLine}
 use Rattle.command_core.specs.Flags.{with_flag}
 use Rattle.command_core.specs.declared.command.Flag.TheVariants.{Simulate}
-use Rattle.report_core.specs.Reports.{report_line, sum_text}
+use Rattle.report_core.specs.Reports.{report_line, bytes_and_package_count_text}
 
 -- a command with `--simulate`, and else as it is
 abbrev pub with_simulation : CommandLine → CommandLine
@@ -16,8 +16,8 @@ pub record IsReportPredicted (simulation report : List ℕ) : Type 0 where
   pub told : List ℕ
   pub bytes : ℕ
   pub packages : ℕ
-  pub simulated : simulation ≡ told ++ report_line (sum_text bytes packages)
+  pub simulated : simulation ≡ told ++ report_line (bytes_and_package_count_text bytes packages)
   pub more : List ℕ
   pub new_bytes : ℕ
   pub new_packages : ℕ
-  pub made : report ≡ told ++ more ++ report_line (sum_text new_bytes new_packages)
+  pub made : report ≡ told ++ more ++ report_line (bytes_and_package_count_text new_bytes new_packages)

@@ -65,7 +65,8 @@ pub fn a_simulation_predicts_the_change()
     // Of the two reports, by one replacement.
     ensures reports { (r : Replacement) (wishes : ChangeWishes) (change : FileChange)
         (files : Files)
-        → IsReportPredicted (simulated_report r wishes.to_remove) (change_report r wishes change files) }
+        → IsReportPredicted (simulated_report r wishes.to_remove)
+        (change_report r wishes change files) }
     // Of one command with and without `--simulate`.
     ensures commands { (command : CommandLine) (read : Reads) (files : Files)
         (expected chosen : Option (List ℕ)) (other clash : Option NamePair)
@@ -127,7 +128,8 @@ pub fn the_selected_packages_satisfy_the_new_world()
         → SatisfyWorld (candidates_of s.inputs) s.inputs.root.new_world s.replacement.selected }
     // Each is needed.
     ensures needed { (command : CommandLine) (read : Reads) (chosen : Option (List ℕ))
-        (s : InputsAndReplacement) (c : Candidate) → IsChoiceFrom (pool_of_command command read) chosen
+        (s : InputsAndReplacement) (c : Candidate)
+        → IsChoiceFrom (pool_of_command command read) chosen
         → selected_for command read chosen ≡ Ok s → IsIn c s.replacement.selected
         → IsNeeded (candidates_of s.inputs) s.inputs.root.new_world s.replacement.selected c }
 {}
@@ -146,7 +148,8 @@ pub fn a_selection_satisfies_world_exactly_if_packages_do()
     // A command has no selection exactly if no packages satisfy its new world.
     ensures none { (command : CommandLine) (read : Reads) (inputs : Inputs) (pool : SealedPool)
         → inputs_of command read ≡ Ok inputs → pool_of_command command read ≡ Ok pool
-        → IsPreferredChoice pool None ↔ IsUnsatisfiable (candidates_of inputs) inputs.root.new_world }
+        → IsPreferredChoice pool None
+        ↔ IsUnsatisfiable (candidates_of inputs) inputs.root.new_world }
     // If it is refused as unsatisfied, no packages satisfy its new world.
     ensures refused { (command : CommandLine) (read : Reads) (chosen : Option (List ℕ))
         → IsChoiceFrom (pool_of_command command read) chosen

@@ -12,7 +12,7 @@ ghost use Rattle.search_tables.specs.candidate_core.PackageMatches.{AreMatchesAm
 ghost use Rattle.search_tables.specs.candidate_core.Rank.{candidate_at_passes};
 ghost use Rattle.search_choices.specs.Choices.{IsConsistent, choices_of, pool_of};
 ghost use Rattle.search_choices.specs.ExcluderSearch.{FindsExcluder, HasConflictsOfChoices, IsUnchosenCandidate};
-ghost use Rattle.search_tables.specs.Excluders.{IsExcludingChoice, IsNotExcludedAt};
+ghost use Rattle.search_tables.specs.Excluders.{IsExcluderAmongChoices, IsNotExcludedAt};
 ghost use Rattle.search_tables.specs.Selection.{exclude_each_other, is_met, occupied_names};
 
 use super::Choices;
@@ -39,7 +39,7 @@ impl<'p> Choices<'p> {
         ensures found { IfOk result (λ found. MatchOption found
             ((k : ℕ) → IsIn k (choices_of self.now) →
             exclude_each_other (pool_of self.now) k id ≡ false)
-            (λ k. IsExcludingChoice (pool_of self.now) (choices_of self.now) id k)) }
+            (λ k. IsExcluderAmongChoices (pool_of self.now) (choices_of self.now) id k)) }
         ensures matches { OnOk result (AreMatchesAmong (pool_of self.now).candidates matches.new) }
     {
         let details = self.pool.details(id);
@@ -106,7 +106,8 @@ impl<'p> Choices<'p> {
     // A choice that occupies a name, if `is_occupied`.
     fn occupant_at(&self, name: &[u8], is_occupied: bool) -> Option<CandId>
         ensures { MatchOption result (is_occupied ≡ true → (k : ℕ) →
-            IsIn k (choices_of self.now) → candidate_at_passes (pool_of self.now) (occupies_name name.now) k
+            IsIn k (choices_of self.now)
+            → candidate_at_passes (pool_of self.now) (occupies_name name.now) k
             ≡ false) (λ k. (is_occupied ≡ true) × IsIn k (choices_of self.now)
             × (candidate_at_passes (pool_of self.now) (occupies_name name.now) k ≡ true)) }
     {

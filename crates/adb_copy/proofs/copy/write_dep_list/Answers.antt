@@ -1,7 +1,7 @@
 use Rattle.std.proofs.Common.{◌≡◌, ◌<◌, ℕ, List, length, arith, refl}
 use Rattle.adb_view.specs.Adb.{payload_of}
 use Rattle.adb_view.specs.Entries.{array_entries}
-use Rattle.adb_view.specs.Plain.{Plain, Plains, arr_value}
+use Rattle.adb_view.specs.Plain.{Plain, Plains, array_or_null}
 use Rattle.adb_view.specs.Values.{entries_in, value_at}
 use Rattle.adb_view.specs.declared.tables.Kind.{Kind}
 use Rattle.adb_view.specs.declared.tables.Kind.TheVariants as Kinds
@@ -55,7 +55,7 @@ returns-clause-deps c =
     let p : List ℕ = payload_of c.args.adb in
     let ws : List ℕ = array_entries c.args.deps in
     let v : Plain = array_at p (Kinds.Obj Tables.Dep) ws in
-    closed_as arr_value (without_zeros v) (all_without_zeros (entries_in v)) c.args.draft.now _ _ c.close_array.result
+    closed_as array_or_null (without_zeros v) (all_without_zeros (entries_in v)) c.args.draft.now _ _ c.close_array.result
     (zeros_array _ v (array_shape c.values_have_their_shape.ensures.word p (Kinds.Obj Tables.Dep) ws)) c.close_array.ensures.ok
     (zeros_given c.loop-i.i (entries_in v) _ _ _ (omega (arith, c.len-i-end.ensures.value, c.loop-i-test.false, c.loop-i.auto.i-end, entry_count p (Kinds.Obj Tables.Dep) ws c.requires.sound)) c.loop-i.invariant.left c.in_ok-open_list.ensures.ok)
 

@@ -1,12 +1,12 @@
 use Rattle.std.proofs.Common.{◌≡◌, ℕ, List, [], ◌∷◌, refl, ap, ◌∙◌}
 use Rattle.adb_view.specs.Adb.{payload_of}
-use Rattle.adb_view.specs.Plain.{Plain, Plains, obj_value}
+use Rattle.adb_view.specs.Plain.{Plain, Plains, trimmed_object_or_null}
 use Rattle.adb_view.specs.Values.{entry_in, text_in, value_at}
 use Rattle.adb_view.specs.declared.tables.Which.TheVariants as Tables
 use Rattle.adb_view.specs.declared.tables.Kind.TheVariants as Kinds
 use Rattle.adb_values.specs.Drafts.{draft_with, draft_with_all, draft_with_open_list}
 use Rattle.adb_values.proofs.Lists.{closed_as, on_ok}
-use Rattle.adb_copy.specs.Fields.{int_plains}
+use Rattle.adb_copy.specs.Fields.{ints_or_nulls}
 use Rattle.adb_copy.specs.Zeros.{info_with_id_and_size, int_or_null, without_zeros}
 use Rattle.adb_copy.proofs.Known.{known_all, known_closed_object, known_more, known_opened}
 use Rattle.adb_copy.proofs.Shapes.{value_shape}
@@ -20,7 +20,7 @@ write_info_texts-requires-clause-known c =
 pub write_deps-requires-clause-known : goal.write_deps-requires-clause-known
 write_deps-requires-clause-known c =
     known_all (payload_of c.args.adb) c.write_info_texts.new.known
-    (int_plains (c.int_field.result ∷ c.int_field-2.result ∷ c.args.len ∷ c.int_field-3.result ∷ []))
+    (ints_or_nulls (c.int_field.result ∷ c.int_field-2.result ∷ c.args.len ∷ c.int_field-3.result ∷ []))
     c.write_info_texts.new.draft c.write_ints.new.draft c.in_ok-write_info_texts.ensures.known c.in_ok-write_ints.ensures
 
 pub write_text_list-requires-clause-known : goal.write_text_list-requires-clause-known
@@ -45,7 +45,7 @@ returns c =
     let texts = c.write_text_list.new.known in
     record {
       info =
-          closed_as obj_value (info_with_id_and_size v c.args.id.now c.args.len) vs c.args.draft.now _ _ c.close_object.result
+          closed_as trimmed_object_or_null (info_with_id_and_size v c.args.id.now c.args.len) vs c.args.draft.now _ _ c.close_object.result
           (info_written v c.args.id.now c.args.len (value_shape c.values_have_their_shape.ensures.word p (Kinds.Obj Tables.PkgInfo) c.args.info)
           (text_in (entry_in v 0)) (text_in (entry_in v 1)) (text_in (entry_in v 3)) (text_in (entry_in v 4)) (text_in (entry_in v 5))
           (text_in (entry_in v 6)) (text_in (entry_in v 7)) (text_in (entry_in v 8)) (text_in (entry_in v 9))

@@ -1,6 +1,6 @@
 use Rattle.std.proofs.Common.{◌≡◌, List, ℕ, refl, ap, ◌∙◌}
 use Rattle.adb_view.specs.Adb.{payload_of}
-use Rattle.adb_view.specs.Plain.{Plain, Plains, none, more, blob_or_null, obj_value}
+use Rattle.adb_view.specs.Plain.{Plain, Plains, none, more, blob_or_null, trimmed_object_or_null}
 use Rattle.adb_view.specs.Values.{entry_in, text_in, value_at}
 use Rattle.adb_view.specs.declared.tables.Which.TheVariants as Tables
 use Rattle.adb_view.specs.declared.tables.Kind.TheVariants as Kinds
@@ -29,7 +29,7 @@ returns c =
     rw (xattrs, c.in_ok-write_field-2.ensures.text, c.in_ok-write_field.ensures.text, c.in_ok-write_int.ensures, c.in_ok-open_list.ensures.ok) refl in
     record {
       acl =
-          closed_as obj_value (without_zeros v) vs c.args.draft.now _ _ c.close_object.result
+          closed_as trimmed_object_or_null (without_zeros v) vs c.args.draft.now _ _ c.close_object.result
           (acl_written v _ _ _ _ (value_shape c.values_have_their_shape.ensures.word p (Kinds.Obj Tables.Acl) c.args.acl) c.int_field.ensures refl refl refl) c.close_object.ensures.ok given;
       known =
           on_ok _ _ (λ closed. known_closed_object p c.write_text_list.new.known c.write_text_list.new.draft c.close_object.new.self c.in_ok-write_text_list.ensures.known vs c.args.draft.now given (closed vs c.args.draft.now given))

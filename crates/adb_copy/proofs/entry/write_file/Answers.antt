@@ -1,6 +1,6 @@
 use Rattle.std.proofs.Common.{◌≡◌, List, ℕ, refl, ap, ◌∙◌}
 use Rattle.adb_view.specs.Adb.{payload_of}
-use Rattle.adb_view.specs.Plain.{Plain, Plains, none, more, blob_or_null, obj_value}
+use Rattle.adb_view.specs.Plain.{Plain, Plains, none, more, blob_or_null, trimmed_object_or_null}
 use Rattle.adb_view.specs.Values.{entry_in, text_in, value_at}
 use Rattle.adb_view.specs.declared.tables.Which.TheVariants as Tables
 use Rattle.adb_view.specs.declared.tables.Kind.TheVariants as Kinds
@@ -39,7 +39,7 @@ returns c =
     let texts = c.write_field-2.new.self in
     record {
       file =
-          closed_as obj_value (without_zeros v) vs c.args.draft.now _ _ c.close_object.result
+          closed_as trimmed_object_or_null (without_zeros v) vs c.args.draft.now _ _ c.close_object.result
           (file_written v _ _ _ _ _ _ _ (value_shape c.values_have_their_shape.ensures.word p (Kinds.Obj Tables.File) c.args.file) refl refl c.int_field.ensures c.int_field-2.ensures c.hash_field.ensures refl c.int_field-3.ensures)
           c.close_object.ensures.ok given;
       known =

@@ -1,6 +1,6 @@
 use Rattle.std.proofs.Common.{◌≡◌, ℕ, List, refl}
 use Rattle.adb_view.specs.Adb.{payload_of}
-use Rattle.adb_view.specs.Plain.{Plain, Plains, none, more, blob_or_null, obj_value}
+use Rattle.adb_view.specs.Plain.{Plain, Plains, none, more, blob_or_null, trimmed_object_or_null}
 use Rattle.adb_view.specs.Values.{entry_in, text_in, value_at}
 use Rattle.adb_view.specs.declared.tables.Which.TheVariants as Tables
 use Rattle.adb_view.specs.declared.tables.Kind.TheVariants as Kinds
@@ -27,7 +27,7 @@ returns c =
     rw (c.in_ok-write_field-7.ensures.text, c.in_ok-write_field-6.ensures.text, c.in_ok-write_field-5.ensures.text, c.in_ok-write_field-4.ensures.text, c.in_ok-write_field-3.ensures.text, c.in_ok-write_field-2.ensures.text, c.in_ok-write_field.ensures.text, c.in_ok-open_list.ensures.ok) refl in
     record {
       scripts =
-          closed_as obj_value (without_zeros v) vs c.args.draft.now _ _ c.close_object.result
+          closed_as trimmed_object_or_null (without_zeros v) vs c.args.draft.now _ _ c.close_object.result
           (scripts_written v _ _ _ _ _ _ _ (value_shape c.values_have_their_shape.ensures.word p (Kinds.Obj Tables.Scripts) c.args.scripts) refl refl refl refl refl refl refl)
           c.close_object.ensures.ok given;
       known =

@@ -12,7 +12,7 @@ use Rattle.adb_view.specs.Values.{value_at}
 use Rattle.adb_view.specs.Adb.{payload_of}
 use Rattle.adb_view.specs.Entries.{array_entries}
 use Rattle.adb_dump.proofs.Puts.{on_ok_then, puts_on, puts_told, so_far_all, so_far_more, so_far_none}
-use Rattle.adb_dump.proofs.Turns.{entries_end, entries_later, entry_turn, field_after, field_with_value_below, field_turn, fields_end, null_put, null_turn, object_entry_null, object_entry_some, some_put, words_end}
+use Rattle.adb_dump.proofs.Turns.{entries_end, entries_later, entry_turn, field_after, fields_read_with_value_below, field_turn, fields_end, null_put, null_turn, object_entry_null, object_entry_some, some_put, words_end}
 use Rattle.adb_dump.proofs.Left.{fields_later, null_done, null_next, null_over, null_stop}
 use Rattle.adb_dump.proofs.Booleans.{and_go}
 use Rattle.adb_dump.proofs.block.+block.Goals as goal
@@ -42,7 +42,7 @@ write_named-returns-in_ok-write_name g t c =
 
 pub write_named-returns-in_ok-write_name_line : goal.write_named-returns-in_ok-write_name_line
 write_named-returns-in_ok-write_name_line g t c =
-    on_ok_then _ _ _ (λ block. puts_told (g.O.Out.holds (payload_of c.args.adb)) _ _ _ _ (field_with_value_below c.args.field.kind c.args.start.depth c.args.start.begun _ (value_at (payload_of c.args.adb) c.args.field.kind c.args.word) (sym c.has_one_line.ensures ∙ c.if-has_one_line.false))
+    on_ok_then _ _ _ (λ block. puts_told (g.O.Out.holds (payload_of c.args.adb)) _ _ _ _ (fields_read_with_value_below c.args.field.kind c.args.start.depth c.args.start.begun _ (value_at (payload_of c.args.adb) c.args.field.kind c.args.word) (sym c.has_one_line.ensures ∙ c.if-has_one_line.false))
     (puts_on (g.O.Out.holds (payload_of c.args.adb)) _ _ _ _ _ (c.in_ok-write_name_line.ensures (payload_of c.args.adb)) block)) c.write_block-else-has_one_line.ensures
 
 pub write_entries-loop-i-init : goal.write_entries-loop-i-init

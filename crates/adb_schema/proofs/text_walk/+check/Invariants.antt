@@ -6,7 +6,7 @@ use Rattle.adb_fields.specs.Fields.{are_all_sound, values_at}
 use Rattle.adb_view.specs.Rank.{rank, rank_of_all}
 use Rattle.adb_view.specs.Values.{entries_in, value_at}
 use Rattle.adb_schema.specs.Surroundings.{surroundings_of}
-use Rattle.adb_schema.specs.Texts.{each_leaf, field_leaves, first_bad_leaf, leaves}
+use Rattle.adb_schema.specs.Texts.{leaves_of_all_values, field_leaves, first_bad_leaf, leaves}
 use Rattle.adb_view.specs.declared.tables.Kind.TheVariants.{Obj}
 use Rattle.adb_schema.proofs.TextSteps.{behind}
 use Rattle.adb_schema.proofs.text_walk.+check.Given as goal
@@ -24,7 +24,7 @@ abbrev pub invariant-check_entries-loop-i : goal.invariant-check_entries-loop-i
 invariant-check_entries-loop-i l = record {
   payload : l.judged.adb ≡ l.fn.judged.adb;
   sound : are_all_sound (payload_of l.adb) l.kind (drop l.i (array_entries l.entries)) ≡ true;
-  so_far : first_bad_leaf (each_leaf (leaves (shape_of l.kind) l.field_number (surroundings_of l.around)) (values_at (payload_of l.adb) l.kind (drop l.i (array_entries l.entries)))) ≡ first_bad_leaf (each_leaf (leaves (shape_of l.kind) l.field_number (surroundings_of l.around)) (values_at (payload_of l.adb) l.kind (array_entries l.entries)));
+  so_far : first_bad_leaf (leaves_of_all_values (leaves (shape_of l.kind) l.field_number (surroundings_of l.around)) (values_at (payload_of l.adb) l.kind (drop l.i (array_entries l.entries)))) ≡ first_bad_leaf (leaves_of_all_values (leaves (shape_of l.kind) l.field_number (surroundings_of l.around)) (values_at (payload_of l.adb) l.kind (array_entries l.entries)));
   before : (j : ℕ) → l.i ≡ suc j → None ≡ first_bad_leaf (leaves (shape_of l.kind) l.field_number (surroundings_of l.around) (value_at (payload_of l.adb) l.kind (get_or (array_entries l.entries) j 0)));
 }
 

@@ -1,5 +1,5 @@
 use Rattle.adb_view.specs.Readers.{ARRAY, OBJECT}
-use Rattle.adb_write.specs.Canonical.{int_cell, blob_cell, run_cell, trimmed_words}
+use Rattle.adb_write.specs.Canonical.{int_cell, blob_cell, run_cell, words_without_last_nulls}
 use Rattle.adb_write.proofs.AnyOrder.{stays}
 use Rattle.adb_write.proofs.laws.a_word_keeps_its_value.Goals as goal
 
@@ -8,5 +8,5 @@ returns c = record {
   int = λ n. stays (int_cell n);
   blob = λ b. stays (blob_cell b);
   arr = λ ws. stays (run_cell ARRAY ws);
-  obj = λ ws. stays (run_cell OBJECT (trimmed_words ws));
+  obj = λ ws. stays (run_cell OBJECT (words_without_last_nulls ws));
 }

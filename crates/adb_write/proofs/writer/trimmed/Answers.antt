@@ -1,5 +1,5 @@
 use Rattle.std.proofs.Common.{◌≡◌, ◌≢◌, ℕ, take, refl, sym, ap, ◌∙◌, arith}
-use Rattle.adb_write.specs.Canonical.{trimmed_words}
+use Rattle.adb_write.specs.Canonical.{words_without_last_nulls}
 use Rattle.adb_write.proofs.Cells.{cut_null, cut_some}
 use Rattle.adb_write.proofs.writer.trimmed.Goals.{then-loop-len-test+else-is_null, else-loop-len-test}
 use Rattle.adb_write.proofs.writer.trimmed.Goals as goal
@@ -19,5 +19,5 @@ returns c =
           sym (cut_some c.args.fields.now c.loop-len.len w.index-fields-len.result (omega (arith, w.loop-len-test.true)) i.within w.index-fields-len.is some) ∙ i.same
       | else-loop-len-test w ↦
           let none : c.loop-len.len ≡ 0 = omega (arith, w.loop-len-test.false) in
-          sym (ap (λ (k : ℕ). trimmed_words (take k c.args.fields.now)) none ∙ ap (λ (k : ℕ). take k c.args.fields.now) (sym none)) ∙ i.same
+          sym (ap (λ (k : ℕ). words_without_last_nulls (take k c.args.fields.now)) none ∙ ap (λ (k : ℕ). take k c.args.fields.now) (sym none)) ∙ i.same
     ]

@@ -1,9 +1,9 @@
 use Rattle.std.proofs.Common.{◌≡◌, ◌+◌, ◌≤◌, length, refl, sym, Ok, Err, arith, rules}
-use Rattle.change_outcome.specs.change_inputs.Inputs.{first_index_read}
+use Rattle.change_outcome.specs.change_inputs.Inputs.{first_index_read_number}
 use Rattle.change_outcome.specs.db_core.Seen.{packages_of}
 use Rattle.change_outcome.specs.package_changes.Seen.{placed_name_seen, placed_names_seen, placed_replacement_from_parts}
 use Rattle.added_packages.specs.Arrivals.{arrivals_seen}
-use Rattle.added_packages.specs.NameReads.{name_read}
+use Rattle.added_packages.specs.NameReads.{member_of_name_by_read}
 use Rattle.added_packages.specs.declared.arrivals.Arrivals.{Arrivals}
 use Rattle.added_packages.proofs.ArrivalSteps.{read_more, read_none}
 use Rattle.added_packages.proofs.MembersFound.{PlacesLead, answer_as_before, can_be_members, explained_all, explained_failure, explained_refusal}
@@ -21,7 +21,7 @@ returns-in_err-member-clause-found g c =
     λ trace again are.
     explained_refusal law (placed_replacement_from_parts c.args.db.now c.args.pool.now trace again) c.args.repositories.now c.args.no_scripts arrivals_seen (g.T.Tree.history c.args.tree.now) (placed_names_seen c.args.names.now) are c.loop-i.i (placed_name_seen c.get-name.result.now) c.loop-i.members.items
     c.from_residual.result c.in_err-member.field-0.0 c.from_residual.ensures.1 c.get-name.ensures c.loop-i.invariant.so_far
-    (answer_as_before _ _ (packages_of c.args.db.now) (name_read (packages_of c.args.db.now) c.args.pool.now c.args.repositories.now c.args.no_scripts (placed_name_seen c.get-name.result.now)) (Err c.in_err-member.field-0.0) c.loop-i.invariant.tree.same c.in_err-member.ensures.found)
+    (answer_as_before _ _ (packages_of c.args.db.now) (member_of_name_by_read (packages_of c.args.db.now) c.args.pool.now c.args.repositories.now c.args.no_scripts (placed_name_seen c.get-name.result.now)) (Err c.in_err-member.field-0.0) c.loop-i.invariant.tree.same c.in_err-member.ensures.found)
 
 pub returns-in_err-push_member-clause-found : goal.returns-in_err-push_member-clause-found
 returns-in_err-push_member-clause-found g c =
@@ -37,14 +37,14 @@ returns-in_err-push_member-clause-found g c =
 
 pub loop-i-init : goal.loop-i-init
 loop-i-init g c = record {
-  so_far = read_none (packages_of c.args.db.now) c.args.pool.now c.args.repositories.now c.args.no_scripts (g.T.Tree.history c.args.tree.now) (first_index_read + length c.args.repositories.now) (placed_names_seen c.args.names.now) _ c.new-members.ensures.items;
+  so_far = read_none (packages_of c.args.db.now) c.args.pool.now c.args.repositories.now c.args.no_scripts (g.T.Tree.history c.args.tree.now) (first_index_read_number + length c.args.repositories.now) (placed_names_seen c.args.names.now) _ c.new-members.ensures.items;
   tree = search rules;
 }
 
 pub loop-i-preserved : goal.loop-i-preserved
 loop-i-preserved g c = record {
   so_far =
-      read_more (packages_of c.args.db.now) c.args.pool.now c.args.repositories.now c.args.no_scripts (g.T.Tree.history c.args.tree.now) (first_index_read + length c.args.repositories.now) (placed_names_seen c.args.names.now) c.loop-i.i (placed_name_seen c.get-name.result.now) c.loop-i.members.items
+      read_more (packages_of c.args.db.now) c.args.pool.now c.args.repositories.now c.args.no_scripts (g.T.Tree.history c.args.tree.now) (first_index_read_number + length c.args.repositories.now) (placed_names_seen c.args.names.now) c.loop-i.i (placed_name_seen c.get-name.result.now) c.loop-i.members.items
       c.get-name.ensures c.loop-i.invariant.so_far c.in_ok-member.member _ c.in_ok-push_member.ensures
       (answer_as_before _ _ (packages_of c.args.db.now) _ (Ok c.in_ok-member.member) c.loop-i.invariant.tree.same c.in_ok-member.ensures.found);
   tree = search rules;

@@ -6,7 +6,7 @@ use Rattle.change_outcome.specs.package_changes.Placed.{old_package}
 use Rattle.change_outcome.specs.package_changes.Seen.{change_seen, placed_name_seen}
 use Rattle.change_outcome.specs.candidate_core.Values.{candidate_value}
 use Rattle.added_packages.specs.Arrivals.{IsPackageRead}
-use Rattle.added_packages.specs.NameReads.{IsNameRead, added_package_read, name_read}
+use Rattle.added_packages.specs.NameReads.{IsNameRead, added_package_read, member_of_name_by_read}
 use Rattle.added_packages.proofs.NameAnswers.{answer_handed, by_any_read, part_refused, test_refused}
 use Rattle.added_packages.proofs.NameSteps.{by_none, comes_found, comes_refused, goes}
 use Rattle.added_packages.proofs.arrivals.read_name.Goals as goal
@@ -26,7 +26,7 @@ returns-in_err-test_removed-in-None-clause-found g c =
     let before = packages_of c.args.db.now in
     let n = placed_name_seen c.args.name.now in
     let test = member_of_removed_name c.args.no_scripts n.name (change_seen c.in-Some.change) (old_package before n) in
-    test_refused {U = Unit {0}} (λ _. None) (IsNameRead h before) h (λ read k. test) (name_read before c.args.pool.now c.args.repositories.now c.args.no_scripts n) test test
+    test_refused {U = Unit {0}} (λ _. None) (IsNameRead h before) h (λ read k. test) (member_of_name_by_read before c.args.pool.now c.args.repositories.now c.args.no_scripts n) test test
     c.from_residual.result c.in_err-test_removed-in-None.field-0.0 c.from_residual.ensures.1 (by_any_read h _ _ (λ read k. refl)) c.in_err-test_removed-in-None.ensures
     (λ read k refusal same is. goes before c.args.pool.now c.args.repositories.now c.args.no_scripts n (change_seen c.in-Some.change) (ap (option_map change_seen) c.in-Some.is) (sym c.candidate.ensures ∙ ap (option_map candidate_value) c.in-None.is) read k ∙ is)
 
@@ -35,7 +35,7 @@ returns-in_err-pkg-in-Some-candidate-clause-found g c =
     let h = g.T.Tree.history c.args.tree.now in
     let before = packages_of c.args.db.now in
     let n = placed_name_seen c.args.name.now in
-    let whole = name_read before c.args.pool.now c.args.repositories.now c.args.no_scripts n in
+    let whole = member_of_name_by_read before c.args.pool.now c.args.repositories.now c.args.no_scripts n in
     answer_handed (IsNameRead h before) h whole c.from_residual-in_err-pkg-in-Some-candidate.result c.in_err-pkg-in-Some-candidate.field-0.0 c.from_residual-in_err-pkg-in-Some-candidate.ensures.1
     (part_refused (IsPackageRead h) (IsNameRead h before) h (added_package_read c.args.repositories.now c.args.no_scripts n.name (change_seen c.in-Some.change) (candidate_value c.in-Some-candidate.c)) whole c.in_err-pkg-in-Some-candidate.field-0.0
     (comes_refused before c.args.pool.now c.args.repositories.now c.args.no_scripts n (change_seen c.in-Some.change) (candidate_value c.in-Some-candidate.c) (ap (option_map change_seen) c.in-Some.is) (sym c.candidate.ensures ∙ ap (option_map candidate_value) c.in-Some-candidate.is))

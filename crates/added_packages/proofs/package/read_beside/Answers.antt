@@ -3,7 +3,7 @@ use Rattle.change_outcome.specs.change_inputs.Faults.{IsRefusedOf}
 use Rattle.change_outcome.specs.PackageFiles.{unless_different}
 use Rattle.change_outcome.specs.candidate_core.Values.{candidate_value}
 use Rattle.added_packages.specs.Arrivals.{IsPackageRead}
-use Rattle.added_packages.specs.NameReads.{file_read}
+use Rattle.added_packages.specs.NameReads.{package_of_candidate_by_path}
 use Rattle.added_packages.proofs.NameAnswers.{failure_answers, test_refused, then_refused, told_answers, tree_failed}
 use Rattle.added_packages.proofs.PackageAnswers.{absent_read, bad_read, sound_answer, sound_read}
 use Rattle.added_packages.proofs.package.read_beside.Goals as goal
@@ -11,25 +11,25 @@ use Rattle.added_packages.proofs.package.read_beside.Goals as goal
 pub returns-in_err-read_package-clause-found : goal.returns-in_err-read_package-clause-found
 returns-in_err-read_package-clause-found g c =
     let h = g.T.Tree.history c.args.tree.now in
-    failure_answers (IsPackageRead h) h (file_read (candidate_value c.args.c.now) c.args.path.now) (IsRefusedOf c.in_err-read_package.field-0.0) c.from_residual.result (tree_failed c.in_err-read_package.field-0.0) c.from_residual.ensures.1
+    failure_answers (IsPackageRead h) h (package_of_candidate_by_path (candidate_value c.args.c.now) c.args.path.now) (IsRefusedOf c.in_err-read_package.field-0.0) c.from_residual.result (tree_failed c.in_err-read_package.field-0.0) c.from_residual.ensures.1
 
 pub returns-in-Absent-clause-found : goal.returns-in-Absent-clause-found
 returns-in-Absent-clause-found g c =
     let h = g.T.Tree.history c.args.tree.now in
-    told_answers (IsPackageRead h) h (file_read (candidate_value c.args.c.now) c.args.path.now) _ c.missing.result c.missing.ensures
+    told_answers (IsPackageRead h) h (package_of_candidate_by_path (candidate_value c.args.c.now) c.args.path.now) _ c.missing.result c.missing.ensures
     (absent_read h c.args.path.now (candidate_value c.args.c.now) _ c.in-Absent.is c.in_ok-read_package.ensures.read)
 
 pub returns-in-Bad-clause-found : goal.returns-in-Bad-clause-found
 returns-in-Bad-clause-found g c =
     let h = g.T.Tree.history c.args.tree.now in
-    told_answers (IsPackageRead h) h (file_read (candidate_value c.args.c.now) c.args.path.now) _ c.bad.result c.bad.ensures
+    told_answers (IsPackageRead h) h (package_of_candidate_by_path (candidate_value c.args.c.now) c.args.path.now) _ c.bad.result c.bad.ensures
     (bad_read h c.args.path.now (candidate_value c.args.c.now) _ c.in-Bad.cause c.in-Bad.is c.in_ok-read_package.ensures.read)
 
 pub returns-in_err-test_as_indexed-in-Sound-clause-found : goal.returns-in_err-test_as_indexed-in-Sound-clause-found
 returns-in_err-test_as_indexed-in-Sound-clause-found g c =
     let h = g.T.Tree.history c.args.tree.now in
     let s = sound_read h c.args.path.now (candidate_value c.args.c.now) _ c.in-Sound.pkg c.in-Sound.is c.in_ok-read_package.ensures.read in
-    test_refused {U = Unit {0}} (λ _. s.coming) (IsPackageRead h) h (file_read (candidate_value c.args.c.now) c.args.path.now) (file_read (candidate_value c.args.c.now) c.args.path.now) _ (unless_different (candidate_value c.args.c.now) s.coming) c.from_residual-in_err-test_as_indexed-in-Sound.result _
+    test_refused {U = Unit {0}} (λ _. s.coming) (IsPackageRead h) h (package_of_candidate_by_path (candidate_value c.args.c.now) c.args.path.now) (package_of_candidate_by_path (candidate_value c.args.c.now) c.args.path.now) _ (unless_different (candidate_value c.args.c.now) s.coming) c.from_residual-in_err-test_as_indexed-in-Sound.result _
     c.from_residual-in_err-test_as_indexed-in-Sound.ensures.1 s.by (c.in_err-test_as_indexed-in-Sound.ensures s.coming s.value s.id)
     (λ read n refusal is test. is ∙ test)
 

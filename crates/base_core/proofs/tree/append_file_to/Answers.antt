@@ -1,6 +1,6 @@
 -- Each read goes on where those before it ended.
 use Rattle.std.proofs.Common.{◌≡◌, ◌+◌, ◌-◌, ℕ, Ok, arith, subst}
-use Rattle.base_core.specs.Read.{HasReadAfter}
+use Rattle.base_core.specs.Read.{AppendsReadBytes}
 use Rattle.base_core.specs.declared.tree.TreeFault.TheVariants.{Disk as DiskFault}
 use Rattle.base_core.proofs.Counting.{readings_two}
 use Rattle.base_core.proofs.ReadAfter.{can_read_here, read_further, reading_as, reading_off}
@@ -37,7 +37,7 @@ returns-in_err-read_some-2-clause-tree g c =
 pub returns-clause-added : goal.returns-clause-added
 returns-clause-added g c =
     let all : c.loop-at.at + (c.args.size - c.loop-at.at) ≡ c.args.size = omega arith in
-    subst (λ (n : ℕ). HasReadAfter (g.T.Tree.history c.args.tree.now) c.args.name.now 0 n c.args.bytes.now.items c.read_some-2.new.bytes.items) all
+    subst (λ (n : ℕ). AppendsReadBytes (g.T.Tree.history c.args.tree.now) c.args.name.now 0 n c.args.bytes.now.items c.read_some-2.new.bytes.items) all
     (read_further _ _ c.args.name.now c.loop-at.at (c.args.size - c.loop-at.at) _ _ _ c.loop-at.invariant.tree.same c.loop-at.invariant.added c.in_ok-read_some-2.ensures.added)
 
 pub returns-clause-tree : goal.returns-clause-tree

@@ -1,13 +1,13 @@
 use Rattle.std.proofs.Common.{◌∙◌, sym}
 use Rattle.dep_core.specs.Meets.{dependency}
-use Rattle.candidate_core.specs.Candidates.{is_met_by_entry}
+use Rattle.candidate_core.specs.Candidates.{is_met_by_provides_entry}
 use Rattle.candidate_core.proofs.LoopTests.{any_at, none_next}
 use Rattle.candidate_core.proofs.candidate.any_meets.Goals as goal
 
-pub returns-then-is_met_by_entry : goal.returns-then-is_met_by_entry
-returns-then-is_met_by_entry c =
-    sym (any_at (is_met_by_entry (dependency c.args.dep.now)) c.args.provides.now c.loop-i.i (dependency c.get-entry.result) c.get-entry.ensures (sym c.is_met_by_entry.ensures ∙ c.if-is_met_by_entry.true))
+pub returns-then-is_met_by_provides_entry : goal.returns-then-is_met_by_provides_entry
+returns-then-is_met_by_provides_entry c =
+    sym (any_at (is_met_by_provides_entry (dependency c.args.dep.now)) c.args.provides.now c.loop-i.i (dependency c.get-entry.result) c.get-entry.ensures (sym c.is_met_by_provides_entry.ensures ∙ c.if-is_met_by_provides_entry.true))
 
 pub loop-i-preserved : goal.loop-i-preserved
 loop-i-preserved c =
-    none_next (is_met_by_entry (dependency c.args.dep.now)) c.args.provides.now c.loop-i.i (dependency c.get-entry.result) c.loop-i.invariant c.get-entry.ensures (sym c.is_met_by_entry.ensures ∙ c.if-is_met_by_entry.false)
+    none_next (is_met_by_provides_entry (dependency c.args.dep.now)) c.args.provides.now c.loop-i.i (dependency c.get-entry.result) c.loop-i.invariant c.get-entry.ensures (sym c.is_met_by_provides_entry.ensures ∙ c.if-is_met_by_provides_entry.false)

@@ -11,7 +11,7 @@ use Rattle.adb_view.specs.declared.tables.Kind.TheVariants as Kinds
 use Rattle.adb_view.specs.declared.tables.Which.TheVariants as Tables
 use Rattle.dep_core.specs.Dependency.{Dependency}
 use Rattle.dep_core.specs.Meets.{dependency}
-use Rattle.candidate_core.specs.Candidates.{is_met_by_entry}
+use Rattle.candidate_core.specs.Candidates.{is_met_by_provides_entry}
 use Rattle.candidate_core.specs.PackageWords.{info_in_source}
 use Rattle.candidate_core.proofs.DependencyLists.{all_dependencies, dependencies_to}
 use Rattle.candidate_core.proofs.WantedVersions.{any_next, any_of_all}
@@ -54,7 +54,7 @@ returns-then-by_entry c = λ text of known.
     let value : value_at p (Kinds.Obj Tables.Dep) word ≡ nth (entries_in list) ((i + 1) - 1) =
     word_value p (Kinds.Obj Tables.Dep) ws i word sound within c.entry_word-entry.ensures
     ∙ ap (λ (l : Plain). nth (entries_in l) ((i + 1) - 1)) same in
-    let meets : Dependency → Bool = is_met_by_entry (dependency c.args.dep.now) in
+    let meets : Dependency → Bool = is_met_by_provides_entry (dependency c.args.dep.now) in
     let before = c.loop-i.invariant text of known in
     let one = c.in_ok-by_entry.ensures text of before.1 in
     (any_of_all meets i (entries_in list) (value_at p (Kinds.Obj Tables.Dep) word) c.in_ok-by_entry.by_entry there value one.0 before.0 c.if-by_entry.true, one.1)
@@ -74,7 +74,7 @@ loop-i-preserved c = λ text of known.
     let value : value_at p (Kinds.Obj Tables.Dep) word ≡ nth (entries_in list) ((i + 1) - 1) =
     word_value p (Kinds.Obj Tables.Dep) ws i word sound within c.entry_word-entry.ensures
     ∙ ap (λ (l : Plain). nth (entries_in l) ((i + 1) - 1)) same in
-    let meets : Dependency → Bool = is_met_by_entry (dependency c.args.dep.now) in
+    let meets : Dependency → Bool = is_met_by_provides_entry (dependency c.args.dep.now) in
     let before = c.loop-i.invariant text of known in
     let one = c.in_ok-by_entry.ensures text of before.1 in
     (any_next meets i (entries_in list) (value_at p (Kinds.Obj Tables.Dep) word) c.in_ok-by_entry.by_entry there value one.0 before.0 ∙ c.if-by_entry.false, one.1)
@@ -90,4 +90,4 @@ returns c = λ text of known.
     let last : c.loop-i.i ≡ count_of values = omega (arith, count, c.len-i-end.ensures.value, c.loop-i-test.false) in
     let all = ap (λ (n : ℕ). dependencies_to n values) last ∙ all_dependencies values in
     let before = c.loop-i.invariant text of known in
-    (sym before.0 ∙ ap (list_any (is_met_by_entry (dependency c.args.dep.now))) all, before.1)
+    (sym before.0 ∙ ap (list_any (is_met_by_provides_entry (dependency c.args.dep.now))) all, before.1)

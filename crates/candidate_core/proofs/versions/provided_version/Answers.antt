@@ -13,7 +13,7 @@ use Rattle.adb_view.specs.declared.tables.Kind.TheVariants as Kinds
 use Rattle.adb_view.specs.declared.tables.Which.TheVariants as Tables
 use Rattle.dep_core.specs.Dependency.{Dependency}
 use Rattle.dep_core.specs.Meets.{dependency}
-use Rattle.candidate_core.specs.Candidates.{is_met_by_entry}
+use Rattle.candidate_core.specs.Candidates.{is_met_by_provides_entry}
 use Rattle.candidate_core.specs.PackageWords.{info_in_source}
 use Rattle.candidate_core.proofs.DependencyLists.{all_dependencies, dependencies_to}
 use Rattle.candidate_core.proofs.ProvidedVersions.{first_found, no_dependency, passed_over}
@@ -80,7 +80,7 @@ returns-then-is_met_as_known c =
     ∙ ap (λ (l : Plain). nth (entries_in l) ((i + 1) - 1)) same in
     record {
       version = c.version_of_entry.ensures.version
-          ∙ sym (ap version_of (first_found (is_met_by_entry (dependency c.args.dep.now)) i (entries_in list) (value_at p (Kinds.Obj Tables.Dep) word) (dependency c.in-Some.found) there value
+          ∙ sym (ap version_of (first_found (is_met_by_provides_entry (dependency c.args.dep.now)) i (entries_in list) (value_at p (Kinds.Obj Tables.Dep) word) (dependency c.in-Some.found) there value
           c.in-Some.ensures c.loop-i.invariant (sym c.is_met_as_known.ensures ∙ c.if-is_met_as_known.true)));
       source = c.version_of_entry.ensures.source;
       text = c.version_of_entry.ensures.text;
@@ -101,7 +101,7 @@ loop-i-preserved c =
     let value : value_at p (Kinds.Obj Tables.Dep) word ≡ nth (entries_in list) ((i + 1) - 1) =
     word_value p (Kinds.Obj Tables.Dep) ws i word sound within c.entry_word-entry.ensures
     ∙ ap (λ (l : Plain). nth (entries_in l) ((i + 1) - 1)) same in
-    let meets : Dependency → Bool = is_met_by_entry (dependency c.args.dep.now) in
+    let meets : Dependency → Bool = is_met_by_provides_entry (dependency c.args.dep.now) in
     elim c.match-read_entry.branch [
       | in-Some+else-is_met_as_known w ↦
           passed_over meets i (entries_in list) (value_at p (Kinds.Obj Tables.Dep) word) (dependency w.in-Some.found) there value w.in-Some.ensures c.loop-i.invariant
@@ -120,7 +120,7 @@ returns c =
     let last : c.loop-i.i ≡ count_of values = omega (arith, count, c.len-i-end.ensures.value, c.loop-i-test.false) in
     let all = ap (λ (n : ℕ). dependencies_to n values) last ∙ all_dependencies values in
     record {
-      version = sym (ap version_of (ap (find (is_met_by_entry (dependency c.args.dep.now))) (sym all) ∙ c.loop-i.invariant));
+      version = sym (ap version_of (ap (find (is_met_by_provides_entry (dependency c.args.dep.now))) (sym all) ∙ c.loop-i.invariant));
       source = refl;
       text = tt;
     }

@@ -1,5 +1,5 @@
 use Rattle.std.proofs.Common.{ℕ, Vec, Global}
-use Rattle.adb_sound.specs.adb_schema.Soundness.{first_fault}
+use Rattle.adb_sound.specs.adb_schema.Soundness.{container_fault_except_contents}
 use Rattle.adb_view.specs.declared.tables.Which.TheVariants.{Idb}
 use Rattle.db_core.specs.Seen.{members_of}
 use Rattle.db_write.proofs.Container.{file_refused, file_written}
@@ -17,6 +17,6 @@ returns-clause-sound c listed =
     let members = members_of c.args.members.now in
     let flags = c.args.owned.now in
     let written = file_written members flags c.as_slice.result.now _ _ _ c.as_slice.ensures c.in-Ok.ensures.written c.deref.ensures.value c.in_ok-file_of.ensures in
-    no_cause (first_fault Idb _) c.packages_are_sound.ensures (λ sound.
+    no_cause (container_fault_except_contents Idb _) c.packages_are_sound.ensures (λ sound.
     c.a_written_database_is_read_back.ensures.database members flags _
     (c.a_database_of_sound_packages_may_be_the_root.ensures members flags _ sound c.members_are_in_order.ensures listed written) written)

@@ -4,7 +4,7 @@ use Rattle.adb_view.specs.Entries.{array_entries}
 use Rattle.adb_copy.specs.adb_fields.Fields.{array_at}
 use Rattle.adb_view.specs.declared.tables.Kind.TheVariants as Kinds
 use Rattle.adb_view.specs.declared.tables.Which.TheVariants as Tables
-use Rattle.adb_view.specs.Plain.{Plain, Plains, arr_value}
+use Rattle.adb_view.specs.Plain.{Plain, Plains, array_or_null}
 use Rattle.adb_copy.specs.adb_fields.Repeated.{list_of}
 use Rattle.adb_copy.proofs.adb_fields.FieldReads.{entry_count}
 use Rattle.adb_view.specs.Values.{count_of, entries_in}
@@ -66,7 +66,7 @@ returns c =
     let given : c.loop-i.draft ≡ draft_with_all owned (draft_with_open_list c.args.draft.now) =
     all_owned vs c.args.flags.now c.loop-i.i _ _ _ (omega (arith, entry_count p (Kinds.Obj Tables.File) ws c.requires.sound, c.len-i-end.ensures.value, c.loop-i-test.false, c.loop-i.auto.i-end)) c.loop-i.invariant.left c.in_ok-open_list.ensures.ok in
     record {
-      files = closed arr_value owned c.args.draft.now _ _ c.close_array.result c.close_array.ensures.ok given;
+      files = closed array_or_null owned c.args.draft.now _ _ c.close_array.result c.close_array.ensures.ok given;
       known =
           on_ok _ _ (λ closed. known_closed_array p c.loop-i.known c.loop-i.draft c.close_array.new.self c.loop-i.invariant.known owned c.args.draft.now given (closed owned c.args.draft.now given))
           c.close_array.result c.close_array.ensures.ok;

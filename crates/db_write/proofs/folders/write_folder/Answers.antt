@@ -2,7 +2,7 @@ use Rattle.std.proofs.Common.{◌≡◌, ℕ, List, ap, refl, ◌∙◌}
 use Rattle.adb_view.specs.Adb.{payload_of}
 use Rattle.adb_view.specs.declared.tables.Kind.TheVariants as Kinds
 use Rattle.adb_view.specs.declared.tables.Which.TheVariants as Tables
-use Rattle.adb_view.specs.Plain.{Plain, Plains, none, more, blob_or_null, arr_value, obj_value}
+use Rattle.adb_view.specs.Plain.{Plain, Plains, none, more, blob_or_null, array_or_null, trimmed_object_or_null}
 use Rattle.adb_copy.specs.adb_fields.Repeated.{files_in, list_of, name_of}
 use Rattle.adb_view.specs.Values.{entries_in, entry_in, value_at}
 use Rattle.adb_copy.specs.Zeros.{without_zeros}
@@ -20,15 +20,15 @@ pub returns : goal.returns
 returns c =
     let p : List ℕ = payload_of c.args.adb in
     let v : Plain = value_at p (Kinds.Obj Tables.Dir) c.args.folder in
-    let vs : Plains = more (blob_or_null (name_of v)) (more (without_zeros (entry_in v 1)) (more (arr_value (owned_entries (files_in v) c.args.flags.now)) none)) in
+    let vs : Plains = more (blob_or_null (name_of v)) (more (without_zeros (entry_in v 1)) (more (array_or_null (owned_entries (files_in v) c.args.flags.now)) none)) in
     let acl : c.write_acl.new.draft ≡ draft_with (without_zeros (entry_in v 1)) c.write_field.new.draft =
     c.in_ok-write_acl.ensures.acl ∙ ap (λ (u : Plain). draft_with (without_zeros u) c.write_field.new.draft) (c.field_word-acl.ensures (Kinds.Obj Tables.Acl) refl).1 in
-    let files : c.write_files.new.draft ≡ draft_with (arr_value (owned_entries (files_in v) c.args.flags.now)) c.write_acl.new.draft =
-    c.in_ok-write_files.ensures.files ∙ ap (λ (u : Plain). draft_with (arr_value (owned_entries (list_of (entries_in u)) c.args.flags.now)) c.write_acl.new.draft) c.objects_field-files.ensures.value in
+    let files : c.write_files.new.draft ≡ draft_with (array_or_null (owned_entries (files_in v) c.args.flags.now)) c.write_acl.new.draft =
+    c.in_ok-write_files.ensures.files ∙ ap (λ (u : Plain). draft_with (array_or_null (owned_entries (list_of (entries_in u)) c.args.flags.now)) c.write_acl.new.draft) c.objects_field-files.ensures.value in
     let given : c.write_files.new.draft ≡ draft_with_all vs (draft_with_open_list c.args.draft.now) =
     rw (files, acl, c.in_ok-write_field.ensures.text, c.in_ok-open_list.ensures.ok) refl in
     record {
-      folder = closed obj_value vs c.args.draft.now _ _ c.close_object.result c.close_object.ensures.ok given;
+      folder = closed trimmed_object_or_null vs c.args.draft.now _ _ c.close_object.result c.close_object.ensures.ok given;
       known =
           on_ok _ _ (λ closed. known_closed_object p c.write_files.new.known c.write_files.new.draft c.close_object.new.self c.in_ok-write_files.ensures.known vs c.args.draft.now given (closed vs c.args.draft.now given))
           c.close_object.result c.close_object.ensures.ok;

@@ -4,7 +4,7 @@ use Rattle.adb_view.specs.Entries.{array_entries}
 use Rattle.adb_copy.specs.adb_fields.Fields.{array_at}
 use Rattle.adb_view.specs.declared.tables.Kind.TheVariants as Kinds
 use Rattle.adb_view.specs.declared.tables.Which.TheVariants as Tables
-use Rattle.adb_view.specs.Plain.{Plains, arr_value}
+use Rattle.adb_view.specs.Plain.{Plains, array_or_null}
 use Rattle.adb_copy.specs.adb_fields.Repeated.{list_of}
 use Rattle.adb_view.specs.Values.{entries_in, value_at}
 use Rattle.adb_copy.specs.adb_values.Drafts.{draft_with_all, draft_with_open_list}
@@ -60,7 +60,7 @@ returns c =
     all_given file_count folder_in_new_database (list_of vs) c.args.flags.now c.loop-i.left.now c.loop-i.i _ _ _
     (omega (arith, words_listed p (Kinds.Obj Tables.Dir) ws c.requires.sound, c.len-i-end.ensures.value, c.loop-i-test.false, c.loop-i.auto.i-end)) c.loop-i.invariant.left c.in_ok-open_list.ensures.ok in
     record {
-      folders = closed arr_value folders c.args.draft.now _ _ c.close_array.result c.close_array.ensures.ok given;
+      folders = closed array_or_null folders c.args.draft.now _ _ c.close_array.result c.close_array.ensures.ok given;
       known =
           on_ok _ _ (λ closed. known_closed_array p c.loop-i.known c.loop-i.draft c.close_array.new.self c.loop-i.invariant.known folders c.args.draft.now given (closed folders c.args.draft.now given))
           c.close_array.result c.close_array.ensures.ok;

@@ -1,5 +1,5 @@
 use Rattle.std.proofs.Common.{arith, refl}
-use Rattle.adb_view.specs.Plain.{arr_value}
+use Rattle.adb_view.specs.Plain.{array_or_null}
 use Rattle.adb_copy.proofs.adb_values.Lists.{closed}
 use Rattle.adb_copy.proofs.Known.{known_opened}
 use Rattle.db_core.specs.Seen.{members_of, payload_of_old_database}
@@ -32,6 +32,6 @@ loop-i-preserved c =
 
 pub returns : goal.returns
 returns c =
-    closed arr_value (packages_in_new_database (members_of c.args.members.now) c.args.flags.now) c.args.draft.now _ _ c.close_array.result c.close_array.ensures.ok
+    closed array_or_null (packages_in_new_database (members_of c.args.members.now) c.args.flags.now) c.args.draft.now _ _ c.close_array.result c.close_array.ensures.ok
     (all_given member_file_count package_in_new_database (members_of c.args.members.now) c.args.flags.now c.loop-i.left.now c.loop-i.i _ _ _
     (omega (arith, c.len-i-end.ensures.value, c.loop-i-test.false, c.loop-i.auto.i-end)) c.loop-i.invariant.left c.in_ok-open_list.ensures.ok)

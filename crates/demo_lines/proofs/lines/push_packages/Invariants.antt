@@ -1,7 +1,7 @@
 use Rattle.std.proofs.Common.{◌≡◌, ◌++◌}
-use Rattle.demo_lines.specs.Lines.{demo_packages}
+use Rattle.demo_lines.specs.Lines.{demo_package_paths}
 use Rattle.demo_lines.proofs.lines.push_packages.Given as goal
 
 -- the packages so far
 abbrev pub invariant-loop-i : goal.invariant-loop-i
-invariant-loop-i l = l.words ≡ l.fn.words ++ demo_packages l.i
+invariant-loop-i l = l.words ≡ l.fn.words ++ demo_package_paths l.i

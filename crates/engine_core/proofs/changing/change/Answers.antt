@@ -7,7 +7,7 @@ use Rattle.command_core.specs.Command.{CommandLine}
 use Rattle.command_core.specs.declared.command.Flags.{Flags}
 use Rattle.engine_core.specs.ChangeRun.{IsChangeRun}
 use Rattle.engine_core.specs.Preparing.{IsRootRead}
-use Rattle.engine_core.specs.Runs.{IsRunCounted, IsSelectedRun}
+use Rattle.engine_core.specs.Runs.{IsRunCounted, IsRunOnSelection}
 use Rattle.engine_core.specs.SelectionSeen.{replacement_seen, selection_seen}
 use Rattle.engine_core.specs.Wishes.{names_to_remove}
 use Rattle.engine_core.proofs.Counted.{counted_after, counted_fault, counted_report, memory_no_disk}
@@ -89,7 +89,7 @@ returns-clause-run g c =
     let own : HaveOwnReads = record { inputs = c.inputs_depend_on_their_own_reads.ensures; members = c.packages_after_a_change_depend_on_their_reads.ensures } in
     joined own c.args.command.now c.in_ok-loaded.loaded _ _ _ _ _ _ c.make_change.result (only_read _ _ _ _ _ _ c.in_ok-loaded.ensures.tree) c.in_ok-loaded.ensures.found
     (selected_run c.args.command.now (inputs_seen c.in_ok-loaded.loaded) _ _ _ _ c.in_ok-selection.selection c.make_change.result c.in_ok-selection.ensures.selected
-    (subst (λ (command : CommandLine). IsSelectedRun command (Ok (selection_seen c.in_ok-selection.selection)) (g.T.Tree.history c.read.new.tree) (g.T.Tree.history c.make_change.new.tree) (g.T.Tree.counts c.read.new.tree) (g.T.Tree.counts c.make_change.new.tree) c.make_change.result) c.in_ok-selection.ensures.parts.command_is c.make_change.ensures.run))
+    (subst (λ (command : CommandLine). IsRunOnSelection command (Ok (selection_seen c.in_ok-selection.selection)) (g.T.Tree.history c.read.new.tree) (g.T.Tree.history c.make_change.new.tree) (g.T.Tree.counts c.read.new.tree) (g.T.Tree.counts c.make_change.new.tree) c.make_change.result) c.in_ok-selection.ensures.parts.command_is c.make_change.ensures.run))
 
 pub returns-clause-counts : goal.returns-clause-counts
 returns-clause-counts g c = counted_after _ _ _ c.make_change.result c.in_ok-loaded.ensures.tree.goes_on c.in_ok-loaded.ensures.tree.kept c.counts_of_consecutive_calls_compose.ensures.cause_after c.make_change.ensures.counts

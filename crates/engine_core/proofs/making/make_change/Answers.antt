@@ -1,7 +1,7 @@
 use Rattle.std.proofs.Common.{◌≡◌, ◌∙◌, sym, subst, Ok, Result}
 use Rattle.change_report.specs.change_outcome.ChangeOutcome.{ChangeDone}
 use Rattle.engine_core.specs.ChangeRun.{CarriesOut}
-use Rattle.engine_core.specs.Runs.{IsRunCounted, IsSelectedRun}
+use Rattle.engine_core.specs.Runs.{IsRunCounted, IsRunOnSelection}
 use Rattle.engine_core.specs.SelectionSeen.{selection_seen}
 use Rattle.report_core.specs.declared.refusal.Refusal.{Refusal}
 use Rattle.engine_core.specs.declared.rendering.NewRecords.{NewRecords}
@@ -16,7 +16,7 @@ pub returns-in_err-packages-clause-run : goal.returns-in_err-packages-clause-run
 returns-in_err-packages-clause-run g c =
     let have : HaveClash = record { exists = c.a_change_has_a_first_clash_or_none.ensures.exists } in
     let s = c.args.selection.now in
-    with_error (IsSelectedRun s.command.now (Ok (selection_seen s)) _ _ _ _) c.from_residual.result _ c.from_residual.ensures.1
+    with_error (IsRunOnSelection s.command.now (Ok (selection_seen s)) _ _ _ _) c.from_residual.result _ c.from_residual.ensures.1
     (unarrived s c.requires.real _ _ _ _ (only_read _ _ _ _ _ _ c.in_err-packages.ensures.tree) have (g.met.T.Tree.whole c.args.tree.now) _ c.in_err-packages.ensures.found)
 
 pub returns-in_err-packages-clause-counts : goal.returns-in_err-packages-clause-counts
@@ -29,7 +29,7 @@ plan_change-requires g c = c.in_ok-packages.ensures.members
 pub returns-in_err-plan-clause-run : goal.returns-in_err-plan-clause-run
 returns-in_err-plan-clause-run g c =
     let s = c.args.selection.now in
-    with_error (IsSelectedRun s.command.now (Ok (selection_seen s)) _ _ _ _) c.from_residual-in_err-plan.result _ c.from_residual-in_err-plan.ensures.1
+    with_error (IsRunOnSelection s.command.now (Ok (selection_seen s)) _ _ _ _) c.from_residual-in_err-plan.result _ c.from_residual-in_err-plan.ensures.1
     (arrived_run s c.requires.real _ _ _ _ (only_read _ _ _ _ _ _ c.in_ok-packages.ensures.tree) c.requires.database c.requires.root c.in_ok-packages.packages c.in_ok-packages.ensures.found _ _ _
     (λ are. c.in_err-plan.ensures.refused _ _ are))
 
@@ -46,7 +46,7 @@ pub returns-in_err-records-clause-run : goal.returns-in_err-records-clause-run
 returns-in_err-records-clause-run g c =
     let s = c.args.selection.now in
     let p = c.in_ok-plan.plan in
-    with_error (IsSelectedRun s.command.now (Ok (selection_seen s)) _ _ _ _) c.from_residual-in_err-records.result _ c.from_residual-in_err-records.ensures.1
+    with_error (IsRunOnSelection s.command.now (Ok (selection_seen s)) _ _ _ _) c.from_residual-in_err-records.result _ c.from_residual-in_err-records.ensures.1
     (arrived_run s c.requires.real _ _ _ _ (only_read _ _ _ _ _ _ c.in_ok-packages.ensures.tree) c.requires.database c.requires.root c.in_ok-packages.packages c.in_ok-packages.ensures.found _ _ _
     (λ are. plan_run c.packages_that_were_read_are_those_found.ensures _ _ _ _ (only_read _ _ _ _ _ _ c.in_ok-plan.ensures.tree) c.in_ok-packages.packages p c.in_ok-plan.ensures.plan c.in_ok-packages.ensures.found.read _ are _ _ _
     (λ files planned. large_database _ p _ files planned _ _ c.in_err-records.ensures.told)))
@@ -74,7 +74,7 @@ pub returns-in_err-rendered-clause-run : goal.returns-in_err-rendered-clause-run
 returns-in_err-rendered-clause-run g c =
     let s = c.args.selection.now in
     let p = c.in_ok-plan.plan in
-    with_error (IsSelectedRun s.command.now (Ok (selection_seen s)) _ _ _ _) c.from_residual-in_err-rendered.result _ c.from_residual-in_err-rendered.ensures.1
+    with_error (IsRunOnSelection s.command.now (Ok (selection_seen s)) _ _ _ _) c.from_residual-in_err-rendered.result _ c.from_residual-in_err-rendered.ensures.1
     (arrived_run s c.requires.real _ _ _ _ (only_read _ _ _ _ _ _ c.in_ok-packages.ensures.tree) c.requires.database c.requires.root c.in_ok-packages.packages c.in_ok-packages.ensures.found _ _ _
     (λ are. plan_run c.packages_that_were_read_are_those_found.ensures _ _ _ _ (only_read _ _ _ _ _ _ c.in_ok-plan.ensures.tree) c.in_ok-packages.packages p c.in_ok-plan.ensures.plan c.in_ok-packages.ensures.found.read _ are _ _ _
     (λ files planned. large_entry _ p _ files planned c.in_ok-records.records c.in_ok-records.ensures.told _ _ c.in_err-rendered.ensures.refused)))

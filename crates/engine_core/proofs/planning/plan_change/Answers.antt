@@ -11,8 +11,8 @@ use Rattle.change_report.specs.change_outcome.Triggers.{unless_trigger_due}
 use Rattle.change_report.specs.db_core.Seen.{members_of}
 use Rattle.command_core.specs.declared.command.Flags.{Flags}
 use Rattle.engine_core.specs.Plans.{HasNoPlan, IsPlanFrom}
-use Rattle.engine_core.specs.Preparing.{AreFoundBy, inputs_of_packages, replacement_of_packages, wishes_of_packages}
-use Rattle.engine_core.specs.Runs.{IsFoundRun}
+use Rattle.engine_core.specs.Preparing.{ArePackagesFoundByReads, inputs_of_packages, replacement_of_packages, wishes_of_packages}
+use Rattle.engine_core.specs.Runs.{IsRunOnFoundPackages}
 use Rattle.engine_core.proofs.Counted.{memory_no_disk}
 use Rattle.engine_core.proofs.Early.{HaveClash, nothing_read, only_read}
 use Rattle.engine_core.proofs.Found.{found_failure, has_arrived, unplanned_step}
@@ -27,8 +27,8 @@ returns-in_err-members-clause-refused g c =
     let a = c.args.packages.now in
     let h = g.T.Tree.history c.args.tree.now in
     let n = g.T.Tree.counts c.args.tree.now in
-    with_error (λ r. IfErr r (λ refused. (read : Reads) (found : List MemberFound) → AreFoundBy h a read found
-    → IsFoundRun (inputs_of_packages a) (replacement_of_packages a) (wishes_of_packages a) found h h n n (Err refused))) c.from_residual.result Memory c.from_residual.ensures.1
+    with_error (λ r. IfErr r (λ refused. (read : Reads) (found : List MemberFound) → ArePackagesFoundByReads h a read found
+    → IsRunOnFoundPackages (inputs_of_packages a) (replacement_of_packages a) (wishes_of_packages a) found h h n n (Err refused))) c.from_residual.result Memory c.from_residual.ensures.1
     (λ read found are. found_failure have (inputs_of_packages a) (replacement_of_packages a) (wishes_of_packages a) read found are.is h h n n (g.met.T.Tree.whole c.args.tree.now) (nothing_read h n) Memory tt)
 
 pub returns-in_err-files-clause-refused : goal.returns-in_err-files-clause-refused
@@ -40,8 +40,8 @@ returns-in_err-files-clause-refused g c =
     let n = g.T.Tree.counts c.args.tree.now in
     let after = g.T.Tree.counts c.plan_files.new.tree in
     let why = subst (λ (f : Flags). HasNoPlan h f.purge a.selection.now.db c.in_ok-members.members c.in_err-files.field-0.0) c.flags-flags.ensures.value c.in_err-files.ensures.refused in
-    with_error (λ r. IfErr r (λ refused. (read : Reads) (found : List MemberFound) → AreFoundBy h a read found
-    → IsFoundRun (inputs_of_packages a) (replacement_of_packages a) (wishes_of_packages a) found h now n after (Err refused))) c.from_residual-in_err-files.result _ c.from_residual-in_err-files.ensures.1
+    with_error (λ r. IfErr r (λ refused. (read : Reads) (found : List MemberFound) → ArePackagesFoundByReads h a read found
+    → IsRunOnFoundPackages (inputs_of_packages a) (replacement_of_packages a) (wishes_of_packages a) found h now n after (Err refused))) c.from_residual-in_err-files.result _ c.from_residual-in_err-files.ensures.1
     (λ read found are. unplanned_step have h now n after a c.in_ok-members.members (wishes_of_packages a) read found _ why (g.met.T.Tree.whole c.args.tree.now)
     (only_read _ _ _ _ _ _ c.in_err-files.ensures.tree)
     (has_arrived h a c.in_ok-members.members found (c.in_ok-members.ensures ∙ c.packages_that_were_read_are_those_found.ensures _ _ _ _ are.arrivals.read) are.arrivals) are.is)
@@ -59,8 +59,8 @@ returns-in_err-test_triggers-clause-refused g c =
     let n = g.T.Tree.counts c.args.tree.now in
     let after = g.T.Tree.counts c.plan_files.new.tree in
     let files = subst (λ (f : Flags). IsPlanFrom h f.purge a.selection.now.db c.in_ok-members.members c.in_ok-files.files) c.flags-flags.ensures.value c.in_ok-files.ensures.plan in
-    with_error (λ r. IfErr r (λ refused. (read : Reads) (found : List MemberFound) → AreFoundBy h a read found
-    → IsFoundRun (inputs_of_packages a) (replacement_of_packages a) (wishes_of_packages a) found h now n after (Err refused))) c.from_residual-in_err-test_triggers.result _ c.from_residual-in_err-test_triggers.ensures.1
+    with_error (λ r. IfErr r (λ refused. (read : Reads) (found : List MemberFound) → ArePackagesFoundByReads h a read found
+    → IsRunOnFoundPackages (inputs_of_packages a) (replacement_of_packages a) (wishes_of_packages a) found h now n after (Err refused))) c.from_residual-in_err-test_triggers.result _ c.from_residual-in_err-test_triggers.ensures.1
     (λ read found are.
     untriggered c.packages_that_were_read_are_those_found.ensures h now n after (only_read _ _ _ _ _ _ c.in_ok-files.ensures.tree)
     (record { packages = c.args.packages; members = c.in_ok-members.members; files = c.in_ok-files.files }) files c.in_ok-members.ensures found are.arrivals _ c.flags-flags.result c.flags-flags.ensures.value c.in_err-test_triggers.ensures)

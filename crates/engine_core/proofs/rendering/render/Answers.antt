@@ -7,7 +7,7 @@ use Rattle.change_report.specs.db_core.Members.{Member}
 use Rattle.change_report.specs.journal_core.Staged.{Staging}
 use Rattle.change_report.specs.journal_intent.IntentValue.{intent_of_lists, value_of_intent}
 use Rattle.journal_staging.specs.declared.writes.StagedWrite.{StagedWrite}
-use Rattle.engine_core.specs.Rendering.{AreWritesOf, IsOverflowOf, IsStageOf, removals_of_plan}
+use Rattle.engine_core.specs.Rendering.{AreWritesOf, IsRefusedForOverflow, IsStageOf, removals_of_plan}
 use Rattle.engine_core.specs.Writing.{name_of_write}
 use Rattle.engine_core.proofs.Carries.{IsMadeReady, entry_large, same_told, written_once}
 use Rattle.engine_core.proofs.SelectedRuns.{with_error}
@@ -28,7 +28,7 @@ writes_of-requires-clause-once c =
 
 pub returns-in_err-writes-clause-refused : goal.returns-in_err-writes-clause-refused
 returns-in_err-writes-clause-refused c =
-    with_error (λ r. IfErr r (IsOverflowOf c.args.plan.now c.args.records.now)) c.from_residual.result Memory c.from_residual.ensures.1 (λ history found files planned. tt)
+    with_error (λ r. IfErr r (IsRefusedForOverflow c.args.plan.now c.args.records.now)) c.from_residual.result Memory c.from_residual.ensures.1 (λ history found files planned. tt)
 
 pub journal_entry-requires-clause-writes : goal.journal_entry-requires-clause-writes
 journal_entry-requires-clause-writes c =
@@ -42,7 +42,7 @@ journal_entry-requires-clause-writes c =
 
 pub returns-in_err-stage-clause-refused : goal.returns-in_err-stage-clause-refused
 returns-in_err-stage-clause-refused c =
-    with_error (λ r. IfErr r (IsOverflowOf c.args.plan.now c.args.records.now)) c.from_residual-in_err-stage.result _ c.from_residual-in_err-stage.ensures.1
+    with_error (λ r. IfErr r (IsRefusedForOverflow c.args.plan.now c.args.records.now)) c.from_residual-in_err-stage.result _ c.from_residual-in_err-stage.ensures.1
     (λ history found files planned.
     let ready : IsMadeReady history c.args.plan.now found files c.args.records.now c.record_writes_of-record_writes.result c.in_ok-writes.writes.items (removals_of_plan c.args.plan.now) = record {
       plan = planned;
@@ -58,7 +58,7 @@ returns-in_err-stage-clause-refused c =
 
 pub returns-in_err-report-clause-refused : goal.returns-in_err-report-clause-refused
 returns-in_err-report-clause-refused c =
-    with_error (λ r. IfErr r (IsOverflowOf c.args.plan.now c.args.records.now)) c.from_residual-in_err-report.result Memory c.from_residual-in_err-report.ensures.1 (λ history found files planned. tt)
+    with_error (λ r. IfErr r (IsRefusedForOverflow c.args.plan.now c.args.records.now)) c.from_residual-in_err-report.result Memory c.from_residual-in_err-report.ensures.1 (λ history found files planned. tt)
 
 pub returns-clause-rendered : goal.returns-clause-rendered
 returns-clause-rendered c = record {

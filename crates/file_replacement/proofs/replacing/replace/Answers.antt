@@ -1,5 +1,5 @@
 use Rattle.std.proofs.Common.{refl}
-use Rattle.journal_core.specs.Replacing.{scratch_of}
+use Rattle.journal_core.specs.Replacing.{scratch_name_of}
 use Rattle.journal_core.proofs.History.{on_observable}
 use Rattle.file_replacement.proofs.Joined.{replacing_moments, replacing_durable, replacing_reads, replaced_called, settled_called, synced_called}
 use Rattle.file_replacement.proofs.Proper.{room_proper}
@@ -8,17 +8,17 @@ use Rattle.file_replacement.proofs.replacing.replace.Goals as goal
 pub returns-clause-moments : goal.returns-clause-moments
 returns-clause-moments g c =
     on_observable (g.T.Tree.history c.args.tree.now) _ (λ v rest is.
-    replacing_moments (scratch_of c.args.name.now) c.args.name.now c.args.bytes.now refl v _ _ rest is c.write_new.ensures.moments)
+    replacing_moments (scratch_name_of c.args.name.now) c.args.name.now c.args.bytes.now refl v _ _ rest is c.write_new.ensures.moments)
 
 pub returns-clause-is_durable : goal.returns-clause-is_durable
 returns-clause-is_durable g c =
     on_observable (g.T.Tree.history c.args.tree.now) _ (λ v rest is.
-    replacing_durable (scratch_of c.args.name.now) c.args.name.now c.args.bytes.now refl v _ _ rest is c.write_new.ensures.moments)
+    replacing_durable (scratch_name_of c.args.name.now) c.args.name.now c.args.bytes.now refl v _ _ rest is c.write_new.ensures.moments)
 
 pub returns-clause-reads : goal.returns-clause-reads
 returns-clause-reads g c =
     on_observable (g.T.Tree.history c.args.tree.now) _ (λ v rest is.
-    replacing_reads (scratch_of c.args.name.now) c.args.name.now c.args.bytes.now refl v _ _ rest is c.write_new.ensures.moments)
+    replacing_reads (scratch_name_of c.args.name.now) c.args.name.now c.args.bytes.now refl v _ _ rest is c.write_new.ensures.moments)
 
 pub returns-clause-settled : goal.returns-clause-settled
 returns-clause-settled g c = settled_called c.args.name.now c.args.bytes.now _ _ c.write_new.result c.write_new.ensures.lasting
@@ -32,4 +32,4 @@ returns-clause-synced g c = synced_called c.args.name.now c.args.bytes.now _ _ c
 pub returns-clause-proper : goal.returns-clause-proper
 returns-clause-proper g c =
     on_observable (g.T.Tree.history c.args.tree.now) _ (λ v rest is room.
-    room_proper (scratch_of c.args.name.now) c.args.name.now refl v _ rest is room _ _ c.write_new.ensures.proper)
+    room_proper (scratch_name_of c.args.name.now) c.args.name.now refl v _ rest is room _ _ c.write_new.ensures.proper)

@@ -1,6 +1,6 @@
 use Rattle.std.proofs.Common.{refl, ap, ◌∙◌}
 use Rattle.std.specs.List.{flat_map}
-use Rattle.adb_dump.specs.Dump.{escape_of, needs_no_quotes}
+use Rattle.adb_dump.specs.Dump.{quoted_form_of_byte, needs_no_quotes}
 use Rattle.gen_core.proofs.Escapes.{none_read, quoted_all, quoted_more, quoted_not_read, quoted_of_none}
 use Rattle.gen_core.proofs.value.read_quoted.Goals as goal
 
@@ -8,7 +8,7 @@ pub returns-then-is_quote : goal.returns-then-is_quote
 returns-then-is_quote c = quoted_of_none c.args.bytes.now.items c.args.quoted.now (c.is_quote.ensures.0 c.if-is_quote.true)
 
 pub loop-byte-init : goal.loop-byte-init
-loop-byte-init c = none_read (flat_map escape_of) c.clear.new.self.items c.args.quoted.now refl c.clear.ensures.items
+loop-byte-init c = none_read (flat_map quoted_form_of_byte) c.clear.new.self.items c.args.quoted.now refl c.clear.ensures.items
 
 pub loop-byte-preserved : goal.loop-byte-preserved
 loop-byte-preserved c = quoted_more c.loop-byte.bytes.items c.loop-byte.rest.now c.args.quoted.now c.in-Some.further.now c.push.new.self.items c.in-Some.byte c.loop-byte.invariant c.in-Some.ensures c.in_ok-push.ensures.items

@@ -1,6 +1,6 @@
 use Rattle.std.proofs.Common.{◌∙◌, length, sym, ap}
 use Rattle.std.proofs.lemmas.Bool.{eq-eqb, eqb-true, false≢true}
-use Rattle.hint_core.specs.Warnings.{folder_line}
+use Rattle.hint_core.specs.Warnings.{empty_folder_line}
 use Rattle.hint_core.proofs.WarningSteps.{silent_below, warned_below}
 use Rattle.hint_core.proofs.warning.warning_below.Goals as goal
 
@@ -12,4 +12,4 @@ returns-then-not-is_empty-clause-lines g c =
 pub returns-clause-lines : goal.returns-clause-lines
 returns-clause-lines g c =
     warned_below _ c.args.folder.now c.in_ok-line.line.items c.in_ok-names.names c.in_ok-names.ensures.value
-    (eqb-true (length c.in_ok-names.names) 0 (sym c.if-not-is_empty.ensures)) (c.in_ok-line.ensures ∙ ap folder_line c.as_bytes.ensures.value)
+    (eqb-true (length c.in_ok-names.names) 0 (sym c.if-not-is_empty.ensures)) (c.in_ok-line.ensures ∙ ap empty_folder_line c.as_bytes.ensures.value)

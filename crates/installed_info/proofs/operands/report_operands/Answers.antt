@@ -3,7 +3,7 @@ use Rattle.std.specs.Prelude.{is_some}
 use Rattle.std.specs.Option.{option_map_or}
 use Rattle.command_core.specs.declared.operands.Operand.{Operand}
 use Rattle.file_owners.specs.db_core.Seen.{packages_of}
-use Rattle.installed_info.specs.Info.{info_unless, operand_info, operands_info, package_info}
+use Rattle.installed_info.specs.Info.{info_unless_refused, operand_info, operands_info, package_info}
 use Rattle.installed_info.specs.Packages.{package_meant_by}
 use Rattle.installed_info.proofs.LineSteps.{left_at, told}
 use Rattle.installed_info.proofs.OperandSteps.{passed, refused}
@@ -13,7 +13,7 @@ pub returns-then-not-branch : goal.returns-then-not-branch
 returns-then-not-branch c =
     let packages = packages_of c.args.db.now in
     let o : Operand = c.get-operand.result.now in
-    ap (λ r. info_unless r (operands_info c.args.form packages c.args.operands.now))
+    ap (λ r. info_unless_refused r (operands_info c.args.form packages c.args.operands.now))
     (sym (refused c.args.form packages c.args.operands.now c.loop-i.i o c.get-operand.ensures _
     (c.in_ok-push_operand.ensures.found ∙ ap (λ t. is_some (package_meant_by c.args.form packages t)) c.as_bytes.ensures) c.if-not-branch.true)
     ∙ c.loop-i.invariant.refusal)

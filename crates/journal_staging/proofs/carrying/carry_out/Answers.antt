@@ -11,7 +11,7 @@ use Rattle.journal_staging.specs.declared.writes.StageFault.TheVariants.{Bad, Di
 use Rattle.journal_staging.proofs.Carried.{carried, carried_from, carried_on, of_each, where_seen}
 use Rattle.journal_staging.proofs.OneFile.{same_fault, if_disk, not_ok, on_err}
 use Rattle.journal_commit.specs.Asked.{HasAcceptedTargets}
-use Rattle.journal_commit.specs.StageRun.{IsStageRun, IsStageRunComplete, IsStagingRun}
+use Rattle.journal_commit.specs.StageRun.{IsRunOfStagedChange, IsStagedChangeComplete, IsStagingRun}
 use Rattle.journal_commit.proofs.Asked.{change_promises, staging_promises}
 use Rattle.journal_staging.proofs.carrying.carry_out.Goals as goal
 
@@ -41,7 +41,7 @@ returns-in_err-carry_through-clause-run g c =
     carried c.a_new_stage_is_staging.ensures (g.T.Tree.history c.args.tree.now) (g.T.Tree.history c.check_targets.new.tree) c.args.stage.now _ _ c.args.writes.now c.requires.new c.check_targets.ensures.tree.same
     (λ v contents. IsCarriedTo {A = Unit {0}} (files_after_actions c.args.stage.now.intent (files_with_staged 1 contents (files_of v))) v (g.T.Tree.history c.args.tree.now) (g.T.Tree.history c.carry_through.new.tree) c.from_residual-in_err-carry_through.result)
     (λ v contents staging stand. record {
-      run = subst (λ (s : Staging). IsStageRun (files_after_actions s.intent (files_with_staged 1 contents (files_of v))) v (g.T.Tree.history c.args.tree.now) (g.T.Tree.history c.carry_through.new.tree)) c.in_ok-stage_each.ensures.view
+      run = subst (λ (s : Staging). IsRunOfStagedChange (files_after_actions s.intent (files_with_staged 1 contents (files_of v))) v (g.T.Tree.history c.args.tree.now) (g.T.Tree.history c.carry_through.new.tree)) c.in_ok-stage_each.ensures.view
           (c.in_err-carry_through.ensures.run contents v (g.T.Tree.history c.args.tree.now) (c.in_ok-stage_each.ensures.staging contents v (g.T.Tree.history c.args.tree.now) staging stand));
       ok = not_ok (λ e. e ≡ Disk) c.from_residual-in_err-carry_through.result _ c.from_residual-in_err-carry_through.ensures.1;
       err = if_disk c.from_residual-in_err-carry_through.result Disk c.from_residual-in_err-carry_through.ensures.1 refl;
@@ -61,9 +61,9 @@ returns-clause-run g c =
     carried c.a_new_stage_is_staging.ensures (g.T.Tree.history c.args.tree.now) (g.T.Tree.history c.check_targets.new.tree) c.args.stage.now _ _ c.args.writes.now c.requires.new c.check_targets.ensures.tree.same
     (λ v contents. IsCarriedTo {A = Unit {0}} (files_after_actions c.args.stage.now.intent (files_with_staged 1 contents (files_of v))) v (g.T.Tree.history c.args.tree.now) (g.T.Tree.history c.carry_through.new.tree) (Ok tt))
     (λ v contents staging stand. record {
-      run = subst (λ (s : Staging). IsStageRun (files_after_actions s.intent (files_with_staged 1 contents (files_of v))) v (g.T.Tree.history c.args.tree.now) (g.T.Tree.history c.carry_through.new.tree)) c.in_ok-stage_each.ensures.view
+      run = subst (λ (s : Staging). IsRunOfStagedChange (files_after_actions s.intent (files_with_staged 1 contents (files_of v))) v (g.T.Tree.history c.args.tree.now) (g.T.Tree.history c.carry_through.new.tree)) c.in_ok-stage_each.ensures.view
           (c.in_ok-carry_through.ensures.run contents v (g.T.Tree.history c.args.tree.now) (c.in_ok-stage_each.ensures.staging contents v (g.T.Tree.history c.args.tree.now) staging stand));
-      ok = subst (λ (s : Staging). IsStageRunComplete (files_after_actions s.intent (files_with_staged 1 contents (files_of v))) v (g.T.Tree.history c.carry_through.new.tree)) c.in_ok-stage_each.ensures.view
+      ok = subst (λ (s : Staging). IsStagedChangeComplete (files_after_actions s.intent (files_with_staged 1 contents (files_of v))) v (g.T.Tree.history c.carry_through.new.tree)) c.in_ok-stage_each.ensures.view
           (c.in_ok-carry_through.ensures.done contents v (g.T.Tree.history c.args.tree.now) (c.in_ok-stage_each.ensures.staging contents v (g.T.Tree.history c.args.tree.now) staging stand));
       err = tt;
     })
@@ -88,12 +88,12 @@ returns-in_err-carry_through-clause-listed g c = of_each (g.T.Tree.history c.arg
 pub returns-clause-listed : goal.returns-clause-listed
 returns-clause-listed g c =
     carried_on c.a_new_stage_is_staging.ensures (g.T.Tree.history c.args.tree.now) (g.T.Tree.history c.check_targets.new.tree) c.args.stage.now _ _ c.requires.new c.check_targets.ensures.tree.same
-    (λ v. (contents : List (List ℕ)) × EachMayDenote c.args.writes.now contents × IsStageRunComplete (files_after_actions c.args.stage.now.intent (files_with_staged 1 contents (files_of v))) v (g.T.Tree.history c.carry_through.new.tree))
+    (λ v. (contents : List (List ℕ)) × EachMayDenote c.args.writes.now contents × IsStagedChangeComplete (files_after_actions c.args.stage.now.intent (files_with_staged 1 contents (files_of v))) v (g.T.Tree.history c.carry_through.new.tree))
     (λ v staging.
     let found = c.in_ok-stage_each.ensures.listed v (g.T.Tree.history c.args.tree.now) staging in (
       found.0,
       found.1,
-      subst (λ (s : Staging). IsStageRunComplete (files_after_actions s.intent (files_with_staged 1 found.0 (files_of v))) v (g.T.Tree.history c.carry_through.new.tree)) c.in_ok-stage_each.ensures.view
+      subst (λ (s : Staging). IsStagedChangeComplete (files_after_actions s.intent (files_with_staged 1 found.0 (files_of v))) v (g.T.Tree.history c.carry_through.new.tree)) c.in_ok-stage_each.ensures.view
           (c.in_ok-carry_through.ensures.done found.0 v (g.T.Tree.history c.args.tree.now) found.2),
     ))
 
@@ -106,7 +106,7 @@ returns-in_err-check_targets-clause-unpublished g c =
 pub returns-in_err-check_targets-clause-cut_off : goal.returns-in_err-check_targets-clause-cut_off
 returns-in_err-check_targets-clause-cut_off g c =
     carried_on c.a_new_stage_is_staging.ensures (g.T.Tree.history c.args.tree.now) (g.T.Tree.history c.check_targets.new.tree) c.args.stage.now _ _ c.requires.new c.check_targets.ensures.tree.same
-    (λ v. OnErr c.from_residual.result (IsStagingRun v (g.T.Tree.history c.args.tree.now) (g.T.Tree.history c.check_targets.new.tree) ⊎ ((contents : List (List ℕ)) × EachMayDenote c.args.writes.now contents × IsStageRun (files_after_actions c.args.stage.now.intent (files_with_staged 1 contents (files_of v))) v (g.T.Tree.history c.args.tree.now) (g.T.Tree.history c.check_targets.new.tree))))
+    (λ v. OnErr c.from_residual.result (IsStagingRun v (g.T.Tree.history c.args.tree.now) (g.T.Tree.history c.check_targets.new.tree) ⊎ ((contents : List (List ℕ)) × EachMayDenote c.args.writes.now contents × IsRunOfStagedChange (files_after_actions c.args.stage.now.intent (files_with_staged 1 contents (files_of v))) v (g.T.Tree.history c.args.tree.now) (g.T.Tree.history c.check_targets.new.tree))))
     (λ v staging. on_err c.from_residual.result _ (inl staging.run))
 
 pub returns-in_err-stage_each-clause-unpublished : goal.returns-in_err-stage_each-clause-unpublished
@@ -118,7 +118,7 @@ returns-in_err-stage_each-clause-unpublished g c =
 pub returns-in_err-stage_each-clause-cut_off : goal.returns-in_err-stage_each-clause-cut_off
 returns-in_err-stage_each-clause-cut_off g c =
     carried_on c.a_new_stage_is_staging.ensures (g.T.Tree.history c.args.tree.now) (g.T.Tree.history c.check_targets.new.tree) c.args.stage.now _ _ c.requires.new c.check_targets.ensures.tree.same
-    (λ v. OnErr c.from_residual-in_err-stage_each.result (IsStagingRun v (g.T.Tree.history c.args.tree.now) (g.T.Tree.history c.stage_each.new.tree) ⊎ ((contents : List (List ℕ)) × EachMayDenote c.args.writes.now contents × IsStageRun (files_after_actions c.args.stage.now.intent (files_with_staged 1 contents (files_of v))) v (g.T.Tree.history c.args.tree.now) (g.T.Tree.history c.stage_each.new.tree))))
+    (λ v. OnErr c.from_residual-in_err-stage_each.result (IsStagingRun v (g.T.Tree.history c.args.tree.now) (g.T.Tree.history c.stage_each.new.tree) ⊎ ((contents : List (List ℕ)) × EachMayDenote c.args.writes.now contents × IsRunOfStagedChange (files_after_actions c.args.stage.now.intent (files_with_staged 1 contents (files_of v))) v (g.T.Tree.history c.args.tree.now) (g.T.Tree.history c.stage_each.new.tree))))
     (λ v staging. on_err c.from_residual-in_err-stage_each.result _ (inl (c.in_err-stage_each.ensures.run v (g.T.Tree.history c.args.tree.now) staging)))
 
 pub returns-in_err-carry_through-clause-unpublished : goal.returns-in_err-carry_through-clause-unpublished
@@ -128,13 +128,13 @@ returns-in_err-carry_through-clause-unpublished g c = of_each (g.T.Tree.history 
 pub returns-in_err-carry_through-clause-cut_off : goal.returns-in_err-carry_through-clause-cut_off
 returns-in_err-carry_through-clause-cut_off g c =
     carried_on c.a_new_stage_is_staging.ensures (g.T.Tree.history c.args.tree.now) (g.T.Tree.history c.check_targets.new.tree) c.args.stage.now _ _ c.requires.new c.check_targets.ensures.tree.same
-    (λ v. OnErr c.from_residual-in_err-carry_through.result (IsStagingRun v (g.T.Tree.history c.args.tree.now) (g.T.Tree.history c.carry_through.new.tree) ⊎ ((contents : List (List ℕ)) × EachMayDenote c.args.writes.now contents × IsStageRun (files_after_actions c.args.stage.now.intent (files_with_staged 1 contents (files_of v))) v (g.T.Tree.history c.args.tree.now) (g.T.Tree.history c.carry_through.new.tree))))
+    (λ v. OnErr c.from_residual-in_err-carry_through.result (IsStagingRun v (g.T.Tree.history c.args.tree.now) (g.T.Tree.history c.carry_through.new.tree) ⊎ ((contents : List (List ℕ)) × EachMayDenote c.args.writes.now contents × IsRunOfStagedChange (files_after_actions c.args.stage.now.intent (files_with_staged 1 contents (files_of v))) v (g.T.Tree.history c.args.tree.now) (g.T.Tree.history c.carry_through.new.tree))))
     (λ v staging.
     let found = c.in_ok-stage_each.ensures.listed v (g.T.Tree.history c.args.tree.now) staging in
     on_err c.from_residual-in_err-carry_through.result _ (inr (
       found.0,
       found.1,
-      subst (λ (s : Staging). IsStageRun (files_after_actions s.intent (files_with_staged 1 found.0 (files_of v))) v (g.T.Tree.history c.args.tree.now) (g.T.Tree.history c.carry_through.new.tree)) c.in_ok-stage_each.ensures.view
+      subst (λ (s : Staging). IsRunOfStagedChange (files_after_actions s.intent (files_with_staged 1 found.0 (files_of v))) v (g.T.Tree.history c.args.tree.now) (g.T.Tree.history c.carry_through.new.tree)) c.in_ok-stage_each.ensures.view
           (c.in_err-carry_through.ensures.run found.0 v (g.T.Tree.history c.args.tree.now) found.2),
     )))
 
@@ -157,7 +157,7 @@ returns-in_err-carry_through-clause-promised g c =
     (λ v unread empty staging.
     let found = c.in_ok-stage_each.ensures.listed v (g.T.Tree.history c.args.tree.now) staging in
     change_promises g.T.Tree.accepts v unread empty c.args.stage.now.intent found.0 c.names_are_free.ensures.free c.in_ok-check_targets.ensures.accepted _ _
-    (subst (λ (s : Staging). IsStageRun (files_after_actions s.intent (files_with_staged 1 found.0 (files_of v))) v (g.T.Tree.history c.args.tree.now) (g.T.Tree.history c.carry_through.new.tree)) c.in_ok-stage_each.ensures.view
+    (subst (λ (s : Staging). IsRunOfStagedChange (files_after_actions s.intent (files_with_staged 1 found.0 (files_of v))) v (g.T.Tree.history c.args.tree.now) (g.T.Tree.history c.carry_through.new.tree)) c.in_ok-stage_each.ensures.view
     (c.in_err-carry_through.ensures.run found.0 v (g.T.Tree.history c.args.tree.now) found.2)))
 
 pub returns-clause-promised : goal.returns-clause-promised
@@ -167,5 +167,5 @@ returns-clause-promised g c =
     (λ v unread empty staging.
     let found = c.in_ok-stage_each.ensures.listed v (g.T.Tree.history c.args.tree.now) staging in
     change_promises g.T.Tree.accepts v unread empty c.args.stage.now.intent found.0 c.names_are_free.ensures.free c.in_ok-check_targets.ensures.accepted _ _
-    (subst (λ (s : Staging). IsStageRun (files_after_actions s.intent (files_with_staged 1 found.0 (files_of v))) v (g.T.Tree.history c.args.tree.now) (g.T.Tree.history c.carry_through.new.tree)) c.in_ok-stage_each.ensures.view
+    (subst (λ (s : Staging). IsRunOfStagedChange (files_after_actions s.intent (files_with_staged 1 found.0 (files_of v))) v (g.T.Tree.history c.args.tree.now) (g.T.Tree.history c.carry_through.new.tree)) c.in_ok-stage_each.ensures.view
     (c.in_ok-carry_through.ensures.run found.0 v (g.T.Tree.history c.args.tree.now) found.2)))

@@ -1,7 +1,7 @@
 use Rattle.std.proofs.Common.{◌≡◌, Option, Err, ap, subst, rules}
 use Rattle.journal_staging.specs.Spoiled.{IsSpoiledForEachTested}
 use Rattle.package_verifier.specs.package_reader.FileReading.{AreAsExpected}
-use Rattle.file_guard.specs.pkg_core.Contents.{Expected}
+use Rattle.file_guard.specs.pkg_core.Contents.{ExpectedFile}
 use Rattle.journal_staging.proofs.Files.{source_reading, spoiled_since}
 use Rattle.journal_staging.proofs.writes.stage_packaged.Goals as goal
 
@@ -53,7 +53,7 @@ returns-in-Err-Disk-clause-source g c = record {
 pub returns-in-Ok-clause-listed : goal.returns-in-Ok-clause-listed
 returns-in-Ok-clause-listed g c = λ contents v first staging.
     let found = c.in-Ok.ensures.listed c.file-file.ensures.begun contents v first staging in
-    (found.0, subst (λ (d : Option Expected). AreAsExpected d found.0) c.file-file.ensures.due found.1, found.2)
+    (found.0, subst (λ (d : Option ExpectedFile). AreAsExpected d found.0) c.file-file.ensures.due found.1, found.2)
 
 pub returns-in-Err-Bad-clause-bad : goal.returns-in-Err-Bad-clause-bad
 returns-in-Err-Bad-clause-bad g c = λ member cause is.

@@ -1,5 +1,5 @@
 use Rattle.std.proofs.Common.{arith, map}
-use Rattle.adb_view.specs.Plain.{arr_value}
+use Rattle.adb_view.specs.Plain.{array_or_null}
 use Rattle.adb_copy.proofs.adb_values.Lists.{closed}
 use Rattle.make_info.specs.Values.{plains_of_list}
 use Rattle.make_info.proofs.Mapped.{mapped_left, mapped_open}
@@ -12,5 +12,5 @@ loop-entry-preserved c =
 
 pub returns : goal.returns
 returns c =
-    closed arr_value (plains_of_list (map entry_view c.args.entries.now)) c.args.draft.now _ _ c.close_array.result c.close_array.ensures.ok
+    closed array_or_null (plains_of_list (map entry_view c.args.entries.now)) c.args.draft.now _ _ c.close_array.result c.close_array.ensures.ok
     (mapped_open entry_view c.args.entries.now c.loop-entry.entry-index _ _ _ (omega arith) c.loop-entry.invariant c.in_ok-open_list.ensures.ok)

@@ -1,5 +1,5 @@
 use Rattle.std.proofs.Common.{arith, map}
-use Rattle.adb_view.specs.Plain.{arr_value}
+use Rattle.adb_view.specs.Plain.{array_or_null}
 use Rattle.package_files.proofs.adb_values.Lists.{closed}
 use Rattle.package_files.specs.make_info.Values.{plains_of_list}
 use Rattle.package_files.proofs.make_info.Mapped.{mapped_left, mapped_open}
@@ -12,5 +12,5 @@ loop-folder-preserved c =
 
 pub returns : goal.returns
 returns c =
-    closed arr_value (plains_of_list (map packed_folder c.args.folders.now)) c.args.draft.now _ _ c.close_array.result c.close_array.ensures.ok
+    closed array_or_null (plains_of_list (map packed_folder c.args.folders.now)) c.args.draft.now _ _ c.close_array.result c.close_array.ensures.ok
     (mapped_open packed_folder c.args.folders.now c.loop-folder.folder-index _ _ _ (omega arith) c.loop-folder.invariant c.in_ok-open_list.ensures.ok)

@@ -1,5 +1,5 @@
 use Rattle.std.proofs.Common.{◌≡◌, List, ℕ, ap, refl, ◌∙◌}
-use Rattle.adb_view.specs.Plain.{blob_or_null, obj_value}
+use Rattle.adb_view.specs.Plain.{blob_or_null, trimmed_object_or_null}
 use Rattle.package_files.specs.adb_values.Drafts.{DraftState, draft_with}
 use Rattle.package_files.proofs.adb_values.Lists.{closed}
 use Rattle.package_files.specs.Package.{script_fields}
@@ -12,7 +12,7 @@ found_as old new found wanted one e = one ∙ ap (λ (b : List ℕ). draft_with 
 
 pub returns : goal.returns
 returns c =
-    closed obj_value (script_fields (scripts_view c.args.scripts.now)) c.args.draft.now _ _ c.close_object.result c.close_object.ensures.ok
+    closed trimmed_object_or_null (script_fields (scripts_view c.args.scripts.now)) c.args.draft.now _ _ c.close_object.result c.close_object.ensures.ok
     (rw (
       found_as _ _ _ _ c.in_ok-blob-7.ensures.ok c.script_of-7.ensures,
       found_as _ _ _ _ c.in_ok-blob-6.ensures.ok c.script_of-6.ensures,

@@ -1,6 +1,6 @@
 use Rattle.command_core.specs.declared.values.TheConstants.{TRIGGER}
 use Rattle.std.proofs.Common.{◌∙◌, ap, List, ℕ, arith, refl}
-use Rattle.adb_view.specs.Plain.{arr_value, blob_or_null}
+use Rattle.adb_view.specs.Plain.{array_or_null, blob_or_null}
 use Rattle.package_files.specs.adb_values.Drafts.{draft_with}
 use Rattle.package_files.proofs.adb_values.Lists.{closed, list_given}
 use Rattle.package_files.specs.Sources.{values_of_letter}
@@ -20,5 +20,5 @@ loop-i-preserved c =
 
 pub returns : goal.returns
 returns c =
-    closed arr_value (blobs (values_of_letter TRIGGER c.args.values.now)) c.args.draft.now _ _ c.close_array.result c.close_array.ensures.ok
+    closed array_or_null (blobs (values_of_letter TRIGGER c.args.values.now)) c.args.draft.now _ _ c.close_array.result c.close_array.ensures.ok
     (list_given (λ vs. blobs (values_of_letter TRIGGER vs)) c.args.values.now refl c.loop-i.i _ _ _ (omega arith) c.loop-i.invariant c.in_ok-open_list.ensures.ok)

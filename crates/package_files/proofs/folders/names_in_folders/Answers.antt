@@ -1,7 +1,7 @@
 use Rattle.std.proofs.Common.{◌≡◌, ◌∙◌, ◌+◌, ◌++◌, ◌∷◌, ap, subst, ℕ, List, [], length, drop, map, replicate, Option, None, Bor, Vec}
 use Rattle.std.specs.declared.alloc.Global.{Global}
 use Rattle.std.proofs.lemmas.List.{map-append}
-use Rattle.package_files.specs.Folders.{folder_of, path_below}
+use Rattle.package_files.specs.Folders.{folder_of, path_relative_to}
 use Rattle.package_files.specs.BorrowedNames.{IsIndexOf, names_borrowed}
 use Rattle.package_files.proofs.PlaceLemmas.{no_files, grown_list, kept_lists, place_grows, place_keeps}
 use Rattle.package_files.proofs.folders.names_in_folders.Goals as goal
@@ -15,12 +15,12 @@ one_more before later name e = ap (map (λ n. n.now)) e ∙ map-append (λ n. n.
 
 pub loop-i-preserved : goal.loop-i-preserved
 loop-i-preserved c =
-    let path : c.path_below.result.now ≡ path_below c.args.dir.now c.get-name.result.now =
-    c.path_below.ensures ∙ ap (λ (n : List ℕ). drop (length c.args.dir.now + 1) n) c.as_bytes.ensures.value in
-    let folder : c.folder_of-folder.result.now ≡ folder_of (path_below c.args.dir.now c.get-name.result.now) = c.folder_of-folder.ensures ∙ ap folder_of path in
+    let path : c.path_relative_to.result.now ≡ path_relative_to c.args.dir.now c.get-name.result.now =
+    c.path_relative_to.ensures ∙ ap (λ (n : List ℕ). drop (length c.args.dir.now + 1) n) c.as_bytes.ensures.value in
+    let folder : c.folder_of-folder.result.now ≡ folder_of (path_relative_to c.args.dir.now c.get-name.result.now) = c.folder_of-folder.ensures ∙ ap folder_of path in
     let P : List ℕ → Type 0 = λ f. IsIndexOf f c.args.folders.now c.index_of.result in
     let there = subst P folder c.index_of.ensures in
-    let Q : Option ℕ → Type 0 = λ o. IsIndexOf (folder_of (path_below c.args.dir.now c.get-name.result.now)) c.args.folders.now o in
+    let Q : Option ℕ → Type 0 = λ o. IsIndexOf (folder_of (path_relative_to c.args.dir.now c.get-name.result.now)) c.args.folders.now o in
     elim c.match-index_of.branch [
       | in-Some+in_ok-push w ↦
           let at = subst Q w.in-Some.is there in

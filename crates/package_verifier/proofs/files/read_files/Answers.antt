@@ -3,7 +3,7 @@ use Rattle.std.proofs.Common.{◌≡◌, ◌+◌, ◌≤◌, ap, refl, sym, subs
 use Rattle.base_core.specs.declared.cause.Cause.{Cause}
 use Rattle.base_core.specs.declared.tree.TreeFault.TheVariants.{Disk as DiskFault, Memory}
 use Rattle.adb_block.specs.Reading.{block_stream_from}
-use Rattle.package_reader.specs.pkg_core.Contents.{expected_contents, files_read_from_blocks}
+use Rattle.package_reader.specs.pkg_core.Contents.{expected_files_of_package, files_read_from_blocks}
 use Rattle.package_reader.specs.pkg_core.Pieces.{pieces_read_from_blocks}
 use Rattle.package_reader.specs.pkg_core.Front.{position_after_front}
 use Rattle.package_reader.specs.pkg_core.Values.{value_of_contents}
@@ -36,7 +36,7 @@ pub pieces-smaller : goal.pieces-smaller
 pieces-smaller g c =
     let inv = c.pieces.invariant in
     nearer _ _ _ _ c.new-reader.result c.pieces.reader c.next_piece.new.self c.pieces.places.items c.next_piece.new.piece c.in-Ok-Some.part inv.tree.same inv.name inv.len c.next_piece.ensures.len inv.passed (rw c.in-Ok-Some.field-0-is at c.in-Ok-Some.ensures.piece)
-    (λ pkg. (pieces_read_from_blocks (expected_contents (value_of_contents c.args.contents.now)) (block_stream_from (position_after_front c.args.front.now pkg)), c.new-reader.ensures.pieces pkg, full_pieces _ _))
+    (λ pkg. (pieces_read_from_blocks (expected_files_of_package (value_of_contents c.args.contents.now)) (block_stream_from (position_after_front c.args.front.now pkg)), c.new-reader.ensures.pieces pkg, full_pieces _ _))
     (rw c.in-Ok-Some.field-0-is at c.in-Ok-Some.ensures.order) (rw c.in-Ok-Some.field-0-is at c.in-Ok-Some.ensures.bytes)
 
 pub pieces-preserved : goal.pieces-preserved
@@ -63,7 +63,7 @@ returns-in_err-keep_place-in-Ok-Some-clause-tree g c =
 pub returns-in-Ok-None-clause-files : goal.returns-in-Ok-None-clause-files
 returns-in-Ok-None-clause-files g c =
     let inv = c.pieces.invariant in
-    let es = expected_contents (value_of_contents c.args.contents.now) in
+    let es = expected_files_of_package (value_of_contents c.args.contents.now) in
     told_from _ _ _ _ _ c.new-reader.result c.pieces.reader c.next_piece.new.self c.pieces.places.items c.next_piece.new.piece (Ok None) (λ pkg. pieces_read_from_blocks es (block_stream_from (position_after_front c.args.front.now pkg))) (λ pkg. AreFilesTested (files_read_from_blocks es (block_stream_from (position_after_front c.args.front.now pkg))) pkg (Tests.Sound c.pieces.places)) inv.tree.same c.new-reader.ensures.name c.new-reader.ensures.len c.new-reader.ensures.offset inv.name inv.len inv.passed (rw c.in-Ok-None.field-0-is at c.in-Ok-None.ensures.piece)
     (λ pkg l answer. all_stand c.pieces.reader c.pieces.places.items pkg _ _ l (c.the_pieces_of_each_file_joined_are_its_contents.ensures es (block_stream_from (position_after_front c.args.front.now pkg))) answer.0)
     c.new-reader.ensures.pieces
@@ -76,7 +76,7 @@ returns-in-Ok-None-clause-tree g c =
 pub returns-in-Err-Bad-clause-files : goal.returns-in-Err-Bad-clause-files
 returns-in-Err-Bad-clause-files g c =
     let inv = c.pieces.invariant in
-    let es = expected_contents (value_of_contents c.args.contents.now) in
+    let es = expected_files_of_package (value_of_contents c.args.contents.now) in
     told_from _ _ _ _ _ c.new-reader.result c.pieces.reader c.next_piece.new.self c.pieces.places.items c.next_piece.new.piece (Err (Bad c.in-Err-Bad.cause)) (λ pkg. pieces_read_from_blocks es (block_stream_from (position_after_front c.args.front.now pkg))) (λ pkg. AreFilesTested (files_read_from_blocks es (block_stream_from (position_after_front c.args.front.now pkg))) pkg (Tests.Bad _)) inv.tree.same c.new-reader.ensures.name c.new-reader.ensures.len c.new-reader.ensures.offset inv.name inv.len inv.passed (subst (λ (f : PieceFault). IsReadBy (g.T.Tree.history c.pieces.tree) c.pieces.reader c.next_piece.new.piece (Err f) c.next_piece.new.self) c.in-Err-Bad.field-0-is c.in-Err-Bad.ensures.piece)
     (λ pkg l answer. one_fails c.pieces.reader c.pieces.places.items pkg _ c.in-Err-Bad.cause _ l (c.the_pieces_are_refused_for_the_first_fault_of_the_blocks.ensures es (block_stream_from (position_after_front c.args.front.now pkg))) answer.0 ∙ ap (λ (x : Cause). Some x) (sym c.in-Err-Bad.cause-is))
     c.new-reader.ensures.pieces

@@ -4,7 +4,7 @@ use Rattle.adb_view.specs.FieldIndexes.{INFO_ARCH, INFO_LICENSE, INFO_ORIGIN}
 use Rattle.adb_view.specs.Values.{entry_in, text_in}
 use Rattle.pool_core.specs.candidate_core.Candidates.{Candidate}
 use Rattle.pool_core.specs.candidate_core.Values.{candidate_value}
-use Rattle.report_core.specs.QueryReports.{installed_mark, text_between}
+use Rattle.report_core.specs.QueryReports.{installed_mark, text_between_unless_empty}
 use Rattle.query_core.specs.Lines.{description_part}
 use Rattle.query_core.proofs.Appended.{appends_both, ends_with}
 use Rattle.query_core.proofs.candidates.put_description.Goals as goal
@@ -17,12 +17,12 @@ returns g c =
     let arch : c.arch.result.now ≡ text_in (entry_in d.info INFO_ARCH) = c.arch.ensures ∙ ap (λ (e : Candidate). text_in (entry_in e.info INFO_ARCH)) seen in
     let origin : c.origin.result.now ≡ text_in (entry_in d.info INFO_ORIGIN) = c.origin.ensures ∙ ap (λ (e : Candidate). text_in (entry_in e.info INFO_ORIGIN)) seen in
     let license : c.license.result.now ≡ text_in (entry_in d.info INFO_LICENSE) = c.license.ensures ∙ ap (λ (e : Candidate). text_in (entry_in e.info INFO_LICENSE)) seen in
-    let first : List ℕ = text_between (codes " ") c.arch.result.now [] in
-    let second : List ℕ = text_between (codes " {") c.origin.result.now (codes "}") in
-    let third : List ℕ = text_between (codes " (") c.license.result.now (codes ")") in
+    let first : List ℕ = text_between_unless_empty (codes " ") c.arch.result.now [] in
+    let second : List ℕ = text_between_unless_empty (codes " {") c.origin.result.now (codes "}") in
+    let third : List ℕ = text_between_unless_empty (codes " (") c.license.result.now (codes ")") in
     let last : List ℕ = installed_mark c.is_installed.result in
     let is : first ++ second ++ third ++ last ≡ description_part d =
-    (λ j. text_between (codes " ") (arch j) [] ++ text_between (codes " {") (origin j) (codes "}") ++ text_between (codes " (") (license j) (codes ")") ++ installed_mark (c.is_installed.ensures j)) in
+    (λ j. text_between_unless_empty (codes " ") (arch j) [] ++ text_between_unless_empty (codes " {") (origin j) (codes "}") ++ text_between_unless_empty (codes " (") (license j) (codes ")") ++ installed_mark (c.is_installed.ensures j)) in
     ends_with holds c.put_installed_mark.result c.args.out.now c.put_between-3.new.out c.put_installed_mark.new.out (first ++ second ++ third) last (description_part d) is
     (appends_both holds _ _ _ (first ++ second) third (appends_both holds _ _ _ first second c.in_ok-put_between.ensures c.in_ok-put_between-2.ensures) c.in_ok-put_between-3.ensures)
     c.put_installed_mark.ensures

@@ -2,7 +2,7 @@ use Rattle.std.proofs.Common.{◌≡◌, ◌<◌, ◌≤◌, ◌^◌, ◌∙◌,
 use Rattle.search_choices.specs.candidate_core.PackageMatches.{AreMatchesAmong}
 use Rattle.search_choices.specs.candidate_core.Rank.{SealedPool}
 use Rattle.search_choices.specs.candidate_core.declared.package_matches.PackageMatches.{PackageMatches}
-use Rattle.search_choices.specs.search_tables.Selection.{AreAllMembersOf, IsFirstSelection}
+use Rattle.search_choices.specs.search_tables.Selection.{AreAllMembersOf, IsFirstPreferredSelection}
 use Rattle.search_choices.specs.Choices.{IsSearch, choices_of, pool_of}
 use Rattle.search_choices.specs.declared.choices.Choices.{Choices}
 use Rattle.solve_core.specs.Measure.{search_measure}
@@ -17,7 +17,7 @@ returns-in_default c =
     let now = c.next_frame.new.self in
     let pool = c.next_frame.ensures.pool in
     let end = none_of c.in_ok-frame.field-0 _ _ c.in_default.not-Some c.in_ok-frame.ensures.frame in
-    subst (λ (z : List ℕ). IsFirstSelection (pool_of c.args.search.now.chosen) z) (sym c.in_ok-trace.ensures)
+    subst (λ (z : List ℕ). IsFirstPreferredSelection (pool_of c.args.search.now.chosen) z) (sym c.in_ok-trace.ensures)
     (first_found (pool_of c.args.search.now.chosen) (λ need. c.options_are_as_promised.ensures (pool_of c.args.search.now.chosen) need) now.chosen now.turns.items c.next_frame.ensures.search pool end)
 
 pub choose-requires-clause-taken : goal.choose-requires-clause-taken
@@ -30,7 +30,7 @@ returns-in_default-3 c =
     let now = c.next_frame-in-Some-3.new.self in
     let pool = c.next_frame-in-Some-3.ensures.pool ∙ (c.choose.ensures.pool ∙ (ap pool_of (c.next_option.ensures.chosen ∙ c.is_dead_ahead.ensures.chosen) ∙ (c.loop-top.invariant.pool ∙ c.next_frame.ensures.pool))) in
     let end = none_of c.in_ok-frame-in-Some-3.field-0 _ _ c.in_default-3.not-Some c.in_ok-frame-in-Some-3.ensures.frame in
-    subst (λ (z : List ℕ). IsFirstSelection (pool_of c.args.search.now.chosen) z) (sym c.in_ok-trace-in-Some-3.ensures)
+    subst (λ (z : List ℕ). IsFirstPreferredSelection (pool_of c.args.search.now.chosen) z) (sym c.in_ok-trace-in-Some-3.ensures)
     (first_found (pool_of c.args.search.now.chosen) (λ need. c.options_are_as_promised.ensures (pool_of c.args.search.now.chosen) need) now.chosen now.turns.items c.next_frame-in-Some-3.ensures.search pool end)
 
 pub loop-top-smaller-in-Some-3 : goal.loop-top-smaller-in-Some-3

@@ -1,5 +1,5 @@
 use Rattle.std.proofs.Common.{arith, map}
-use Rattle.adb_view.specs.Plain.{arr_value}
+use Rattle.adb_view.specs.Plain.{array_or_null}
 use Rattle.v2_lines.proofs.adb_values.Lists.{closed}
 use Rattle.v2_lines.specs.make_info.Values.{plains_of_list}
 use Rattle.v2_core.specs.Database.{listed_file_value}
@@ -12,5 +12,5 @@ loop-file-preserved c =
 
 pub returns : goal.returns
 returns c =
-    closed arr_value (plains_of_list (map listed_file_value c.args.files.now)) c.args.draft.now _ _ c.close_array.result c.close_array.ensures.ok
+    closed array_or_null (plains_of_list (map listed_file_value c.args.files.now)) c.args.draft.now _ _ c.close_array.result c.close_array.ensures.ok
     (mapped_open listed_file_value c.args.files.now c.loop-file.file-index _ _ _ (omega arith) c.loop-file.invariant c.in_ok-open_list.ensures.ok)

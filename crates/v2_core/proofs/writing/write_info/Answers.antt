@@ -1,5 +1,5 @@
 use Rattle.std.proofs.Common.{map, refl}
-use Rattle.adb_view.specs.Plain.{obj_value}
+use Rattle.adb_view.specs.Plain.{trimmed_object_or_null}
 use Rattle.v2_lines.proofs.adb_values.Lists.{closed_as}
 use Rattle.v2_lines.specs.make_info.Values.{plains_of_list}
 use Rattle.v2_core.specs.Columns.{value_of_column}
@@ -10,5 +10,5 @@ use Rattle.v2_core.proofs.writing.write_info.Goals as goal
 pub returns : goal.returns
 unfolding record_info_value
 returns c =
-    closed_as obj_value (record_info_value c.args.info.now) (plains_of_list (map (value_of_column c.args.info.now) COLUMNS)) c.args.draft.now _ _ c.close_object.result refl c.close_object.ensures.ok
+    closed_as trimmed_object_or_null (record_info_value c.args.info.now) (plains_of_list (map (value_of_column c.args.info.now) COLUMNS)) c.args.draft.now _ _ c.close_object.result refl c.close_object.ensures.ok
     (rw (c.in_ok-write_columns.ensures, c.in_ok-open_list.ensures.ok) refl)

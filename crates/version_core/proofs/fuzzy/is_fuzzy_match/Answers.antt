@@ -1,6 +1,6 @@
 use Rattle.std.proofs.Common.{arith, subst, sym, ◌∙◌}
 use Rattle.version_core.specs.Matching.{all_fit}
-use Rattle.version_core.specs.Reading.{AreEqualUpToMark, AreEqualUpToParting, AreEqualUpToHash, hash_fits}
+use Rattle.version_core.specs.Reading.{AreEqualUpToMark, AreEqualUpToParting, AreEqualUpToPlaceInHash, hash_fits}
 use Rattle.version_core.proofs.EqualFront.{fit_from_hash, fit_from_mark, fit_whole, mark_before, mark_within}
 use Rattle.version_core.proofs.fuzzy.is_fuzzy_match.Goals as goal
 
@@ -16,12 +16,12 @@ tokens_from_mark-requires-in-AtMark c =
 
 pub behind-requires : goal.behind-requires
 behind-requires c =
-    let parted : AreEqualUpToHash c.args.wanted.now c.args.found.now c.in-InHash.len = subst (AreEqualUpToParting c.args.wanted.now c.args.found.now) c.in-InHash.is c.parting_of.ensures in
+    let parted : AreEqualUpToPlaceInHash c.args.wanted.now c.args.found.now c.in-InHash.len = subst (AreEqualUpToParting c.args.wanted.now c.args.found.now) c.in-InHash.is c.parting_of.ensures in
     parted.equal.within.0
 
 pub behind-requires-in-InHash : goal.behind-requires-in-InHash
 behind-requires-in-InHash c =
-    let parted : AreEqualUpToHash c.args.wanted.now c.args.found.now c.in-InHash.len = subst (AreEqualUpToParting c.args.wanted.now c.args.found.now) c.in-InHash.is c.parting_of.ensures in
+    let parted : AreEqualUpToPlaceInHash c.args.wanted.now c.args.found.now c.in-InHash.len = subst (AreEqualUpToParting c.args.wanted.now c.args.found.now) c.in-InHash.is c.parting_of.ensures in
     parted.equal.within.1
 
 pub returns-in-AtFront : goal.returns-in-AtFront
@@ -40,7 +40,7 @@ returns-in-AtMark c =
 pub returns-in-InHash : goal.returns-in-InHash
 returns-in-InHash c =
     let len = c.in-InHash.len in
-    let parted : AreEqualUpToHash c.args.wanted.now c.args.found.now len = subst (AreEqualUpToParting c.args.wanted.now c.args.found.now) c.in-InHash.is c.parting_of.ensures in
+    let parted : AreEqualUpToPlaceInHash c.args.wanted.now c.args.found.now len = subst (AreEqualUpToParting c.args.wanted.now c.args.found.now) c.in-InHash.is c.parting_of.ensures in
     c.fits_within_hash.ensures
     ∙ (λ i. hash_fits (c.behind.ensures i) (c.behind-in-InHash.ensures i))
     ∙ sym (fit_from_hash c.args.wanted.now c.args.found.now len parted.at parted.equal parted.last c.requires.wanted c.requires.found (mark_within c.args.wanted.now len parted.at parted.last) parted.tilde)

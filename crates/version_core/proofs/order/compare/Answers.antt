@@ -1,7 +1,7 @@
 use Rattle.std.proofs.Common.{arith, subst, sym, ◌∙◌}
 use Rattle.std.specs.Cmp.Lexicographic.{slice_cmp}
 use Rattle.version_core.specs.Order.{token_cmp}
-use Rattle.version_core.specs.Reading.{AreEqualUpToMark, AreEqualUpToParting, AreEqualUpToHash, hash_cmp}
+use Rattle.version_core.specs.Reading.{AreEqualUpToMark, AreEqualUpToParting, AreEqualUpToPlaceInHash, hash_cmp}
 use Rattle.version_core.proofs.EqualFront.{cmp_from_hash, cmp_from_mark, cmp_whole, mark_before, mark_within}
 use Rattle.version_core.proofs.order.compare.Goals as goal
 
@@ -17,12 +17,12 @@ tokens_from_mark-requires-in-AtMark c =
 
 pub behind-requires : goal.behind-requires
 behind-requires c =
-    let parted : AreEqualUpToHash c.args.left.now c.args.right.now c.in-InHash.len = subst (AreEqualUpToParting c.args.left.now c.args.right.now) c.in-InHash.is c.parting_of.ensures in
+    let parted : AreEqualUpToPlaceInHash c.args.left.now c.args.right.now c.in-InHash.len = subst (AreEqualUpToParting c.args.left.now c.args.right.now) c.in-InHash.is c.parting_of.ensures in
     parted.equal.within.0
 
 pub behind-requires-in-InHash : goal.behind-requires-in-InHash
 behind-requires-in-InHash c =
-    let parted : AreEqualUpToHash c.args.left.now c.args.right.now c.in-InHash.len = subst (AreEqualUpToParting c.args.left.now c.args.right.now) c.in-InHash.is c.parting_of.ensures in
+    let parted : AreEqualUpToPlaceInHash c.args.left.now c.args.right.now c.in-InHash.len = subst (AreEqualUpToParting c.args.left.now c.args.right.now) c.in-InHash.is c.parting_of.ensures in
     parted.equal.within.1
 
 pub returns-in-AtFront : goal.returns-in-AtFront
@@ -41,7 +41,7 @@ returns-in-AtMark c =
 pub returns-in-InHash : goal.returns-in-InHash
 returns-in-InHash c =
     let len = c.in-InHash.len in
-    let parted : AreEqualUpToHash c.args.left.now c.args.right.now len = subst (AreEqualUpToParting c.args.left.now c.args.right.now) c.in-InHash.is c.parting_of.ensures in
+    let parted : AreEqualUpToPlaceInHash c.args.left.now c.args.right.now len = subst (AreEqualUpToParting c.args.left.now c.args.right.now) c.in-InHash.is c.parting_of.ensures in
     c.compare_within_hash.ensures
     ∙ (λ i. hash_cmp (c.behind.ensures i) (c.behind-in-InHash.ensures i))
     ∙ sym (cmp_from_hash c.args.left.now c.args.right.now len parted.at parted.equal parted.last c.requires.left c.requires.right (mark_within c.args.left.now len parted.at parted.last) parted.tilde)

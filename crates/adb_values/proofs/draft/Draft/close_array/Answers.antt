@@ -1,5 +1,5 @@
 use Rattle.std.proofs.Common.{◌≡◌, ℕ, ◌-◌, List, length, take, drop, ap, ◌∙◌}
-use Rattle.adb_view.specs.Plain.{arr_value}
+use Rattle.adb_view.specs.Plain.{array_or_null}
 use Rattle.adb_values.specs.Drafts.{DraftState, draft_from_parts}
 use Rattle.adb_values.proofs.Closed.{closes, tail_is}
 use Rattle.adb_values.proofs.Words.{call_whole}
@@ -16,7 +16,7 @@ returns-clause-ok c = λ vs before is.
     let old : DraftState = draft_from_parts s.writer ws ss in
     let same : old ≡ c.args.self.now = ap (λ (l : List ℕ). draft_from_parts s.writer l ss) c.reserve.ensures.items ∙ c.self.view_is in
     let lists : c.pop.new.self.items ≡ take (length ss - 1) ss = c.pop.ensures.rest ∙ ap (λ (k : ℕ). take (k - 1) ss) s.starts.ok.0 in
-    closes (arr_value vs) vs before old _ c.in_ok-word.word start c.arr.new.self c.replace_from.new.words.items c.pop.new.self.items
+    closes (array_or_null vs) vs before old _ c.in_ok-word.word start c.arr.new.self c.replace_from.new.words.items c.pop.new.self.items
     (same ∙ is) c.last_open_list_start-start.ensures.is (tail_is c.deref.result.now ws start c.deref.ensures.value) (c.in_ok-word.ensures.written vs before.writing) c.replace_from.ensures lists
 
 pub invariant_of-self-3 : goal.invariant_of-self-3

@@ -1,11 +1,11 @@
 use Rattle.std.proofs.Common.{refl}
-use Rattle.journal_core.specs.Replacing.{scratch_of}
+use Rattle.journal_core.specs.Replacing.{scratch_name_of}
 use Rattle.journal_core.proofs.Images.{crash_laws}
 use Rattle.file_replacement.proofs.Pieces.{begun_as, only_as, only_none, proper_as}
 use Rattle.file_replacement.proofs.new_file.NewFile.begin.Goals as goal
 
 pub returns-in_err-scratch-clause-only : goal.returns-in_err-scratch-clause-only
-returns-in_err-scratch-clause-only g c = only_none crash_laws (scratch_of c.args.name.now) _ _ refl
+returns-in_err-scratch-clause-only g c = only_none crash_laws (scratch_name_of c.args.name.now) _ _ refl
 
 pub returns-in_err-begin_scratch-clause-only : goal.returns-in_err-begin_scratch-clause-only
 returns-in_err-begin_scratch-clause-only g c = only_as _ _ _ _ c.in_ok-scratch.ensures c.begin_scratch.ensures.only

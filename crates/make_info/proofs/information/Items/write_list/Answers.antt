@@ -1,5 +1,5 @@
 use Rattle.std.proofs.Common.{◌≡◌, true, false, map, refl, ap, ◌∙◌, arith, rules, tests}
-use Rattle.adb_view.specs.Plain.{arr_value}
+use Rattle.adb_view.specs.Plain.{array_or_null}
 use Rattle.adb_values.specs.Drafts.{draft_with_all, draft_with_open_list}
 use Rattle.adb_values.proofs.Lists.{closed, list_given}
 use Rattle.make_info.specs.FieldTexts.{is_same_field}
@@ -27,6 +27,6 @@ pub returns : goal.returns
 returns c =
     let items = c.deref-entry-items.result.now in
     let same : map item_view items ≡ c.args.self.now = ap (map item_view) c.deref-entry-items.ensures.value ∙ c.self.view_is in
-    closed arr_value (plain_values_of_field c.args.field c.args.self.now) c.args.draft.now _ _ c.close_array.result c.close_array.ensures.ok
+    closed array_or_null (plain_values_of_field c.args.field c.args.self.now) c.args.draft.now _ _ c.close_array.result c.close_array.ensures.ok
     (list_given (said_by c.args.field) items refl c.loop-entry.entry-index _ _ _ (omega arith) c.loop-entry.invariant c.in_ok-open_list.ensures.ok
     ∙ ap (λ is. draft_with_all (plain_values_of_field c.args.field is) (draft_with_open_list c.args.draft.now)) same)

@@ -5,7 +5,7 @@ use Rattle.dep_core.specs.Dependency.{Dependency}
 use Rattle.search_tables.specs.candidate_core.Candidates.{Candidate}
 use Rattle.search_tables.specs.candidate_core.Rank.{candidate_at}
 use Rattle.search_choices.specs.Choices.{pool_of}
-use Rattle.search_tables.specs.Conflicts.{conflicts_among, conflicts_named}
+use Rattle.search_tables.specs.Conflicts.{conflicts_among, conflicts_of_name_in}
 use Rattle.search_tables.specs.Selection.{depends_at}
 use Rattle.search_tables.proofs.ConflictTables.{among_more}
 use Rattle.search_choices.proofs.choices.Choices.take_conflicts_away.Goals as goal
@@ -19,7 +19,7 @@ returns-in-Some-at-clause-listed c = λ rest last e.
     let deps : depends_at pool last ≡ c.depends.result = ap (λ (o : Option Candidate). option_map_or (λ (k : Candidate). k.depends) o []) here ∙ sym c.depends.ensures in
     c.pop_all.ensures.conflicts last (conflicts_among pool rest)
     (λ name. c.requires name ∙ (ap (λ (t : List ℕ). conflicts_among pool t name) e ∙ (among_more pool rest last name
-    ∙ ap (λ (z : List Dependency). conflicts_among pool rest name ++ conflicts_named name last z) deps)))
+    ∙ ap (λ (z : List Dependency). conflicts_among pool rest name ++ conflicts_of_name_in name last z) deps)))
 
 pub returns-in-Some-at-clause-conflicts : goal.returns-in-Some-at-clause-conflicts
 returns-in-Some-at-clause-conflicts c = c.pop_all.ensures.listed

@@ -3,7 +3,7 @@ use Rattle.std.specs.Prelude.{Some, slice_get}
 use Rattle.std.proofs.lemmas.List.{take_all}
 use Rattle.dep_core.specs.Dependency.{Dependency}
 use Rattle.dep_core.specs.Meets.{dependency}
-use Rattle.search_tables.specs.Conflicts.{conflicts_in, conflicts_named}
+use Rattle.search_tables.specs.Conflicts.{conflicts_in, conflicts_of_name_in}
 use Rattle.search_tables.proofs.ConflictTables.{listed_on}
 use Rattle.search_tables.proofs.conflicts.Conflicts.add.Goals as goal
 
@@ -28,7 +28,7 @@ pub returns-clause-conflicts : goal.returns-clause-conflicts
 returns-clause-conflicts c =
     let deps : List Dependency = c.args.depends.now in
     let past : length deps ≤ c.loop-i.i = omega arith in
-    λ name. subst (λ (z : List Dependency). conflicts_in c.loop-i.self.by_name name ≡ conflicts_in c.args.self.now.by_name name ++ conflicts_named name c.args.by z) (take_all c.loop-i.i deps past) (c.loop-i.invariant.conflicts name)
+    λ name. subst (λ (z : List Dependency). conflicts_in c.loop-i.self.by_name name ≡ conflicts_in c.args.self.now.by_name name ++ conflicts_of_name_in name c.args.by z) (take_all c.loop-i.i deps past) (c.loop-i.invariant.conflicts name)
 
 pub returns-clause-listed : goal.returns-clause-listed
 returns-clause-listed c = c.loop-i.invariant.listed

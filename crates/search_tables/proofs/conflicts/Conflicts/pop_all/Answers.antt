@@ -2,7 +2,7 @@ use Rattle.std.proofs.Common.{◌≡◌, ◌≤◌, ◌+◌, ◌-◌, ◌++◌, 
 use Rattle.std.proofs.lemmas.List.{take_all}
 use Rattle.dep_core.specs.Dependency.{Dependency}
 use Rattle.dep_core.specs.Meets.{dependency}
-use Rattle.search_tables.specs.Conflicts.{conflicts_in, conflicts_named}
+use Rattle.search_tables.specs.Conflicts.{conflicts_in, conflicts_of_name_in}
 use Rattle.search_tables.proofs.ConflictTables.{front_of_last, nothing_left}
 use Rattle.search_tables.proofs.conflicts.Conflicts.pop_all.Goals as goal
 
@@ -12,7 +12,7 @@ loop-left-init c =
     let all : length deps ≤ c.len-left.result = omega arith in
     record {
       within = omega arith;
-      front = λ by front was name. subst (λ (z : List Dependency). conflicts_in c.args.self.now.by_name name ≡ front name ++ conflicts_named name by z) (sym (take_all c.len-left.result deps all)) (was name);
+      front = λ by front was name. subst (λ (z : List Dependency). conflicts_in c.args.self.now.by_name name ≡ front name ++ conflicts_of_name_in name by z) (sym (take_all c.len-left.result deps all)) (was name);
       listed = λ candidates right. right;
     }
 
@@ -26,9 +26,9 @@ loop-left-preserved c =
     let up : c.loop-left.left ≡ at + 1 = omega arith in
     record {
       within = omega (arith, c.loop-left.invariant.within);
-      front = λ by front was. c.take_one_away.ensures.conflicts by (λ name. front name ++ conflicts_named name by (take at deps))
+      front = λ by front was. c.take_one_away.ensures.conflicts by (λ name. front name ++ conflicts_of_name_in name by (take at deps))
           (λ name. front_of_last name by deps at (dependency c.get.result) (front name) (conflicts_in c.loop-left.self.by_name name) c.get.ensures
-          (subst (λ (k : ℕ). conflicts_in c.loop-left.self.by_name name ≡ front name ++ conflicts_named name by (take k deps)) up (c.loop-left.invariant.front by front was name)));
+          (subst (λ (k : ℕ). conflicts_in c.loop-left.self.by_name name ≡ front name ++ conflicts_of_name_in name by (take k deps)) up (c.loop-left.invariant.front by front was name)));
       listed = λ candidates right. c.take_one_away.ensures.listed candidates (c.loop-left.invariant.listed candidates right);
     }
 

@@ -2,7 +2,7 @@ use Rattle.std.proofs.Common.{◌≡◌, List, ℕ, [], ◌∷◌, ◌++◌, len
 use Rattle.std.proofs.lemmas.List.{get_or-set_same}
 use Rattle.std.specs.Vec.{vec_len}
 use Rattle.tree_memory.specs.Changes.{contents_of}
-use Rattle.tree_memory.specs.Kept.{IsStore}
+use Rattle.tree_memory.specs.Kept.{IsConsistentStore}
 use Rattle.tree_memory.specs.Table.{lookup}
 use Rattle.tree_memory.specs.declared.store.Change.{Change}
 use Rattle.tree_memory.specs.declared.store.Change.TheVariants.{Append}
@@ -26,7 +26,7 @@ invariant_of-self-in-Break-branch-2 c =
     let found = sym (c.in-Some.ensures ∙ ap (lookup es) c.as_bytes.ensures.value) in
     let within = leads_within c.args.self.now.changes.items es files c.args.name.now c.in-Some.file c.args.self.now.in_step found in
     let more = set files c.in-Some.file c.append.new.self in record {
-      in_step = subst (λ (l : List Change). IsStore l es more) (sym c.in_ok-reserve.ensures.items)
+      in_step = subst (λ (l : List Change). IsConsistentStore l es more) (sym c.in_ok-reserve.ensures.items)
           (store_same c.in-Some.file c.args.self.now.changes.items es files more c.append.new.self c.index_mut.result.now c.args.self.now.in_step refl within c.in_err-append.ensures.same_bytes c.in_err-append.ensures.same_synced c.index_mut.ensures.value);
     }
 

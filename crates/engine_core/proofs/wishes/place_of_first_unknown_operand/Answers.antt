@@ -2,7 +2,7 @@ use Rattle.std.proofs.Common.{arith, ap, ◌∙◌}
 use Rattle.change_report.specs.change_inputs.Seen.{inputs_seen}
 use Rattle.engine_core.specs.Wishes.{is_known_name}
 use Rattle.engine_core.proofs.Known.{all_known, known_here, unknown_here}
-use Rattle.engine_core.proofs.wishes.first_unknown.Goals as goal
+use Rattle.engine_core.proofs.wishes.place_of_first_unknown_operand.Goals as goal
 
 pub returns-then-not-is_known : goal.returns-then-not-is_known
 returns-then-not-is_known c =

@@ -2,7 +2,7 @@ use Rattle.std.proofs.Common.{sym, ◌∙◌, take, arith}
 use Rattle.std.proofs.lemmas.List.{length-take-le}
 use Rattle.words_core.proofs.Asked.{next_done, next_step}
 use Rattle.words_core.proofs.OneMore.{taken_at}
-use Rattle.words_core.proofs.next.next_after.Goals as goal
+use Rattle.words_core.proofs.next.next_word_of_command_line.Goals as goal
 
 pub loop-i-preserved : goal.loop-i-preserved
 loop-i-preserved c =
