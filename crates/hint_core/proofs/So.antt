@@ -1,5 +1,5 @@
 -- Each hint is so.
-use Rattle.std.proofs.Common.{◌≡◌, ◌≢◌, ◌∙◌, ◌+◌, ◌-◌, ◌/◌, ◌%◌, ◌≤◌, ℕ, zero, suc, true, false, cond, eqb, List, [], ◌∷◌, ◌++◌, length, Option, Some, None, Result, Ok, Err, refl, sym, ap, arith, inl, inr}
+use Rattle.std.proofs.Common.{◌≡◌, ◌≢◌, ◌∙◌, ◌+◌, ◌-◌, ◌/◌, ◌%◌, ◌≤◌, ℕ, Bool, zero, suc, true, false, cond, eqb, List, [], ◌∷◌, ◌++◌, length, Option, Some, None, Result, Ok, Err, refl, sym, ap, arith, inl, inr}
 use Rattle.std.specs.List.{onto_first, slice_get, slice_split}
 use Rattle.std.specs.Prelude.{is_some}
 use Rattle.std.specs.Option.{option_map}
@@ -17,6 +17,8 @@ use Rattle.pkg_core.specs.adb_schema.Soundness.{schema_word}
 use Rattle.pkg_core.specs.Whole.{table_of_schema}
 use Rattle.pkg_core.specs.adb_schema.declared.read.TheConstants.{IDB_WORD, INDEX_WORD, INTENT_WORD, PACKAGE_WORD}
 use Rattle.report_core.specs.declared.refusal.Refusal.{Refusal}
+use Rattle.report_core.specs.declared.refusal.Refusal.TheVariants.{DatabaseBad, FileBad, IndexBad, IntentBad, PackageBad}
+use Rattle.words_core.specs.Grammar.{command_of}
 use Rattle.hint_core.specs.declared.find.PathAlone.TheVariants.{Path}
 use Rattle.hint_core.specs.declared.find.RepositoryLine.{RepositoryLine}
 use Rattle.hint_core.specs.declared.hint.Hint.TheVariants as Hinted
@@ -24,7 +26,7 @@ use Rattle.hint_core.specs.declared.hint.HintFile.{HintFile}
 use Rattle.hint_core.specs.declared.hint.Subject.{Subject}
 use Rattle.hint_core.specs.declared.hint.Subject.TheVariants.{Word, Information, Line, Database, AbsentDatabase}
 use Rattle.hint_core.specs.declared.hint.Subject.TheVariants as Subjects
-use Rattle.hint_core.specs.Hints.{absent_database_hint, cause_hint, cause_of, field_hint, field_hint_if_found, line_hint_if_found, repository_hint_if_found, schema_hint_if_found, hint_of_cause, information_hint, subject_hint, subject_of, table_numbered, word_hint}
+use Rattle.hint_core.specs.Hints.{absent_database_hint, absent_file_hint, absent_package_hint, asks_for_owner, cause_hint, cause_of, field_hint, field_hint_if_found, line_hint_if_found, repository_hint_if_found, schema_hint_if_found, file_cause_hint, hint_of_cause, information_hint, is_fix, not_installed_hint, subject_hint, subject_of, table_numbered, word_hint}
 use Rattle.hint_core.specs.Repositories.{repository_from_line, path_alone, repository_at, repository_line_from_parts}
 use Rattle.hint_core.specs.Truths.{RepositoryHasPath, IsTrueHint, NamesFieldPlace}
 
@@ -165,13 +167,23 @@ word_so : (words : List (List ℕ)) (refusal : Refusal) (found : Option (List �
 word_so words refusal found place (Some word) s h = (inl s, h)
 word_so words refusal found place None s h = tt
 
+absent_file_so : (words : List (List ℕ)) (refusal : Refusal) (found : Option (List ℕ)) (place : ℕ) (o : Option (List ℕ)) → subject_of refusal ≡ Subjects.AbsentFile place → slice_get words (place - 1) ≡ o → IsTrueHint words refusal found (absent_file_hint place o)
+absent_file_so words refusal found place (Some word) s h = (s, h)
+absent_file_so words refusal found place None s h = tt
+
+not_installed_so : (words : List (List ℕ)) (refusal : Refusal) (found : Option (List ℕ)) (asked : Bool) (place : ℕ) (o : Option (List ℕ)) → subject_of refusal ≡ Subjects.NotInstalled place → asks_for_owner (command_of words) ≡ asked → slice_get words (place - 1) ≡ o → IsTrueHint words refusal found (not_installed_hint asked place o)
+not_installed_so words refusal found true place (Some word) s a h = (s, a, h)
+not_installed_so words refusal found true place None s a h = tt
+not_installed_so words refusal found false place (Some word) s a h = (inr s, h)
+not_installed_so words refusal found false place None s a h = tt
+
 past : (xs : List (List ℕ)) (i : ℕ) → slice_get xs i ≡ None → length xs ≤ i
 past [] i h = omega arith
 past (x ∷ xs) zero h = absurd (none-some x (sym h))
 past (x ∷ xs) (suc i) h = let less = past xs i h in omega (arith, less)
 
 information_so : (words : List (List ℕ)) (refusal : Refusal) (found : Option (List ℕ)) (place : ℕ) (o : Option (List ℕ)) → subject_of refusal ≡ Information place → slice_get words (place - 1) ≡ o → IsTrueHint words refusal found (information_hint place o)
-information_so words refusal found place (Some word) s h = (inr s, h)
+information_so words refusal found place (Some word) s h = (s, h)
 information_so words refusal found place None s h = (s, past words (place - 1) h)
 
 has_path : (text : List ℕ) (number : ℕ) (r : RepositoryLine) → repository_at number 1 (lines_of text) ≡ Some r → RepositoryHasPath text number r.path
@@ -192,6 +204,10 @@ absent_so : (words : List (List ℕ)) (refusal : Refusal) (found : Option (List 
 absent_so words refusal (Some file) s = tt
 absent_so words refusal None s = (s, refl)
 
+absent_package_so : (words : List (List ℕ)) (refusal : Refusal) (found : Option (List ℕ)) (fixes : Bool) → subject_of refusal ≡ Subjects.AbsentPackage → is_fix (command_of words) ≡ fixes → IsTrueHint words refusal found (absent_package_hint fixes)
+absent_package_so words refusal found true s f = (s, f)
+absent_package_so words refusal found false s f = tt
+
 pub subject_so : (words : List (List ℕ)) (refusal : Refusal) (found : Option (List ℕ)) (subject : Subject) → subject_of refusal ≡ subject → IsTrueHint words refusal found (subject_hint words found subject)
 subject_so words refusal found (Word place) s = word_so words refusal found place (slice_get words (place - 1)) s refl
 subject_so words refusal found (Information place) s = information_so words refusal found place (slice_get words (place - 1)) s refl
@@ -202,6 +218,12 @@ subject_so words refusal (Some whole) (Line file line) s = line_so words refusal
 subject_so words refusal found Database s = (s, refl)
 subject_so words refusal found AbsentDatabase s = absent_so words refusal found s
 subject_so words refusal found Subjects.SharedPath s = s
+subject_so words refusal found (Subjects.AbsentFile place) s = absent_file_so words refusal found place (slice_get words (place - 1)) s refl
+subject_so words refusal found (Subjects.NotInstalled place) s = not_installed_so words refusal found (asks_for_owner (command_of words)) place (slice_get words (place - 1)) s refl refl
+subject_so words refusal found Subjects.Journal s = s
+subject_so words refusal found Subjects.Untrusted s = s
+subject_so words refusal found Subjects.AbsentPackage s = absent_package_so words refusal found (is_fix (command_of words)) s refl
+subject_so words refusal found Subjects.OtherPackage s = s
 subject_so words refusal found Subjects.Nothing s = tt
 
 -- ---- the field at a place
@@ -295,6 +317,18 @@ hint_so words refusal found (DataSize expected other) c = tt
 hint_so words refusal found (HashDiffers expected other) c = tt
 hint_so words refusal found (TextLine line) c = tt
 
-pub cause_so : (words : List (List ℕ)) (refusal : Refusal) (found : Option (List ℕ)) (o : Option Cause) → cause_of refusal ≡ o → IsTrueHint words refusal found (cause_hint o)
-cause_so words refusal found None c = tt
-cause_so words refusal found (Some cause) c = hint_so words refusal found cause c
+file_so : (words : List (List ℕ)) (refusal : Refusal) (found : Option (List ℕ)) (cause : Cause) → cause_of refusal ≡ Some cause → IsTrueHint words refusal found (file_cause_hint cause)
+file_so words refusal found NotAdb c = (NotAdb, c, tt)
+file_so words refusal found Compressed c = (Compressed, c, tt)
+file_so words refusal found (Truncated at) c = (Truncated at, c, tt)
+file_so words refusal found (DataSize expected other) c = (DataSize expected other, c, tt)
+file_so words refusal found (HashDiffers expected other) c = (HashDiffers expected other, c, tt)
+file_so words refusal found cause c = hint_so words refusal found cause c
+
+pub cause_so : (words : List (List ℕ)) (refusal : Refusal) (found : Option (List ℕ)) → IsTrueHint words refusal found (cause_hint refusal)
+cause_so words (IntentBad cause) found = hint_so words (IntentBad cause) found cause refl
+cause_so words (DatabaseBad cause) found = hint_so words (DatabaseBad cause) found cause refl
+cause_so words (FileBad place cause) found = file_so words (FileBad place cause) found cause refl
+cause_so words (IndexBad number cause) found = file_so words (IndexBad number cause) found cause refl
+cause_so words (PackageBad name version cause) found = file_so words (PackageBad name version cause) found cause refl
+cause_so words refusal found = tt

@@ -7,15 +7,16 @@ use Rattle.adb_view.specs.declared.tables.Field.{Field}
 use Rattle.adb_view.specs.declared.tables.Which.{Which}
 use Rattle.adb_view.specs.declared.tables.Which.TheVariants as Tables
 use Rattle.base_core.specs.declared.cause.Cause.{Cause}
-use Rattle.base_core.specs.declared.cause.Cause.TheVariants.{BadText, Repeated, TextLine, WrongSchema}
+use Rattle.base_core.specs.declared.cause.Cause.TheVariants.{BadText, Compressed, DataSize, HashDiffers, NotAdb, Repeated, TextLine, Truncated, WrongSchema}
 use Rattle.command_core.specs.Command.{CommandLine}
 use Rattle.command_core.specs.declared.command.Applet.{Applet}
-use Rattle.command_core.specs.declared.command.Applet.TheVariants.{Demo}
+use Rattle.command_core.specs.declared.command.Applet.TheVariants.{Demo, Fix}
 use Rattle.dep_core.specs.World.{lines_of}
 use Rattle.pkg_core.specs.Whole.{table_of_schema}
 use Rattle.report_core.specs.declared.refusal.Refusal.{Refusal}
-use Rattle.report_core.specs.declared.refusal.Refusal.TheVariants.{IntentBad, FileMissing, FileBad, TextBad, VersionBad, InfoBad, NoDatabase, DatabaseBad, WorldBad, RepositoriesBad, IndexMissing, IndexBad, NotInstalled, Owned, PackageBad}
+use Rattle.report_core.specs.declared.refusal.Refusal.TheVariants.{IntentBad, FileMissing, FileBad, TextBad, VersionBad, InfoBad, NoDatabase, DatabaseBad, WorldBad, RepositoriesBad, Untrusted, IndexMissing, IndexBad, NotInstalled, Owned, PackageMissing, PackageBad, PackageDiffers}
 use Rattle.root_names.specs.RootNames.{database_name, repositories_name, text_database_name, world_name}
+use Rattle.words_core.specs.Grammar.{command_of}
 use Rattle.hint_core.specs.declared.find.RepositoryLine.{RepositoryLine}
 use Rattle.hint_core.specs.declared.hint.Hint.{Hint}
 use Rattle.hint_core.specs.declared.hint.Hint.TheVariants as Hinted
@@ -24,6 +25,7 @@ use Rattle.hint_core.specs.declared.hint.HintFile.TheVariants as Files
 use Rattle.hint_core.specs.declared.hint.Hints.{Hints}
 use Rattle.hint_core.specs.declared.hint.Subject.{Subject}
 use Rattle.hint_core.specs.declared.hint.Subject.TheVariants.{Word, Information, Repository, Line, Database, AbsentDatabase, SharedPath, Nothing}
+use Rattle.hint_core.specs.declared.hint.Subject.TheVariants as Subjects
 use Rattle.hint_core.specs.Repositories.{repository_at}
 
 -- ---- what a refusal is about
@@ -38,6 +40,21 @@ abbrev pub is_explained : Result CommandLine ℕ → Bool
 is_explained (Ok command) = has_refusals_of_its_own command.applet
 is_explained (Err place) = false
 
+-- whether a command installs packages again
+abbrev pub is_fix_applet : Applet → Bool
+is_fix_applet Fix = true
+is_fix_applet applet = false
+
+-- whether a command line does so
+abbrev pub is_fix : Result CommandLine ℕ → Bool
+is_fix (Ok command) = is_fix_applet command.applet
+is_fix (Err place) = false
+
+-- whether a command line asks which package owns a path
+abbrev pub asks_for_owner : Result CommandLine ℕ → Bool
+asks_for_owner (Ok command) = command.flags.who_owns
+asks_for_owner (Err place) = false
+
 -- what the refusal of a database is about: a line of a text, or else the database
 abbrev pub database_subject : Cause → Subject
 database_subject (TextLine line) = Line Files.TextDatabase line
@@ -45,17 +62,21 @@ database_subject cause = Database
 
 -- what a refusal is about
 abbrev pub subject_of : Refusal → Subject
-subject_of (FileMissing place) = Word place
+subject_of (IntentBad cause) = Subjects.Journal
+subject_of (FileMissing place) = Subjects.AbsentFile place
 subject_of (FileBad place cause) = Word place
 subject_of (TextBad place line) = Word place
 subject_of (VersionBad place) = Word place
-subject_of (NotInstalled place) = Word place
+subject_of (NotInstalled place) = Subjects.NotInstalled place
 subject_of (InfoBad place) = Information place
 subject_of (IndexMissing number) = Repository number
 subject_of (IndexBad number cause) = Repository number
 subject_of (WorldBad line) = Line Files.World line
 subject_of (RepositoriesBad line) = Line Files.Repositories line
 subject_of NoDatabase = AbsentDatabase
+subject_of Untrusted = Subjects.Untrusted
+subject_of (PackageMissing name version) = Subjects.AbsentPackage
+subject_of (PackageDiffers name version field wanted found) = Subjects.OtherPackage
 subject_of (Owned path first second) = SharedPath
 subject_of (DatabaseBad cause) = database_subject cause
 subject_of refusal = Nothing
@@ -96,9 +117,24 @@ abbrev pub word_hint : ℕ → Option (List ℕ) → Hint
 word_hint place (Some word) = Hinted.Word place word
 word_hint place None = Hinted.Nothing
 
+-- the word at a place, which names no file
+abbrev pub absent_file_hint : ℕ → Option (List ℕ) → Hint
+absent_file_hint place (Some word) = Hinted.AbsentFile place word
+absent_file_hint place None = Hinted.Nothing
+
+-- the word at a place, which is a path that no package owns
+abbrev pub unowned_hint : ℕ → Option (List ℕ) → Hint
+unowned_hint place (Some word) = Hinted.Unowned place word
+unowned_hint place None = Hinted.Nothing
+
+-- the word at a place, which names a package that is not installed, or such a path
+abbrev pub not_installed_hint : Bool → ℕ → Option (List ℕ) → Hint
+not_installed_hint true place word = unowned_hint place word
+not_installed_hint false place word = word_hint place word
+
 -- the word at a place, or that information of a package is missing there
 abbrev pub information_hint : ℕ → Option (List ℕ) → Hint
-information_hint place (Some word) = Hinted.Word place word
+information_hint place (Some word) = Hinted.Information place word
 information_hint place None = Hinted.Missing place
 
 -- the hint on a repository, if the line that names it was found; otherwise no hint
@@ -127,6 +163,11 @@ abbrev pub absent_database_hint : Bool → Hint
 absent_database_hint true = Hinted.Nothing
 absent_database_hint false = Hinted.AbsentDatabase
 
+-- only `fix` needs an index that lists the installed package
+abbrev pub absent_package_hint : Bool → Hint
+absent_package_hint true = Hinted.AbsentPackage
+absent_package_hint false = Hinted.Nothing
+
 -- what a refusal is about, given the words and the file that it is about
 abbrev pub subject_hint : List (List ℕ) → Option (List ℕ) → Subject → Hint
 subject_hint words found (Word place) = word_hint place (slice_get words (place - 1))
@@ -136,6 +177,13 @@ subject_hint words found (Line file line) = line_hint file line found
 subject_hint words found Database = Hinted.Database (is_some found)
 subject_hint words found AbsentDatabase = absent_database_hint (is_some found)
 subject_hint words found SharedPath = Hinted.SharedPath
+subject_hint words found (Subjects.AbsentFile place) = absent_file_hint place (slice_get words (place - 1))
+subject_hint words found (Subjects.NotInstalled place) =
+    not_installed_hint (asks_for_owner (command_of words)) place (slice_get words (place - 1))
+subject_hint words found Subjects.Journal = Hinted.Journal
+subject_hint words found Subjects.Untrusted = Hinted.Untrusted
+subject_hint words found Subjects.AbsentPackage = absent_package_hint (is_fix (command_of words))
+subject_hint words found Subjects.OtherPackage = Hinted.OtherPackage
 subject_hint words found Nothing = Hinted.Nothing
 
 -- ---- the field at a place
@@ -194,10 +242,23 @@ hint_of_cause (Repeated place first second) = place_hint place
 hint_of_cause (WrongSchema schema) = schema_hint schema
 hint_of_cause cause = Hinted.Nothing
 
--- what the number of a cause stands for, if there is one
-abbrev pub cause_hint : Option Cause → Hint
-cause_hint (Some cause) = hint_of_cause cause
-cause_hint None = Hinted.Nothing
+-- what a cause says of a file that can be copied or made again
+abbrev pub file_cause_hint : Cause → Hint
+file_cause_hint NotAdb = Hinted.Foreign
+file_cause_hint Compressed = Hinted.Foreign
+file_cause_hint (Truncated at) = Hinted.Damaged
+file_cause_hint (DataSize wanted found) = Hinted.Damaged
+file_cause_hint (HashDiffers wanted found) = Hinted.Damaged
+file_cause_hint cause = hint_of_cause cause
+
+-- what the cause of a refusal says, if it has one
+abbrev pub cause_hint : Refusal → Hint
+cause_hint (IntentBad cause) = hint_of_cause cause
+cause_hint (DatabaseBad cause) = hint_of_cause cause
+cause_hint (FileBad place cause) = file_cause_hint cause
+cause_hint (IndexBad number cause) = file_cause_hint cause
+cause_hint (PackageBad name version cause) = file_cause_hint cause
+cause_hint refusal = Hinted.Nothing
 
 -- ---- all hints of a refusal
 
@@ -205,5 +266,5 @@ cause_hint None = Hinted.Nothing
 abbrev pub hints_of : List (List ℕ) → Refusal → Option (List ℕ) → Hints
 hints_of words refusal found = record {
   subject = subject_hint words found (subject_of refusal);
-  cause = cause_hint (cause_of refusal);
+  cause = cause_hint refusal;
 }

@@ -9,8 +9,9 @@ use Rattle.adb_view.specs.declared.tables.Which.TheVariants as Tables
 use Rattle.root_names.specs.RootNames.{database_name, text_database_name}
 use Rattle.words_core.specs.Usage.{most_shown_bytes, texts_joined}
 use Rattle.hint_core.specs.declared.hint.Hint.{Hint}
-use Rattle.hint_core.specs.declared.hint.Hint.TheVariants.{Word, Missing, Repository, Line, Database, AbsentDatabase, SharedPath, Field, Schema, UnknownSchema, Nothing}
+use Rattle.hint_core.specs.declared.hint.Hint.TheVariants.{Word, AbsentFile, Unowned, Information, Missing, Repository, Line, Database, AbsentDatabase, SharedPath, Journal, Untrusted, AbsentPackage, OtherPackage, Damaged, Foreign, Field, Schema, UnknownSchema, Nothing}
 use Rattle.hint_core.specs.declared.hint.HintFile.{HintFile}
+use Rattle.hint_core.specs.declared.hint.HintFile.TheVariants as Files
 use Rattle.hint_core.specs.declared.hint.Hints.{Hints}
 use Rattle.hint_core.specs.Hints.{hint_file_name}
 
@@ -60,10 +61,24 @@ table_text Tables.Intent = codes "a journal entry"
 
 -- ---- the lines
 
--- the line of a word
-abbrev pub word_line : ℕ → List ℕ → List ℕ
-word_line place word = texts_joined
-    (codes "apk: word " ∷ (decimal place ∷ (codes " is " ∷ (printed_text word ∷ (codes "\n" ∷ [])))))
+-- the line of a word, with what follows the word
+abbrev pub word_line : ℕ → List ℕ → List ℕ → List ℕ
+word_line place word end = texts_joined
+    (codes "apk: word " ∷ (decimal place ∷ (codes " is " ∷ (printed_text word ∷ (end
+    ∷ (codes "\n" ∷ []))))))
+
+-- what follows a word that names no file
+abbrev pub absent_file_end : List ℕ
+absent_file_end = codes "; its path must be that of a file below this folder, and not of a folder"
+
+-- what follows a path that no package owns
+abbrev pub unowned_end : List ℕ
+unowned_end = codes "; no installed package owns this path"
+
+-- what follows wrong information of a package
+abbrev pub information_end : List ℕ
+information_end =
+    codes "; the field or its value is invalid, or the field was given before; see apk mkpkg --help"
 
 -- the line that says that information of a package is missing
 abbrev pub missing_information_line : ℕ → List ℕ
@@ -76,24 +91,34 @@ abbrev pub repository_hint_line : ℕ → ℕ → List ℕ → List ℕ
 repository_hint_line number line path = texts_joined
     (codes "apk: repository " ∷ (decimal number ∷ (codes " is " ∷ (printed_text path
     ∷ (codes ", line " ∷ (decimal line
-    ∷ (codes " of etc/apk/repositories; correct the line, or make the index with "
-    ∷ (codes "apk mkndx -o INDEX PACKAGES\n" ∷ []))))))))
+    ∷ (codes " of etc/apk/repositories; this must be the file of an index: correct the line, or make "
+    ∷ (codes "the file with apk mkndx -o INDEX PACKAGES\n" ∷ []))))))))
+
+-- what follows a line of a file: what a line of this file is
+abbrev pub line_hint_end : HintFile → List ℕ
+line_hint_end Files.World =
+    codes "; a line has one dependency, such as app or app>=1.2, and none repeats a name"
+line_hint_end Files.Repositories =
+    codes "; a line has the path of an index file below this folder, and no URL"
+line_hint_end Files.TextDatabase = []
 
 -- the line of the hint on a line of a file
 abbrev pub line_hint_line : HintFile → ℕ → List ℕ → List ℕ
 line_hint_line file line text = texts_joined
     (codes "apk: line " ∷ (decimal line ∷ (codes " of " ∷ (hint_file_name file
-    ∷ (codes " is " ∷ (printed_text text ∷ (codes "\n" ∷ [])))))))
+    ∷ (codes " is " ∷ (printed_text text ∷ (line_hint_end file ∷ (codes "\n" ∷ []))))))))
 
 -- the line of the database
 abbrev pub database_hint_line : Bool → List ℕ
 database_hint_line is_container = texts_joined
-    (codes "apk: the package database is " ∷ (database_file_name_of is_container ∷ (codes "\n" ∷ [])))
+    (codes "apk: the package database is " ∷ (database_file_name_of is_container
+    ∷ (codes "; restore it, or read IF THE DATABASE IS DAMAGED in apk(8)\n" ∷ [])))
 
 -- the line that says that there is no database
 abbrev pub absent_database_line : List ℕ
 absent_database_line = texts_joined
-    (codes "apk: this folder has no lib/apk/db/installed.adb; apk add --initdb makes one\n" ∷ [])
+    (codes "apk: this folder has no lib/apk/db/installed.adb; if it is the root, "
+    ∷ (codes "apk add --initdb --allow-untrusted makes one\n" ∷ []))
 
 -- the line of a field
 abbrev pub field_line : ℕ → Which → List ℕ → List ℕ
@@ -117,15 +142,58 @@ shared_path_line = texts_joined
     (codes "apk: to have both, make one of them again with mkpkg -I replaces:NAME-OF-THE-OTHER, "
     ∷ (codes "and then the index\n" ∷ []))
 
+-- the line that says what to do with a journal that is no valid one
+abbrev pub journal_line : List ℕ
+journal_line = texts_joined
+    (codes "apk: another program has written lib/apk/intent; move it away, and run apk audit\n" ∷ [])
+
+-- the line that says how repositories are used
+abbrev pub untrusted_line : List ℕ
+untrusted_line = texts_joined
+    (codes "apk: apk checks no signatures; to use the indexes in etc/apk/repositories "
+    ∷ (codes "nonetheless, give --allow-untrusted\n" ∷ []))
+
+-- the line that says what `fix` needs
+abbrev pub absent_package_line : List ℕ
+absent_package_line = texts_joined
+    (codes "apk: fix needs an index that lists the installed package; "
+    ∷ (codes "if none does, run apk upgrade\n" ∷ []))
+
+-- the line that says why the file of a package is another one than its index lists
+abbrev pub other_package_line : List ℕ
+other_package_line = texts_joined
+    (codes "apk: the index lists another file of this name; make the index again with "
+    ∷ (codes "apk mkndx, or put the listed file there\n" ∷ []))
+
+-- the line of a file that may be damaged
+abbrev pub damaged_line : List ℕ
+damaged_line = texts_joined
+    (codes "apk: the file may be damaged; copy it again, or make it again\n" ∷ [])
+
+-- the line of a file of another format
+abbrev pub foreign_line : List ℕ
+foreign_line = texts_joined
+    (codes "apk: apk reads only uncompressed ADB files, as apk mkpkg and apk mkndx make them, "
+    ∷ (codes "and no packages of mirrors\n" ∷ []))
+
 -- the line of a hint, if it has one
 abbrev pub hint_line : Hint → List ℕ
-hint_line (Word place word) = word_line place word
+hint_line (Word place word) = word_line place word []
+hint_line (AbsentFile place word) = word_line place word absent_file_end
+hint_line (Unowned place word) = word_line place word unowned_end
+hint_line (Information place word) = word_line place word information_end
 hint_line (Missing place) = missing_information_line place
 hint_line (Repository number line path) = repository_hint_line number line path
 hint_line (Line file line text) = line_hint_line file line text
 hint_line (Database is_container) = database_hint_line is_container
 hint_line AbsentDatabase = absent_database_line
 hint_line SharedPath = shared_path_line
+hint_line Journal = journal_line
+hint_line Untrusted = untrusted_line
+hint_line AbsentPackage = absent_package_line
+hint_line OtherPackage = other_package_line
+hint_line Damaged = damaged_line
+hint_line Foreign = foreign_line
 hint_line (Field place table name) = field_line place table (field_name_text name)
 hint_line (Schema table) = schema_hint_line table
 hint_line UnknownSchema = unknown_schema_line

@@ -14,6 +14,7 @@ use Rattle.words_core.specs.Usage.{texts_joined}
 use Rattle.hint_core.specs.Contents.{ExplainsMixedUp, mixed_up_positions}
 use Rattle.hint_core.specs.Hints.{is_explained}
 use Rattle.hint_core.specs.Lines.{printed_bytes, printed_text}
+use Rattle.hint_core.specs.Repositories.{no_index_line}
 use Rattle.hint_core.specs.Warnings.{text_of_found}
 
 -- ---- lines
@@ -45,12 +46,20 @@ ExplainsEach name version refusal history (repository ∷ repositories) lines =
     × ExplainsEach name version refusal history repositories more
     × (lines ≡ first ++ more)
 
--- these lines are those of *ExplainsEach* for the repositories that were read; there are none if a line
+-- the same, after the line that says that there is no repository, if there is none
+abbrev pub ExplainsRepositories :
+    List ℕ → List ℕ → Refusal → List TreeState → List Repository → List ℕ → Type 0
+ExplainsRepositories name version refusal history repositories lines =
+    (each : List ℕ)
+    × ExplainsEach name version refusal history repositories each
+    × (lines ≡ no_index_line repositories ++ each)
+
+-- these lines are those of *ExplainsRepositories* for the repositories that were read; there are none if a line
 -- of their list is bad
 abbrev pub ExplainsByText :
     List ℕ → List ℕ → Refusal → Result (List Repository) ℕ → List TreeState → List ℕ → Type 0
 ExplainsByText name version refusal (Ok repositories) history lines =
-    ExplainsEach name version refusal history repositories lines
+    ExplainsRepositories name version refusal history repositories lines
 ExplainsByText name version refusal (Err line) history lines = lines ≡ []
 
 -- ---- what is printed

@@ -1,6 +1,6 @@
--- The repository of a number, and the line that names it. The rules of the lines are in
--- `docs/formats.md`, "Repositories".
-use Rattle.std.specs.Prelude.{ℕ, ◌+◌, ◌-◌, ◌==◌, if◌then◌else◌, List, [], ◌∷◌, Option, Some, None, Result, Ok, Err}
+-- The repository of a number, and the line that names it; and the line that says that there is none.
+-- The rules of the lines are in `docs/formats.md`, "Repositories".
+use Rattle.std.specs.Prelude.{ℕ, ◌+◌, ◌-◌, ◌==◌, if◌then◌else◌, List, [], ◌∷◌, length, codes, Option, Some, None, Result, Ok, Err}
 use Rattle.dep_core.specs.Repositories.{Repository, repositories_of}
 use Rattle.hint_core.specs.declared.find.PathAlone.{PathAlone}
 use Rattle.hint_core.specs.declared.find.PathAlone.TheVariants.{Path, Skipped, Bad}
@@ -31,3 +31,10 @@ repository_at number line [] = None
 repository_at number line (text ∷ rest) =
     repository_from_line (path_alone (repositories_of text)) number line
     (λ left. repository_at left (line + 1) rest)
+
+-- the line that says that there is no repository, and how a line that names one looks; nothing if there
+-- is a repository
+abbrev pub no_index_line : List Repository → List ℕ
+no_index_line repositories =
+    if length repositories == 0 then
+    codes "apk: etc/apk/repositories names no index; a line such as main/index.adb names one\n" else []

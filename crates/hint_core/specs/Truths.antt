@@ -1,5 +1,5 @@
 -- When a hint is true. Serves the law `hints_are_so`; the rules are in `docs/commands.md`, "Hints".
-use Rattle.std.specs.Prelude.{◌≡◌, ◌⊎◌, ℕ, ◌+◌, ◌-◌, ◌*◌, ◌<◌, ◌≤◌, List, ◌∷◌, length, Option, Some, None, is_some, Ok}
+use Rattle.std.specs.Prelude.{◌≡◌, ◌⊎◌, ℕ, ◌+◌, ◌-◌, ◌*◌, ◌<◌, ◌≤◌, true, List, ◌∷◌, length, Option, Some, None, is_some, Ok}
 use Rattle.std.specs.List.{slice_get}
 use Rattle.std.specs.Option.{option_map}
 use Rattle.adb_view.specs.Schema.{table, table_number}
@@ -7,20 +7,35 @@ use Rattle.adb_view.specs.declared.tables.Field.{Field}
 use Rattle.adb_view.specs.declared.tables.FieldName.{FieldName}
 use Rattle.adb_view.specs.declared.tables.Which.{Which}
 use Rattle.base_core.specs.declared.cause.Cause.{Cause}
-use Rattle.base_core.specs.declared.cause.Cause.TheVariants.{WrongSchema}
+use Rattle.base_core.specs.declared.cause.Cause.TheVariants.{Compressed, DataSize, HashDiffers, NotAdb, Truncated, WrongSchema}
 use Rattle.dep_core.specs.Repositories.{Repository, repositories_of}
 use Rattle.dep_core.specs.World.{lines_of}
 use Rattle.pkg_core.specs.adb_schema.Soundness.{schema_word}
 use Rattle.report_core.specs.declared.refusal.Refusal.{Refusal}
+use Rattle.words_core.specs.Grammar.{command_of}
 use Rattle.hint_core.specs.declared.hint.Hint.{Hint}
 use Rattle.hint_core.specs.declared.hint.Hint.TheVariants as Hinted
 use Rattle.hint_core.specs.declared.hint.Subject.TheVariants.{Word, Information, Line, Database, AbsentDatabase, SharedPath}
 use Rattle.hint_core.specs.declared.hint.Subject.TheVariants as Subjects
-use Rattle.hint_core.specs.Hints.{cause_of, cause_place, subject_of}
+use Rattle.hint_core.specs.Hints.{asks_for_owner, cause_of, cause_place, is_fix, subject_of}
 
 -- the refusal is about the word at this place
 abbrev pub NamesWord : Refusal → ℕ → Type 0
-NamesWord refusal place = (subject_of refusal ≡ Word place) ⊎ (subject_of refusal ≡ Information place)
+NamesWord refusal place =
+    (subject_of refusal ≡ Word place) ⊎ (subject_of refusal ≡ Subjects.NotInstalled place)
+
+-- the cause is that a file ends too early, or has other contents than it lists
+abbrev pub IsOfDamage : Cause → Type 0
+IsOfDamage (Truncated at) = Unit {0}
+IsOfDamage (DataSize wanted found) = Unit {0}
+IsOfDamage (HashDiffers wanted found) = Unit {0}
+IsOfDamage cause = ⊥
+
+-- the cause is that a file is no uncompressed container
+abbrev pub IsOfFormat : Cause → Type 0
+IsOfFormat NotAdb = Unit {0}
+IsOfFormat Compressed = Unit {0}
+IsOfFormat cause = ⊥
 
 -- the refusal has a cause that names the field at this place
 abbrev pub NamesFieldPlace : Refusal → ℕ → Type 0
@@ -50,6 +65,16 @@ abbrev pub IsTrueHint : List (List ℕ) → Refusal → Option (List ℕ) → Hi
 -- the word is the one at the place that the refusal names; places count from 1
 IsTrueHint words refusal found (Hinted.Word place word) =
     NamesWord refusal place × (slice_get words (place - 1) ≡ Some word)
+-- the word is the one at the place of the refusal, which is that it names no file
+IsTrueHint words refusal found (Hinted.AbsentFile place word) =
+    (subject_of refusal ≡ Subjects.AbsentFile place) × (slice_get words (place - 1) ≡ Some word)
+-- the same, and the words ask which package owns it
+IsTrueHint words refusal found (Hinted.Unowned place word) =
+    (subject_of refusal ≡ Subjects.NotInstalled place) × (asks_for_owner (command_of words) ≡ true)
+    × (slice_get words (place - 1) ≡ Some word)
+-- the word is the information of a package that the refusal names
+IsTrueHint words refusal found (Hinted.Information place word) =
+    (subject_of refusal ≡ Information place) × (slice_get words (place - 1) ≡ Some word)
 -- the refusal is about information of a package, and its place is after the last word
 IsTrueHint words refusal found (Hinted.Missing place) =
     (subject_of refusal ≡ Information place) × (length words ≤ place - 1)
@@ -69,6 +94,21 @@ IsTrueHint words refusal found Hinted.AbsentDatabase =
     (subject_of refusal ≡ AbsentDatabase) × (found ≡ None)
 -- the refusal is about a path that two packages list
 IsTrueHint words refusal found Hinted.SharedPath = subject_of refusal ≡ SharedPath
+-- the refusal is about the journal
+IsTrueHint words refusal found Hinted.Journal = subject_of refusal ≡ Subjects.Journal
+-- the refusal is that repositories need `--allow-untrusted`
+IsTrueHint words refusal found Hinted.Untrusted = subject_of refusal ≡ Subjects.Untrusted
+-- the refusal is that `fix` finds no file of a package
+IsTrueHint words refusal found Hinted.AbsentPackage =
+    (subject_of refusal ≡ Subjects.AbsentPackage) × (is_fix (command_of words) ≡ true)
+-- the refusal is that the file of a package is another one than its index lists
+IsTrueHint words refusal found Hinted.OtherPackage = subject_of refusal ≡ Subjects.OtherPackage
+-- the refusal has a cause of a damaged file
+IsTrueHint words refusal found Hinted.Damaged =
+    (cause : Cause) × (cause_of refusal ≡ Some cause) × IsOfDamage cause
+-- the refusal has a cause of a file of another format
+IsTrueHint words refusal found Hinted.Foreign =
+    (cause : Cause) × (cause_of refusal ≡ Some cause) × IsOfFormat cause
 -- the place is 100 times the number of the table plus that of the field
 IsTrueHint words refusal found (Hinted.Field place which name) =
     NamesFieldPlace refusal place

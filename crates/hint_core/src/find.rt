@@ -3,11 +3,12 @@ ghost use Rattle.std.specs.Prelude.{◌≡◌, IfOk, Ok, Some, map, slice_get};
 ghost use Rattle.std.specs.Option.{option_copied, option_map};
 ghost use Rattle.dep_core.specs.Repositories.{repositories_of};
 ghost use Rattle.dep_core.specs.World.{lines_of};
-ghost use Rattle.hint_core.specs.Hints.{absent_database_hint, cause_hint, hint_of_cause, hints_of, information_hint, line_hint, place_hint, repository_hint, schema_hint, subject_hint, word_hint};
+ghost use Rattle.hint_core.specs.Hints.{absent_database_hint, absent_file_hint, absent_package_hint, cause_hint, file_cause_hint, hint_of_cause, hints_of, information_hint, line_hint, not_installed_hint, place_hint, repository_hint, schema_hint, subject_hint, word_hint};
 ghost use Rattle.hint_core.specs.Repositories.{path_alone, repository_at};
 
-use crate::hint::{Hint, HintFile, Hints, Subject, cause_of, subject_of};
+use crate::hint::{Hint, HintFile, Hints, Subject, subject_of};
 use crate::places::{place_hint, schema_hint};
+use crate::telling::{asks_for_owner, is_fix};
 use base_core::{Cause, Text, Words};
 use dep_core::{Repos, ReposFault};
 use report_core::Refusal;
@@ -25,17 +26,46 @@ pub fn hints(
         ≡ hints_of words.now refusal.now (option_copied found.entry)) }
 {
     let subject = subject_hint(alloc, words, subject_of(refusal), found)?;
-    let cause = cause_hint(cause_of(refusal));
+    let cause = cause_hint(refusal);
     Ok(Hints { subject, cause })
 }
 
-// What the number of a cause stands for, if there is one.
-fn cause_hint(cause: Option<Cause>) -> Hint
-    ensures { result ≡ cause_hint cause }
+// What the cause of a refusal says, if it has one.
+fn cause_hint(refusal: &Refusal) -> Hint
+    ensures { result ≡ cause_hint refusal.now }
+{
+    match refusal {
+        Refusal::IntentBad { cause } | Refusal::DatabaseBad { cause } => hint_of_cause(*cause),
+        Refusal::FileBad { place: _, cause }
+        | Refusal::IndexBad {
+            repository: _,
+            cause,
+        }
+        | Refusal::PackageBad {
+            name: _,
+            version: _,
+            cause,
+        } => file_cause_hint(*cause),
+        _ => Hint::Nothing,
+    }
+}
+
+// What a cause says of a file that can be copied or made again.
+fn file_cause_hint(cause: Cause) -> Hint
+    ensures { result ≡ file_cause_hint cause }
 {
     match cause {
-        Some(cause) => hint_of_cause(cause),
-        None => Hint::Nothing,
+        Cause::NotAdb | Cause::Compressed => Hint::Foreign,
+        Cause::Truncated { at: _ }
+        | Cause::DataSize {
+            wanted: _,
+            found: _,
+        }
+        | Cause::HashDiffers {
+            wanted: _,
+            found: _,
+        } => Hint::Damaged,
+        _ => hint_of_cause(cause),
     }
 }
 
@@ -67,6 +97,11 @@ fn subject_hint(
 {
     match subject {
         Subject::Word { place } => word_hint(alloc, place, word_at(words, place)),
+        Subject::AbsentFile { place } => absent_file_hint(alloc, place, word_at(words, place)),
+        Subject::NotInstalled { place } => {
+            let is_owner_asked = asks_for_owner(alloc, words)?;
+            not_installed_hint(alloc, is_owner_asked, place, word_at(words, place))
+        }
         Subject::Information { place } => information_hint(alloc, place, word_at(words, place)),
         Subject::Repository { number } => repository_hint(alloc, number, found),
         Subject::Line { file, line } => line_hint(alloc, file, line, found),
@@ -75,6 +110,10 @@ fn subject_hint(
         }),
         Subject::AbsentDatabase => Ok(absent_database_hint(found.is_some())),
         Subject::SharedPath => Ok(Hint::SharedPath),
+        Subject::Journal => Ok(Hint::Journal),
+        Subject::Untrusted => Ok(Hint::Untrusted),
+        Subject::AbsentPackage => Ok(absent_package_hint(is_fix(alloc, words)?)),
+        Subject::OtherPackage => Ok(Hint::OtherPackage),
         Subject::Nothing => Ok(Hint::Nothing),
     }
 }
@@ -87,6 +126,17 @@ fn absent_database_hint(is_found: bool) -> Hint
         Hint::Nothing
     } else {
         Hint::AbsentDatabase
+    }
+}
+
+// Only `fix` needs an index that lists the installed package.
+fn absent_package_hint(is_fix: bool) -> Hint
+    ensures { result ≡ absent_package_hint is_fix }
+{
+    if is_fix {
+        Hint::AbsentPackage
+    } else {
+        Hint::Nothing
     }
 }
 
@@ -104,13 +154,49 @@ fn word_hint(alloc: Global, place: u32, word: Option<&[u8]>) -> Result<Hint, All
     }
 }
 
+// The word at a place, which names no file.
+fn absent_file_hint(alloc: Global, place: u32, word: Option<&[u8]>) -> Result<Hint, AllocError>
+    ensures { IfOk result (λ hint. hint
+        ≡ absent_file_hint place (option_map (λ w. w.now) word.entry)) }
+{
+    match word {
+        Some(word) => Ok(Hint::AbsentFile {
+            place,
+            word: Text::of(alloc, word)?,
+        }),
+        None => Ok(Hint::Nothing),
+    }
+}
+
+// The word at a place, which names a package that is not installed, or a path that none owns.
+fn not_installed_hint(
+    alloc: Global,
+    is_owner_asked: bool,
+    place: u32,
+    word: Option<&[u8]>,
+) -> Result<Hint, AllocError>
+    ensures { IfOk result (λ hint. hint
+        ≡ not_installed_hint is_owner_asked place (option_map (λ w. w.now) word.entry)) }
+{
+    if !is_owner_asked {
+        return word_hint(alloc, place, word);
+    }
+    match word {
+        Some(word) => Ok(Hint::Unowned {
+            place,
+            word: Text::of(alloc, word)?,
+        }),
+        None => Ok(Hint::Nothing),
+    }
+}
+
 // The word at a place, or that information of a package is missing there.
 fn information_hint(alloc: Global, place: u32, word: Option<&[u8]>) -> Result<Hint, AllocError>
     ensures { IfOk result (λ hint. hint
         ≡ information_hint place (option_map (λ w. w.now) word.entry)) }
 {
     match word {
-        Some(word) => Ok(Hint::Word {
+        Some(word) => Ok(Hint::Information {
             place,
             word: Text::of(alloc, word)?,
         }),

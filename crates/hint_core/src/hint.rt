@@ -12,6 +12,10 @@ use report_core::Refusal;
 pub enum Subject {
     /// The word at this place.
     Word { place: u32 },
+    /// The file that the word at this place names, which is absent.
+    AbsentFile { place: u32 },
+    /// What the word at this place names, which is not installed: a package, or a path.
+    NotInstalled { place: u32 },
     /// The information of a package, which the word at this place has; it is missing if there is no
     /// such word.
     Information { place: u32 },
@@ -25,6 +29,14 @@ pub enum Subject {
     AbsentDatabase,
     /// A path that two packages list.
     SharedPath,
+    /// The journal, which is no valid one.
+    Journal,
+    /// Repositories, which are used only if the command line allows it.
+    Untrusted,
+    /// The file of a package, which is absent.
+    AbsentPackage,
+    /// The file of a package, which is another one than its index lists.
+    OtherPackage,
     /// Nothing that a number names.
     Nothing,
 }
@@ -45,6 +57,21 @@ pub enum HintFile {
 pub enum Hint {
     /// The word at this place.
     Word {
+        place: u32,
+        word: Text,
+    },
+    /// The word at this place names no file.
+    AbsentFile {
+        place: u32,
+        word: Text,
+    },
+    /// No installed package owns the path that is the word at this place.
+    Unowned {
+        place: u32,
+        word: Text,
+    },
+    /// The word at this place is no information of a package, or repeats one.
+    Information {
         place: u32,
         word: Text,
     },
@@ -72,6 +99,18 @@ pub enum Hint {
     AbsentDatabase,
     /// How one of two packages gets a path that both list.
     SharedPath,
+    /// What to do with a journal that is no valid one.
+    Journal,
+    /// How repositories are used.
+    Untrusted,
+    /// `fix` needs an index that lists the installed package.
+    AbsentPackage,
+    /// Why the file of a package is another one than its index lists.
+    OtherPackage,
+    /// The file may be damaged.
+    Damaged,
+    /// The file is none of the format that is read.
+    Foreign,
     /// The field at this place of a container.
     Field {
         place: u16,
@@ -102,11 +141,12 @@ pub(crate) fn subject_of(refusal: &Refusal) -> Subject
     ensures { result ≡ subject_of refusal.now }
 {
     match refusal {
-        Refusal::FileMissing { place } => Subject::Word { place: *place },
+        Refusal::IntentBad { cause: _ } => Subject::Journal,
+        Refusal::FileMissing { place } => Subject::AbsentFile { place: *place },
         Refusal::FileBad { place, cause: _ } => Subject::Word { place: *place },
         Refusal::TextBad { place, line: _ } => Subject::Word { place: *place },
         Refusal::VersionBad { place } => Subject::Word { place: *place },
-        Refusal::NotInstalled { place } => Subject::Word { place: *place },
+        Refusal::NotInstalled { place } => Subject::NotInstalled { place: *place },
         Refusal::InfoBad { place } => Subject::Information { place: *place },
         Refusal::IndexMissing { repository } => Subject::Repository {
             number: *repository,
@@ -126,6 +166,18 @@ pub(crate) fn subject_of(refusal: &Refusal) -> Subject
             line: *line,
         },
         Refusal::NoDatabase => Subject::AbsentDatabase,
+        Refusal::Untrusted => Subject::Untrusted,
+        Refusal::PackageMissing {
+            name: _,
+            version: _,
+        } => Subject::AbsentPackage,
+        Refusal::PackageDiffers {
+            name: _,
+            version: _,
+            field: _,
+            wanted: _,
+            found: _,
+        } => Subject::OtherPackage,
         Refusal::Owned {
             path: _,
             first: _,

@@ -24,7 +24,7 @@ pub use contents::{MixedUp, explain_contents};
 pub use find::hints;
 pub use hint::{Hint, HintFile, Hints, Subject};
 pub use laws::{hints_are_so, tags_without_a_repository_are_warned_of};
-pub use package_file::explain_package;
+pub use package_file::{explain_package, no_index_line};
 pub use printed::push_printed;
 pub use telling::{HintFault, explain};
 pub use warning::{warn, write_lines};

@@ -2,13 +2,23 @@
 ghost use Rattle.std.specs.Prelude.{◌≡◌, ◌++◌, codes, IfOk, OnOk};
 ghost use Rattle.adb_view.specs.Schema.{field_name_text};
 ghost use Rattle.hint_core.specs.Hints.{hint_file_name};
-ghost use Rattle.hint_core.specs.Lines.{database_file_name_of, field_line, hint_line, hint_lines, line_hint_line, missing_information_line, repository_hint_line, table_text, word_line};
+ghost use Rattle.hint_core.specs.Lines.{absent_file_end, database_file_name_of, field_line, hint_line, hint_lines, information_end, line_hint_end, line_hint_line, missing_information_line, repository_hint_line, table_text, unowned_end, word_line};
 
 use crate::hint::{Hint, HintFile, Hints};
 use crate::printed::{printed, push_texts};
 use adb_view::{FieldName, Which};
 use itoa::Buffer;
 use std::alloc::{AllocError, Global};
+
+// What follows a word that names no file, a path that no package owns, and wrong information of a
+// package.
+const ABSENT_FILE_END: &[u8] =
+    b"; its path must be that of a file below this folder, and not of a folder";
+
+const UNOWNED_END: &[u8] = b"; no installed package owns this path";
+
+const INFORMATION_END: &[u8] =
+    b"; the field or its value is invalid, or the field was given before; see apk mkpkg --help";
 
 /// The lines of hints.
 pub fn hint_lines(alloc: Global, hints: &Hints) -> Result<Vec<u8>, AllocError>
@@ -25,7 +35,16 @@ fn push_hint(alloc: Global, lines: &mut Vec<u8>, hint: &Hint) -> Result<(), Allo
     ensures { OnOk result (lines.new.items ≡ lines.old.items ++ hint_line hint.now) }
 {
     match hint {
-        Hint::Word { place, word } => push_word(alloc, lines, *place, word.as_bytes()),
+        Hint::Word { place, word } => push_word(alloc, lines, *place, word.as_bytes(), b""),
+        Hint::AbsentFile { place, word } => {
+            push_word(alloc, lines, *place, word.as_bytes(), ABSENT_FILE_END)
+        }
+        Hint::Unowned { place, word } => {
+            push_word(alloc, lines, *place, word.as_bytes(), UNOWNED_END)
+        }
+        Hint::Information { place, word } => {
+            push_word(alloc, lines, *place, word.as_bytes(), INFORMATION_END)
+        }
         Hint::Missing { place } => push_missing(lines, *place),
         Hint::Repository { number, line, path } => {
             push_repository(alloc, lines, *number, *line, path.as_bytes())
@@ -36,18 +55,59 @@ fn push_hint(alloc: Global, lines: &mut Vec<u8>, hint: &Hint) -> Result<(), Allo
             &[
                 b"apk: the package database is ",
                 database_file_name_of(*is_container),
-                b"\n",
+                b"; restore it, or read IF THE DATABASE IS DAMAGED in apk(8)\n",
             ],
         ),
         Hint::AbsentDatabase => push_texts(
             lines,
-            &[b"apk: this folder has no lib/apk/db/installed.adb; apk add --initdb makes one\n"],
+            &[
+                b"apk: this folder has no lib/apk/db/installed.adb; if it is the root, ",
+                b"apk add --initdb --allow-untrusted makes one\n",
+            ],
         ),
         Hint::SharedPath => push_texts(
             lines,
             &[
                 b"apk: to have both, make one of them again with mkpkg -I replaces:NAME-OF-THE-OTHER, ",
                 b"and then the index\n",
+            ],
+        ),
+        Hint::Journal => push_texts(
+            lines,
+            &[
+                b"apk: another program has written lib/apk/intent; move it away, and run apk audit\n",
+            ],
+        ),
+        Hint::Untrusted => push_texts(
+            lines,
+            &[
+                b"apk: apk checks no signatures; to use the indexes in etc/apk/repositories ",
+                b"nonetheless, give --allow-untrusted\n",
+            ],
+        ),
+        Hint::AbsentPackage => push_texts(
+            lines,
+            &[
+                b"apk: fix needs an index that lists the installed package; ",
+                b"if none does, run apk upgrade\n",
+            ],
+        ),
+        Hint::OtherPackage => push_texts(
+            lines,
+            &[
+                b"apk: the index lists another file of this name; make the index again with ",
+                b"apk mkndx, or put the listed file there\n",
+            ],
+        ),
+        Hint::Damaged => push_texts(
+            lines,
+            &[b"apk: the file may be damaged; copy it again, or make it again\n"],
+        ),
+        Hint::Foreign => push_texts(
+            lines,
+            &[
+                b"apk: apk reads only uncompressed ADB files, as apk mkpkg and apk mkndx make them, ",
+                b"and no packages of mirrors\n",
             ],
         ),
         Hint::Field { place, table, name } => push_field(lines, *place, *table, *name),
@@ -67,9 +127,15 @@ fn push_hint(alloc: Global, lines: &mut Vec<u8>, hint: &Hint) -> Result<(), Allo
     }
 }
 
-// Adds the line of a word.
-fn push_word(alloc: Global, lines: &mut Vec<u8>, place: u32, word: &[u8]) -> Result<(), AllocError>
-    ensures { OnOk result (lines.new.items ≡ lines.old.items ++ word_line place word.now) }
+// Adds the line of a word, with what follows the word.
+fn push_word(
+    alloc: Global,
+    lines: &mut Vec<u8>,
+    place: u32,
+    word: &[u8],
+    end: &[u8],
+) -> Result<(), AllocError>
+    ensures { OnOk result (lines.new.items ≡ lines.old.items ++ word_line place word.now end.now) }
 {
     let shown = printed(alloc, word)?;
     let mut digits = Buffer::new();
@@ -80,6 +146,7 @@ fn push_word(alloc: Global, lines: &mut Vec<u8>, place: u32, word: &[u8]) -> Res
             digits.format(place).as_bytes(),
             b" is ",
             &shown,
+            end,
             b"\n",
         ],
     )
@@ -123,8 +190,8 @@ fn push_repository(
             &shown,
             b", line ",
             line_digits.format(line).as_bytes(),
-            b" of etc/apk/repositories; correct the line, or make the index with ",
-            b"apk mkndx -o INDEX PACKAGES\n",
+            b" of etc/apk/repositories; this must be the file of an index: correct the line, or make ",
+            b"the file with apk mkndx -o INDEX PACKAGES\n",
         ],
     )
 }
@@ -150,9 +217,25 @@ fn push_line(
             file_text(file),
             b" is ",
             &shown,
+            line_hint_end(file),
             b"\n",
         ],
     )
+}
+
+// What follows a line of a file: what a line of this file is.
+fn line_hint_end(file: HintFile) -> &'static [u8]
+    ensures { result.now ≡ line_hint_end file }
+{
+    match file {
+        HintFile::World => {
+            b"; a line has one dependency, such as app or app>=1.2, and none repeats a name"
+        }
+        HintFile::Repositories => {
+            b"; a line has the path of an index file below this folder, and no URL"
+        }
+        HintFile::TextDatabase => b"",
+    }
 }
 
 // Adds the line of a field.

@@ -7,7 +7,8 @@ ghost use Rattle.base_core.specs.Sink.{sink_before_and_after};
 ghost use Rattle.dep_core.specs.Repositories.{repositories_of};
 ghost use Rattle.report_core.specs.Reports.{name_dash_version};
 ghost use Rattle.root_names.specs.PackagePath.{package_path};
-ghost use Rattle.hint_core.specs.PackageFile.{ExplainsBeside, ExplainsByText, ExplainsEach, ExplainsPackageRefusal, ExplainsPackage, ExplainsPackageFile, package_file_line};
+ghost use Rattle.hint_core.specs.PackageFile.{ExplainsBeside, ExplainsByText, ExplainsEach, ExplainsPackageRefusal, ExplainsPackage, ExplainsPackageFile, ExplainsRepositories, package_file_line};
+ghost use Rattle.hint_core.specs.Repositories.{no_index_line};
 ghost use Rattle.hint_core.specs.Lines.{printed_bytes, printed_text};
 ghost use Rattle.hint_core.specs.Told.{Tells};
 
@@ -135,10 +136,41 @@ fn lines_by_text<T: Tree>(
 {
     match Repos::read(alloc, text) {
         Ok(repositories) => {
-            lines_beside_each(alloc, name, version, refusal, &repositories, tree)
+            lines_of_repositories(alloc, name, version, refusal, &repositories, tree)
         }
         Err(ReposFault::Bad { line: _ }) => Ok(Vec::new(alloc)),
         Err(ReposFault::Memory) => Err(TreeFault::Memory),
+    }
+}
+
+// The lines on the file of a package, by the repositories.
+fn lines_of_repositories<T: Tree>(
+    alloc: Global,
+    name: &[u8],
+    version: &[u8],
+    refusal: &Refusal,
+    repositories: &Repos,
+    tree: &mut T,
+) -> Result<Vec<u8>, TreeFault>
+    ensures lines { IfOk result (λ lines. ExplainsRepositories name.now version.now refusal.now
+        (T.history tree.old) repositories.now lines.items) }
+    ensures tree { OnlyReads TreeFault.Disk (T.history tree.old) (T.history tree.new)
+        (T.counts tree.old) (T.counts tree.new) result }
+{
+    let mut lines = Vec::from_slice(alloc, no_index_line(repositories))?;
+    let each = lines_beside_each(alloc, name, version, refusal, repositories, tree)?;
+    lines.extend_from_slice(&each)?;
+    Ok(lines)
+}
+
+/// The line that says that there is no repository, if there is none.
+pub fn no_index_line(repositories: &Repos) -> &'static [u8]
+    ensures { result.now ≡ no_index_line repositories.now }
+{
+    if repositories.is_empty() {
+        b"apk: etc/apk/repositories names no index; a line such as main/index.adb names one\n"
+    } else {
+        b""
     }
 }
 

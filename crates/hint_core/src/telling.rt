@@ -5,7 +5,7 @@ ghost use Rattle.std.specs.Option.{option_copied};
 ghost use Rattle.base_core.specs.Read.{OnlyReads, bytes_in};
 ghost use Rattle.base_core.specs.Sink.{sink_before_and_after};
 ghost use Rattle.words_core.specs.Grammar.{command_of};
-ghost use Rattle.hint_core.specs.Hints.{hint_file_name, hints_of, is_explained, subject_file, subject_of};
+ghost use Rattle.hint_core.specs.Hints.{asks_for_owner, hint_file_name, hints_of, is_explained, is_fix, subject_file, subject_of};
 ghost use Rattle.hint_core.specs.Lines.{hint_lines};
 ghost use Rattle.hint_core.specs.Told.{IsFoundForSubject, IsNotDiskFault, Tells, hint_lines_after_refusal};
 
@@ -110,6 +110,28 @@ pub(crate) fn is_explained(alloc: Global, words: &Words) -> Result<bool, AllocEr
     }
 }
 
+/// Whether a command line asks which package owns a path.
+pub(crate) fn asks_for_owner(alloc: Global, words: &Words) -> Result<bool, AllocError>
+    ensures { IfOk result (λ asked. asked ≡ asks_for_owner (command_of words.now)) }
+{
+    match read_words(alloc, words) {
+        Ok(command) => Ok(command.flags().who_owns),
+        Err(words_core::WordsFault::Usage { place: _ }) => Ok(false),
+        Err(words_core::WordsFault::Memory) => Err(AllocError),
+    }
+}
+
+/// Whether a command line installs packages again.
+pub(crate) fn is_fix(alloc: Global, words: &Words) -> Result<bool, AllocError>
+    ensures { IfOk result (λ fixes. fixes ≡ is_fix (command_of words.now)) }
+{
+    match read_words(alloc, words) {
+        Ok(command) => Ok(matches!(command.applet(), Applet::Fix)),
+        Err(words_core::WordsFault::Usage { place: _ }) => Ok(false),
+        Err(words_core::WordsFault::Memory) => Err(AllocError),
+    }
+}
+
 // The file that a refusal is about, if there is one.
 fn read_subject<T: Tree>(
     alloc: Global,
@@ -135,10 +157,7 @@ fn subject_file(alloc: Global, subject: Subject) -> Result<Option<Name>, AllocEr
         Subject::Repository { number: _ } => Ok(Some(repositories_name(alloc)?)),
         Subject::Line { file, line: _ } => Ok(Some(hint_file_name(alloc, file)?)),
         Subject::Database | Subject::AbsentDatabase => Ok(Some(database_name(alloc)?)),
-        Subject::Word { place: _ }
-        | Subject::Information { place: _ }
-        | Subject::SharedPath
-        | Subject::Nothing => Ok(None),
+        _ => Ok(None),
     }
 }
 

@@ -16,14 +16,8 @@ use Rattle.command_core.specs.declared.command.Applet.{Applet}
 use Rattle.command_core.specs.declared.command.Applet.TheVariants.{Add, Del, Upgrade, Fix}
 use Rattle.change_inputs.specs.package_files.Runs.{IsExplainedBySomeReads}
 use Rattle.report_core.specs.declared.refusal.Refusal.{Refusal}
+use Rattle.hint_core.specs.Repositories.{no_index_line}
 use Rattle.unmet_world.specs.Lines.{IsExplanationOfUnmetWorld}
-
--- the line that says that there is no repository, and how a line that names one looks; nothing if there
--- is a repository
-abbrev pub no_index_line : List Repository → List ℕ
-no_index_line repositories =
-    if length repositories == 0 then
-    codes "apk: etc/apk/repositories names no index; a line such as main/index.adb names one\n" else []
 
 -- a text explains the world of a pool, of which a file lists some entries, and whose candidates are of
 -- these repositories

@@ -1,7 +1,7 @@
 -- The lines that explain why nothing can be selected.
-use Rattle.std.specs.Prelude.{◌≡◌, ℕ, ◌-◌, ◌==◌, nat_lt, Bool, true, false, if◌then◌else◌, List, [], ◌∷◌, ◌++◌, codes, length, map, take, Option, Some, None, IfSome, MatchOption, slice_get, unwrap_or}
+use Rattle.std.specs.Prelude.{◌≡◌, ℕ, ◌-◌, ◌==◌, nat_lt, nat_eq, Bool, true, false, ◌||◌, if◌then◌else◌, List, [], ◌∷◌, ◌++◌, codes, length, map, take, Option, Some, None, IfSome, MatchOption, slice_get, unwrap_or}
 use Rattle.std.specs.Option.{option_map_or}
-use Rattle.std.specs.List.{find, flat_map, list_any}
+use Rattle.std.specs.List.{ends_with, find, flat_map, list_any}
 use Rattle.std.specs.Str.{bytes_eq}
 use Rattle.dep_core.specs.Dependency.{Dependency}
 use Rattle.dep_core.specs.DependencyText.{dep_text}
@@ -129,15 +129,24 @@ abbrev pub dots_if : Bool → List ℕ
 dots_if true = codes ", .."
 dots_if false = []
 
+-- whether a name is like the path of a file of a package: it has a `/` (47), or ends with `.apk`
+abbrev pub is_like_file : List ℕ → Bool
+is_like_file name = list_any (λ b. b == 47) name || ends_with nat_eq name (codes ".apk")
+
+-- what is said of a name that is like the path of a file
+abbrev pub note_on_file : List ℕ → List ℕ
+note_on_file name =
+    if is_like_file name then codes "; a package is given by its name, and not by its file" else []
+
 -- the text that no package has or provides a name, with a similar name, if there is one
-abbrev pub no_package_text : Option (List ℕ) → List ℕ
-no_package_text None = codes "no package"
-no_package_text (Some similar) = codes "no package" ++ codes "; a similar name is " ++ similar
+abbrev pub no_package_text : List ℕ → Option (List ℕ) → List ℕ
+no_package_text name None = codes "no package" ++ note_on_file name
+no_package_text name (Some similar) = codes "no package" ++ codes "; a similar name is " ++ similar
 
 -- the text on the candidates at these places, which offer a name; without places, it says that no
 -- package has the name
 abbrev pub offered_text : SealedPool → List Dependency → List ℕ → List ℕ → List ℕ
-offered_text pool listed name [] = no_package_text (similar_name name pool.candidates)
+offered_text pool listed name [] = no_package_text name (similar_name name pool.candidates)
 offered_text pool listed name (c ∷ cs) =
     codes "only "
     ++ joined_texts (with_texts [] (map (offer_text_at pool listed name) (take most_shown_offers (c ∷ cs))))

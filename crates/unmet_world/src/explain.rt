@@ -8,7 +8,7 @@ ghost use Rattle.base_core.specs.declared.tree.TreeFault.TheVariants.{Disk as Di
 ghost use Rattle.change_inputs.specs.Seen.{inputs_seen};
 ghost use Rattle.change_inputs.specs.declared.root.Refused.TheVariants.{Disk as ReadFailed};
 ghost use Rattle.hint_core.specs.Told.{Tells};
-ghost use Rattle.unmet_world.specs.Explained.{ExplainsForApplet, ExplainsChange, ExplainsInputs, ExplainsPool, ExplainsResult, ExplainsCommandLine, no_index_line};
+ghost use Rattle.unmet_world.specs.Explained.{ExplainsForApplet, ExplainsChange, ExplainsInputs, ExplainsPool, ExplainsResult, ExplainsCommandLine};
 ghost use Rattle.words_core.specs.Grammar.{command_of};
 
 use crate::unmet::explanation_of;
@@ -16,7 +16,7 @@ use base_core::{Sink, Tree, TreeFault, Words};
 use change_inputs::{Loaded, Refused};
 use command_core::{Applet, Command};
 use dep_core::{Repos, World};
-use hint_core::{HintFault, write_lines};
+use hint_core::{HintFault, no_index_line, write_lines};
 use search_tables::{Sealed, Upgrade};
 use std::alloc::{AllocError, Global};
 use words_core::read_words;
@@ -146,15 +146,4 @@ fn explanation_of_pool(
     let mut text = explanation_of(alloc, pool, world, listed, repositories)?;
     text.extend_from_slice(no_index_line(repositories))?;
     Ok(text)
-}
-
-// The line that says that there is no repository, if there is none.
-fn no_index_line(repositories: &Repos) -> &'static [u8]
-    ensures { result.now ≡ no_index_line repositories.now }
-{
-    if repositories.is_empty() {
-        b"apk: etc/apk/repositories names no index; a line such as main/index.adb names one\n"
-    } else {
-        b""
-    }
 }

@@ -7,13 +7,13 @@ ghost use Rattle.dep_core.specs.DependencyText.{dep_text};
 ghost use Rattle.dep_core.specs.Meets.{dependency};
 ghost use Rattle.search_tables.specs.candidate_core.Candidates.{uses_tag, is_allowed};
 ghost use Rattle.unmet_world.specs.Exclusion.{is_conflict_met_by};
-ghost use Rattle.unmet_world.specs.Lines.{origin_text, name_and_version_text, candidate_text, candidate_text_at, is_named, is_same_text, is_entry_of_file, entry_origin, entry_origin_text, dependency_owner_text, world_conflict_text, world_conflict_reason_text, offer_text, offer_text_at, with_text_once, with_texts, joined_texts, most_shown_offers, dots_if, no_package_text, offered_text, offers_line_of_name};
+ghost use Rattle.unmet_world.specs.Lines.{origin_text, name_and_version_text, candidate_text, candidate_text_at, is_named, is_same_text, is_entry_of_file, entry_origin, entry_origin_text, dependency_owner_text, world_conflict_text, world_conflict_reason_text, offer_text, offer_text_at, with_text_once, with_texts, joined_texts, most_shown_offers, dots_if, is_like_file, no_package_text, note_on_file, offered_text, offers_line_of_name};
 
 use crate::exclusion::is_conflict_met_by;
 use crate::refutation::{Owner, candidate};
 use crate::similar::similar_name;
 use base_core::Text;
-use dep_core::{Dep, Repos, World, dep_text};
+use dep_core::{Dep, Repos, World, dep_text, has_slash};
 use search_tables::{CandId, Details, Sealed};
 use std::alloc::{AllocError, Global};
 
@@ -395,7 +395,7 @@ fn add_offers(
         ++ offered_text sources.now.pool.now sources.now.listed.now name.now ids.now) }
 {
     if ids.is_empty() {
-        return add_no_package(line, similar_name(sources.pool, name));
+        return add_no_package(line, name, similar_name(sources.pool, name));
     }
     let texts = offers(alloc, sources, name, first_of(ids))?;
     line.extend_from_slice(b"only ")?;
@@ -404,18 +404,36 @@ fn add_offers(
 }
 
 // Adds that no package has a name, and a similar name, if there is one.
-fn add_no_package(line: &mut Vec<u8>, similar: Option<&[u8]>) -> Result<(), AllocError>
+fn add_no_package(line: &mut Vec<u8>, name: &[u8], similar: Option<&[u8]>) -> Result<(), AllocError>
     ensures { OnOk result (line.new.items
-        ≡ line.old.items ++ no_package_text (option_copied similar.entry)) }
+        ≡ line.old.items ++ no_package_text name.now (option_copied similar.entry)) }
 {
     line.extend_from_slice(b"no package")?;
     match similar {
-        None => Ok(()),
+        None => line.extend_from_slice(note_on_file(name)),
         Some(name) => {
             line.extend_from_slice(b"; a similar name is ")?;
             line.extend_from_slice(name)
         }
     }
+}
+
+// What is said of a name that is like the path of a file.
+fn note_on_file(name: &[u8]) -> &'static [u8]
+    ensures { result.now ≡ note_on_file name.now }
+{
+    if is_like_file(name) {
+        b"; a package is given by its name, and not by its file"
+    } else {
+        b""
+    }
+}
+
+// Whether a name is like the path of a file of a package.
+fn is_like_file(name: &[u8]) -> bool
+    ensures { result ≡ is_like_file name.now }
+{
+    has_slash(name) || name.ends_with(b".apk")
 }
 
 // The first of some candidates, as many as are shown.

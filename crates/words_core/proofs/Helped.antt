@@ -67,7 +67,7 @@ common_is old one new lines a b r =
 pub then_text : (old text more one new : List ℕ) → one ≡ old ++ text → new ≡ one ++ more → new ≡ old ++ (text ++ more)
 then_text old text more one new a b = b ∙ (ap (λ t. t ++ more) a ∙ append_assoc old text more)
 
-pub nine_texts : (old p1 p2 p3 p4 p5 p6 p7 p8 p9 t1 t2 t3 t4 t5 t6 t7 t8 t9 : List ℕ) → t1 ≡ old ++ p1 → t2 ≡ t1 ++ p2 → t3 ≡ t2 ++ p3 → t4 ≡ t3 ++ p4 → t5 ≡ t4 ++ p5 → t6 ≡ t5 ++ p6 → t7 ≡ t6 ++ p7 → t8 ≡ t7 ++ p8 → t9 ≡ t8 ++ p9 → t9 ≡ old ++ ((((((((p1 ++ p2) ++ p3) ++ p4) ++ p5) ++ p6) ++ p7) ++ p8) ++ p9)
-nine_texts old p1 p2 p3 p4 p5 p6 p7 p8 p9 t1 t2 t3 t4 t5 t6 t7 t8 t9 a b c d e f g h i =
-    then_text old _ p9 t8 t9 (then_text old _ p8 t7 t8 (then_text old _ p7 t6 t7 (then_text old _ p6 t5 t6
-    (then_text old _ p5 t4 t5 (then_text old _ p4 t3 t4 (then_text old _ p3 t2 t3 (then_text old p1 p2 t1 t2 a b) c) d) e) f) g) h) i
+pub ten_texts : (old p1 p2 p3 p4 p5 p6 p7 p8 p9 p10 t1 t2 t3 t4 t5 t6 t7 t8 t9 t10 : List ℕ) → t1 ≡ old ++ p1 → t2 ≡ t1 ++ p2 → t3 ≡ t2 ++ p3 → t4 ≡ t3 ++ p4 → t5 ≡ t4 ++ p5 → t6 ≡ t5 ++ p6 → t7 ≡ t6 ++ p7 → t8 ≡ t7 ++ p8 → t9 ≡ t8 ++ p9 → t10 ≡ t9 ++ p10 → t10 ≡ old ++ (((((((((p1 ++ p2) ++ p3) ++ p4) ++ p5) ++ p6) ++ p7) ++ p8) ++ p9) ++ p10)
+ten_texts old p1 p2 p3 p4 p5 p6 p7 p8 p9 p10 t1 t2 t3 t4 t5 t6 t7 t8 t9 t10 a b c d e f g h i j =
+    then_text old _ p10 t9 t10 (then_text old _ p9 t8 t9 (then_text old _ p8 t7 t8 (then_text old _ p7 t6 t7 (then_text old _ p6 t5 t6
+    (then_text old _ p5 t4 t5 (then_text old _ p4 t3 t4 (then_text old _ p3 t2 t3 (then_text old p1 p2 t1 t2 a b) c) d) e) f) g) h) i) j

@@ -159,6 +159,19 @@ common_option_help =
     ∷ (help_line (codes "-h, --help") (codes "print this help, or that of a command")
     ∷ (help_line (codes "-V, --version") (codes "print the version of apk") ∷ [])))
 
+-- ---- fields
+
+-- the lines of the fields that an option of a command takes, by what their values are
+abbrev pub field_help : Applet → List HelpLine
+field_help Mkpkg =
+    help_line (codes "needed") (codes "name, version")
+    ∷ (help_line (codes "any text") (codes "description, arch, license, origin, maintainer, url")
+    ∷ (help_line (codes "a number") (codes "build-time, provider-priority, replaces-priority")
+    ∷ (help_line (codes "hexadecimal digits") (codes "repo-commit")
+    ∷ (help_line (codes "dependencies") (codes "depends, provides, replaces, install-if, recommends")
+    ∷ (help_line (codes "words") (codes "tags") ∷ [])))))
+field_help applet = []
+
 -- ---- operands
 
 -- the help line of an operand NAME
@@ -176,7 +189,7 @@ pattern_help = help_line (codes "PATTERN") (codes "a name, in which each * stand
 -- the lines of the operands of a command
 abbrev pub operand_help : Applet → List HelpLine
 operand_help Add =
-    help_line (codes "DEPENDENCY") (codes "a name, or name>=1.2, name@tag, !name")
+    help_line (codes "DEPENDENCY") (codes "a name (no path), or name>=1.2, name@tag, !name")
     ∷ []
 operand_help Del = name_help ∷ []
 operand_help Upgrade = name_help ∷ []
@@ -221,6 +234,7 @@ command_help applet =
     ++ codes "\n" ++ purpose applet ++ codes "\n"
     ++ codes "\nOptions:\n" ++ help_lines_text option_column (option_help applet)
     ++ help_lines_text option_column common_option_help
+    ++ section_text (codes "\nFields that -I takes:\n") option_column (field_help applet)
     ++ section_text (codes "\nOperands:\n") option_column (operand_help applet)
     ++ codes "\nManual page: apk(8)\n"
 

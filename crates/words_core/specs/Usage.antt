@@ -125,7 +125,8 @@ value_kind_description Nonempty = codes "a text that is not empty"
 value_kind_description FileValue = codes "a path below this folder"
 value_kind_description Output = codes "a path of at most 1016 bytes below this folder"
 value_kind_description Uncompressed = codes "none"
-value_kind_description Script = codes "TYPE:FILE with the type of a script"
+value_kind_description Script =
+    codes "TYPE:FILE with TYPE trigger or (pre|post)-(install|deinstall|upgrade)"
 
 -- how the line describes an operand of this kind
 abbrev pub operand_kind_description : OperandKind → List ℕ

@@ -1,7 +1,7 @@
-//! The texts of `--help`: a row for each command, option and operand.
+//! The texts of `--help`: a row for each command, option and operand, and for fields of a package.
 //! They are shown in `docs/commands.md`, "Help".
 ghost use Rattle.std.specs.Prelude.{◌≡◌, map};
-ghost use Rattle.words_core.specs.HelpTexts.{common_option_help, listed_commands, operand_help, option_help, purpose, synopsis};
+ghost use Rattle.words_core.specs.HelpTexts.{common_option_help, field_help, listed_commands, operand_help, option_help, purpose, synopsis};
 ghost use Rattle.words_core.specs.Rows.{help_row_line};
 
 use command_core::Applet;
@@ -221,10 +221,21 @@ static VERSION_OPTIONS: [HelpRow; 2] = [
     HelpRow { subject: b"-c, --check", text: b"print each text that is no version" },
 ];
 
+// Fields, by what their values are.
+#[rattlefmt::skip]
+static MKPKG_FIELDS: [HelpRow; 6] = [
+    HelpRow { subject: b"needed", text: b"name, version" },
+    HelpRow { subject: b"any text", text: b"description, arch, license, origin, maintainer, url" },
+    HelpRow { subject: b"a number", text: b"build-time, provider-priority, replaces-priority" },
+    HelpRow { subject: b"hexadecimal digits", text: b"repo-commit" },
+    HelpRow { subject: b"dependencies", text: b"depends, provides, replaces, install-if, recommends" },
+    HelpRow { subject: b"words", text: b"tags" },
+];
+
 // Operands.
 #[rattlefmt::skip]
 static ADD_OPERANDS: [HelpRow; 1] = [
-    HelpRow { subject: b"DEPENDENCY", text: b"a name, or name>=1.2, name@tag, !name" },
+    HelpRow { subject: b"DEPENDENCY", text: b"a name (no path), or name>=1.2, name@tag, !name" },
 ];
 
 #[rattlefmt::skip]
@@ -346,6 +357,16 @@ pub(crate) fn option_help(applet: Applet) -> &'static [HelpRow]
         Applet::Mkpkg => &MKPKG_OPTIONS,
         Applet::Mkndx => &MKNDX_OPTIONS,
         Applet::Version => &VERSION_OPTIONS,
+        _ => &[],
+    }
+}
+
+/// The lines of the fields that an option of a command takes.
+pub(crate) fn field_help(applet: Applet) -> &'static [HelpRow]
+    ensures { map help_row_line result.now ≡ field_help applet }
+{
+    match applet {
+        Applet::Mkpkg => &MKPKG_FIELDS,
         _ => &[],
     }
 }

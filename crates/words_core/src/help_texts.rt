@@ -5,8 +5,8 @@ ghost use Rattle.words_core.specs.HelpTexts.{command_help, command_help_line, co
 ghost use Rattle.words_core.specs.Rows.{help_row_line};
 
 use crate::help_rows::{
-    HelpRow, LISTED_COMMANDS, PROGRAM_USAGE, common_option_help, operand_help, option_help,
-    purpose, synopsis,
+    HelpRow, LISTED_COMMANDS, PROGRAM_USAGE, common_option_help, field_help, operand_help,
+    option_help, purpose, synopsis,
 };
 use crate::options::{applet_of, applet_word};
 use base_core::Text;
@@ -135,6 +135,7 @@ fn push_command_help(text: &mut Vec<u8>, applet: Applet) -> Result<(), AllocErro
     text.extend_from_slice(b"\nOptions:\n")?;
     push_lines(text, option_help(applet))?;
     push_lines(text, common_option_help())?;
+    push_section(text, b"\nFields that -I takes:\n", field_help(applet))?;
     push_section(text, b"\nOperands:\n", operand_help(applet))?;
     text.extend_from_slice(b"\nManual page: apk(8)\n")?;
     Ok(())

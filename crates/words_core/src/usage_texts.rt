@@ -51,7 +51,9 @@ fn value_kind_description(kind: ValueKind) -> &'static [u8]
         ValueKind::File => b"a path below this folder",
         ValueKind::Output => b"a path of at most 1016 bytes below this folder",
         ValueKind::Uncompressed => b"none",
-        ValueKind::Script => b"TYPE:FILE with the type of a script",
+        ValueKind::Script => {
+            b"TYPE:FILE with TYPE trigger or (pre|post)-(install|deinstall|upgrade)"
+        }
     }
 }
 
