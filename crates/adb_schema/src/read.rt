@@ -236,7 +236,8 @@ fn check_further(blocks: &mut Blocks<'_>) -> Result<(), Cause>
 
 /// Why a block is not allowed after the first, if it is not.
 fn unexpected_contents_block_fault(block: &Block<'_>) -> Option<Cause>
-    ensures { result ≡ unexpected_contents_block_fault block.now.kind block.now.payload.now block.now.at }
+    ensures { result
+        ≡ unexpected_contents_block_fault block.now.kind block.now.payload.now block.now.at }
 {
     match block.kind {
         BlockKind::Contents => Some(unexpected_contents_cause(block.payload, block.at)),

@@ -217,7 +217,8 @@ fn test_removed(
     // Refused if the definition refuses the removed package; otherwise nothing is returned.
     ensures { Agrees (λ _. None) result (member_of_removed_name no_scripts (placed_name_seen
         name.now).name
-        (change_seen change.now) (package_at_old_place (packages_of db.now) (placed_name_seen name.now))) }
+        (change_seen change.now) (package_at_old_place (packages_of db.now)
+        (placed_name_seen name.now))) }
 {
     match name.old {
         Some(i) if i < db.len() => {

@@ -18,7 +18,8 @@ use Rattle.report_core.specs.QueryReports.{policy_database_line, repository_line
 -- installed, if only installed packages are asked for
 abbrev pub IsInListReport : List Operand → Bool → Candidate → Type 0
 IsInListReport patterns installed_only c =
-    ((patterns ≡ []) ⊎ IsNameMatchedBySomePattern patterns c.name) × (installed_only ≡ true → c.installed ≡ true)
+    ((patterns ≡ []) ⊎ IsNameMatchedBySomePattern patterns c.name)
+    × (installed_only ≡ true → c.installed ≡ true)
 
 -- `search` is asked for a candidate: it is of a repository, and a pattern matches a part of one of its
 -- names

@@ -22,7 +22,8 @@ ghost use Rattle.report_core.specs.declared.refusal.Refusal.TheVariants.{NotInst
 /// Without an operand `info` prints the name of each package, in byte order, in whatever order the
 /// database has them.
 pub fn info_prints_the_names_in_byte_order()
-    ensures { (packages : List Plain) → HasSortedNames packages (sorted_package_name_lines packages) }
+    ensures { (packages : List Plain)
+        → HasSortedNames packages (sorted_package_name_lines packages) }
 {}
 
 /// The operand that `info` refuses is the first without a package.
@@ -82,14 +83,16 @@ pub fn info_answers_each_operand_in_the_order_given()
         → operands_info (info_form_of_flags flags) packages [] ≡ [] }
     // An operand with a package has its lines at its place in the report.
     ensures found { (flags : Flags) (packages : List Plain) (front rest : List Operand)
-        (o : Operand) (pkg : Plain) → package_meant_by_operand_text (info_form_of_flags flags) packages o.text ≡ Some pkg
+        (o : Operand) (pkg : Plain)
+        → package_meant_by_operand_text (info_form_of_flags flags) packages o.text ≡ Some pkg
         → operands_info (info_form_of_flags flags) packages (front ++ o ∷ rest)
         ≡ operands_info (info_form_of_flags flags) packages front
         ++ (package_info (info_form_of_flags flags) o.text pkg
         ++ operands_info (info_form_of_flags flags) packages rest) }
     // An operand without a package has no lines.
     ensures absent { (flags : Flags) (packages : List Plain) (front rest : List Operand)
-        (o : Operand) → package_meant_by_operand_text (info_form_of_flags flags) packages o.text ≡ None
+        (o : Operand) → package_meant_by_operand_text (info_form_of_flags flags) packages o.text
+        ≡ None
         → operands_info (info_form_of_flags flags) packages (front ++ o ∷ rest)
         ≡ operands_info (info_form_of_flags flags) packages front
         ++ operands_info (info_form_of_flags flags) packages rest }

@@ -231,7 +231,8 @@ IsRefusedOrCommitsNothing IsOne answer = IsRefusedOrOutOfMemory answer ⊎ HasOu
 abbrev pub LeavesDurableFilesIfRequired :
     Effect → (List ℕ → Bool) → TreeState → List TreeState → Outcome → Type 0
 LeavesDurableFilesIfRequired effect ignored v now outcome =
-    MustOutcomeBeDurable effect ignored v outcome → HoldsNow now (EachCrashLeavesStateOf ignored outcome.files)
+    MustOutcomeBeDurable effect ignored v outcome
+    → HoldsNow now (EachCrashLeavesStateOf ignored outcome.files)
 
 -- Once an outcome is answered, even a refusal, or a sink's fault instead, its files are durable if they
 -- must be. After other answers nothing is said.

@@ -29,6 +29,7 @@ IsVerdictOnChange (Err refused) judged = IsVerdictOnRefusal refused judged
 -- the verdict on a report: it is reported, with the refusal after it, or a refusal is
 abbrev pub IsVerdictOnReport : Result ReportAndRefusal Refused → Result Verdict TreeFault → Type 0
 IsVerdictOnReport (Ok done) (Ok verdict) =
-    (files : Files) → as_outcome files verdict ≡ outcome_without_commit done.following_refusal done.report files
+    (files : Files) → as_outcome files verdict
+    ≡ outcome_without_commit done.following_refusal done.report files
 IsVerdictOnReport (Ok done) (Err fault) = ⊥
 IsVerdictOnReport (Err refused) judged = IsVerdictOnRefusal refused judged

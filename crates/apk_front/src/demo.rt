@@ -69,7 +69,8 @@ fn told(alloc: Global, count: u16, last: Verdict) -> Result<Verdict, TreeFault>
 
 // The verdict with the refusal, if there is one, and with the report otherwise.
 fn unless_refused(alloc: Global, refusal: Option<Refusal>, report: Text) -> Verdict
-    ensures { (files : Files) → as_outcome files result ≡ just_report_unless_refusal files refusal report }
+    ensures { (files : Files) → as_outcome files result
+        ≡ just_report_unless_refusal files refusal report }
 {
     match refusal {
         Some(refusal) => Verdict::refused(alloc, refusal),

@@ -46,7 +46,8 @@ fn verdict_by(
 ) -> Result<Verdict, AllocError>
     requires { IsTrue (are_files operands.now) }
     ensures { IfOk result (λ verdict. (files : Files)
-        → as_outcome files verdict ≡ just_report_unless_refusal files refusal (sound_lines operands.now)) }
+        → as_outcome files verdict
+        ≡ just_report_unless_refusal files refusal (sound_lines operands.now)) }
 {
     match refusal {
         Some(refusal) => Ok(Verdict::refused(alloc, refusal)),

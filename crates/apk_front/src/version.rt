@@ -38,7 +38,8 @@ fn compare(alloc: Global, operands: &Operands) -> Result<Verdict, AllocError>
     requires { length operands.now ≡ 2 }
     // The verdict is that of the specification, whatever the files are.
     ensures { IfOk result (λ verdict. (files : Files) → as_outcome files verdict
-        ≡ just_report_unless_refusal files (version_refusal operands.now) (version_order_report operands.now)) }
+        ≡ just_report_unless_refusal files (version_refusal operands.now)
+        (version_order_report operands.now)) }
 {
     let (first, second) = (operands.get(0), operands.get(1));
     let Some(version) = Version::read(first.text.as_bytes()) else {
@@ -69,7 +70,8 @@ fn order_line(order: Ordering) -> &'static [u8]
 fn check(alloc: Global, operands: &Operands) -> Result<Verdict, AllocError>
     // The verdict is that of the specification, whatever the files are.
     ensures { IfOk result (λ verdict. (files : Files) → as_outcome files verdict
-        ≡ outcome_without_commit (version_refusal operands.now) (invalid_version_lines operands.now) files) }
+        ≡ outcome_without_commit (version_refusal operands.now)
+        (invalid_version_lines operands.now) files) }
 {
     let report = lines(alloc, operands)?;
     let refusal = first_refusal(operands);

@@ -154,7 +154,8 @@ fn push_file<'a>(
 
 // Adds a digest with the name of its function, which its length determines.
 fn push_digest(alloc: Global, report: &mut Vec<u8>, digest: &[u8]) -> Result<(), AllocError>
-    ensures { OnOk result (report.new.items ≡ report.old.items ++ digest_with_algorithm_name digest.now) }
+    ensures { OnOk result (report.new.items ≡ report.old.items
+        ++ digest_with_algorithm_name digest.now) }
 {
     match digest.len() {
         SHA1_LEN => push_digits(alloc, report, b"sha1:", digest),

@@ -59,7 +59,8 @@ pub(crate) fn is_absent_or_different(found: Option<&[u8]>, bytes: &[u8]) -> bool
 /// `ResultTooLarge` if the intent exceeds a limit of the writer, or `Memory`.
 pub(crate) fn begin_stage(alloc: Global, removals: Names, writes: Names) -> Result<Stage, Refused>
     requires { AreDistinctNamesAllowedInIntent (removals ++ writes) }
-    ensures stage { IfOk result (λ stage. stage ≡ new_stage_of_removals_and_writes removals writes) }
+    ensures stage { IfOk result (λ stage. stage
+        ≡ new_stage_of_removals_and_writes removals writes) }
     ensures told { Agrees (λ _. true) result (unless_overflow
         (overflow_of (value_of_intent (intent_of_lists removals writes))) true) }
 {

@@ -42,7 +42,8 @@ pub fn replace<T: Tree>(
     // files. The ignored names include the scratch name.
     ensures moments { IfObservable (T.history tree.old) (λ v. (ignored : List ℕ → Bool)
         → IsDurable (StateDependsOn ignored) v → IgnoresScratchNameButNotIntent ignored name.now
-        → Since (IsMomentOfReplacing ignored (files_after_replacement name.now bytes.now (files_of v)) v)
+        → Since (IsMomentOfReplacing ignored (files_after_replacement name.now bytes.now
+        (files_of v)) v)
         (T.history tree.old) (T.history tree.new)) }
 
     // Whatever it returns, the tree is durable.
@@ -54,7 +55,8 @@ pub fn replace<T: Tree>(
     ensures settled { IfObservable (T.history tree.old) (λ v. (ignored : List ℕ → Bool)
         → IsDurable (StateDependsOn ignored) v → IgnoresScratchNameButNotIntent ignored name.now
         → OnOk result (HoldsNow (T.history tree.new)
-        (EachCrashLeavesStateOf ignored (files_after_replacement name.now bytes.now (files_of v))))) }
+        (EachCrashLeavesStateOf ignored (files_after_replacement name.now bytes.now
+        (files_of v))))) }
 
     // At each moment the files as read are the old ones, apart from the scratch name, or the new
     // ones: the latter once it has returned Ok.

@@ -19,7 +19,8 @@ use std::marker::PhantomData;
 
 /// The report of `info` without operands: a line for each package, in byte order of their names.
 pub(crate) fn report_names(alloc: Global, db: &Db<'_>) -> Result<ReportAndRefusal, AllocError>
-    ensures { IfOk result (λ done. done ≡ report_and_refusal (sorted_package_name_lines (packages_of db.now))
+    ensures { IfOk result (λ done. done
+        ≡ report_and_refusal (sorted_package_name_lines (packages_of db.now))
         None) }
 {
     let mut names = names_of(alloc, db)?;

@@ -94,7 +94,8 @@ fn push_operand(
     text: &[u8],
 ) -> Result<bool, AllocError>
     ensures found { IfOk result
-        (λ found. found ≡ is_some (package_meant_by_operand_text form (packages_of db.now) text.now)) }
+        (λ found. found ≡ is_some (package_meant_by_operand_text form
+        (packages_of db.now) text.now)) }
     // What the operand asks for is appended, if the package is installed.
     ensures told { IfOk result (λ _. report.new.items ≡ report.old.items
         ++ option_map_or (package_info form text.now)

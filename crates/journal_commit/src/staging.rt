@@ -30,7 +30,8 @@ pub fn begin_file<T: Tree>(stage: &mut Stage, tree: &mut T) -> Result<(), Disk>
     // Once it has returned Ok, an empty file is staged, which is begun.
     ensures staging { (contents : List (List ℕ)) (v : TreeState) (first : List TreeState)
         → IsRunThatStagedContents stage.old contents None v first (T.history tree.old)
-        → OnOk result (IsRunThatStagedContents stage.new contents (Some []) v first (T.history tree.new)) }
+        → OnOk result (IsRunThatStagedContents stage.new contents (Some []) v first
+        (T.history tree.new)) }
     // The stage then has an open file; after an error it is as before.
     ensures view { OnOk result (stage.new ≡ record stage.old { is_open = true }) }
     ensures err { OnErr result (stage.new ≡ stage.old) }
@@ -50,7 +51,8 @@ pub fn append_piece<T: Tree>(stage: &mut Stage, tree: &mut T, piece: &[u8]) -> R
     ensures staging { (contents : List (List ℕ)) (so_far : List ℕ) (v : TreeState)
         (first : List TreeState)
         → IsRunThatStagedContents stage.old contents (Some so_far) v first (T.history tree.old)
-        → OnOk result (IsRunThatStagedContents stage.new contents (Some (so_far ++ piece.now)) v first
+        → OnOk result (IsRunThatStagedContents stage.new contents (Some (so_far
+        ++ piece.now)) v first
         (T.history tree.new)) }
     ensures view { stage.new ≡ stage.old }
 {
@@ -130,7 +132,8 @@ pub fn runs_with_accepted_targets_begin_with_reads<T: Tree>()
 pub fn a_new_stage_is_staging()
     ensures { (removals writes : List (List ℕ)) (now : List TreeState) → IfObservable now (λ v.
         v.names intent_name ≡ None → HasNoStagedNames (files_of v)
-        → IsRunThatStagedContents (new_stage_of_removals_and_writes removals writes) [] None v now now) }
+        → IsRunThatStagedContents
+        (new_stage_of_removals_and_writes removals writes) [] None v now now) }
 {}
 
 /// A run that only stages files is a run of a staged change, whatever files this is to lead to.
@@ -143,6 +146,7 @@ pub fn a_staging_run_is_a_stage_run()
 /// were staged.
 pub fn a_change_leaves_nothing_staged()
     ensures { (intent : Intent) (contents : List (List ℕ)) (files : Files)
-        → HasFreeDistinctNames intent → length contents ≡ length intent.writes → HasNoStagedNames files
+        → HasFreeDistinctNames intent → length contents ≡ length intent.writes
+        → HasNoStagedNames files
         → HasNoStagedNames (files_after_actions intent (files_with_staged 1 contents files)) }
 {}

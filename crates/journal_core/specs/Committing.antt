@@ -73,7 +73,8 @@ pub record IsCommitting (ignored : List ℕ → Bool) (files : Files) (number : 
   -- each crash leaves a state that a crash at the start might have left, or that of `files`
   pub old_or_new : EachCrashLeavesOldOrNew ignored start files v
   -- as long as no intent made since leads to these files, each crash leaves a state from before
-  pub unpublished : (HasPublishedIntentForFiles ignored files number v → ⊥) → EachCrashLeavesOld ignored start v
+  pub unpublished : (HasPublishedIntentForFiles ignored files number v → ⊥)
+      → EachCrashLeavesOld ignored start v
   -- no fewer files have been made than at the start
   pub made : start.made ≤ v.made
 
@@ -112,7 +113,8 @@ pub record PublishesIntent {T E : Type 0} (stage : Staging) (old now : List Tree
   -- once it has returned Ok, the change is committed by an intent of this call
   pub published : IfObservable old (λ v. (ignored : List ℕ → Bool) (contents : List (List ℕ)) (base : Files)
       → IsDurable (StateDependsOn ignored) v → HasStagedContents stage contents None base v
-      → OnOk result (IsHistoryThatCommitsFiles ignored (files_after_actions stage.intent (files_of v)) v old now))
+      → OnOk result (IsHistoryThatCommitsFiles ignored
+      (files_after_actions stage.intent (files_of v)) v old now))
   -- once it has returned Ok, each crash leaves the state of the actions done
   pub settled : IfObservable old (λ v. (ignored : List ℕ → Bool) (contents : List (List ℕ)) (base : Files)
       → IsDurable (StateDependsOn ignored) v → HasStagedContents stage contents None base v

@@ -45,7 +45,8 @@ HasOldOrNewBytesOutsideJournal old new v =
 -- `files`. `base` is any files for which this held at the start
 abbrev pub KeepsOldOrNewBytes : Files → TreeState → List TreeState → List TreeState → Type 0
 KeepsOldOrNewBytes files v old new =
-    (base : Files) → HasOldOrNewBytesOutsideJournal base files v → Since (HasOldOrNewBytesOutsideJournal base files) old new
+    (base : Files) → HasOldOrNewBytesOutsideJournal base files v
+    → Since (HasOldOrNewBytesOutsideJournal base files) old new
 
 -- the intent is as it was at the start, and each staged file is unchanged or gone
 pub record KeepsIntentWhileStageShrinks (start v : TreeState) : Type 0 where

@@ -39,12 +39,14 @@ move_if_present files from to (Some bytes) = move_name files from to bytes
 abbrev pub files_after_staged_moves_from : ℕ → List (List ℕ) → Files → Files
 files_after_staged_moves_from k [] files = files
 files_after_staged_moves_from k (name ∷ names) files =
-    files_after_staged_moves_from (k + 1) names (move_if_present files (stage_name k) name (files (stage_name k)))
+    files_after_staged_moves_from (k + 1) names
+    (move_if_present files (stage_name k) name (files (stage_name k)))
 
 -- the files after all actions of an intent: first the removals, then the moves, of which the first
 -- moves the staged file with the number 1
 abbrev pub files_after_actions : Intent → Files → Files
-files_after_actions intent files = files_after_staged_moves_from 1 intent.writes (files_without_names intent.removals files)
+files_after_actions intent files =
+    files_after_staged_moves_from 1 intent.writes (files_without_names intent.removals files)
 
 -- ---- what recovery yields
 

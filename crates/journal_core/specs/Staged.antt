@@ -170,7 +170,8 @@ HasPublishedIntentForFiles ignored files made v =
 abbrev pub HasMomentOfPublishedIntentForFiles : (List ℕ → Bool) → Files → ℕ → List TreeState → Type 0
 HasMomentOfPublishedIntentForFiles ignored files made [] = ⊥
 HasMomentOfPublishedIntentForFiles ignored files made (v ∷ earlier) =
-    HasPublishedIntentForFiles ignored files made v ⊎ HasMomentOfPublishedIntentForFiles ignored files made earlier
+    HasPublishedIntentForFiles ignored files made v
+    ⊎ HasMomentOfPublishedIntentForFiles ignored files made earlier
 
 -- A moment of a run that leads to these files. A crash leaves a state that a crash at the start
 -- might have left, or the state of these files. Until an intent of this run has been under its

@@ -79,7 +79,8 @@ impl Stage {
         // The names are allowed in an intent (journal entry).
         requires { AreDistinctNamesAllowedInIntent (removals.now ++ writes.now) }
         // On Ok, the stage is new, with these removals and writes.
-        ensures view { IfOk result (λ stage. stage ≡ new_stage_of_removals_and_writes removals.now writes.now) }
+        ensures view { IfOk result (λ stage. stage
+            ≡ new_stage_of_removals_and_writes removals.now writes.now) }
         // The error for a payload that is too large has the counts at which a limit is exceeded.
         ensures large { (bytes values : ℕ) → IsErrOf result (WriteFault.TooLarge bytes values)
             → overflow_of (value_of_intent (intent_of_lists removals.now writes.now))
@@ -104,7 +105,8 @@ impl Stage {
         // The names are allowed in an intent (journal entry).
         requires { AreDistinctNamesAllowedInIntent (removals ++ writes) }
         // On Ok, the stage is new, with these removals and writes.
-        ensures view { IfOk result (λ stage. stage ≡ new_stage_of_removals_and_writes removals writes) }
+        ensures view { IfOk result (λ stage. stage
+            ≡ new_stage_of_removals_and_writes removals writes) }
         // The error for a payload that is too large has the counts at which a limit is exceeded.
         ensures large { (bytes values : ℕ) → IsErrOf result (WriteFault.TooLarge bytes values)
             → overflow_of (value_of_intent (intent_of_lists removals writes))
@@ -201,7 +203,8 @@ impl Stage {
         ensures staged { IfObservable (T.history tree.old) (λ v. (contents : List (List ℕ))
             (base : Files) → HasStagedContents self.now contents None base v
             → OnOk result (HoldsNow (T.history tree.new)
-            (λ w. HasStagedContents self.now contents None base w × IsRestoredByNoCrash intent_name w))) }
+            (λ w. HasStagedContents self.now contents None base w
+            × IsRestoredByNoCrash intent_name w))) }
         // At each moment the files as read are unchanged.
         ensures reads { IfObservable (T.history tree.old) (λ v.
             Since (λ w. files_of w ≡ files_of v) (T.history tree.old) (T.history tree.new)) }
@@ -258,7 +261,8 @@ impl Stage {
 
         // If the paths of the stage are free, no call is a misuse.
         ensures proper { IfObservable (T.history tree.old) (λ v. (contents : List (List ℕ))
-            (base : Files) → HasStagedContents self.old contents None base v → AreStagingPathsFree base
+            (base : Files) → HasStagedContents self.old contents None base v
+            → AreStagingPathsFree base
             → (T.counts tree.new).misuses ≡ (T.counts tree.old).misuses) }
     {
         self.sync_before_first(tree)?;
@@ -276,11 +280,13 @@ impl Stage {
         // returned Ok, the piece is added to the bytes so far.
         ensures moments { IfObservable (T.history tree.old) (λ v. (ignored : List ℕ → Bool)
             (contents : List (List ℕ)) (so_far : List ℕ) (base : Files)
-            → IsDurable (StateDependsOn ignored) v → HasStagedContents self.old contents (Some so_far) base v
+            → IsDurable (StateDependsOn ignored) v
+            → HasStagedContents self.old contents (Some so_far) base v
             → Since (StateIsUnchanged ignored v) (T.history tree.old) (T.history tree.new)) }
         // Once it has returned Ok, the begun file has the bytes so far and then these.
         ensures staged { IfObservable (T.history tree.old) (λ v. (contents : List (List ℕ))
-            (so_far : List ℕ) (base : Files) → HasStagedContents self.old contents (Some so_far) base v
+            (so_far : List ℕ) (base : Files)
+            → HasStagedContents self.old contents (Some so_far) base v
             → OnOk result (HoldsNow (T.history tree.new)
             (HasStagedContents self.new contents (Some (so_far ++ piece.now)) base))) }
 
@@ -302,7 +308,8 @@ impl Stage {
 
         // No call is a misuse.
         ensures proper { IfObservable (T.history tree.old) (λ v. (contents : List (List ℕ))
-            (so_far : List ℕ) (base : Files) → HasStagedContents self.old contents (Some so_far) base v
+            (so_far : List ℕ) (base : Files)
+            → HasStagedContents self.old contents (Some so_far) base v
             → (T.counts tree.new).misuses ≡ (T.counts tree.old).misuses) }
     {
         append(tree, self.open_name(), piece)
@@ -317,11 +324,13 @@ impl Stage {
         // returned Ok, the bytes so far are staged for this write, synced.
         ensures moments { IfObservable (T.history tree.old) (λ v. (ignored : List ℕ → Bool)
             (contents : List (List ℕ)) (so_far : List ℕ) (base : Files)
-            → IsDurable (StateDependsOn ignored) v → HasStagedContents self.old contents (Some so_far) base v
+            → IsDurable (StateDependsOn ignored) v
+            → HasStagedContents self.old contents (Some so_far) base v
             → Since (StateIsUnchanged ignored v) (T.history tree.old) (T.history tree.new)) }
         // Once it has returned Ok, the begun file is one of the staged files.
         ensures staged { IfObservable (T.history tree.old) (λ v. (contents : List (List ℕ))
-            (so_far : List ℕ) (base : Files) → HasStagedContents self.old contents (Some so_far) base v
+            (so_far : List ℕ) (base : Files)
+            → HasStagedContents self.old contents (Some so_far) base v
             → OnOk result (HoldsNow (T.history tree.new)
             (HasStagedContents self.new (contents ++ so_far ∷ []) None base))) }
 
@@ -342,7 +351,8 @@ impl Stage {
 
         // No call is a misuse.
         ensures proper { IfObservable (T.history tree.old) (λ v. (contents : List (List ℕ))
-            (so_far : List ℕ) (base : Files) → HasStagedContents self.old contents (Some so_far) base v
+            (so_far : List ℕ) (base : Files)
+            → HasStagedContents self.old contents (Some so_far) base v
             → (T.counts tree.new).misuses ≡ (T.counts tree.old).misuses) }
     {
         sync_file(tree, self.open_name())?;
@@ -377,7 +387,8 @@ impl Stage {
 
         // If the paths of the stage are free, no call is a misuse.
         ensures proper { IfObservable (T.history tree.old) (λ v. (contents : List (List ℕ))
-            (base : Files) → HasStagedContents self.old contents None base v → AreStagingPathsFree base
+            (base : Files) → HasStagedContents self.old contents None base v
+            → AreStagingPathsFree base
             → (T.counts tree.new).misuses ≡ (T.counts tree.old).misuses) }
     {
         publish_intent(tree, &self.intent)?;

@@ -56,7 +56,8 @@ pub(crate) fn intent_file(
 /// The container of an intent's canonical payload is read as this intent, and the intent has fewer
 /// than 2^63 names.
 fn an_intent_is_read_back()
-    ensures read { (removals writes : List (List ℕ)) → AreDistinctNamesAllowedInIntent (removals ++ writes)
+    ensures read { (removals writes : List (List ℕ))
+        → AreDistinctNamesAllowedInIntent (removals ++ writes)
         → overflow_of (value_of_intent (intent_of_lists removals writes)) ≡ None
         → read_intent
         (file_of INTENT_WORD (canonical (value_of_intent (intent_of_lists removals writes))))

@@ -86,6 +86,7 @@ pub fn a_read_intent_has_free_names()
 
 /// The names of a planned change are free, no write is repeated, and no written name is removed.
 pub fn the_names_of_a_change_are_free()
-    ensures { (removals writes : List (List ℕ)) → AreDistinctNamesAllowedInIntent (removals ++ writes)
+    ensures { (removals writes : List (List ℕ)) → AreDistinctNamesAllowedInIntent (removals
+        ++ writes)
         → HasFreeDistinctNames (intent_of_lists removals writes) }
 {}

@@ -56,7 +56,8 @@ pub fn recover<T: Tree>(alloc: Global, tree: &mut T) -> Result<(), RecoverFault>
     // If it found an intent, each crash leaves their state.
     ensures settled { IfObservable (T.history tree.old) (λ v. (ignored : List ℕ → Bool)
         → IsDurable (StateDependsOn ignored) v → IsSome (intent_of (files_of v))
-        → OnOk result (HoldsNow (T.history tree.new) (EachCrashLeavesStateOf ignored (files_of v)))) }
+        → OnOk result (HoldsNow (T.history tree.new) (EachCrashLeavesStateOf ignored
+        (files_of v)))) }
 
     // Whatever it returns, staged files are only removed, and the intent is removed last.
     ensures journal { RemovesIntentLast (T.history tree.old) (T.history tree.new) }

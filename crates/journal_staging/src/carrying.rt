@@ -45,7 +45,8 @@ fn stage_each<T: Tree>(
     ensures staging { (contents : List (List ℕ)) (v : TreeState) (first : List TreeState)
         → IsRunThatStagedContents stage.old [] None v first (T.history tree.old)
         → EachDenotes (files_of v) writes.now contents
-        → OnOk result (IsRunThatStagedContents stage.new contents None v first (T.history tree.new)) }
+        → OnOk result (IsRunThatStagedContents stage.new contents None v first
+        (T.history tree.new)) }
     // If each source has its bytes, an error is a fault of the tree.
     ensures good { (contents : List (List ℕ)) (v : TreeState) (first : List TreeState)
         → IsRunThatStagedContents stage.old [] None v first (T.history tree.old)
@@ -91,7 +92,8 @@ pub fn carry_out<T: Tree>(
     piece: &mut Piece,
 ) -> Result<(), StageFault>
     // Nothing is staged yet.
-    requires new { stage.old ≡ new_stage_of_removals_and_writes stage.old.intent.removals stage.old.intent.writes }
+    requires new { stage.old
+        ≡ new_stage_of_removals_and_writes stage.old.intent.removals stage.old.intent.writes }
     // There is a source for each write of the intent.
     requires same { length writes.now ≡ length stage.old.intent.writes }
 

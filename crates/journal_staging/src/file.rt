@@ -38,9 +38,11 @@ pub(crate) fn stage_file<T: Tree>(
     // Whatever the tree returns for the package: bytes with the expected size and digest are
     // staged.
     ensures listed { HaveBeenReturned file.entry [] → (contents : List (List ℕ)) (v : TreeState)
-        (first : List TreeState) → IsRunThatStagedContents stage.old contents None v first (T.history tree.old)
+        (first : List TreeState)
+        → IsRunThatStagedContents stage.old contents None v first (T.history tree.old)
         → OnOk result ((bytes : List ℕ) × AreAsExpected (expected_file_of file.entry) bytes
-        × IsRunThatStagedContents stage.new (contents ++ bytes ∷ []) None v first (T.history tree.new)) }
+        × IsRunThatStagedContents stage.new (contents
+        ++ bytes ∷ []) None v first (T.history tree.new)) }
     // If it was not refused from the start: a test fails only for bytes that have the expected
     // size, and another digest.
     ensures bad { HaveBeenReturned file.entry [] → remembered_fault file.entry ≡ None

@@ -41,7 +41,8 @@ fn stage_packaged<T: Tree>(
     ensures listed { (contents : List (List ℕ)) (v : TreeState) (first : List TreeState)
         → IsRunThatStagedContents stage.old contents None v first (T.history tree.old)
         → OnOk result ((bytes : List ℕ) × AreListedContentsOf f.now bytes
-        × IsRunThatStagedContents stage.new (contents ++ bytes ∷ []) None v first (T.history tree.new)) }
+        × IsRunThatStagedContents stage.new (contents
+        ++ bytes ∷ []) None v first (T.history tree.new)) }
     // The cause is that of a file with the values of the tested one.
     ensures bad { (member : ℕ) (cause : Cause) → IsErrOf result (Bad member cause)
         → (f.now.member ≡ member) × IsSpoiledForEachTested f.now cause }
@@ -81,7 +82,8 @@ pub(crate) fn stage_write<T: Tree>(
     ensures listed { (contents : List (List ℕ)) (v : TreeState) (first : List TreeState)
         → IsRunThatStagedContents stage.old contents None v first (T.history tree.old)
         → OnOk result ((bytes : List ℕ) × MayDenote source.now bytes
-        × IsRunThatStagedContents stage.new (contents ++ bytes ∷ []) None v first (T.history tree.new)) }
+        × IsRunThatStagedContents stage.new (contents
+        ++ bytes ∷ []) None v first (T.history tree.new)) }
     // A package is reported bad only if the source is a file of it that is spoiled with this cause.
     ensures bad { (member : ℕ) (cause : Cause) → IsErrOf result (Bad member cause)
         → IsSpoiledAt member cause source.now }

@@ -129,10 +129,11 @@ fn begin_one_write(alloc: Global) -> Result<Option<Stage>, AllocError>
 /// file is staged and the entry is committed.
 fn publish_one_write(stage: &mut Stage, tree: &mut MemoryTree) -> Result<(), Disk>
     requires { stage.old ≡ new_stage_of_removals_and_writes (codes "x" ∷ []) (codes "y" ∷ []) }
-    ensures { OnOk result (stage.new ≡ record (new_stage_of_removals_and_writes (codes "x" ∷ []) (codes "y" ∷ [])) {
-      staged = 1;
-      published = true;
-    }) }
+    ensures { OnOk result (stage.new
+        ≡ record (new_stage_of_removals_and_writes (codes "x" ∷ []) (codes "y" ∷ [])) {
+          staged = 1;
+          published = true;
+        }) }
 {
     stage.file_begin(tree)?;
     stage.file_append(tree, b"2")?;
@@ -143,10 +144,11 @@ fn publish_one_write(stage: &mut Stage, tree: &mut MemoryTree) -> Result<(), Dis
 /// Does both actions of the committed change, the removal of `x` and the move to `y`, and removes
 /// the journal entry. The third `apply_one` finds no action left.
 fn act_on_one_write(stage: &mut Stage, tree: &mut MemoryTree) -> Result<(), Disk>
-    requires { stage.old ≡ record (new_stage_of_removals_and_writes (codes "x" ∷ []) (codes "y" ∷ [])) {
-      staged = 1;
-      published = true;
-    } }
+    requires { stage.old
+        ≡ record (new_stage_of_removals_and_writes (codes "x" ∷ []) (codes "y" ∷ [])) {
+          staged = 1;
+          published = true;
+        } }
 {
     stage.apply_one(tree)?;
     stage.apply_one(tree)?;
@@ -173,7 +175,8 @@ fn run_two_writes(alloc: Global, tree: &mut MemoryTree) -> Result<Reached, Alloc
 /// The stage of a change that removes `x` and writes `y` and `z`, with no file staged so far.
 fn begin_two_writes(alloc: Global) -> Result<Option<Stage>, AllocError>
     ensures { IfOk result (λ found. IfSome found
-        (λ stage. stage ≡ new_stage_of_removals_and_writes (codes "x" ∷ []) (codes "y" ∷ codes "z" ∷ []))) }
+        (λ stage. stage ≡ new_stage_of_removals_and_writes (codes "x" ∷ [])
+        (codes "y" ∷ codes "z" ∷ []))) }
 {
     let Some(removals) = one_name(alloc, b"x")? else {
         return Ok(None);
@@ -193,9 +196,11 @@ fn begin_two_writes(alloc: Global) -> Result<Option<Stage>, AllocError>
 /// Stages the files `y` and `z` with the bytes `2` and `3`. If all calls succeed, two files are
 /// staged, and the journal entry is not yet committed.
 fn stage_two_files(stage: &mut Stage, tree: &mut MemoryTree) -> Result<(), Disk>
-    requires { stage.old ≡ new_stage_of_removals_and_writes (codes "x" ∷ []) (codes "y" ∷ codes "z" ∷ []) }
+    requires { stage.old
+        ≡ new_stage_of_removals_and_writes (codes "x" ∷ []) (codes "y" ∷ codes "z" ∷ []) }
     ensures { OnOk result (stage.new
-        ≡ record (new_stage_of_removals_and_writes (codes "x" ∷ []) (codes "y" ∷ codes "z" ∷ [])) { staged = 2 }) }
+        ≡ record (new_stage_of_removals_and_writes (codes "x" ∷ [])
+        (codes "y" ∷ codes "z" ∷ [])) { staged = 2 }) }
 {
     stage.file_begin(tree)?;
     stage.file_append(tree, b"2")?;

@@ -26,7 +26,8 @@ pub record IsFileBelow (files : Files) (dir folder : List ℕ) (file : Plain) : 
 
 -- the paths in a package are exactly those of some names below a folder of the tree, each once, and
 -- each of its files is the one under its name
-pub record HasJustNamedFilesBelowFolder (files : Files) (dir : List ℕ) (names : List (List ℕ)) (pkg : Plain) :
+pub record HasJustNamedFilesBelowFolder (files : Files) (dir : List ℕ) (names : List (List ℕ))
+    (pkg : Plain) :
     Type 0 where
   -- the names, relative to the folder `dir`, are the paths of the package, in any order
   pub paths : IsPermutation (map (path_relative_to dir) names) (paths_of_package_files pkg)

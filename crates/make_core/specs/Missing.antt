@@ -13,7 +13,8 @@ abbrev pub IsAbsent : Reads → List ℕ → Type 0
 IsAbsent read name = (n : ℕ) × (read n name ≡ None)
 
 -- the place is that of a script's option whose file is absent
-pub record IsPlaceOfScriptOptionWithoutFile (read : Reads) (scripts : List OptionValue) (place : ℕ) : Type 0 where
+pub record IsPlaceOfScriptOptionWithoutFile (read : Reads) (scripts : List OptionValue)
+    (place : ℕ) : Type 0 where
   -- the option that names the script's file
   pub script : OptionValue
   -- it is one of the given options
@@ -24,7 +25,8 @@ pub record IsPlaceOfScriptOptionWithoutFile (read : Reads) (scripts : List Optio
   pub absent : IsAbsent read (without_dot_slash (script_file script.text))
 
 -- the place is that of `-F`, and one of the names that were listed below its folder is absent
-pub record IsPlaceOfFolderWithMissingFile (read : Reads) (folders : List OptionValue) (names : List (List ℕ))
+pub record IsPlaceOfFolderWithMissingFile (read : Reads) (folders : List OptionValue)
+    (names : List (List ℕ))
     (place : ℕ) : Type 0 where
   -- the first option that names a folder
   pub folder : OptionValue

@@ -34,7 +34,8 @@ abbrev pub packed_package : CommandLine → List (List ℕ) → Reads → Result
 packed_package command names read =
     and_then (scripts_from_read read 0 (values_of_letter SCRIPT command.values)) (λ scripts.
     and_then (or_info_bad (information command)) (λ about.
-    and_then (source_folders_of_first_option read (length scripts) (values_of_letter FILES command.values) names)
+    and_then (source_folders_of_first_option read (length scripts)
+    (values_of_letter FILES command.values) names)
     (packed_of_parts command scripts about)))
 
 -- the value of an index with these entries, sorted; or the fault of the first operand without one

@@ -78,7 +78,8 @@ index_of_entries_or_fault description (Err fault) = Err fault
 
 -- the index of the packages that operands name, given what each read finds
 abbrev pub index_of_operands : List ℕ → List Operand → Reads → Result (List ℕ) MakeFault
-index_of_operands description operands read = index_of_entries_or_fault description (found_entries read 0 operands)
+index_of_operands description operands read =
+    index_of_entries_or_fault description (found_entries read 0 operands)
 
 -- ---- of a command
 

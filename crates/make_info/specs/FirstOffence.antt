@@ -13,7 +13,8 @@ HasNoOffendingOption too_long values =
     → values ≡ before ++ v ∷ after → offends too_long before v ≡ false
 
 -- the first of these values that offends is at this place of the command line
-pub record IsPlaceOfFirstOffendingOption (too_long : Bool) (values : List OptionValue) (place : ℕ) : Type 0 where
+pub record IsPlaceOfFirstOffendingOption (too_long : Bool) (values : List OptionValue)
+    (place : ℕ) : Type 0 where
   -- the values of options before the first one that is refused
   pub before : List OptionValue
   -- the value that is refused

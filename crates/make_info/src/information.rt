@@ -359,5 +359,6 @@ pub fn the_first_value_that_offends_is_reported()
         → IsPlaceOfFirstOffendingOption too_long values place }
     // If none is reported, none is refused.
     ensures allowed { (too_long : Bool) (values : List OptionValue)
-        → place_of_first_offending_option too_long [] values ≡ None → HasNoOffendingOption too_long values }
+        → place_of_first_offending_option too_long [] values ≡ None
+        → HasNoOffendingOption too_long values }
 {}

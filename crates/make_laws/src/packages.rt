@@ -23,7 +23,8 @@ use make_core::{a_made_package_is_read_back, each_name_is_in_one_folder};
 /// each folder.
 pub fn a_made_package_is_in_byte_order()
     ensures { (command : CommandLine) (names : List (List ℕ)) (read : Reads) (bytes : List ℕ)
-        → IsMadePackage command names read bytes → HasFoldersAndFilesInByteOrder (package_in_container bytes) }
+        → IsMadePackage command names read bytes
+        → HasFoldersAndFilesInByteOrder (package_in_container bytes) }
 {
     a_made_package_is_read_back();
 }
@@ -84,7 +85,8 @@ pub fn a_made_package_has_the_values_of_its_options()
 /// The installed size of a package is the sum of its files' sizes.
 pub fn a_made_package_has_the_size_of_its_files()
     ensures { (command : CommandLine) (names : List (List ℕ)) (read : Reads) (bytes : List ℕ)
-        → IsMadePackage command names read bytes → HasInstalledSizeOfItsFiles (package_in_container bytes) }
+        → IsMadePackage command names read bytes
+        → HasInstalledSizeOfItsFiles (package_in_container bytes) }
 {
     a_made_package_is_read_back();
 }

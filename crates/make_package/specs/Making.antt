@@ -54,5 +54,6 @@ unfoldable pub made_package : CommandLine → List (List ℕ) → Reads → Resu
 made_package command names read =
     and_then (scripts_from_read read 0 (values_of_letter SCRIPT command.values)) (λ scripts.
     and_then (or_info_bad (information command)) (λ about.
-    and_then (source_folders_of_first_option read (length scripts) (values_of_letter FILES command.values) names)
+    and_then (source_folders_of_first_option read (length scripts)
+    (values_of_letter FILES command.values) names)
     (package_of_parts command scripts about)))

@@ -69,7 +69,8 @@ pub record IsListingChoiceAndClashFor (command : CommandLine) (read : Reads) (fi
 -- names that an applet may list: `mkpkg` some below its folder, in byte order and each once, the others
 -- none
 abbrev pub MayBeNamesListedForApplet : Applet → CommandLine → List (List ℕ) → Type 0
-MayBeNamesListedForApplet Mkpkg command names = AreNamesBelowFirstFolder (values_of_letter FILES command.values) names
+MayBeNamesListedForApplet Mkpkg command names =
+    AreNamesBelowFirstFolder (values_of_letter FILES command.values) names
 MayBeNamesListedForApplet other command names = names ≡ []
 
 -- the first clash of names after a command among some present files; only a change has one

@@ -50,7 +50,8 @@ files_with_output (Some name) bytes files = files_after_replacement name bytes f
 -- after all other faults except a container that is too large.
 abbrev pub make_outcome : Files → Option (List ℕ) → List ℕ → Result (List ℕ) MakeFault → Outcome
 make_outcome files output report (Ok bytes) =
-    outcome_unless_output_reserved files output (commit_report (files_with_output output bytes files) report)
+    outcome_unless_output_reserved files output
+    (commit_report (files_with_output output bytes files) report)
 make_outcome files output report (Err (NoFile place)) = just_refusal files (FileMissing place)
 make_outcome files output report (Err (BadFile place cause)) =
     just_refusal files (FileBad place cause)

@@ -43,5 +43,6 @@ invalid_version_lines (o ∷ operands) = invalid_version_line o.text ++ invalid_
 -- no versions, and refuses the first of them after that report.
 abbrev pub version : Files → Flags → List Operand → Outcome
 version files flags operands =
-    if flags.test then just_report_unless_refusal files (version_refusal operands) (version_order_report operands) else
+    if flags.test then just_report_unless_refusal files (version_refusal operands)
+    (version_order_report operands) else
     outcome_without_commit (version_refusal operands) (invalid_version_lines operands) files

@@ -34,7 +34,8 @@ IsFileRefusal (Some file) place refusal =
     (cause : Cause) × IsContainerFault file cause × (refusal ≡ FileBad place cause)
 
 -- the refusal is that of the file of one operand, and the files before it pass every test
-pub record IsRefusalOfFirstUnsoundFile (read : Reads) (operands : List Operand) (refusal : Refusal) : Type 0 where
+pub record IsRefusalOfFirstUnsoundFile (read : Reads) (operands : List Operand)
+    (refusal : Refusal) : Type 0 where
   -- the index of the operand, counted from 0
   pub number : ℕ
   pub operand : Operand

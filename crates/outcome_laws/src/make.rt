@@ -44,5 +44,6 @@ pub fn a_reserved_output_is_reported_before_a_result_that_is_too_large()
 pub fn a_made_container_is_written_to_its_output()
     ensures { (files : Files) (output : Option (List ℕ)) (report bytes : List ℕ)
         → IsUnreserved output
-        → IsOutputWrittenAndReported output bytes report files (make_outcome files output report (Ok bytes)) }
+        → IsOutputWrittenAndReported output bytes report files (make_outcome files output report
+        (Ok bytes)) }
 {}

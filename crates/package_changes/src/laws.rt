@@ -17,7 +17,8 @@ pub fn places_lead_to_packages_and_candidates()
         → (placed_name_of p name).change ≡ change_of_name (replacement_of p) name }
     // Its place before leads to the first package before of that name.
     ensures old { (p : PlacedReplacement) (name : List ℕ)
-        → package_at_old_place p.before (placed_name_of p name) ≡ find (is_package_named name) p.before }
+        → package_at_old_place p.before (placed_name_of p name)
+        ≡ find (is_package_named name) p.before }
     // Its place among the candidates leads to the first selected one of that name.
     ensures new { (p : PlacedReplacement) (name : List ℕ)
         → candidate_at_new_place p.pool (placed_name_of p name)

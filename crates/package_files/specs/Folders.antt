@@ -87,7 +87,8 @@ tree_names_in_package_folder dir names folder =
 
 -- a folder of the package, with the names of its files
 abbrev pub folder_listing_of : List ℕ → List (List ℕ) → List ℕ → FolderListing
-folder_listing_of dir names folder = record { name = folder; files = tree_names_in_package_folder dir names folder }
+folder_listing_of dir names folder =
+    record { name = folder; files = tree_names_in_package_folder dir names folder }
 
 -- the folders of a package, by the names that are listed below a folder of the tree
 unfoldable pub folder_listings_of : List ℕ → List (List ℕ) → List FolderListing

@@ -75,7 +75,8 @@ source_file_read_at place read n name =
 -- the source files under these names in the tree, by one read each; if one is absent, the argument
 -- `-F` at `place` is reported
 abbrev pub sources_at_place_from_read : ℕ → Reads → ℕ → List (List ℕ) → Result (List Source) MakeFault
-sources_at_place_from_read place read n names = results_from_read (λ name. 1) (source_file_read_at place read) n names
+sources_at_place_from_read place read n names =
+    results_from_read (λ name. 1) (source_file_read_at place read) n names
 
 -- the source folder with all its files; the read of the first file has the number `n`
 abbrev pub source_folder_read_at : ℕ → Reads → ℕ → FolderListing → Result SourceFolder MakeFault

@@ -49,7 +49,8 @@ abbrev pub MatchEachExpectedSizeAndDigest : List ExpectedFile → List Contents 
 MatchEachExpectedSizeAndDigest [] [] = Unit {0}
 MatchEachExpectedSizeAndDigest [] (contents ∷ others) = ⊥
 MatchEachExpectedSizeAndDigest (e ∷ es) [] = ⊥
-MatchEachExpectedSizeAndDigest (e ∷ es) (contents ∷ others) = MatchesExpected e contents × MatchEachExpectedSizeAndDigest es others
+MatchEachExpectedSizeAndDigest (e ∷ es) (contents ∷ others) =
+    MatchesExpected e contents × MatchEachExpectedSizeAndDigest es others
 
 -- the digest of each expected file has the length of one of the three functions
 abbrev pub HaveValidDigestLengths : List ExpectedFile → Type 0

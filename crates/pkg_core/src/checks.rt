@@ -213,7 +213,8 @@ pub fn a_package_is_tested_by_its_values_and_then_its_files()
 /// or SHA-512 (FIPS 180-4) its digest.
 pub fn a_package_has_the_contents_of_its_files()
     ensures { (file : List ℕ) → package_fault file ≡ None
-        → MatchEachExpectedSizeAndDigest (expected_files_of_package (package_with_contents file).value)
+        → MatchEachExpectedSizeAndDigest (expected_files_of_package
+        (package_with_contents file).value)
         (package_with_contents file).contents }
 {
     // A law that the proof needs; it has no effect at run time.

@@ -87,7 +87,8 @@ pub fn search_prints_what_is_asked_for()
     ensures { (patterns : List Operand) (c : Candidate)
         → (is_search_candidate patterns c ≡ true)
         ↔ ((is_some c.repository ≡ true)
-        × ((name : List ℕ) × (IsOwnOrProvidedName c name × HasPartMatchedBySomePattern patterns name))) }
+        × ((name : List ℕ) × (IsOwnOrProvidedName c name
+        × HasPartMatchedBySomePattern patterns name))) }
 {
     // A law that the proof needs; it has no effect at run time.
     a_pattern_matches_what_its_stars_are_filled_to();

@@ -61,7 +61,8 @@ pub record IsFirstNotInstalled (command : CommandLine) (packages : List Plain)
 -- ---- a refusal
 
 -- the database is found, and a refusal is that of an operand, by its packages
-pub record IsFaultOfOperandNotInstalled (command : CommandLine) (read : Reads) (refusal : Refusal) : Type 0 where
+pub record IsFaultOfOperandNotInstalled (command : CommandLine) (read : Reads)
+    (refusal : Refusal) : Type 0 where
   -- the database that the command reads
   pub database : Database
   pub is_database : database_for command read ≡ Ok database

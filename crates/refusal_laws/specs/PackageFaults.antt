@@ -23,7 +23,8 @@ use Rattle.refusal_laws.specs.AddedPackages.{IsAddedAsSelected, IsFileReadForAdd
 
 -- a candidate of this name and version is added, and no file of it is found
 abbrev pub IsAddedPackageFileMissing : Inputs → Replacement → Reads → List ℕ → List ℕ → Type 0
-IsAddedPackageFileMissing inputs r read name version = IsFileReadForAddedPackage inputs r read name version None
+IsAddedPackageFileMissing inputs r read name version =
+    IsFileReadForAddedPackage inputs r read name version None
 
 -- the file of an added package is there, and this is the first test that it fails
 pub record IsAddedPackageFileBad (inputs : Inputs) (r : Replacement) (read : Reads) (name version : List ℕ)

@@ -16,7 +16,8 @@ use Rattle.refusal_laws.specs.CommandFaults.{IsFaultOfCommand}
 
 -- a refusal is true of the command over the files on which it works, with the candidates that are to be
 -- chosen
-pub record IsFaultOfCommandOverFiles (command : CommandLine) (files : Files) (refusal : Refusal) : Type 0 where
+pub record IsFaultOfCommandOverFiles (command : CommandLine) (files : Files)
+    (refusal : Refusal) : Type 0 where
   -- the places of the preferred selection, if there is one
   pub chosen : Option (List ℕ)
   pub choice : IsChoiceFrom (pool_of_command command (reads_in files)) chosen

@@ -40,7 +40,8 @@ HasNoReservedOrClashingPath change files =
 
 -- all three tests of files passed: those of *HasNoReservedOrClashingPath*, and that each listed path has an owner
 abbrev pub HasNoReservedClashingOrUnownedPath : FileChange → Files → Type 0
-HasNoReservedClashingOrUnownedPath change files = HasNoReservedOrClashingPath change files × EachListedPathHasOwner change.members
+HasNoReservedClashingOrUnownedPath change files =
+    HasNoReservedOrClashingPath change files × EachListedPathHasOwner change.members
 
 -- a change has none of the faults for which its files would be refused, except for the limits of what
 -- is written
@@ -50,9 +51,12 @@ PassesChangeTestsExceptLimits wishes change files =
 
 -- what is tested before this refusal of a change's files
 abbrev pub HasPassedTestsBeforeRefusal : ChangeWishes → FileChange → Files → Refusal → Type 0
-HasPassedTestsBeforeRefusal wishes change files (PathClash path other) = AreAddedPathsUnreserved change.members
-HasPassedTestsBeforeRefusal wishes change files (Owned path first second) = HasNoReservedOrClashingPath change files
-HasPassedTestsBeforeRefusal wishes change files (TriggerNeeded name) = HasNoReservedClashingOrUnownedPath change files
+HasPassedTestsBeforeRefusal wishes change files (PathClash path other) =
+    AreAddedPathsUnreserved change.members
+HasPassedTestsBeforeRefusal wishes change files (Owned path first second) =
+    HasNoReservedOrClashingPath change files
+HasPassedTestsBeforeRefusal wishes change files (TriggerNeeded name) =
+    HasNoReservedClashingOrUnownedPath change files
 HasPassedTestsBeforeRefusal wishes change files (ResultTooLarge bytes values) =
     PassesChangeTestsExceptLimits wishes change files
 HasPassedTestsBeforeRefusal wishes change files other = Unit {0}

@@ -13,7 +13,8 @@ use Rattle.root_laws.specs.RootLeft.{IsRootLeftByChange, database_of_members}
 -- inputs are what a change has left: the packages before are those after the change, and world is
 -- the one that it was made for
 pub record AreInputsOfRootLeft {command : CommandLine} {read : Reads} {chosen : Option (List ℕ)}
-    {done : ChangeDone} (left : IsRootLeftByChange command read chosen done) (inputs : Inputs) : Type 0 where
+    {done : ChangeDone} (left : IsRootLeftByChange command read chosen done)
+    (inputs : Inputs) : Type 0 where
   -- the packages before are those after the earlier change
   pub database : inputs.root.database ≡ database_of_members (found_members left.found) left.bytes
   -- world is the new world of the earlier change

@@ -58,7 +58,8 @@ pub fn a_command_begins_with_what_the_last_change_left()
     // A command whose inputs are read.
     ensures inputs { (command later : CommandLine) (read next : Reads) (chosen : Option (List ℕ))
         (done : ChangeDone) (inputs : Inputs) (left : IsRootLeftByChange command read chosen done)
-        → ReadsDatabaseAndWorldOfFiles done.files next → inputs_of later next ≡ Ok inputs → AreInputsOfRootLeft left inputs }
+        → ReadsDatabaseAndWorldOfFiles done.files next → inputs_of later next ≡ Ok inputs
+        → AreInputsOfRootLeft left inputs }
     // A command that does not.
     ensures refused { (command later : CommandLine) (read next : Reads) (chosen : Option (List ℕ))
         (done : ChangeDone) (refusal : Refusal) → IsRootLeftByChange command read chosen done

@@ -67,7 +67,8 @@ IsUnrestrictedRun v run = Unit {0}
 
 -- a test holds of the file of a name, or its absence, in the files as they are read and as they are
 -- recovered
-pub record HoldsAsReadAndAsRecovered (test : Option (List ℕ) → Bool) (q : List ℕ) (files : Files) : Type 0 where
+pub record HoldsAsReadAndAsRecovered (test : Option (List ℕ) → Bool) (q : List ℕ)
+    (files : Files) : Type 0 where
   -- the test holds of the file as read
   pub read : test (files q) ≡ true
   -- the test holds of the file as recovery leaves it
@@ -103,7 +104,8 @@ pub record IsNoJournalOutputOrIgnoredName (ignored : List ℕ → Bool) (run : R
 
 -- the intent's change is durable under a name: the name has its recovered bytes, or those of an outcome
 -- of the run, and each crash leaves exactly these
-pub record HasDurableRecoveredOrOutcomeBytes (v : TreeState) (run : Run) (m : TreeState) (q : List ℕ) : Type 0 where
+pub record HasDurableRecoveredOrOutcomeBytes (v : TreeState) (run : Run) (m : TreeState)
+    (q : List ℕ) : Type 0 where
   -- the file is the recovered one, or that of an outcome of the run
   pub done : (files_of m q ≡ unstaged_files (files_of v) q) ⊎ HasOutcomeBytes v run m q
   -- each crash at this moment leaves exactly this file

@@ -146,7 +146,8 @@ pub fn each_name_keeps_old_recovered_or_new_bytes()
     // as recovered, and in each outcome that commits. Then it holds after each run, and wherever
     // one is stopped.
     ensures along { (test : Option (List ℕ) → Bool) (q : List ℕ) (first w : TreeState)
-        (events : List RootEvent) → (IsJournalName q → ⊥) → HoldsAsReadAndAsRecovered test q (files_of first)
+        (events : List RootEvent) → (IsJournalName q → ⊥)
+        → HoldsAsReadAndAsRecovered test q (files_of first)
         → ReachesByRuns (EachCommitPassesTestAtName test q) first events w
         → HoldsAsReadAndAsRecovered test q (files_of w) }
 {

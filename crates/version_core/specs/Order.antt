@@ -23,7 +23,8 @@ is_last_token_class class = is_stray_class class
 -- whole version. The first `inside` bytes of the rest still belong to the token before
 abbrev pub tokens_after_class_skipping_bytes : Option Class → ℕ → List ℕ → List Token
 tokens_after_class_skipping_bytes last inside [] = (lexeme_at last []).token ∷ []
-tokens_after_class_skipping_bytes last (suc inside) (b ∷ rest) = tokens_after_class_skipping_bytes last inside rest
+tokens_after_class_skipping_bytes last (suc inside) (b ∷ rest) =
+    tokens_after_class_skipping_bytes last inside rest
 tokens_after_class_skipping_bytes last zero (b ∷ rest) =
     let found = lexeme_at last (b ∷ rest) in
     found.token

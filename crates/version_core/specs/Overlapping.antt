@@ -15,7 +15,8 @@ passed_len found = if is_hash found.token.class then 2 else found.width
 -- hash
 abbrev pub is_valid_version_rest : Place → List ℕ → Bool
 is_valid_version_rest place rest =
-    are_in_grammar (tokens_after_class_skipping_bytes (Some place.class) (unread_len (Some place.class) rest) rest)
+    are_in_grammar (tokens_after_class_skipping_bytes (Some place.class)
+    (unread_len (Some place.class) rest) rest)
 
 -- whether the bytes between a place and an end may be the rest of a version
 abbrev pub can_rest_follow_place : List ℕ → Place → ℕ → Bool

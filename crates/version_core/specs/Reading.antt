@@ -37,7 +37,8 @@ unread_len (Some class) rest = if is_hash class then length (leading_hex_digits 
 
 -- the tokens that a reader has not taken yet
 abbrev pub tokens_left : Tokens → List Token
-tokens_left left = tokens_after_class_skipping_bytes left.last (unread_len left.last left.rest.now) left.rest.now
+tokens_left left =
+    tokens_after_class_skipping_bytes left.last (unread_len left.last left.rest.now) left.rest.now
 
 -- the lexeme of the code for a token that is no hash: the reader skips all of its bytes at once
 abbrev pub whole_lexeme : LexemeAt → Lexeme
@@ -133,7 +134,8 @@ AreEqualUpToParting left right (InHash len) = AreEqualUpToPlaceInHash left right
 abbrev pub hash_cmp : List ℕ → List ℕ → Ordering
 hash_cmp left right =
     ordering_then (slice_cmp nat_cmp (leading_hex_digits left) (leading_hex_digits right))
-    (slice_cmp token_cmp (tokens_after_class_skipping_bytes (Some Hash) (length (leading_hex_digits left)) left)
+    (slice_cmp token_cmp (tokens_after_class_skipping_bytes (Some Hash)
+    (length (leading_hex_digits left)) left)
     (tokens_after_class_skipping_bytes (Some Hash) (length (leading_hex_digits right)) right))
 
 -- whether a version matches a wanted one fuzzily, by their rests from a place within the hash of both

@@ -21,7 +21,8 @@ is_help_of line option =
 -- whether lines of help are about options, one each in the same order
 abbrev pub are_help_lines_of_options : List HelpLine → List OptionSpec → Bool
 are_help_lines_of_options [] [] = true
-are_help_lines_of_options (line ∷ lines) (option ∷ options) = is_help_of line option && are_help_lines_of_options lines options
+are_help_lines_of_options (line ∷ lines) (option ∷ options) =
+    is_help_of line option && are_help_lines_of_options lines options
 are_help_lines_of_options lines options = false
 
 -- `--help` and `--version`, as lines of help spell them. The flag in each is a placeholder: *is_help_of*

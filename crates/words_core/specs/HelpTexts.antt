@@ -261,7 +261,8 @@ commands_text =
 
 -- the options of every command
 unfoldable pub common_options_text : List ℕ
-common_options_text = codes "\nOptions of every command:\n" ++ help_lines_text option_column common_option_help
+common_options_text =
+    codes "\nOptions of every command:\n" ++ help_lines_text option_column common_option_help
 
 -- where paths begin, how a package is installed, and where to read on
 unfoldable pub first_steps_text : List ℕ

@@ -27,7 +27,8 @@ pub fn read_words_are_a_command()
 /// that ask for one.
 pub fn commands_are_read()
     ensures { (words : List (List ℕ)) (command : CommandLine) →
-        AreWordsOfCommand words command ⊎ IsHelpOrVersionAskedBy words command → command_of words ≡ Ok command }
+        AreWordsOfCommand words command ⊎ IsHelpOrVersionAskedBy words command
+        → command_of words ≡ Ok command }
 {}
 
 /// A usage error is at a word, or after the last one if a word is missing.
@@ -50,7 +51,8 @@ pub fn words_offend_whatever_follows()
 /// Or `mkpkg` awaits one more script and has one of each of the seven types.
 pub fn words_before_a_usage_error_can_be_completed()
     ensures { (words : List (List ℕ)) (place : ℕ) →
-        IsTrue (not (are_words_without_completion (take (place - 1) words))) → command_of words ≡ Err place →
+        IsTrue (not (are_words_without_completion (take (place - 1) words))) → command_of words
+        ≡ Err place →
         (more : List (List ℕ)) × (command : CommandLine)
         × (command_of (take (place - 1) words ++ more) ≡ Ok command) }
 {}
@@ -85,7 +87,8 @@ pub fn a_reason_is_so()
 /// The help of a command explains each option of it, in the order of the table of options, and
 /// nothing else.
 pub fn help_explains_each_option()
-    ensures own { (applet : Applet) → IsTrue (are_help_lines_of_options (option_help applet) (own_options
+    ensures own { (applet : Applet)
+        → IsTrue (are_help_lines_of_options (option_help applet) (own_options
         applet)) }
     ensures common { IsTrue (are_help_lines_of_options common_option_help (common_options
         ++ help_and_version_options)) }

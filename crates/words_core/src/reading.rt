@@ -113,7 +113,8 @@ fn read_early(words: &Words, site: &AppletSite) -> Result<Flags, u32>
     requires high { site.now.read ≤ length words.now }
     requires few { length words.now < MOST_PLACES }
     ensures { result
-        ≡ flags_with_early_options (options_of site.now.applet) no_flags 1 (take (site.now.read - 1) words.now) }
+        ≡ flags_with_early_options (options_of site.now.applet) no_flags 1 (take
+        (site.now.read - 1) words.now) }
 {
     let mut flags = Flags::none();
     for i in 0..site.read - 1 {

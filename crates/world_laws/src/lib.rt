@@ -135,7 +135,8 @@ pub fn the_selected_packages_satisfy_the_new_world()
         (s : InputsAndReplacement) (c : Candidate)
         → IsChoiceFrom (pool_of_command command read) chosen
         → selected_for command read chosen ≡ Ok s → IsIn c s.replacement.selected
-        → IsNeededByWorldOrPackages (candidates_of s.inputs) s.inputs.root.new_world s.replacement.selected c }
+        → IsNeededByWorldOrPackages
+        (candidates_of s.inputs) s.inputs.root.new_world s.replacement.selected c }
 {}
 
 /// A selection of places satisfies world exactly if packages do in a reader's words. So a command
