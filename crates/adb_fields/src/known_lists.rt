@@ -10,7 +10,7 @@ ghost use Rattle.adb_view.specs.Values.{is_sound, kind_at};
 ghost use Rattle.adb_fields.specs.Fields.{are_all_sound};
 ghost use Rattle.adb_fields.specs.KnownLists.{AreFirstRepeatsOfWords, repeated_name_pair_at};
 ghost use Rattle.adb_fields.specs.NamedTexts.{plains_at};
-ghost use Rattle.adb_fields.specs.Repeated.{NAME_INDEX, first_repeat, name_of};
+ghost use Rattle.adb_fields.specs.Repeated.{NAME_INDEX, least_pair_of_repeated_name, name_of};
 ghost use Rattle.adb_view.specs.declared.tables.Kind.TheVariants as Kinds;
 
 use crate::name_lists::object_names;
@@ -57,7 +57,7 @@ impl<'a> KnownLists<'a> {
 
     /// The pair of positions at which two objects of a list have one name. Only a long list
     /// allocates memory, once.
-    pub(crate) fn first_repeat(
+    pub(crate) fn least_pair_of_repeated_name(
         &mut self,
         alloc: Global,
         list: Val,
@@ -106,7 +106,8 @@ fn name_twice_in_list(
     // The first field of the table is a text, the name.
     requires kind { kind_at which NAME_INDEX ≡ Some Kinds.Text }
     ensures { IfOk result (λ pair. pair
-        ≡ first_repeat (map name_of (plains_at (payload_of adb.entry) (Kinds.Obj which)
+        ≡ least_pair_of_repeated_name (map name_of (plains_at (payload_of adb.entry)
+        (Kinds.Obj which)
         (array_entries objects.entry)))) }
 {
     let mut names = object_names(alloc, adb, which, objects)?;

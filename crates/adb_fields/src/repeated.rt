@@ -10,7 +10,7 @@ ghost use Rattle.adb_fields.specs.Fields.{are_all_sound};
 ghost use Rattle.adb_fields.specs.ListsOf.{AreRememberedListsOf};
 ghost use Rattle.adb_view.specs.ShapedPayload.{shaped_value, table_of};
 ghost use Rattle.adb_view.specs.FieldIndexes.{INTENT_REMOVALS, INTENT_WRITES};
-ghost use Rattle.adb_fields.specs.Repeated.{repeated_between_packages_fault, field_number, file_twice, files_in, first_repeat, folder_twice, folders_in, repeated_within_package_fault, name_of, repeated_intent_name, package_twice, path_of_two_packages, repeated_cause, repeated_fault, repeated_pair_in_one_list};
+ghost use Rattle.adb_fields.specs.Repeated.{repeated_between_packages_fault, field_number, repeated_file_name_in_folder, files_in, least_pair_of_repeated_name, repeated_folder_name_in_package, folders_in, repeated_within_package_fault, name_of, repeated_intent_name, repeated_package_name, pair_of_packages_listing_one_path, repeated_cause, repeated_fault, repeated_pair_in_one_list};
 ghost use Rattle.adb_fields.specs.Once.{HasNoRepeatedName};
 ghost use Rattle.adb_view.specs.Plain.{Plain};
 ghost use Rattle.adb_view.specs.declared.tables.Which.{Which};
@@ -144,9 +144,15 @@ fn inside_packages(
         ≡ repeated_within_package_fault (plains_at (payload_of adb.entry) (Kinds.Obj Tables.Package)
         (array_entries packages.entry))) }
 {
-    match repeated_cause(field_numbers::DIR_NAME, folder_twice(alloc, adb, packages)?) {
+    match repeated_cause(
+        field_numbers::DIR_NAME,
+        repeated_folder_name_in_package(alloc, adb, packages)?,
+    ) {
         Some(cause) => Ok(Some(cause)),
-        None => Ok(repeated_cause(field_numbers::FILE_NAME, file_twice(alloc, adb, packages)?)),
+        None => Ok(repeated_cause(
+            field_numbers::FILE_NAME,
+            repeated_file_name_in_folder(alloc, adb, packages)?,
+        )),
     }
 }
 
@@ -219,12 +225,12 @@ fn folder_twice_in_package(
     requires lists { AreRememberedListsOf adb Tables.Dir lists.old }
     // On Ok, the result is the first pair of positions of folders with one name, if there is one.
     ensures pair { IfOk result (λ pair. pair
-        ≡ first_repeat (map name_of (folders_in
+        ≡ least_pair_of_repeated_name (map name_of (folders_in
         (value_at (payload_of adb.entry) (Kinds.Obj Tables.Package) pkg)))) }
     // The remembered lists are still those of objects of this table in this payload.
     ensures lists { AreRememberedListsOf adb.entry Tables.Dir lists.new }
 {
-    lists.first_repeat(alloc, field_word(adb, Which::Package, pkg, PACKAGE_PATHS))
+    lists.least_pair_of_repeated_name(alloc, field_word(adb, Which::Package, pkg, PACKAGE_PATHS))
 }
 
 /// The first pair of positions at which one of a package's folders lists one file twice.
@@ -269,22 +275,27 @@ fn file_twice_in_folder(
     requires lists { AreRememberedListsOf adb Tables.File lists.old }
     // On Ok, the result is the first pair of positions of files with one name, if there is one.
     ensures pair { IfOk result (λ pair. pair
-        ≡ first_repeat (map name_of (files_in
+        ≡ least_pair_of_repeated_name (map name_of (files_in
         (value_at (payload_of adb.entry) (Kinds.Obj Tables.Dir) folder)))) }
     // The remembered lists are still those of objects of this table in this payload.
     ensures lists { AreRememberedListsOf adb.entry Tables.File lists.new }
 {
-    lists.first_repeat(alloc, field_word(adb, Which::Dir, folder, DIR_FILES))
+    lists.least_pair_of_repeated_name(alloc, field_word(adb, Which::Dir, folder, DIR_FILES))
 }
 
 /// The first pair of positions at which one of the packages lists one folder twice.
 #[tactic(auto, using(crate::proofs::FieldReads::entry_sound))]
-fn folder_twice(alloc: Global, adb: Adb<'_>, packages: Arr<'_>) -> Result<Option<Pair>, AllocError>
+fn repeated_folder_name_in_package(
+    alloc: Global,
+    adb: Adb<'_>,
+    packages: Arr<'_>,
+) -> Result<Option<Pair>, AllocError>
     // Each word has a plain value of its kind.
     requires { are_all_sound (payload_of adb) (Kinds.Obj Tables.Package) (array_entries packages)
         ≡ true }
     ensures { IfOk result (λ pair. pair
-        ≡ folder_twice (plains_at (payload_of adb.entry) (Kinds.Obj Tables.Package)
+        ≡ repeated_folder_name_in_package (plains_at (payload_of adb.entry)
+        (Kinds.Obj Tables.Package)
         (array_entries packages.entry))) }
 {
     let mut lists = KnownLists::new(alloc, adb, Which::Dir);
@@ -298,12 +309,16 @@ fn folder_twice(alloc: Global, adb: Adb<'_>, packages: Arr<'_>) -> Result<Option
 
 /// The first pair of positions at which a folder of one of the packages lists one file twice.
 #[tactic(auto, using(crate::proofs::FieldReads::entry_sound))]
-fn file_twice(alloc: Global, adb: Adb<'_>, packages: Arr<'_>) -> Result<Option<Pair>, AllocError>
+fn repeated_file_name_in_folder(
+    alloc: Global,
+    adb: Adb<'_>,
+    packages: Arr<'_>,
+) -> Result<Option<Pair>, AllocError>
     // Each word has a plain value of its kind.
     requires { are_all_sound (payload_of adb) (Kinds.Obj Tables.Package) (array_entries packages)
         ≡ true }
     ensures { IfOk result (λ pair. pair
-        ≡ file_twice (plains_at (payload_of adb.entry) (Kinds.Obj Tables.Package)
+        ≡ repeated_file_name_in_folder (plains_at (payload_of adb.entry) (Kinds.Obj Tables.Package)
         (array_entries packages.entry))) }
 {
     let mut lists = KnownLists::new(alloc, adb, Which::File);

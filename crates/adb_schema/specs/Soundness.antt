@@ -6,7 +6,7 @@ use Rattle.std.specs.Option.{option_or}
 use Rattle.std.specs.Int.{w32, from_le_bytes}
 use Rattle.base_core.specs.declared.cause.Cause.{Cause}
 use Rattle.base_core.specs.declared.cause.Cause.TheVariants.{Truncated, WrongSchema, DataOrder}
-use Rattle.adb_block.specs.Header.{header_of}
+use Rattle.adb_block.specs.Header.{schema_of_header}
 use Rattle.adb_block.specs.ReaderPosition.{first_block_position}
 use Rattle.adb_block.specs.Reading.{Reading, done, fault, more, block_stream_from}
 use Rattle.adb_block.specs.declared.block.BlockKind.{BlockKind}
@@ -16,7 +16,7 @@ use Rattle.adb_view.specs.Plain.{Plain}
 use Rattle.adb_view.specs.Schema.{shape_of}
 use Rattle.adb_view.specs.Walk.{shape_fault}
 use Rattle.adb_view.specs.Values.{value_at}
-use Rattle.adb_schema.specs.Texts.{text_fault}
+use Rattle.adb_schema.specs.Texts.{text_or_number_fault}
 use Rattle.adb_fields.specs.Repeated.{repeated_fault}
 use Rattle.adb_view.specs.declared.tables.Which.{Which}
 use Rattle.adb_view.specs.declared.tables.Which.TheVariants.{Package, Index, Idb, Intent}
@@ -43,7 +43,7 @@ abbrev pub payload_fault : Which → List ℕ → Option Cause
 payload_fault which payload =
     option_or (payload_head_fault payload)
     (option_or (shape_fault payload (shape_of (Obj which)) (root_word_of_payload payload))
-    (option_or (text_fault which (root_value which payload))
+    (option_or (text_or_number_fault which (root_value which payload))
     (repeated_fault which (root_value which payload))))
 
 -- ---- the blocks after the first
@@ -113,7 +113,7 @@ file_fault_after_header rest which file (Ok schema) = option_or (schema_fault wh
 
 -- the first fault of a file, if `rest` tests the blocks after the first
 abbrev pub file_fault_with_rest_test : (Plain → Reading → Option Cause) → Which → List ℕ → Option Cause
-file_fault_with_rest_test rest which file = file_fault_after_header rest which file (header_of file)
+file_fault_with_rest_test rest which file = file_fault_after_header rest which file (schema_of_header file)
 
 -- the first failed test of a file as a container of this table; for a package, without the contents
 -- after its first block
@@ -137,4 +137,4 @@ payload_after_header file (Err c) = []
 
 -- the payload of the first block of a file; empty if it has none
 unfoldable pub payload_in : List ℕ → List ℕ
-payload_in file = payload_after_header file (header_of file)
+payload_in file = payload_after_header file (schema_of_header file)

@@ -8,7 +8,7 @@ ghost use Rattle.adb_view.specs.Values.{is_sound, value_at};
 ghost use Rattle.adb_view.specs.ShapedPayload.{shaped_value, table_of};
 ghost use Rattle.adb_view.specs.declared.tables.Kind.TheVariants as Kinds;
 ghost use Rattle.adb_view.specs.declared.tables.Which.TheVariants as Tables;
-ghost use Rattle.adb_schema.specs.Texts.{text_fault};
+ghost use Rattle.adb_schema.specs.Texts.{text_or_number_fault};
 
 use crate::package::PackageView;
 use crate::package_info::PkgInfo;
@@ -28,12 +28,12 @@ pub struct Checked<'a> {
     /// The payload whose shape was tested.
     shaped: Shaped<'a>,
     // Each text and number obeys the rule of its field.
-    ghost texts: { is_none (text_fault (table_of shaped) (shaped_value shaped)) ≡ true },
+    ghost texts: { is_none (text_or_number_fault (table_of shaped) (shaped_value shaped)) ≡ true },
 }
 
 impl<'a> Checked<'a> {
     ghost use Rattle.adb_view.specs.ShapedPayload.{adb_of};
-    ghost use Rattle.adb_schema.specs.SoundValues.{KeepsRules};
+    ghost use Rattle.adb_schema.specs.SoundValues.{ObeysFieldRulesOfTable};
     ghost use Rattle.adb_schema.specs.Checked.{table_of_checked, checked_value};
     ghost use Rattle.adb_schema.specs.ReadFaults.{IsReadFault};
     ghost use Rattle.adb_schema.specs.Views.{package_value, index_value, idb_value, intent_value};
@@ -48,10 +48,11 @@ impl<'a> Checked<'a> {
     pub fn new(alloc: Global, shaped: Shaped<'a>) -> Result<Checked<'a>, ReadFault>
         // The error is the first failed test, or out of memory.
         ensures bad { IfErr result (λ fault.
-            IsReadFault fault (text_fault (table_of shaped.entry) (shaped_value shaped.entry))) }
+            IsReadFault fault (text_or_number_fault (table_of shaped.entry)
+            (shaped_value shaped.entry))) }
         // On Ok, none of these tests failed.
         ensures sound { IfOk result (λ _.
-            text_fault (table_of shaped.entry) (shaped_value shaped.entry) ≡ None) }
+            text_or_number_fault (table_of shaped.entry) (shaped_value shaped.entry) ≡ None) }
         // The table at the root is unchanged.
         ensures which { IfOk result (λ checked. table_of_checked checked ≡ table_of shaped.entry) }
         // The value is that of the walked payload.
@@ -75,7 +76,7 @@ impl<'a> Checked<'a> {
     /// Each text and number of a checked payload obeys the rule of its field: a name is a
     /// package's, a version a version.
     pub fn values_keep_their_rules(&self)
-        ensures { KeepsRules (table_of_checked self.now) (checked_value self.now) }
+        ensures { ObeysFieldRulesOfTable (table_of_checked self.now) (checked_value self.now) }
     {
         no_text_is_bad_where_each_keeps_its_rule();
     }
@@ -130,14 +131,14 @@ pub struct IndexView<'a> {
     word: u32,
     // The word has a plain value, an index.
     ghost sound: { is_sound (payload_of adb) (Kinds.Obj Tables.Index) word ≡ true },
-    ghost texts: { is_none (text_fault Tables.Index
+    ghost texts: { is_none (text_or_number_fault Tables.Index
         (value_at (payload_of adb) (Kinds.Obj Tables.Index) word)) ≡ true },
 }
 
 impl<'a> IndexView<'a> {
     ghost use Rattle.adb_view.specs.FieldIndexes.{INDEX_DESCRIPTION, INDEX_PACKAGES, INDEX_PKGNAME_SPEC};
     ghost use Rattle.adb_view.specs.Values.{entry_in, text_in};
-    ghost use Rattle.adb_schema.specs.SoundValues.{KeepsRules};
+    ghost use Rattle.adb_schema.specs.SoundValues.{ObeysFieldRulesOfTable};
     ghost use Rattle.adb_schema.specs.Views.{index_value};
     ghost use Rattle.adb_fields.specs.ListValue.{list_value};
 
@@ -146,7 +147,7 @@ impl<'a> IndexView<'a> {
         // The word has a plain value of its kind.
         requires sound { is_sound (payload_of adb) (Kinds.Obj Tables.Index) word ≡ true }
         // Each text and number of the index obeys the rule of its field.
-        requires texts { is_none (text_fault Tables.Index
+        requires texts { is_none (text_or_number_fault Tables.Index
             (value_at (payload_of adb) (Kinds.Obj Tables.Index) word)) ≡ true }
         ensures { index_value result
             ≡ value_at (payload_of adb.entry) (Kinds.Obj Tables.Index) word }
@@ -160,7 +161,7 @@ impl<'a> IndexView<'a> {
     /// Each text and number of the index obeys the rule of its field: a name is a package's, a
     /// version a version.
     pub fn values_keep_their_rules(&self)
-        ensures { KeepsRules Tables.Index (index_value self.now) }
+        ensures { ObeysFieldRulesOfTable Tables.Index (index_value self.now) }
     {
         no_text_is_bad_where_each_keeps_its_rule();
     }

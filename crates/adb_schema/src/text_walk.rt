@@ -14,8 +14,8 @@ ghost use Rattle.adb_schema.specs.TextRules.{text_at};
 ghost use Rattle.adb_schema.specs.TextWalk.{IsSameWordAsPrevious, AllowsEachText, AllowsEachValueOfKind, bad_text_at};
 ghost use Rattle.adb_view.specs.ShapedPayload.{shaped_value, table_of};
 ghost use Rattle.adb_view.specs.Shaped.{Each};
-ghost use Rattle.adb_schema.specs.SoundValues.{IsNameAllowedInIntent, IsSoundDependency, IsSoundFileOf, IsSoundFolder, IsSoundInformation, IsSoundPackage, KeepsRules};
-ghost use Rattle.adb_schema.specs.Texts.{surroundings_of_root, surroundings_of_fields, is_file_hash_length, is_allowed_file_name, is_package_hash_length, is_file_with_contents, can_root_table_list_path, needs_file_hash, is_allowed_number_of_field, is_allowed_text_of_field, leaves_of_all_values, field_leaves, first_bad_leaf, leaves, number_leaf, text_leaf, leaves_of, text_fault};
+ghost use Rattle.adb_schema.specs.SoundValues.{IsNameAllowedInIntent, IsSoundDependency, IsSoundFileInFolder, IsSoundFolder, IsSoundInformation, IsSoundPackage, ObeysFieldRulesOfTable};
+ghost use Rattle.adb_schema.specs.Texts.{surroundings_of_root, surroundings_of_fields, is_file_hash_length, is_allowed_file_name, is_package_hash_length, is_file_with_contents, can_root_table_list_path, needs_file_hash, is_allowed_number_of_field, is_allowed_text_of_field, leaves_of_all_values, field_leaves, first_bad_leaf, leaves, number_leaf, text_leaf, leaves_of, text_or_number_fault};
 ghost use Rattle.adb_schema.specs.FirstBad.{IsFirstBadLeafIfAny};
 ghost use Rattle.adb_view.specs.Entries.{array_entries};
 ghost use Rattle.adb_fields.specs.Fields.{are_all_sound, values_at};
@@ -216,7 +216,7 @@ fn keeps_rule_of_field(
         field_numbers::FILE_HASHES => Ok(around.takes_file_hash(text.len())),
         field_numbers::FILE_TARGET => judged.keeps(TextRule::Target, word, text),
         field_numbers::DIR_NAME => judged.keeps(TextRule::FolderName, word, text),
-        field_numbers::INDEX_PKGNAME_SPEC => Ok(is_pkgname_spec(text)),
+        field_numbers::INDEX_PKGNAME_SPEC => Ok(is_supported_pkgname_spec(text)),
         field_numbers::INTENT_REMOVALS | field_numbers::INTENT_WRITES => {
             keeps_change_name(judged, word, text)
         }
@@ -267,7 +267,7 @@ fn keeps_change_name(judged: &mut Judged<'_>, word: Val, text: &[u8]) -> Result<
 /// than 64 bytes is judged once, however many places share it.
 pub fn check_texts(alloc: Global, shaped: Shaped<'_>) -> Result<Option<Cause>, AllocError>
     ensures { IfOk result (λ cause. cause
-        ≡ text_fault (table_of shaped.entry) (shaped_value shaped.entry)) }
+        ≡ text_or_number_fault (table_of shaped.entry) (shaped_value shaped.entry)) }
 {
     let adb = shaped.adb();
     let which = shaped.which();
@@ -493,14 +493,14 @@ fn check_text(
 /// field, depth first and field by field. There is none if and only if each obeys its rule.
 pub fn the_first_bad_text_is_reported()
     ensures { (which : Which) (value : Plain)
-        → IsFirstBadLeafIfAny (leaves_of which value) (text_fault which value) }
+        → IsFirstBadLeafIfAny (leaves_of which value) (text_or_number_fault which value) }
 {}
 
 /// A law: the text walk reports no fault in a value if and only if each text and number in the
-/// value obeys the rule of its field. *KeepsRules* states the rules for each table.
+/// value obeys the rule of its field. *ObeysFieldRulesOfTable* states the rules for each table.
 pub fn no_text_is_bad_where_each_keeps_its_rule()
-    ensures { (which : Which) (value : Plain) → (text_fault which value ≡ None)
-        ↔ KeepsRules which value }
+    ensures { (which : Which) (value : Plain) → (text_or_number_fault which value ≡ None)
+        ↔ ObeysFieldRulesOfTable which value }
 {}
 
 /// A law: each entry of a list obeys the rule that all entries of the list obey, for each kind of
@@ -517,8 +517,8 @@ pub fn entries_keep_the_rule_of_their_list()
         → IsSoundInformation root (entry_in list i) }
     // For a list of the files of a folder.
     ensures file { (root : Which) (folder : List ℕ) (list : Plain) (i : ℕ)
-        → Each (IsSoundFileOf root folder) (entries_in list) → i < count_of (entries_in list)
-        → IsSoundFileOf root folder (entry_in list i) }
+        → Each (IsSoundFileInFolder root folder) (entries_in list) → i < count_of (entries_in list)
+        → IsSoundFileInFolder root folder (entry_in list i) }
     // For a list of folders.
     ensures folder { (root : Which) (list : Plain) (i : ℕ)
         → Each (IsSoundFolder root) (entries_in list) → i < count_of (entries_in list)

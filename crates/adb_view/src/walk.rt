@@ -17,7 +17,7 @@ ghost use Rattle.adb_view.specs.CountedWalk.{fields_walk};
 ghost use Rattle.adb_view.specs.CountedWalk.{walk};
 ghost use Rattle.adb_view.specs.CountedWalk.{walk_each_word};
 ghost use Rattle.adb_view.specs.Leaves.{leading_leaves};
-ghost use Rattle.adb_view.specs.FirstFault.{IsFirstFault};
+ghost use Rattle.adb_view.specs.FirstFault.{IsFirstFaultOfVisits};
 ghost use Rattle.adb_view.specs.VisitFault.{with_cause};
 ghost use Rattle.adb_view.specs.ShapedPayload.{adb_of, table_of};
 ghost use Rattle.adb_view.specs.Values.{is_sound, value_at};
@@ -327,7 +327,7 @@ pub fn a_walk_of_fields_reports_the_first_faulty_visit()
 pub fn the_first_faulty_visit_is_reported()
     ensures { (payload : List ℕ) (shape : Shape) (word : ℕ) (cause : Cause)
         → (shape_fault payload shape word ≡ Some cause)
-        ↔ IsFirstFault payload (visits payload shape word) cause }
+        ↔ IsFirstFaultOfVisits payload (visits payload shape word) cause }
 {}
 
 /// Nothing is reported exactly if there is a plain value, and the visits are not too many.

@@ -9,7 +9,7 @@ use Rattle.change_outcome.specs.change_inputs.Answers.{IsDiskOrMemoryFailure}
 use Rattle.change_outcome.specs.change_inputs.Inputs.{first_index_read_number}
 use Rattle.change_outcome.specs.change_inputs.declared.root.Refused.{Refused}
 use Rattle.change_outcome.specs.change_inputs.declared.root.Refused.TheVariants.{Disk, Memory, Refusal}
-use Rattle.change_outcome.specs.MembersAfter.{MemberFound, members_after, member_of_name_after, member_of_name_by_change, names_after}
+use Rattle.change_outcome.specs.MembersAfter.{MemberFound, members_after, member_of_name_after, member_of_name_by_change, members_of_names_after}
 use Rattle.change_outcome.specs.db_core.Packages.{is_package_named}
 use Rattle.change_outcome.specs.db_core.declared.members.TheConstants.{MOST_MEMBERS}
 use Rattle.dep_core.specs.Repositories.{Repository}
@@ -42,11 +42,11 @@ module _ (law : PlacesLead) (p : PlacedReplacement) (repositories : List Reposit
       let e3 : find (is_candidate_named name) (candidates_at p.pool p.trace) ≡ candidate_at_new_place p.pool (placed_name_of p name) = sym (law.new p name) in
       λ i. member_of_name_by_change read repositories no_scripts n (e0 i) (e1 i) (e2 i) (e3 i)
 
-  each_name : (read : Reads) (n : ℕ) (names : List (List ℕ)) → names_after (replacement_of p) read repositories no_scripts n names ≡ names_read p.before p.pool repositories no_scripts read n (map (placed_name_of p) names)
+  each_name : (read : Reads) (n : ℕ) (names : List (List ℕ)) → members_of_names_after (replacement_of p) read repositories no_scripts n names ≡ names_read p.before p.pool repositories no_scripts read n (map (placed_name_of p) names)
   each_name read n [] = refl
   each_name read n (name ∷ names) =
       let here : member_of_name_after (replacement_of p) read repositories no_scripts n name ≡ member_of_name_by_read p.before p.pool repositories no_scripts (placed_name_of p name) read n = one_name read n name in
-      let rest : names_after (replacement_of p) read repositories no_scripts (suc n) names ≡ names_read p.before p.pool repositories no_scripts read (suc n) (map (placed_name_of p) names) = each_name read (suc n) names in
+      let rest : members_of_names_after (replacement_of p) read repositories no_scripts (suc n) names ≡ names_read p.before p.pool repositories no_scripts read (suc n) (map (placed_name_of p) names) = each_name read (suc n) names in
       λ i. and_then (here i) (λ first. and_then (rest i) (λ others. Ok (cons_option first others)))
 
   pub members_are : (read : Reads) (names : List PlacedName) → names ≡ placed_names_of p → members_after (replacement_of p) read repositories no_scripts ≡ names_read p.before p.pool repositories no_scripts read (first_index_read_number + length repositories) names

@@ -5,7 +5,7 @@ use Rattle.adb_view.specs.Plain.{Plain}
 use Rattle.base_core.specs.Tree.{TreeState}
 use Rattle.change_outcome.specs.change_inputs.Chains.{and_then}
 use Rattle.change_outcome.specs.MembersAfter.{MemberFound, added_package_by_path, added_member_found, member_of_name_by_change, member_of_name_by_selected, member_of_added_name, member_of_removed_name, kept_member_found}
-use Rattle.change_outcome.specs.PackageFiles.{AddedPackage, first_script_of, package_file_of, scripts_of_change, unless_script_number, unless_script_needed}
+use Rattle.change_outcome.specs.PackageFiles.{AddedPackage, first_script_of, package_file_path_of_candidate, scripts_of_change, unless_script_number, unless_script_needed}
 use Rattle.dep_core.specs.Repositories.{Repository}
 use Rattle.change_outcome.specs.make_info.Reads.{Reads}
 use Rattle.change_outcome.specs.package_changes.Placed.{PlacedName, candidate_at_new_place, package_at_old_place}
@@ -48,7 +48,7 @@ module _ (before : List Plain) (pool : SealedPool) (repositories : List Reposito
   comes change c is some read k =
       ap (λ o. member_of_name_by_change read repositories no_scripts k n.name o (package_at_old_place before n) (candidate_at_new_place pool n)) is
       ∙ (ap (member_of_name_by_selected read repositories no_scripts k n.name change (package_at_old_place before n)) some
-      ∙ found_after no_scripts n.name (scripts_of_change change) (added_package_by_path read k c (package_file_of repositories c)))
+      ∙ found_after no_scripts n.name (scripts_of_change change) (added_package_by_path read k c (package_file_path_of_candidate repositories c)))
 
   pub comes_refused : (change : Change) (c : Candidate) → n.change ≡ Some change → candidate_at_new_place pool n ≡ Some c → (read : Reads) (k : ℕ) (refusal : Refusals.Refusal) → added_package_read repositories no_scripts n.name change c read k ≡ Err refusal → member_of_name_by_read before pool repositories no_scripts n read k ≡ Err refusal
   comes_refused change c is some read k refusal refused = comes change c is some read k ∙ ap as_found refused

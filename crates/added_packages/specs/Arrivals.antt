@@ -9,7 +9,7 @@ use Rattle.base_core.specs.Tree.{TreeState}
 use Rattle.change_outcome.specs.change_inputs.Answers.{IsFileFoundInTree}
 use Rattle.change_outcome.specs.MembersAfter.{MemberFound, added_member_found, found_package_contents, kept_member_found}
 use Rattle.change_outcome.specs.PackageFiles.{AddedPackage, package_in_file}
-use Rattle.change_outcome.specs.db_core.Members.{AreInOrder, Member, member_of_added, member_of_kept}
+use Rattle.change_outcome.specs.db_core.Members.{AreMembersInNameOrder, Member, member_of_added, member_of_kept}
 use Rattle.change_outcome.specs.db_core.declared.members.TheConstants.{MOST_MEMBERS}
 use Rattle.package_verifier.specs.pkg_core.Contents.{contents_in}
 use Rattle.package_verifier.specs.pkg_core.Whole.{files_read_from_package}
@@ -83,18 +83,18 @@ pub record CanBeMembers (before : List Plain) (reads : List MemberRead) : Type 0
   -- each kept package has a place in the database
   pub placed : HavePlacesIfKept before reads
   -- the packages are in byte order of names, each name once
-  pub in_order : AreInOrder (members_of_read_packages before reads)
+  pub in_order : AreMembersInNameOrder (members_of_read_packages before reads)
   -- there are no more of them than members are allowed
   pub few : length reads ≤ MOST_MEMBERS
 
 -- what was read of an added package; none for a kept one
-abbrev pub package_in : MemberRead → Option TestedPackage
-package_in (Stays place) = None
-package_in (Comes pkg) = Some pkg
+abbrev pub added_package_in_member_read : MemberRead → Option TestedPackage
+added_package_in_member_read (Stays place) = None
+added_package_in_member_read (Comes pkg) = Some pkg
 
 -- an added package is that of a file that was tested, and its contents are those that were found for
 -- the member at a place
-pub record IsFileOfMember (history : List TreeState) (found : List MemberFound) (place : ℕ)
+pub record IsTestedPackageOfMember (history : List TreeState) (found : List MemberFound) (place : ℕ)
     (pkg : TestedPackage) : Type 0 where
   -- the bytes of the package's file
   pub file : List ℕ

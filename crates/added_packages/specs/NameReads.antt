@@ -9,7 +9,7 @@ use Rattle.change_outcome.specs.change_inputs.Chains.{and_then}
 use Rattle.change_outcome.specs.change_inputs.declared.root.Refused.{Refused}
 use Rattle.change_outcome.specs.change_inputs.declared.root.Refused.TheVariants.{Disk, Memory, Refusal}
 use Rattle.change_outcome.specs.MembersAfter.{MemberFound, added_package_by_path, member_of_name_by_change, kept_member_found}
-use Rattle.change_outcome.specs.PackageFiles.{AddedPackage, package_file_of, added_package_or_refusal, scripts_of_change, unless_script_needed}
+use Rattle.change_outcome.specs.PackageFiles.{AddedPackage, package_file_path_of_candidate, added_package_or_refusal, scripts_of_change, unless_script_needed}
 use Rattle.dep_core.specs.Repositories.{Repository}
 use Rattle.change_outcome.specs.make_info.Reads.{Reads}
 use Rattle.change_outcome.specs.package_changes.Placed.{PlacedName, candidate_at_new_place, package_at_old_place}
@@ -55,7 +55,7 @@ package_of_candidate_by_path c path read n = added_package_or_refusal c (read n 
 abbrev pub package_of_candidate_by_read :
     List Repository → Candidate → Reads → ℕ → Result AddedPackage Refusals.Refusal
 package_of_candidate_by_read repositories c read n =
-    added_package_by_path read n c (package_file_of repositories c)
+    added_package_by_path read n c (package_file_path_of_candidate repositories c)
 
 -- the package of a candidate, by the read of its file, or the refusal, also for a script that its
 -- change would have to run

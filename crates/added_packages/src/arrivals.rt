@@ -4,7 +4,7 @@
 //! of the packages in byte order of names, the first with a bad file or a script that has to run.
 
 ghost use Rattle.added_packages.specs.Answered.{DenotesUnlessDisk};
-ghost use Rattle.added_packages.specs.Arrivals.{AreMembersRead, CanBeMembers, arrivals_seen, HasPlaceIfKept, member_of_read_package, members_of_read_packages, IsFileOfMember, package_in};
+ghost use Rattle.added_packages.specs.Arrivals.{AreMembersRead, CanBeMembers, arrivals_seen, HasPlaceIfKept, member_of_read_package, members_of_read_packages, IsTestedPackageOfMember, added_package_in_member_read};
 ghost use Rattle.added_packages.specs.NameReads.{IsAnswerByRead, IsNameRead, IsReadOfKeptPackage, member_of_name_by_read};
 ghost use Rattle.base_core.specs.Read.{OnlyReads};
 ghost use Rattle.change_outcome.specs.change_inputs.Answers.{Agrees};
@@ -55,7 +55,7 @@ pub struct Arrivals {
 }
 
 impl Arrivals {
-    ghost use Rattle.added_packages.specs.Arrivals.{package_in};
+    ghost use Rattle.added_packages.specs.Arrivals.{added_package_in_member_read};
 
     /// How many packages there are after the change.
     pub fn len(&self) -> usize
@@ -74,7 +74,8 @@ impl Arrivals {
     /// The package of the member at a place, counted from 0, if it is added.
     pub fn package(&self, place: usize) -> Option<&TestedPackage>
         ensures { option_copied result
-            ≡ option_and_then package_in (slice_get (arrivals_seen self.now) place) }
+            ≡ option_and_then added_package_in_member_read (slice_get
+            (arrivals_seen self.now) place) }
     {
         if place >= self.members.len() {
             return None;
@@ -286,14 +287,14 @@ pub fn a_package_that_was_read_is_that_of_its_file()
     ensures file { (history : List TreeState) (before : List Plain) (reads : List MemberRead)
         (found : List MemberFound) → AreMembersRead history before reads found
         → (place : ℕ) (pkg : TestedPackage)
-        → option_and_then package_in (slice_get reads place) ≡ Some pkg
-        → IsFileOfMember history found place pkg }
+        → option_and_then added_package_in_member_read (slice_get reads place) ≡ Some pkg
+        → IsTestedPackageOfMember history found place pkg }
     // For each added member a package was read.
     ensures comes { (history : List TreeState) (before : List Plain) (reads : List MemberRead)
         (found : List MemberFound) → AreMembersRead history before reads found
         → (place : ℕ) (m : Member) → slice_get (found_members found) place ≡ Some m
         → is_added m ≡ true
-        → is_some (option_and_then package_in (slice_get reads place)) ≡ true }
+        → is_some (option_and_then added_package_in_member_read (slice_get reads place)) ≡ true }
 {}
 
 /// The packages after a change depend only on the reads after those of the indexes: earlier reads

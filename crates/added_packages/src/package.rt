@@ -10,7 +10,7 @@ ghost use Rattle.package_verifier.specs.Tested.{tested_id, tested_value};
 ghost use Rattle.added_packages.specs.Told.{IsRefusalReported};
 ghost use Rattle.base_core.specs.Read.{OnlyReads};
 ghost use Rattle.change_outcome.specs.change_inputs.Answers.{Agrees};
-ghost use Rattle.change_outcome.specs.PackageFiles.{AddedPackage, package_file_of, scripts_of_change, unless_different, unless_script_needed};
+ghost use Rattle.change_outcome.specs.PackageFiles.{AddedPackage, package_file_path_of_candidate, scripts_of_change, package_unless_other_than_candidate, unless_script_needed};
 ghost use Rattle.change_outcome.specs.package_changes.Changes.{candidate_version_text};
 ghost use Rattle.change_outcome.specs.package_changes.Seen.{change_seen};
 ghost use Rattle.change_outcome.specs.candidate_core.Values.{candidate_value};
@@ -90,7 +90,7 @@ fn read_candidate<T: Tree>(
     ensures tree { OnlyReads Refused.Disk (T.history tree.old) (T.history tree.new)
         (T.counts tree.old) (T.counts tree.new) result }
 {
-    match package_file_of(alloc, repositories, c)? {
+    match package_file_path_of_candidate(alloc, repositories, c)? {
         None => Err(missing(alloc, c)),
         Some(path) => read_beside(alloc, tree, c, &path),
     }
@@ -98,13 +98,13 @@ fn read_candidate<T: Tree>(
 
 /// The name of a candidate's package file: NAME-VERSION.apk, beside the index of its repository.
 /// None if the candidate is of no repository, or that path is no name.
-fn package_file_of(
+fn package_file_path_of_candidate(
     alloc: Global,
     repositories: &Repos,
     c: &Candidate<'_>,
 ) -> Result<Option<Name>, AllocError>
     ensures { IfOk result (λ path.
-        path ≡ package_file_of repositories.now (candidate_value c.now)) }
+        path ≡ package_file_path_of_candidate repositories.now (candidate_value c.now)) }
 {
     let Some(number) = c.repo else {
         return Ok(None);
@@ -155,7 +155,8 @@ fn test_as_indexed<'a>(
     // Refused exactly if the package differs from the candidate in id, name or version.
     ensures { (coming : AddedPackage) → coming.value ≡ tested_value pkg.now
         → coming.id ≡ tested_id pkg.now
-        → Agrees (λ _. coming) result (unless_different (candidate_value c.now) coming) }
+        → Agrees (λ _. coming) result (package_unless_other_than_candidate
+        (candidate_value c.now) coming) }
 {
     let contents = pkg.contents();
     let view = contents.view();
@@ -215,7 +216,8 @@ pub(crate) fn test_same(
 ) -> Result<(), Refused>
     // Refused exactly if the package differs from the candidate in id, name or version.
     ensures { (coming : AddedPackage) → coming.value ≡ package_value pkg.now → coming.id ≡ id.now
-        → Agrees (λ _. coming) result (unless_different (candidate_value c.now) coming) }
+        → Agrees (λ _. coming) result (package_unless_other_than_candidate
+        (candidate_value c.now) coming) }
 {
     let info = pkg.info();
     if !is_same_id(c.info.hashes(), id) {

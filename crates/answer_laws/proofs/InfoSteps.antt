@@ -18,9 +18,9 @@ use Rattle.installed_info.specs.Info.{info_refusal, sorted_package_name_lines, o
 use Rattle.installed_info.specs.Packages.{package_meant_by_operand_text, package_named}
 use Rattle.report_core.specs.Reports.{report_line, report_lines}
 use Rattle.report_core.specs.declared.refusal.Refusal.TheVariants.{NotInstalled}
-use Rattle.answer_laws.specs.InfoAnswers.{HasSortedNames, IsFirstAbsent}
+use Rattle.answer_laws.specs.InfoAnswers.{HasSortedPackageNameLines, IsPlaceOfFirstOperandNotFound}
 
-pub sorted_names : (packages : List Plain) → HasSortedNames packages (sorted_package_name_lines packages)
+pub sorted_names : (packages : List Plain) → HasSortedPackageNameLines packages (sorted_package_name_lines packages)
 sorted_names packages = record {
   names = sorted_by bytes_cmp (map package_name packages);
   same = sorted_same bytes_cmp (map package_name packages);
@@ -30,14 +30,14 @@ sorted_names packages = record {
 
 -- ---- the first absent operand
 
-refused_at : (flags : Flags) (packages : List Plain) (operands : List Operand) (place : ℕ) → info_refusal (info_form_of_flags flags) packages operands ≡ Some (NotInstalled place) → IsFirstAbsent flags packages operands place
+refused_at : (flags : Flags) (packages : List Plain) (operands : List Operand) (place : ℕ) → info_refusal (info_form_of_flags flags) packages operands ≡ Some (NotInstalled place) → IsPlaceOfFirstOperandNotFound flags packages operands place
 refused_at flags packages [] place e = absurd cc
 refused_at flags packages (o ∷ operands) place e = go (package_meant_by_operand_text (info_form_of_flags flags) packages o.text) refl e (refused_at flags packages operands place)
   where
     go : (asked : Option Plain) → package_meant_by_operand_text (info_form_of_flags flags) packages o.text ≡ asked
         → (if is_some asked then info_refusal (info_form_of_flags flags) packages operands else Some (NotInstalled o.place)) ≡ Some (NotInstalled place)
-        → (info_refusal (info_form_of_flags flags) packages operands ≡ Some (NotInstalled place) → IsFirstAbsent flags packages operands place)
-        → IsFirstAbsent flags packages (o ∷ operands) place
+        → (info_refusal (info_form_of_flags flags) packages operands ≡ Some (NotInstalled place) → IsPlaceOfFirstOperandNotFound flags packages operands place)
+        → IsPlaceOfFirstOperandNotFound flags packages (o ∷ operands) place
     go None is e more =
         let same : o.place ≡ place = cc in
         record { front = []; operand = o; rest = operands; operands_are = refl; place_is = same; absent = is; earlier = λ p at. absurd at }
@@ -62,7 +62,7 @@ at_first flags packages (p ∷ front) o rest place at absent earlier =
     ap (λ (b : Bool). if b then info_refusal (info_form_of_flags flags) packages (front ++ o ∷ rest) else Some (NotInstalled p.place)) (earlier p (inl refl))
     ∙ at_first flags packages front o rest place at absent (λ q within. earlier q (inr within))
 
-pub first_absent : (flags : Flags) (packages : List Plain) (operands : List Operand) (place : ℕ) → (info_refusal (info_form_of_flags flags) packages operands ≡ Some (NotInstalled place)) ↔ IsFirstAbsent flags packages operands place
+pub first_absent : (flags : Flags) (packages : List Plain) (operands : List Operand) (place : ℕ) → (info_refusal (info_form_of_flags flags) packages operands ≡ Some (NotInstalled place)) ↔ IsPlaceOfFirstOperandNotFound flags packages operands place
 first_absent flags packages operands place = (
   refused_at flags packages operands place,
   λ f. ap (info_refusal (info_form_of_flags flags) packages) f.operands_are ∙ at_first flags packages f.front f.operand f.rest place f.place_is f.absent f.earlier,

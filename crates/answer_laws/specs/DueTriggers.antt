@@ -7,7 +7,7 @@ use Rattle.base_core.specs.Listed.{AreSortedDistinctNames}
 use Rattle.base_core.specs.Lists.{IsIn}
 use Rattle.base_core.specs.Name.{path_parts_of}
 use Rattle.change_outcome.specs.PackageFiles.{has_script_of}
-use Rattle.change_outcome.specs.Triggers.{is_folder_matched, patterns_of}
+use Rattle.change_outcome.specs.Triggers.{is_folder_matched_by_pattern, trigger_patterns_of_package}
 use Rattle.change_outcome.specs.db_core.Members.{Member, member_name}
 use Rattle.dep_core.specs.LeadingSlash.{without_slash}
 use Rattle.change_outcome.specs.package_files.Folders.{folder_of}
@@ -25,17 +25,17 @@ pub record MatchesFolderByParts (pattern folder : List ℕ) : Type 0 where
       → slice_get (path_parts_of folder) i ≡ Some part → MatchesByFillingStars p part
 
 -- a package has a trigger script and watches the folder by one of its patterns
-pub record IsTriggered (pkg : Plain) (folder : List ℕ) : Type 0 where
+pub record HasTriggerWatchingFolder (pkg : Plain) (folder : List ℕ) : Type 0 where
   -- the package has a trigger script
   pub script : has_script_of pkg TRIGGER_SCRIPT ≡ true
   -- a pattern of the package's trigger
   pub pattern : List ℕ
-  pub watched : IsIn pattern (patterns_of pkg)
+  pub watched : IsIn pattern (trigger_patterns_of_package pkg)
   -- the pattern matches the folder
-  pub matched : is_folder_matched folder pattern ≡ true
+  pub matched : is_folder_matched_by_pattern folder pattern ≡ true
 
 -- a file with one of these paths is right in the folder
-pub record HasFileIn (paths : List (List ℕ)) (folder : List ℕ) : Type 0 where
+pub record HasFileRightInFolder (paths : List (List ℕ)) (folder : List ℕ) : Type 0 where
   -- one of these paths
   pub path : List ℕ
   pub listed : IsIn path paths
@@ -45,9 +45,9 @@ pub record HasFileIn (paths : List (List ℕ)) (folder : List ℕ) : Type 0 wher
 -- the trigger of a package is due for a folder that has a file with one of these paths
 pub record IsTriggerDueFor (paths : List (List ℕ)) (m : Member) (folder : List ℕ) : Type 0 where
   -- the folder has a file with one of these paths
-  pub file : HasFileIn paths folder
+  pub file : HasFileRightInFolder paths folder
   -- the package has a trigger script and watches the folder
-  pub triggered : IsTriggered m.pkg folder
+  pub triggered : HasTriggerWatchingFolder m.pkg folder
 
 -- ---- the lines
 

@@ -11,7 +11,7 @@ abbrev pub candidate_file_name : Candidate → List ℕ
 candidate_file_name c = package_file_name c.name (candidate_version_text c)
 
 -- a candidate is of the repository at a place, counted from 0, whose index has this path
-pub record IsCandidateOfIndex (repositories : List Repository) (c : Candidate) (path : List ℕ)
+pub record IsCandidateOfIndexAtPath (repositories : List Repository) (c : Candidate) (path : List ℕ)
     : Type 0 where
   -- the place of the repository in the list, counted from 0
   pub place : ℕ

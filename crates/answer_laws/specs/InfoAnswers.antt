@@ -20,7 +20,7 @@ use Rattle.make_laws.specs.NamedFields.{field_named}
 use Rattle.report_core.specs.Reports.{name_dash_version, report_lines}
 
 -- a text with a line for each package, its name, in byte order
-pub record HasSortedNames (packages : List Plain) (text : List ℕ) : Type 0 where
+pub record HasSortedPackageNameLines (packages : List Plain) (text : List ℕ) : Type 0 where
   -- the names of the packages
   pub names : List (List ℕ)
   pub same : IsPermutation (map package_name packages) names
@@ -31,7 +31,7 @@ pub record HasSortedNames (packages : List Plain) (text : List ℕ) : Type 0 whe
 
 -- the operand at this place has no package, in the form that the flags select, and each one before it
 -- has one
-pub record IsFirstAbsent (flags : Flags) (packages : List Plain) (operands : List Operand)
+pub record IsPlaceOfFirstOperandNotFound (flags : Flags) (packages : List Plain) (operands : List Operand)
     (place : ℕ) : Type 0 where
   -- the operands before it, the operand, and those after it
   pub front : List Operand
@@ -47,8 +47,8 @@ pub record IsFirstAbsent (flags : Flags) (packages : List Plain) (operands : Lis
       → is_some (package_meant_by_operand_text (info_form_of_flags flags) packages o.text) ≡ true
 
 -- a section: a heading, a line for each fact, and an empty line
-abbrev pub section_lines : List ℕ → List (List ℕ) → List ℕ
-section_lines heading facts = report_lines (heading ∷ (facts ++ ([] ∷ [])))
+abbrev pub section_text_with_heading : List ℕ → List (List ℕ) → List ℕ
+section_text_with_heading heading facts = report_lines (heading ∷ (facts ++ ([] ∷ [])))
 
 -- the heading of a section: a package with its version, and a text
 abbrev pub info_heading : Plain → List ℕ → List ℕ
@@ -59,11 +59,11 @@ abbrev pub info_field : List ℕ → Plain → Plain
 info_field name pkg = field_named PkgInfo name (field_named Package (codes "info") pkg)
 
 -- the paths that a package lists: folder by folder, and in each file by file
-abbrev pub paths_in_order : Plain → List (List ℕ)
-paths_in_order pkg =
+abbrev pub file_paths_in_listed_order : Plain → List (List ℕ)
+file_paths_in_listed_order pkg =
     flat_map (λ folder. map (λ file. path_of (name_of folder) (name_of file)) (files_in folder))
     (folders_in pkg)
 
 -- the texts of a package's dependencies, in their order
-abbrev pub depends_in_order : Plain → List (List ℕ)
-depends_in_order pkg = map dep_text (dependencies_in (info_field (codes "depends") pkg))
+abbrev pub depends_texts_of_package : Plain → List (List ℕ)
+depends_texts_of_package pkg = map dep_text (dependencies_in (info_field (codes "depends") pkg))

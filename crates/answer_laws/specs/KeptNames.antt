@@ -52,8 +52,9 @@ pub record IsNeededBySelectedName (selected : List Candidate) (needed : Candidat
 -- ---- the lines
 
 -- of each name at most one candidate is selected
-abbrev pub AreNamedOnce : List Candidate → Type 0
-AreNamedOnce selected = (name : List ℕ) → length (filter (is_candidate_named name) selected) ≤ 1
+abbrev pub IsEachNameSelectedAtMostOnce : List Candidate → Type 0
+IsEachNameSelectedAtMostOnce selected =
+    (name : List ℕ) → length (filter (is_candidate_named name) selected) ≤ 1
 
 -- the text on the selected candidate of a name that was to be removed, with the names of those that
 -- need it
@@ -64,7 +65,7 @@ still_needed_text_of_name selected name =
 
 -- a text with one line for each name that was to be removed, was installed and is selected, and no
 -- other, in byte order of the names
-pub record HasKeptLines (before : List Plain) (selected : List Candidate) (to_remove : List (List ℕ))
+pub record HasStillNeededLines (before : List Plain) (selected : List Candidate) (to_remove : List (List ℕ))
     (text : List ℕ) : Type 0 where
   -- the names that were to be removed and are kept
   pub names : List (List ℕ)

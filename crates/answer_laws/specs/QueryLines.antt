@@ -33,7 +33,7 @@ abbrev pub line_at : (Candidate → List ℕ) → List Candidate → ℕ → Lis
 line_at line candidates place = option_map_or line (slice_get candidates place) []
 
 -- a text has one line for each candidate that is asked for, and no other, in the order of queries
-pub record HasLinesOfAsked (IsAsked : Candidate → Type 0) (line : Candidate → List ℕ)
+pub record HasLineOfEachAskedCandidate (IsAsked : Candidate → Type 0) (line : Candidate → List ℕ)
     (candidates : List Candidate) (text : List ℕ) : Type 0 where
   -- the places of the candidates that have a line
   pub places : List ℕ
@@ -83,7 +83,7 @@ repository_line_at repositories place =
 
 -- A text has the heading of a version, then the line of the database if the version is installed, and
 -- then a line for each repository that has it, and no other, in the order of the list
-pub record HasPlacesOfVersion (candidates : List Candidate) (repositories : List Repository)
+pub record HasPolicyLinesOfVersion (candidates : List Candidate) (repositories : List Repository)
     (name : List ℕ) (version : Option (List ℕ)) (text : List ℕ) : Type 0 where
   -- the line of the database, or no line if the version is not installed
   pub database : List ℕ

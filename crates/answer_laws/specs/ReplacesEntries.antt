@@ -14,7 +14,7 @@ use Rattle.version_core.specs.Order.{is_version}
 
 -- an entry of a package's `replaces`, which is no conflict, has the other's own name and accepts its
 -- own version
-pub record IsNamedInReplaces (pkg other : Plain) : Type 0 where
+pub record HasReplacesEntryForOther (pkg other : Plain) : Type 0 where
   -- an entry of the package's `replaces`
   pub entry : Plain
   pub listed : IsIn entry (entries_at INFO_REPLACES (entry_in pkg PACKAGE_INFO))

@@ -64,7 +64,7 @@ abbrev pub HasInstallChange : Replacement → List ℕ → Type 0
 HasInstallChange r name = (version : List ℕ) × (change_of_name r name ≡ Some (Install name version))
 
 -- a text with one line for each change, which has the change's number, from 1, and the count of all
-pub record HasNumberedLines (changes : List Change) (text : List ℕ) : Type 0 where
+pub record HasNumberedChangeLines (changes : List Change) (text : List ℕ) : Type 0 where
   -- the lines of the text
   pub lines : List (List ℕ)
   pub text_is : text ≡ report_lines lines

@@ -6,7 +6,7 @@ ghost use Rattle.std.specs.Prelude.{◌≡◌, ◌↔◌, ℕ, List, Some, None,
 ghost use Rattle.std.specs.List.{find};
 ghost use Rattle.std.specs.declared.cmp.Ordering.TheVariants.{Less, Equal, Greater};
 ghost use Rattle.adb_view.specs.Plain.{Plain};
-ghost use Rattle.answer_laws.specs.WhichChange.{HasBothVersions, HasInstallChange, HasNumberedLines, HasPurgeChange, IsSelected, IsInstalledPackageSelected, IsSameVersionAndId, WasInstalled, changed_name};
+ghost use Rattle.answer_laws.specs.WhichChange.{HasBothVersions, HasInstallChange, HasNumberedChangeLines, HasPurgeChange, IsSelected, IsInstalledPackageSelected, IsSameVersionAndId, WasInstalled, changed_name};
 ghost use Rattle.base_core.specs.Listed.{AreSortedDistinctNames};
 ghost use Rattle.base_core.specs.Lists.{IsIn};
 ghost use Rattle.installed_info.specs.candidate_core.Candidates.{Candidate};
@@ -100,5 +100,5 @@ pub fn a_package_on_one_side_is_installed_or_removed()
 /// A report has one line for each change, in the order of the changes, with its number, from 1, and
 /// with their count.
 pub fn each_change_has_one_numbered_line()
-    ensures { (changes : List Change) → HasNumberedLines changes (change_lines changes) }
+    ensures { (changes : List Change) → HasNumberedChangeLines changes (change_lines changes) }
 {}

@@ -2,11 +2,11 @@
 //! The rules are in `docs/commands.md`, "`add` and `del`", what is read.
 
 ghost use Rattle.std.specs.Prelude.{◌≡◌, ◌++◌, ℕ, List, Option, Bool, Some, None, Ok, Err, [], true, false, codes};
-ghost use Rattle.answer_laws.specs.FoundFiles.{HasNoSlash, IsCandidateOfIndex, candidate_file_name};
+ghost use Rattle.answer_laws.specs.FoundFiles.{HasNoSlash, IsCandidateOfIndexAtPath, candidate_file_name};
 ghost use Rattle.base_core.specs.Name.{is_name};
 ghost use Rattle.installed_info.specs.candidate_core.Candidates.{Candidate};
 ghost use Rattle.change_outcome.specs.change_inputs.Database.{Database, root_database};
-ghost use Rattle.change_outcome.specs.PackageFiles.{package_file_of};
+ghost use Rattle.change_outcome.specs.PackageFiles.{package_file_path_of_candidate};
 ghost use Rattle.dep_core.specs.Repositories.{Repository};
 ghost use Rattle.report_core.specs.declared.refusal.Refusal.TheVariants.{NoDatabase};
 
@@ -14,14 +14,15 @@ ghost use Rattle.report_core.specs.declared.refusal.Refusal.TheVariants.{NoDatab
 pub fn a_package_is_found_in_the_folder_of_its_index()
     // The index is in a folder.
     ensures below { (repositories : List Repository) (c : Candidate) (folder index : List ℕ)
-        → HasNoSlash index → IsCandidateOfIndex repositories c (folder ++ codes "/" ++ index)
+        → HasNoSlash index → IsCandidateOfIndexAtPath repositories c (folder ++ codes "/" ++ index)
         → is_name (folder ++ codes "/" ++ candidate_file_name c) ≡ true
-        → package_file_of repositories c ≡ Some (folder ++ codes "/" ++ candidate_file_name c) }
+        → package_file_path_of_candidate repositories c ≡ Some (folder ++ codes "/"
+        ++ candidate_file_name c) }
     // The index is in the root itself.
     ensures top { (repositories : List Repository) (c : Candidate) (index : List ℕ)
-        → HasNoSlash index → IsCandidateOfIndex repositories c index
+        → HasNoSlash index → IsCandidateOfIndexAtPath repositories c index
         → is_name (candidate_file_name c) ≡ true
-        → package_file_of repositories c ≡ Some (candidate_file_name c) }
+        → package_file_path_of_candidate repositories c ≡ Some (candidate_file_name c) }
 {}
 
 /// A container decides what is installed, whatever the text database has; without a container the

@@ -6,7 +6,7 @@ ghost use Rattle.std.specs.List.{filter};
 ghost use Rattle.change_outcome.specs.adb_fields.Repeated.{package_name};
 ghost use Rattle.adb_view.specs.Plain.{Plain};
 ghost use Rattle.adb_view.specs.Values.{text_in};
-ghost use Rattle.answer_laws.specs.InfoAnswers.{HasSortedNames, IsFirstAbsent, depends_in_order, info_field, info_heading, paths_in_order, section_lines};
+ghost use Rattle.answer_laws.specs.InfoAnswers.{HasSortedPackageNameLines, IsPlaceOfFirstOperandNotFound, depends_texts_of_package, info_field, info_heading, file_paths_in_listed_order, section_text_with_heading};
 ghost use Rattle.base_core.specs.Lists.{IsIn};
 ghost use Rattle.command_core.specs.declared.command.Flags.{Flags};
 ghost use Rattle.command_core.specs.declared.operands.Operand.{Operand};
@@ -23,14 +23,14 @@ ghost use Rattle.report_core.specs.declared.refusal.Refusal.TheVariants.{NotInst
 /// database has them.
 pub fn info_prints_the_names_in_byte_order()
     ensures { (packages : List Plain)
-        → HasSortedNames packages (sorted_package_name_lines packages) }
+        → HasSortedPackageNameLines packages (sorted_package_name_lines packages) }
 {}
 
 /// The operand that `info` refuses is the first without a package.
 pub fn info_refuses_the_first_absent_operand()
     ensures { (flags : Flags) (packages : List Plain) (operands : List Operand) (place : ℕ)
         → (info_refusal (info_form_of_flags flags) packages operands ≡ Some (NotInstalled place))
-        ↔ IsFirstAbsent flags packages operands place }
+        ↔ IsPlaceOfFirstOperandNotFound flags packages operands place }
 {}
 
 /// `info -e` prints exactly those of its operands that are names of installed packages, in the
@@ -51,23 +51,23 @@ pub fn each_question_of_info_has_its_answer()
     ensures contents { (flags : Flags) (name : List ℕ) (pkg : Plain)
         → flags.who_owns ≡ false → flags.installed ≡ false → flags.contents ≡ true
         → package_info (info_form_of_flags flags) name pkg
-        ≡ section_lines (info_heading pkg (codes " contains:"))
-        (paths_in_order pkg) }
+        ≡ section_text_with_heading (info_heading pkg (codes " contains:"))
+        (file_paths_in_listed_order pkg) }
     ensures listed { (pkg : Plain) (path : List ℕ)
-        → IsIn path (paths_in_order pkg) ↔ (lists_path path pkg ≡ true) }
+        → IsIn path (file_paths_in_listed_order pkg) ↔ (lists_path path pkg ≡ true) }
     // With `--depends`: the dependencies of the package.
     ensures depends { (flags : Flags) (name : List ℕ) (pkg : Plain)
         → flags.who_owns ≡ false → flags.installed ≡ false → flags.contents ≡ false
         → flags.depends ≡ true
         → package_info (info_form_of_flags flags) name pkg
-        ≡ section_lines (info_heading pkg (codes " depends on:"))
-        (depends_in_order pkg) }
+        ≡ section_text_with_heading (info_heading pkg (codes " depends on:"))
+        (depends_texts_of_package pkg) }
     // Without one of these options: the description of the package.
     ensures description { (flags : Flags) (name : List ℕ) (pkg : Plain)
         → flags.who_owns ≡ false → flags.installed ≡ false → flags.contents ≡ false
         → flags.depends ≡ false
         → package_info (info_form_of_flags flags) name pkg
-        ≡ section_lines (info_heading pkg (codes " description:"))
+        ≡ section_text_with_heading (info_heading pkg (codes " description:"))
         (text_in (info_field (codes "description") pkg) ∷ []) }
     // With `--who-owns`: the package that has the path.
     ensures owner { (flags : Flags) (path : List ℕ) (pkg : Plain) → flags.who_owns ≡ true

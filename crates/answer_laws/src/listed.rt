@@ -4,7 +4,7 @@
 ghost use Rattle.std.specs.Prelude.{◌≡◌, ℕ, List, Some, codes, map, option_map};
 ghost use Rattle.adb_view.specs.Plain.{blob_or_null, int};
 ghost use Rattle.adb_view.specs.declared.tables.Which.TheVariants.{Acl, Dir, File, Package};
-ghost use Rattle.answer_laws.specs.TextFiles.{folders_listed};
+ghost use Rattle.answer_laws.specs.TextFiles.{folders_of_record_lines};
 ghost use Rattle.answer_laws.specs.TextLetters.{letter_line, record_with_lines};
 ghost use Rattle.make_laws.specs.NamedFields.{entries_of_field_named, field_named};
 ghost use Rattle.change_outcome.specs.v2_core.Database.{listed_access_value, listed_file_value, listed_folder_value, listed_hash_value, record_value};
@@ -35,7 +35,7 @@ pub fn lines_list_folders_and_their_files()
     ensures { (lines : List (List ℕ)) (meanings : List RecordLine) (r : Record)
         → map record_line_of lines ≡ map Some meanings
         → record_with_lines empty_record lines ≡ Some r
-        → r.folders ≡ folders_listed meanings }
+        → r.folders ≡ folders_of_record_lines meanings }
 {}
 
 /// A package has its folders, and each folder its files, in their order; each of them has its name,

@@ -22,7 +22,7 @@ use Rattle.journal_core.proofs.Lasting.{some_none}
 use Rattle.outcome.specs.Effect.{Effect, does_recover}
 use Rattle.outcome.specs.Outcome.{Outcome}
 use Rattle.outcome.specs.Work.{recovery_fault, files_recovered_if_needed}
-use Rattle.apk_front.specs.Moments.{MomentsLeadToFiles, AreFilesReadDuringRun, AreStatesOldOrLeadToOutcome, CanRecover, HasNothingToRecover, IsDurableState, IsRecoveringOrNext, IsStateDuringRun, IsRecovering, MustOutcomeBeDurable, MustOutcomeBeDurableWithoutRecovery, NamesAreDurableWithoutIntentExcept, ignored_except_output}
+use Rattle.apk_front.specs.Moments.{MomentsLeadToFiles, AreStatesOfRecoveryOrCommittingRun, AreStatesOldOrLeadToOutcome, CanRecover, HasNothingToRecover, IsDurableAndLeavesFiles, IsStateDuringRecoveryOrNext, IsStateDuringRun, IsStateDuringRecovery, MustOutcomeBeDurable, MustOutcomeBeDurableWithoutRecovery, NamesAreDurableWithoutIntentExcept, ignored_except_output}
 use Rattle.apk_front.specs.Runs.{AreFilesReadWithoutRecovery, IsRunAfterRecovery, IsRunWithRecovery, IsOutOfMemoryOrWithoutCommit}
 use Rattle.apk_front.proofs.Runs.{History, Judged, Leaves, err_ok, on_ok, settled_before, since_weaker}
 
@@ -167,21 +167,21 @@ since_and P Q old now p q =
     let same : q.added ≡ p.added = append_cancel_right q.added p.added old (sym q.is ∙ p.is) in
     record { added = p.added; is = p.is; each = all_both P Q p.added p.each (subst (λ (h : History). All Q h) same q.each) }
 
-recovering : (v : TreeState) (old mid : History) → IsRecovery v old mid → Since (IsRecovering v) old mid
+recovering : (v : TreeState) (old mid : History) → IsRecovery v old mid → Since (IsStateDuringRecovery v) old mid
 recovering v old mid recovery =
-    since_weaker (λ w. RecoversAs v w × (BytesAs v w × JournalOnlyShrinks v w)) (IsRecovering v) old mid (λ w all. record { reads = all.0; bytes = all.1.0; waiting = all.1.1 })
+    since_weaker (λ w. RecoversAs v w × (BytesAs v w × JournalOnlyShrinks v w)) (IsStateDuringRecovery v) old mid (λ w all. record { reads = all.0; bytes = all.1.0; waiting = all.1.1 })
     (since_and (RecoversAs v) (λ w. BytesAs v w × JournalOnlyShrinks v w) old mid recovery.reads (since_and (BytesAs v) (JournalOnlyShrinks v) old mid recovery.bytes recovery.waiting))
 
 reads_after : (A B : Outcome → Type 0) (effect : Effect) (output : Option (List ℕ)) (v u : TreeState) (old mid now : History) → does_recover effect ≡ true → files_of u ≡ files_recovered_if_needed effect (files_of v) → ((o : Outcome) → A o → B o)
-    → Since (IsRecovering v) old mid → AreFilesReadWithoutRecovery A effect output u mid now → AreFilesReadDuringRun B effect output v old now
+    → Since (IsStateDuringRecovery v) old mid → AreFilesReadWithoutRecovery A effect output u mid now → AreStatesOfRecoveryOrCommittingRun B effect output v old now
 reads_after A B effect output v u old mid now recovers work into first (inl same) =
-    inl (since_both (IsRecovering v) (λ w. files_of w ≡ files_of u) (IsRecoveringOrNext effect (λ w. files_of w ≡ files_recovered_if_needed effect (files_of v)) v) old mid now (λ w r. inl (recovers, r)) (λ w is. inr (is ∙ work)) first same)
+    inl (since_both (IsStateDuringRecovery v) (λ w. files_of w ≡ files_of u) (IsStateDuringRecoveryOrNext effect (λ w. files_of w ≡ files_recovered_if_needed effect (files_of v)) v) old mid now (λ w r. inl (recovers, r)) (λ w is. inr (is ∙ work)) first same)
 reads_after A B effect output v u old mid now recovers work into first (inr (o, one, commits, at_work)) =
     inr (
       o,
       into o one,
       commits,
-      since_both (IsRecovering v) (IsStateDuringRun effect output o.files (files_of u)) (IsRecoveringOrNext effect (IsStateDuringRun effect output o.files (files_recovered_if_needed effect (files_of v))) v) old mid now
+      since_both (IsStateDuringRecovery v) (IsStateDuringRun effect output o.files (files_of u)) (IsStateDuringRecoveryOrNext effect (IsStateDuringRun effect output o.files (files_recovered_if_needed effect (files_of v))) v) old mid now
           (λ w r. inl (recovers, r))
           (λ w is. inr (subst (λ (f : Files). IsStateDuringRun effect output o.files f w) work is)) first at_work,
     )
@@ -240,11 +240,11 @@ whole_failed laws IsOne effect output judged e v rest now recovers failed recove
   moments = λ ignored is_durable hides. inl (recovery.calm ignored is_durable);
   is_durable = λ ignored is_durable hides. newest_durable laws ignored v rest now is_durable (recovery.calm ignored is_durable);
   settled = λ ignored o is_durable hides one lasts. err_ok (HoldsNow now (EachCrashLeavesStateOf ignored o.files)) judged e failed;
-  durable_state = λ ignored o is_durable hides one commits. err_ok (HoldsNow now (IsDurableState (ignored_except_output output ignored) o.files)) judged e failed;
+  durable_state = λ ignored o is_durable hides one commits. err_ok (HoldsNow now (IsDurableAndLeavesFiles (ignored_except_output output ignored) o.files)) judged e failed;
   left = λ without ignored is_durable. recovery.calm ignored is_durable;
   idle = λ without nothing. nothing_done effect v (now ≡ v ∷ rest) recovers recovery.idle nothing;
   bad = bad;
-  reads = inl (since_weaker (IsRecovering v) (IsRecoveringOrNext effect (λ w. files_of w ≡ files_recovered_if_needed effect (files_of v)) v) (v ∷ rest) now (λ w r. inl (recovers, r)) (recovering v (v ∷ rest) now recovery));
+  reads = inl (since_weaker (IsStateDuringRecovery v) (IsStateDuringRecoveryOrNext effect (λ w. files_of w ≡ files_recovered_if_needed effect (files_of v)) v) (v ∷ rest) now (λ w r. inl (recovers, r)) (recovering v (v ∷ rest) now recovery));
   last = λ some. since_weaker NamesAreDurableWithoutIntent (NamesAreDurableWithoutIntentExcept output) (v ∷ rest) now (unread_last output) (recovery.last some);
   leaves = λ o one. err_ok (HoldsNow now (λ w. files_of w ≡ o.files)) judged e failed;
 }
@@ -271,7 +271,7 @@ whole_idle IsOne effect output judged v rest now same all = record {
   left = λ without ignored is_durable. none_since (StateIsUnchanged ignored v) (v ∷ rest) now same;
   idle = λ without nothing. same;
   bad = λ some. same;
-  reads = inl (none_since (IsRecoveringOrNext effect (λ w. files_of w ≡ files_recovered_if_needed effect (files_of v)) v) (v ∷ rest) now same);
+  reads = inl (none_since (IsStateDuringRecoveryOrNext effect (λ w. files_of w ≡ files_recovered_if_needed effect (files_of v)) v) (v ∷ rest) now same);
   last = λ some. none_since (NamesAreDurableWithoutIntentExcept output) (v ∷ rest) now same;
   leaves = λ o one. on_ok judged (λ left. subst (λ (h : History). HoldsNow h (λ w. files_of w ≡ o.files)) (sym same) (sym left.0.0)) (all o one);
 }

@@ -41,7 +41,7 @@ use Rattle.command_core.specs.declared.operands.Operand.{Operand}
 use Rattle.outcome.proofs.Looking.{look_leaves}
 use Rattle.apk_front.specs.Answers.{answer_for_refusal}
 use Rattle.apk_front.specs.Effects.{root_access_if_read_only}
-use Rattle.apk_front.specs.Moments.{AnswersOutcome, AreFilesReadDuringRun, AreStatesOldOrLeadToOutcome, IsRefusedOrCommitsNothing, HasNothingToRecover, ArePathsToWriteFree, IgnoresScratchOf, IsDurableState, IsRefusedOrOutOfMemory, LeavesDurableStateIfCommitted, LeavesDurableFilesOnceAnswered, AreRunPathsFree, AreOutcomePathsFree, LeavesDurableFilesIfRequired, MustOutcomeBeDurable, NamesAreDurableWithoutIntentExcept, ignored_except_output}
+use Rattle.apk_front.specs.Moments.{IsOkRefusedOrOutputFault, AreStatesOfRecoveryOrCommittingRun, AreStatesOldOrLeadToOutcome, IsRefusedOrCommitsNothing, HasNothingToRecover, ArePathsToWriteFree, IgnoresScratchNameOfOutput, IsDurableAndLeavesFiles, IsRefusedOrOutOfMemory, LeavesDurableStateIfCommitted, LeavesDurableFilesOnceAnswered, AreRunPathsFree, AreOutcomePathsFree, LeavesDurableFilesIfRequired, MustOutcomeBeDurable, NamesAreDurableWithoutIntentExcept, ignored_except_output}
 use Rattle.apk_front.specs.RunContracts.{IsRunByArguments}
 use Rattle.apk_front.specs.Runs.{IfNothingStaged, IsRunAfterRecovery, IsRunWithRecovery, IsOutOfMemoryOrWithoutCommit}
 use Rattle.apk_front.specs.Containers.{IsIndexOutcome, IsPackageOutcome}
@@ -247,7 +247,7 @@ failed_run words e (v ∷ rest) = whole_idle (IsOutcome (command_of words) (file
 -- ---- the answer
 
 pub reads_by : (words : List (List ℕ)) (judged : Judged) (old now : History) → Runs words judged old now
-    → IfObservable old (λ v. AreFilesReadDuringRun (IsOutcome (command_of words) (files_of v)) (effect_of_arguments (command_of words)) (output words) v old now)
+    → IfObservable old (λ v. AreStatesOfRecoveryOrCommittingRun (IsOutcome (command_of words) (files_of v)) (effect_of_arguments (command_of words)) (output words) v old now)
 reads_by words judged [] now run = tt
 reads_by words judged (v ∷ rest) now run = run.reads
 
@@ -257,12 +257,12 @@ last_by words judged [] now run = tt
 last_by words judged (v ∷ rest) now run = run.last
 
 pub crash_by : (words : List (List ℕ)) (judged : Judged) (old now : History) → Runs words judged old now
-    → IfObservable old (λ v. (ignored : List ℕ → Bool) → IsDurable (StateDependsOn ignored) v → IgnoresScratchOf (output words) ignored → AreStatesOldOrLeadToOutcome (IsOutcome (command_of words) (files_of v)) (is_some (output words)) ignored v old now)
+    → IfObservable old (λ v. (ignored : List ℕ → Bool) → IsDurable (StateDependsOn ignored) v → IgnoresScratchNameOfOutput (output words) ignored → AreStatesOldOrLeadToOutcome (IsOutcome (command_of words) (files_of v)) (is_some (output words)) ignored v old now)
 crash_by words judged [] now run = tt
 crash_by words judged (v ∷ rest) now run = run.moments
 
 pub durable_by : (words : List (List ℕ)) (judged : Judged) (old now : History) → Runs words judged old now
-    → IfObservable old (λ v. (ignored : List ℕ → Bool) → IsDurable (StateDependsOn ignored) v → IgnoresScratchOf (output words) ignored → HoldsNow now (IsDurable (StateDependsOn ignored)))
+    → IfObservable old (λ v. (ignored : List ℕ → Bool) → IsDurable (StateDependsOn ignored) v → IgnoresScratchNameOfOutput (output words) ignored → HoldsNow now (IsDurable (StateDependsOn ignored)))
 durable_by words judged [] now run = tt
 durable_by words judged (v ∷ rest) now run = run.is_durable
 
@@ -293,7 +293,7 @@ lasting_judged IsOne effect ignored v now (Err Disk) answer out err found is_sho
 lasting_judged IsOne effect ignored v now (Err NoMemory) answer out err found is_shown settled = subst (LeavesDurableFilesOnceAnswered IsOne effect ignored v now) (sym is_shown.0) tt
 
 pub settled_by : (words : List (List ℕ)) (judged : Judged) (answer : Answer) (out err : SinkBeforeAndAfter) (old now : History) → IsVerdictPrinted judged answer out err → IfOk judged (λ verdict. IfObservable old (λ v. ReportsOneOfOutcomes (IsOutcome (command_of words) (files_of v)) verdict)) → Runs words judged old now
-    → IfObservable old (λ v. (ignored : List ℕ → Bool) → IsDurable (StateDependsOn ignored) v → IgnoresScratchOf (output words) ignored → LeavesDurableFilesOnceAnswered (IsOutcome (command_of words) (files_of v)) (effect_of_arguments (command_of words)) ignored v now answer)
+    → IfObservable old (λ v. (ignored : List ℕ → Bool) → IsDurable (StateDependsOn ignored) v → IgnoresScratchNameOfOutput (output words) ignored → LeavesDurableFilesOnceAnswered (IsOutcome (command_of words) (files_of v)) (effect_of_arguments (command_of words)) ignored v now answer)
 settled_by words judged answer out err [] now is_shown found run = tt
 settled_by words judged answer out err (v ∷ rest) now is_shown found run = λ ignored is_durable hides.
     lasting_judged (IsOutcome (command_of words) (files_of v)) (effect_of_arguments (command_of words)) ignored v now judged answer out err (found_at v rest judged (λ verdict w. ReportsOneOfOutcomes (IsOutcome (command_of words) (files_of w)) verdict) found) is_shown
@@ -346,14 +346,14 @@ bad_by words judged (v ∷ rest) now run = run.bad
 
 -- ---- the output counts again
 
-rest_of : (IsOne : Outcome → Type 0) (output : Option (List ℕ)) (ignored : List ℕ → Bool) (now : History) (judged : Judged) (answer : Answer) (out err : SinkBeforeAndAfter) → IfOk judged (ReportsOneOfOutcomes IsOne) → IsVerdictPrinted judged answer out err → AnswersOutcome answer
-    → ((o : Outcome) → IsOne o → o.commits ≡ true → OnOk judged (HoldsNow now (IsDurableState (ignored_except_output output ignored) o.files))) → LeavesDurableStateIfCommitted IsOne output ignored now
+rest_of : (IsOne : Outcome → Type 0) (output : Option (List ℕ)) (ignored : List ℕ → Bool) (now : History) (judged : Judged) (answer : Answer) (out err : SinkBeforeAndAfter) → IfOk judged (ReportsOneOfOutcomes IsOne) → IsVerdictPrinted judged answer out err → IsOkRefusedOrOutputFault answer
+    → ((o : Outcome) → IsOne o → o.commits ≡ true → OnOk judged (HoldsNow now (IsDurableAndLeavesFiles (ignored_except_output output ignored) o.files))) → LeavesDurableStateIfCommitted IsOne output ignored now
 rest_of IsOne output ignored now (Ok verdict) answer out err (o, one, reports) is_shown answers rests = (o, one, λ commits. rests o one commits)
-rest_of IsOne output ignored now (Err Disk) answer out err found is_shown answers rests = absurd (subst AnswersOutcome is_shown.0 answers)
-rest_of IsOne output ignored now (Err NoMemory) answer out err found is_shown answers rests = absurd (subst AnswersOutcome is_shown.0 answers)
+rest_of IsOne output ignored now (Err Disk) answer out err found is_shown answers rests = absurd (subst IsOkRefusedOrOutputFault is_shown.0 answers)
+rest_of IsOne output ignored now (Err NoMemory) answer out err found is_shown answers rests = absurd (subst IsOkRefusedOrOutputFault is_shown.0 answers)
 
 pub rest_by : (words : List (List ℕ)) (judged : Judged) (answer : Answer) (out err : SinkBeforeAndAfter) (old now : History) → IsVerdictPrinted judged answer out err → FindsOne words judged old → Runs words judged old now
-    → IfObservable old (λ v. (ignored : List ℕ → Bool) → IsDurable (StateDependsOn ignored) v → IgnoresScratchOf (output words) ignored → AnswersOutcome answer → LeavesDurableStateIfCommitted (IsOutcome (command_of words) (files_of v)) (output words) ignored now)
+    → IfObservable old (λ v. (ignored : List ℕ → Bool) → IsDurable (StateDependsOn ignored) v → IgnoresScratchNameOfOutput (output words) ignored → IsOkRefusedOrOutputFault answer → LeavesDurableStateIfCommitted (IsOutcome (command_of words) (files_of v)) (output words) ignored now)
 rest_by words judged answer out err [] now is_shown found run = tt
 rest_by words judged answer out err (v ∷ rest) now is_shown found run = λ ignored is_durable hides answers.
     rest_of (IsOutcome (command_of words) (files_of v)) (output words) ignored now judged answer out err (found_first words judged v rest found) is_shown answers (λ o one commits. run.durable_state ignored o is_durable hides one commits)

@@ -8,7 +8,7 @@ use Rattle.base_core.specs.Read.{OnlyReads}
 use Rattle.base_core.specs.Tree.{TreeState, files_of}
 use Rattle.base_core.specs.declared.tree.TreeFault.{TreeFault}
 use Rattle.base_core.specs.declared.tree.TreeFault.TheVariants as Trees
-use Rattle.tell_core.specs.change_inputs.Answers.{AgreesUnlessDisk}
+use Rattle.tell_core.specs.change_inputs.Answers.{AgreesUnlessDiskOrMemory}
 use Rattle.tell_core.specs.change_inputs.declared.root.Refused.{Refused}
 use Rattle.tell_core.specs.change_inputs.declared.root.Refused.TheVariants.{Disk, Memory, Refusal as IsRefused}
 use Rattle.command_core.specs.Command.{CommandLine}
@@ -39,7 +39,7 @@ abbrev pub Wanted : Type 0
 Wanted = Result ReportAndRefusal Refusal
 
 abbrev pub IsToldBy : CommandLine → History → Answered → Type 0
-IsToldBy command old answer = IsExplainedBySomeReads old (λ read. AgreesUnlessDisk (λ done. done) answer (report_for_command command read))
+IsToldBy command old answer = IsExplainedBySomeReads old (λ read. AgreesUnlessDiskOrMemory (λ done. done) answer (report_for_command command read))
 
 -- ---- nothing is given
 
@@ -67,7 +67,7 @@ may_be_given command read files tells = record {
 
 -- ---- what was answered as wanted is reported so
 
-reports_wanted : (answer : Answered) (verdict : Verdict) (files : Files) (wanted : Wanted) → AgreesUnlessDisk (λ done. done) answer wanted → IsVerdictOnReport answer (Ok verdict) → Reports verdict (outcome_of_report files wanted)
+reports_wanted : (answer : Answered) (verdict : Verdict) (files : Files) (wanted : Wanted) → AgreesUnlessDiskOrMemory (λ done. done) answer wanted → IsVerdictOnReport answer (Ok verdict) → Reports verdict (outcome_of_report files wanted)
 reports_wanted (Ok done) verdict files wanted agrees told =
     subst (λ (w : Wanted). Reports verdict (outcome_of_report files w)) (sym agrees) (ap (λ (o : Outcome). record o { commits = false }) (told files))
 reports_wanted (Err (IsRefused refusal)) verdict files wanted agrees told =
@@ -86,7 +86,7 @@ module _ (command : CommandLine) (tells : effect_of command.applet ≡ AsksRoot)
     outcome_of_report (files_of v) (report_for_command command (reads_in (files_of v))),
     (no_listing_choice_or_clash, are_given command (reads_in (files_of v)) (files_of v) tells, report_is command.applet command no_listing_choice_or_clash (reads_in (files_of v)) (files_of v) tells),
     reports_wanted answer verdict (files_of v) (report_for_command command (reads_in (files_of v)))
-        (subst (λ (read : Reads). AgreesUnlessDisk (λ done. done) answer (report_for_command command read)) (same_reads v rest (λ read. AgreesUnlessDisk (λ done. done) answer (report_for_command command read)) by) by.is) told,
+        (subst (λ (read : Reads). AgreesUnlessDiskOrMemory (λ done. done) answer (report_for_command command read)) (same_reads v rest (λ read. AgreesUnlessDiskOrMemory (λ done. done) answer (report_for_command command read)) by) by.is) told,
   )
 
   pub report_read : (old : History) (answer : Answered) (judged : Judged) → IsVerdictOnReport answer judged → IsToldBy command old answer → IfOk judged (ReportsOneOfOutcomes (IsPossibleOutcomeAfterRecovery command))

@@ -1,7 +1,7 @@
 -- What a package is made of: the names below its folder, as the files have them.
 use Rattle.std.proofs.Common.{◌≡◌, ℕ, true, List, [], ◌∷◌, length, Result, Ok, Err, refl, sym, ap, subst, ◌∙◌}
 use Rattle.std.specs.Prelude.{is_ok}
-use Rattle.base_core.specs.Listed.{IsListOf, IsNamesOf}
+use Rattle.base_core.specs.Listed.{IsSortedListingOfFolder, AreSortedNamesInMap}
 use Rattle.base_core.specs.Tree.{TreeState, files_of}
 use Rattle.command_core.specs.Command.{CommandLine}
 use Rattle.command_core.specs.Files.{without_dot_slash}
@@ -19,7 +19,7 @@ use Rattle.apk_front.specs.Containers.{IsPackageMade}
 
 -- the names below a folder, as a tree lists them, are those of its files
 abbrev pub HaveListing : Type 0
-HaveListing = (folder : List ℕ) (v : TreeState) (names : List (List ℕ)) → IsListOf folder v names → IsNamesOf (files_below folder (files_of v)) names
+HaveListing = (folder : List ℕ) (v : TreeState) (names : List (List ℕ)) → IsSortedListingOfFolder folder v names → AreSortedNamesInMap (files_below folder (files_of v)) names
 
 -- ---- what is made of them
 

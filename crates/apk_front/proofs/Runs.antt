@@ -22,7 +22,7 @@ use Rattle.outcome.specs.Effect.{Effect, Makes}
 use Rattle.outcome.specs.Make.{make_outcome}
 use Rattle.outcome.specs.Outcome.{Outcome, commit_report, just_refusal, just_report}
 use Rattle.report_core.specs.declared.refusal.Refusal.TheVariants.{Reserved}
-use Rattle.apk_front.specs.Moments.{AreStatesOldOrLeadToOutcome, CanAddOutputNamesIfAny, IgnoresScratchOf, IsDurableState, IsStateDuringRun, MustOutcomeBeDurableWithoutRecovery, NamesAreDurableWithoutIntentExcept, ignored_except_output, is_temporary_name, output_names}
+use Rattle.apk_front.specs.Moments.{AreStatesOldOrLeadToOutcome, CanAddOutputNamesIfAny, IgnoresScratchNameOfOutput, IsDurableAndLeavesFiles, IsStateDuringRun, MustOutcomeBeDurableWithoutRecovery, NamesAreDurableWithoutIntentExcept, ignored_except_output, is_temporary_name, output_names}
 use Rattle.apk_front.specs.RunContracts.{IsMakingRun}
 use Rattle.apk_front.specs.Runs.{AreFilesReadWithoutRecovery, IsRunAfterRecovery}
 use Rattle.apk_front.specs.Verdicts.{Reports, as_outcome}
@@ -171,7 +171,7 @@ module _ (ignored : List ℕ → Bool) (name file : List ℕ) (files : Files) (w
   counts_again : IsDurable (StateDependsOn (ignored_except_output (Some name) ignored)) w
   counts_again = record { each = λ map among q n rests at. synced_map map among q n (bytes_eq q name) (bytes_eq q (scratch_name_of name)) refl refl rests at }
 
-  rest_at : ImageHasState → IsDurableState (ignored_except_output (Some name) ignored) (files_after_replacement name file files) w
+  rest_at : ImageHasState → IsDurableAndLeavesFiles (ignored_except_output (Some name) ignored) (files_after_replacement name file files) w
   rest_at law = record {
     is_durable = counts_again;
     settled = λ image (map, among, by).
@@ -180,7 +180,7 @@ module _ (ignored : List ℕ → Bool) (name file : List ℕ) (files : Files) (w
   }
 
 rest_now : ImageHasState → (ignored : List ℕ → Bool) (name file : List ℕ) (files : Files) (judged : Judged) (now : History) → HoldsNow now (IsDurable (StateDependsOn ignored)) → OnOk judged (HoldsNow now (IsSyncedAt name)) → OnOk judged (HoldsNow now (λ w. files_of w ≡ files_after_replacement name file files))
-    → OnOk judged (HoldsNow now (IsDurableState (ignored_except_output (Some name) ignored) (files_after_replacement name file files)))
+    → OnOk judged (HoldsNow now (IsDurableAndLeavesFiles (ignored_except_output (Some name) ignored) (files_after_replacement name file files)))
 rest_now law ignored name file files (Err e) now is_durable synced reads = tt
 rest_now law ignored name file files (Ok verdict) [] is_durable synced reads = absurd is_durable
 rest_now law ignored name file files (Ok verdict) (w ∷ now) is_durable synced reads = rest_at ignored name file files w is_durable synced reads law
@@ -216,7 +216,7 @@ free_run : ImageHasState → (output : Option (List ℕ)) (report file name : Li
     → IsReplaced name file judged v old now → IsRunAfterRecovery (IsMade output report file v) Makes output judged v old now
 free_run law output report file name judged v old now is free done =
     let same = free_is output report file name (files_of v) is free in
-    let hidden : (ignored : List ℕ → Bool) → IgnoresScratchOf output ignored → IgnoresScratchNameButNotIntent ignored name = λ ignored hides. subst (λ (out : Option (List ℕ)). IgnoresScratchOf out ignored) is hides in
+    let hidden : (ignored : List ℕ → Bool) → IgnoresScratchNameOfOutput output ignored → IgnoresScratchNameButNotIntent ignored name = λ ignored hides. subst (λ (out : Option (List ℕ)). IgnoresScratchNameOfOutput out ignored) is hides in
     let left : (o : Outcome) → IsMade output report file v o → files_after_replacement name file (files_of v) ≡ o.files = λ o one. sym (ap (λ (x : Outcome). x.files) (one ∙ same)) in
     record {
       moments = λ ignored is_durable hides. subst (λ (out : Option (List ℕ)). AreStatesOldOrLeadToOutcome (IsMade output report file v) (is_some out) ignored v old now) (sym is)
@@ -224,8 +224,8 @@ free_run law output report file name judged v old now is free done =
       is_durable = λ ignored is_durable hides. done.is_durable ignored is_durable (hidden ignored hides);
       settled = λ ignored o is_durable hides one lasts. subst (λ (f : Files). OnOk judged (HoldsNow now (EachCrashLeavesStateOf ignored f))) (left o one) (done.settled ignored is_durable (hidden ignored hides));
       durable_state = λ ignored o is_durable hides one commits.
-          subst (λ (f : Files). OnOk judged (HoldsNow now (IsDurableState (ignored_except_output output ignored) f))) (left o one)
-          (subst (λ (out : Option (List ℕ)). OnOk judged (HoldsNow now (IsDurableState (ignored_except_output out ignored) (files_after_replacement name file (files_of v))))) (sym is)
+          subst (λ (f : Files). OnOk judged (HoldsNow now (IsDurableAndLeavesFiles (ignored_except_output output ignored) f))) (left o one)
+          (subst (λ (out : Option (List ℕ)). OnOk judged (HoldsNow now (IsDurableAndLeavesFiles (ignored_except_output out ignored) (files_after_replacement name file (files_of v))))) (sym is)
           (rest_now law ignored name file (files_of v) judged now (done.is_durable ignored is_durable (hidden ignored hides)) done.synced done.leaves));
       reads = subst (λ (out : Option (List ℕ)). AreFilesReadWithoutRecovery (IsMade output report file v) Makes out v old now) (sym is)
           (inr (commit_report (files_after_replacement name file (files_of v)) report, sym same, refl, since_weaker (ReadsOldOrReplaced name file (files_of v)) (IsStateDuringRun Makes (Some name) (files_after_replacement name file (files_of v)) (files_of v)) old now (drafting name file (files_of v)) done.reads));

@@ -33,8 +33,8 @@ abbrev pub DidNotFail : SinkBeforeAndAfter → Type 0
 DidNotFail sink = CountsNoNewFault sink.before sink.after
 
 -- a sink gets a whole line, or a prefix of the line if the sink failed
-abbrev pub GetsLineOrPrefix : SinkBeforeAndAfter → List ℕ → Type 0
-GetsLineOrPrefix sink line =
+abbrev pub GetsLineOrFailsWithPrefix : SinkBeforeAndAfter → List ℕ → Type 0
+GetsLineOrFailsWithPrefix sink line =
     (SinkGets sink line × DidNotFail sink) ⊎ (SinkGetsPrefix sink line × SinkFailed sink)
 
 -- a sink failed, and at least one byte was to be printed on it
@@ -70,7 +70,7 @@ pub record PrintsOnlyErrorLine (line : List ℕ) (out err : SinkBeforeAndAfter) 
   pub out_gets : SinkGets out []
   pub out_kept : DidNotFail out
   -- standard error gets the line, or the first bytes of it
-  pub err_gets : GetsLineOrPrefix err line
+  pub err_gets : GetsLineOrFailsWithPrefix err line
 
 -- ---- the answer
 
@@ -169,5 +169,5 @@ IsAnsweredInFullUnlessMemory words files Leaves Memory before after out err = Un
 
 -- whether the arguments name an applet, perhaps after leading options, or ask for help or for the version
 -- without one
-abbrev pub is_command_named : List (List ℕ) → Bool
-is_command_named words = is_ok (start_of_command_line words) || is_ok (command_of words)
+abbrev pub is_applet_help_or_version_named : List (List ℕ) → Bool
+is_applet_help_or_version_named words = is_ok (start_of_command_line words) || is_ok (command_of words)

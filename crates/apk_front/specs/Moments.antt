@@ -31,9 +31,9 @@ output_names None = []
 output_names (Some name) = name ∷ scratch_name_of name ∷ []
 
 -- the ignored names contain the scratch name of an output, and not the name of the intent
-abbrev pub IgnoresScratchOf : Option (List ℕ) → (List ℕ → Bool) → Type 0
-IgnoresScratchOf None ignored = Unit {0}
-IgnoresScratchOf (Some name) ignored = IgnoresScratchNameButNotIntent ignored name
+abbrev pub IgnoresScratchNameOfOutput : Option (List ℕ) → (List ℕ → Bool) → Type 0
+IgnoresScratchNameOfOutput None ignored = Unit {0}
+IgnoresScratchNameOfOutput (Some name) ignored = IgnoresScratchNameButNotIntent ignored name
 
 -- whether a name is ignored, if the output and its scratch name are no longer ignored
 abbrev pub ignored_except_output : Option (List ℕ) → (List ℕ → Bool) → List ℕ → Bool
@@ -121,7 +121,7 @@ abbrev pub CanRecover : Effect → TreeState → Type 0
 CanRecover effect v = (does_recover effect ≡ true) × IsSome (intent_of (files_of v))
 
 -- from state v to state w a recovery is in progress
-pub record IsRecovering (v w : TreeState) : Type 0 where
+pub record IsStateDuringRecovery (v w : TreeState) : Type 0 where
   -- recovery yields of the files in w what it yields of those in v
   pub reads : unstaged_files (files_of w) ≡ unstaged_files (files_of v)
   -- each name outside the staging area has its bytes in v or its recovered bytes
@@ -131,22 +131,23 @@ pub record IsRecovering (v w : TreeState) : Type 0 where
 
 -- in state `w` of a run the tree is being recovered from state `v`, if the command recovers; or `IsNext`,
 -- which is required after recovery, holds of `w`
-abbrev pub IsRecoveringOrNext : Effect → (TreeState → Type 0) → TreeState → TreeState → Type 0
-IsRecoveringOrNext effect IsNext v w = ((does_recover effect ≡ true) × IsRecovering v w) ⊎ IsNext w
+abbrev pub IsStateDuringRecoveryOrNext : Effect → (TreeState → Type 0) → TreeState → TreeState → Type 0
+IsStateDuringRecoveryOrNext effect IsNext v w =
+    ((does_recover effect ≡ true) × IsStateDuringRecovery v w) ⊎ IsNext w
 
 -- Except while the tree is recovered, the files as read are those on which the command works
 -- (*files_recovered_if_needed*). Or the run has an outcome that commits, and its states are those of such a run
 -- (*IsStateDuringRun*).
-abbrev pub AreFilesReadDuringRun :
+abbrev pub AreStatesOfRecoveryOrCommittingRun :
     (Outcome → Type 0) → Effect → Option (List ℕ) → TreeState → List TreeState → List TreeState
     → Type 0
-AreFilesReadDuringRun IsOne effect output v old now =
-    Since (IsRecoveringOrNext effect
+AreStatesOfRecoveryOrCommittingRun IsOne effect output v old now =
+    Since (IsStateDuringRecoveryOrNext effect
     (λ w. files_of w ≡ files_recovered_if_needed effect (files_of v)) v) old now
     ⊎ ((outcome : Outcome)
     × IsOne outcome
     × (outcome.commits ≡ true)
-    × Since (IsRecoveringOrNext effect
+    × Since (IsStateDuringRecoveryOrNext effect
     (IsStateDuringRun effect output outcome.files
     (files_recovered_if_needed effect (files_of v))) v) old now)
 
@@ -192,7 +193,7 @@ MustOutcomeBeDurable effect ignored v outcome = MustOutcomeBeDurableWithoutRecov
     ⊎ CanRecover effect v
 
 -- the tree is durable, and each crash leaves these files
-pub record IsDurableState (ignored : List ℕ → Bool) (files : Files) (w : TreeState) : Type 0 where
+pub record IsDurableAndLeavesFiles (ignored : List ℕ → Bool) (files : Files) (w : TreeState) : Type 0 where
   -- no crash changes the bytes of a file on which recovery depends
   pub is_durable : IsDurable (StateDependsOn ignored) w
   -- each crash leaves the state of these files
@@ -201,10 +202,10 @@ pub record IsDurableState (ignored : List ℕ → Bool) (files : Files) (w : Tre
 -- ---- the answer
 
 -- the command was carried out, though its report may not have been printed
-abbrev pub IsCarriedOut : Answer → Type 0
-IsCarriedOut Ok = Unit {0}
-IsCarriedOut OutFault = Unit {0}
-IsCarriedOut other = ⊥
+abbrev pub IsOkOrOutputFault : Answer → Type 0
+IsOkOrOutputFault Ok = Unit {0}
+IsOkOrOutputFault OutFault = Unit {0}
+IsOkOrOutputFault other = ⊥
 
 -- the command was not carried out, and the tree did not fail
 abbrev pub IsRefusedOrOutOfMemory : Answer → Type 0
@@ -213,11 +214,11 @@ IsRefusedOrOutOfMemory Memory = Unit {0}
 IsRefusedOrOutOfMemory other = ⊥
 
 -- the answer is that of the outcome, or it is a fault of a sink
-abbrev pub AnswersOutcome : Answer → Type 0
-AnswersOutcome Ok = Unit {0}
-AnswersOutcome (Refused refusal) = Unit {0}
-AnswersOutcome OutFault = Unit {0}
-AnswersOutcome other = ⊥
+abbrev pub IsOkRefusedOrOutputFault : Answer → Type 0
+IsOkRefusedOrOutputFault Ok = Unit {0}
+IsOkRefusedOrOutputFault (Refused refusal) = Unit {0}
+IsOkRefusedOrOutputFault OutFault = Unit {0}
+IsOkRefusedOrOutputFault other = ⊥
 
 -- one of these outcomes commits nothing
 abbrev pub HasOutcomeWithoutCommit : (Outcome → Type 0) → Type 0
@@ -259,7 +260,7 @@ abbrev pub LeavesDurableStateIfCommitted :
 LeavesDurableStateIfCommitted IsOne output ignored now =
     (outcome : Outcome)
     × IsOne outcome
-    × (outcome.commits ≡ true → HoldsNow now (IsDurableState (ignored_except_output output ignored)
+    × (outcome.commits ≡ true → HoldsNow now (IsDurableAndLeavesFiles (ignored_except_output output ignored)
     outcome.files))
 
 -- ---- what is promised

@@ -15,7 +15,7 @@ use Rattle.journal_core.specs.Staged.{HasNoStagedNames}
 use Rattle.outcome.specs.Effect.{Effect}
 use Rattle.outcome.specs.Outcome.{Outcome}
 use Rattle.outcome.specs.Work.{recovery_fault}
-use Rattle.apk_front.specs.Moments.{AreFilesReadDuringRun, AreStatesOldOrLeadToOutcome, HasOutcomeWithoutCommit, HasNothingToRecover, IgnoresScratchOf, IsDurableState, IsStateDuringRun, MustOutcomeBeDurable, MustOutcomeBeDurableWithoutRecovery, NamesAreDurableWithoutIntentExcept, ignored_except_output}
+use Rattle.apk_front.specs.Moments.{AreStatesOfRecoveryOrCommittingRun, AreStatesOldOrLeadToOutcome, HasOutcomeWithoutCommit, HasNothingToRecover, IgnoresScratchNameOfOutput, IsDurableAndLeavesFiles, IsStateDuringRun, MustOutcomeBeDurable, MustOutcomeBeDurableWithoutRecovery, NamesAreDurableWithoutIntentExcept, ignored_except_output}
 use Rattle.apk_front.specs.declared.answer.Verdict.{Verdict}
 
 -- ---- after recovery
@@ -49,22 +49,23 @@ pub record IsRunAfterRecovery (IsOne : Outcome → Type 0) (effect : Effect) (ou
   -- at each moment the tree is durable, and a crash leaves a state from before or that of the files of
   -- an outcome that commits
   pub moments : (ignored : List ℕ → Bool)
-      → IsDurable (StateDependsOn ignored) v → IgnoresScratchOf output ignored
+      → IsDurable (StateDependsOn ignored) v → IgnoresScratchNameOfOutput output ignored
       → AreStatesOldOrLeadToOutcome IsOne (is_some output) ignored v old now
   -- the tree is left durable
   pub is_durable : (ignored : List ℕ → Bool)
-      → IsDurable (StateDependsOn ignored) v → IgnoresScratchOf output ignored
+      → IsDurable (StateDependsOn ignored) v → IgnoresScratchNameOfOutput output ignored
       → HoldsNow now (IsDurable (StateDependsOn ignored))
   -- if an outcome was judged whose files must be durable, each crash leaves them
   pub settled : (ignored : List ℕ → Bool) (outcome : Outcome)
-      → IsDurable (StateDependsOn ignored) v → IgnoresScratchOf output ignored
+      → IsDurable (StateDependsOn ignored) v → IgnoresScratchNameOfOutput output ignored
       → IsOne outcome → MustOutcomeBeDurableWithoutRecovery ignored v outcome
       → OnOk judged (HoldsNow now (EachCrashLeavesStateOf ignored outcome.files))
   -- if an outcome that commits was judged, its output and the scratch name are no longer ignored
   pub durable_state : (ignored : List ℕ → Bool) (outcome : Outcome)
-      → IsDurable (StateDependsOn ignored) v → IgnoresScratchOf output ignored
+      → IsDurable (StateDependsOn ignored) v → IgnoresScratchNameOfOutput output ignored
       → IsOne outcome → outcome.commits ≡ true
-      → OnOk judged (HoldsNow now (IsDurableState (ignored_except_output output ignored) outcome.files))
+      → OnOk judged (HoldsNow now
+      (IsDurableAndLeavesFiles (ignored_except_output output ignored) outcome.files))
   -- the files as read are the old ones, or the run works on them
   pub reads : AreFilesReadWithoutRecovery IsOne effect output v old now
   -- if no crash undoes a change of a name at the start, none does as long as no intent is read, except
@@ -86,22 +87,23 @@ pub record IsRunWithRecovery (IsOne : Outcome → Type 0) (effect : Effect) (out
     (judged : Result Verdict TreeFault) (v : TreeState) (old now : List TreeState) : Type 0 where
   -- at each moment the state is old, or the run leads to the files of an outcome that commits
   pub moments : (ignored : List ℕ → Bool)
-      → IsDurable (StateDependsOn ignored) v → IgnoresScratchOf output ignored
+      → IsDurable (StateDependsOn ignored) v → IgnoresScratchNameOfOutput output ignored
       → AreStatesOldOrLeadToOutcome IsOne (is_some output) ignored v old now
   -- a durable tree is durable after the run
   pub is_durable : (ignored : List ℕ → Bool)
-      → IsDurable (StateDependsOn ignored) v → IgnoresScratchOf output ignored
+      → IsDurable (StateDependsOn ignored) v → IgnoresScratchNameOfOutput output ignored
       → HoldsNow now (IsDurable (StateDependsOn ignored))
   -- if there is a verdict, each crash leaves the files of the outcome, if they must be durable
   pub settled : (ignored : List ℕ → Bool) (outcome : Outcome)
-      → IsDurable (StateDependsOn ignored) v → IgnoresScratchOf output ignored
+      → IsDurable (StateDependsOn ignored) v → IgnoresScratchNameOfOutput output ignored
       → IsOne outcome → MustOutcomeBeDurable effect ignored v outcome
       → OnOk judged (HoldsNow now (EachCrashLeavesStateOf ignored outcome.files))
   -- after an outcome that commits, each crash leaves its files, also under the output's name
   pub durable_state : (ignored : List ℕ → Bool) (outcome : Outcome)
-      → IsDurable (StateDependsOn ignored) v → IgnoresScratchOf output ignored
+      → IsDurable (StateDependsOn ignored) v → IgnoresScratchNameOfOutput output ignored
       → IsOne outcome → outcome.commits ≡ true
-      → OnOk judged (HoldsNow now (IsDurableState (ignored_except_output output ignored) outcome.files))
+      → OnOk judged (HoldsNow now
+      (IsDurableAndLeavesFiles (ignored_except_output output ignored) outcome.files))
   -- a run that commits nothing leaves the state, and writes nothing if there is nothing to recover
   pub left : IsOutOfMemoryOrWithoutCommit IsOne judged → (ignored : List ℕ → Bool)
       → IsDurable (StateDependsOn ignored) v → Since (StateIsUnchanged ignored v) old now
@@ -110,7 +112,7 @@ pub record IsRunWithRecovery (IsOne : Outcome → Type 0) (effect : Effect) (out
   -- nothing is written either if the intent is bad
   pub bad : IsSome (recovery_fault effect (files_of v)) → now ≡ old
   -- which files are read at each moment of the run
-  pub reads : AreFilesReadDuringRun IsOne effect output v old now
+  pub reads : AreStatesOfRecoveryOrCommittingRun IsOne effect output v old now
   -- if there was an intent, crashes undo no change of a name from the moment at which no intent is read
   pub last : IsSome (v.names intent_name) → Since (NamesAreDurableWithoutIntentExcept output) old now
   -- if there is a verdict, the files as read are those of the outcome

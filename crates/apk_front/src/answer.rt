@@ -1,7 +1,7 @@
 //! The answer of a run: what it was judged to answer is printed on the two sinks. The rules are in
 //! `docs/commands.md`, "Answers and statuses", and the texts in "Error lines".
 ghost use Rattle.std.specs.Prelude.{◌≡◌, ◌≢◌, [], OnErr, Err};
-ghost use Rattle.apk_front.specs.Answers.{GetsLineOrPrefix};
+ghost use Rattle.apk_front.specs.Answers.{GetsLineOrFailsWithPrefix};
 ghost use Rattle.apk_front.specs.Status.{status_of};
 ghost use Rattle.apk_front.specs.Verdicts.{IsPrinted, IsRefusalPrinted, IsVerdictPrinted, as_outcome};
 ghost use Rattle.base_core.specs.Files.{Files};
@@ -176,7 +176,7 @@ fn print_refusal<E: Sink>(refusal: Option<Refusal>, err: &mut E) -> Answer
 // Prints a fault's line. A fault of the sink does not change the answer: the status reports the
 // first fault.
 fn print_line<E: Sink>(line: &[u8], err: &mut E)
-    ensures line { GetsLineOrPrefix
+    ensures line { GetsLineOrFailsWithPrefix
         (sink_before_and_after E.bytes E.counts err.old err.new) line.now }
     ensures counts { IsUseWithoutMisuse (sink_before_and_after E.bytes E.counts err.old err.new) }
 {

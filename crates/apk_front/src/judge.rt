@@ -4,7 +4,7 @@
 //! does"; and for how counts explain an answer in "Misuses, faults and counts".
 
 ghost use Rattle.std.specs.Prelude.{◌≡◌, Ok, IfOk, IsErrOf, IsTrue};
-ghost use Rattle.apk_front.specs.Answers.{is_command_named};
+ghost use Rattle.apk_front.specs.Answers.{is_applet_help_or_version_named};
 ghost use Rattle.apk_front.specs.RunContracts.{IsJudgedRun, IsReadingRun, IsRunByArguments};
 ghost use Rattle.apk_front.specs.Verdicts.{read_only_outcome};
 ghost use Rattle.outcome.specs.Commands.{IsPossibleOutcomeWithoutDemo, IsOutcomeWithoutDemo, reads_in};
@@ -44,7 +44,8 @@ pub(crate) fn judge<T: Tree>(
         → IsRunByArguments (IsOutcome (command_of words.now)) tree.old tree.new result }
     ensures same { IsTrue (reads_only (command_of words.now))
         → T.history tree.new ≡ T.history tree.old }
-    ensures named { IsErrOf result TreeFault.Memory → IsTrue (is_command_named words.now) }
+    ensures named { IsErrOf result TreeFault.Memory
+        → IsTrue (is_applet_help_or_version_named words.now) }
 {
     match read_words(alloc, words) {
         Ok(command) => run_command(alloc, &command, tree),

@@ -1,7 +1,7 @@
 //! Laws: the clauses of `apk` hold of each outcome that a command line has, and not only of the one
 //! that they name. They serve `run_lists`; the rules are in `docs/crash-safety.md`, "Recovery".
 ghost use Rattle.std.specs.Prelude.{◌≡◌, ℕ, Bool, true, List, None, is_some};
-ghost use Rattle.apk_front.specs.Moments.{AreStatesOldOrLeadToOutcome, HasNothingToRecover, IsCarriedOut, IsRecovering, LeavesDurableFilesOnceAnswered, MustOutcomeBeDurable};
+ghost use Rattle.apk_front.specs.Moments.{AreStatesOldOrLeadToOutcome, HasNothingToRecover, IsOkOrOutputFault, IsStateDuringRecovery, LeavesDurableFilesOnceAnswered, MustOutcomeBeDurable};
 ghost use Rattle.apk_front.specs.declared.answer.Answer.{Answer};
 ghost use Rattle.base_core.specs.Calls.{HoldsNow};
 ghost use Rattle.base_core.specs.Crash.{Since};
@@ -42,7 +42,7 @@ pub fn what_is_carried_out_is_durable()
         → LeavesDurableFilesOnceAnswered (IsOutcome (command_of words) (files_of v))
         (effect_of_arguments
         (command_of words))
-        ignored v now answer → IsCarriedOut answer
+        ignored v now answer → IsOkOrOutputFault answer
         → IsOutcome (command_of words) (files_of v) outcome → outcome.refusal ≡ None
         → MustOutcomeBeDurable (effect_of_arguments (command_of words)) ignored v outcome
         → HoldsNow now (EachCrashLeavesStateOf ignored outcome.files) }
@@ -55,7 +55,7 @@ pub fn what_is_carried_out_is_durable()
 /// files, and the command works on these.
 pub fn without_recovery_the_files_are_the_old_ones()
     ensures moments { (effect : Effect) (v w : TreeState) → HasNothingToRecover effect v
-        → (does_recover effect ≡ true) × IsRecovering v w → files_of w ≡ files_of v }
+        → (does_recover effect ≡ true) × IsStateDuringRecovery v w → files_of w ≡ files_of v }
     ensures work { (effect : Effect) (v : TreeState) → HasNothingToRecover effect v
         → files_recovered_if_needed effect (files_of v) ≡ files_of v }
 {}

@@ -23,7 +23,7 @@ use Rattle.root_laws.specs.RootLeft.{IsRootLeftByChange, database_of_members}
 -- ---- a file that is left different
 
 -- an entry of an empty file with the digest of other bytes, which no test of a package compares
-pub record IsEmptyWithOtherDigest (entry : Plain) : Type 0 where
+pub record IsEmptyFileWithOtherDigest (entry : Plain) : Type 0 where
   -- the entry is that of an empty file
   pub no_contents : is_file_with_contents entry ≡ false
   -- the entry has no link target
@@ -47,7 +47,8 @@ ExplainsDifference contents change files d l true =
     ⊎ (is_as_listed l.entry (listing_bytes contents l) ≡ false))
 
 -- a file that differs after a change, of the package that owns its path
-pub record IsLeftDifferent (contents : ℕ → List Contents) (change : FileChange) (files : Files)
+pub record IsDifferenceExplainedAfterChange (contents : ℕ → List Contents) (change : FileChange)
+    (files : Files)
     (d : FileDifference) : Type 0 where
   -- the listing of the file in the package that owns its path
   pub listing : Listing

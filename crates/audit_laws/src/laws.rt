@@ -4,7 +4,7 @@
 ghost use Rattle.audit_core.specs.adb_fields.FirstPair.{IsIn};
 ghost use Rattle.audit_core.specs.Audit.{FileDifference};
 ghost use Rattle.audit_core.specs.Differences.{file_differences};
-ghost use Rattle.audit_laws.specs.AfterChange.{IsEmptyWithOtherDigest, IsLeftDifferent, change_left, contents_left, packages_left};
+ghost use Rattle.audit_laws.specs.AfterChange.{IsEmptyFileWithOtherDigest, IsDifferenceExplainedAfterChange, change_left, contents_left, packages_left};
 ghost use Rattle.base_core.specs.Files.{Files};
 ghost use Rattle.root_laws.specs.change_files.FileChange.{added_owner_listing};
 ghost use Rattle.root_laws.specs.change_files.FilesAfter.{listing_bytes};
@@ -38,13 +38,13 @@ pub fn after_a_change_an_audit_reports_what_it_left_to_the_user()
         → change_of_command command read files chosen clash ≡ Ok done
         → command.flags.simulate ≡ false
         → IsIn d (file_differences done.files (packages_left left))
-        ↔ IsLeftDifferent (contents_left left) (change_left left) files d }
+        ↔ IsDifferenceExplainedAfterChange (contents_left left) (change_left left) files d }
     // An added package has bytes unlike its entry for an empty file alone.
     ensures empty { (command : CommandLine) (read : Reads) (chosen : Option (List ℕ))
         (done : ChangeDone) (left : IsRootLeftByChange command read chosen done) (path : List ℕ)
         (l : Listing) → added_owner_listing (change_left left) path ≡ Some l
         → is_as_listed l.entry (listing_bytes (contents_left left) l) ≡ false
-        → IsEmptyWithOtherDigest l.entry }
+        → IsEmptyFileWithOtherDigest l.entry }
 {
     // Laws that the proof needs; they compute nothing.
     sound_containers_hold_sound_values();

@@ -6,9 +6,9 @@ ghost use Rattle.std.specs.Prelude.{◌≡◌, ◌≤◌, ◌++◌, ℕ, List, [
 ghost use Rattle.base_core.specs.Crash.{IsCrashImageIfUndoneNewestFirst, IsCrashImageUnderMap, IsDurableIfUndoneNewestFirst};
 ghost use Rattle.base_core.specs.Faults.{Counts, CountsOnlyRise, IsFaultCountedWithCause, CountsNoNewFault};
 ghost use Rattle.base_core.specs.Files.{Files, NameMap, HaveValidNamesAndBytes, HasNamesAmong};
-ghost use Rattle.base_core.specs.Listed.{AreNamesBelow, IsListOf, IsNamesOf};
+ghost use Rattle.base_core.specs.Listed.{AreSortedNamesBelowFolder, IsSortedListingOfFolder, AreSortedNamesInMap};
 ghost use Rattle.base_core.specs.Read.{OnlyReads};
-ghost use Rattle.base_core.specs.Restart.{HasNamedNewFile, IsAfterCrashIfUndoneNewestFirst};
+ghost use Rattle.base_core.specs.Restart.{HasNameLedToFileFromNumber, IsAfterCrashIfUndoneNewestFirst};
 ghost use Rattle.base_core.specs.Tree.{TreeState, IsCurrentOrOlderMap, IsWellFormed, files_of, files_under_map, with_names};
 ghost use Rattle.base_core.specs.Undone.{IsAfterCrash, IsDurable, IsCrashImage, IsCrashMap, with_change_replayed};
 
@@ -147,10 +147,11 @@ pub fn a_tree_stays_durable_if_fewer_files_must_be<D: Durability>()
 pub fn a_folder_has_one_listing()
     // There is a listing of each folder, and it has only names below the folder.
     ensures exists { (v : TreeState) → IsWellFormed v → (folder : List ℕ)
-        → (names : List (List ℕ)) × IsListOf folder v names × AreNamesBelow folder names }
+        → (names : List (List ℕ)) × IsSortedListingOfFolder folder v names
+        × AreSortedNamesBelowFolder folder names }
     // Two listings of one folder are equal.
     ensures one { (v : TreeState) (folder : List ℕ) (a b : List (List ℕ))
-        → IsListOf folder v a → IsListOf folder v b → a ≡ b }
+        → IsSortedListingOfFolder folder v a → IsSortedListingOfFolder folder v b → a ≡ b }
 {}
 
 /// A map with finitely many names has exactly one list of them. Each map of a whole state is such a
@@ -158,9 +159,10 @@ pub fn a_folder_has_one_listing()
 pub fn a_map_has_one_list_of_names()
     // There is a list of the names in the map.
     ensures exists { (map : NameMap) (within : List (List ℕ)) → HasNamesAmong within map
-        → (names : List (List ℕ)) × IsNamesOf map names }
+        → (names : List (List ℕ)) × AreSortedNamesInMap map names }
     // Two lists of the names in one map are equal.
-    ensures one { (map : NameMap) (a b : List (List ℕ)) → IsNamesOf map a → IsNamesOf map b
+    ensures one { (map : NameMap) (a b : List (List ℕ)) → AreSortedNamesInMap map a
+        → AreSortedNamesInMap map b
         → a ≡ b }
 {}
 
@@ -168,16 +170,17 @@ pub fn a_map_has_one_list_of_names()
 pub fn files_have_one_list_of_names()
     // There is a list of the files' names.
     ensures exists { (files : Files) (within : List (List ℕ)) → HasNamesAmong within files
-        → (names : List (List ℕ)) × IsNamesOf files names }
+        → (names : List (List ℕ)) × AreSortedNamesInMap files names }
     // Two lists of the names of the same files are equal.
-    ensures one { (files : Files) (a b : List (List ℕ)) → IsNamesOf files a → IsNamesOf files b
+    ensures one { (files : Files) (a b : List (List ℕ)) → AreSortedNamesInMap files a
+        → AreSortedNamesInMap files b
         → a ≡ b }
 {}
 
 /// The files as read are under exactly the names as read.
 pub fn the_files_as_read_have_the_names_as_read()
-    ensures { (v : TreeState) (names : List (List ℕ)) → IsNamesOf v.names names
-        → IsNamesOf (files_of v) names }
+    ensures { (v : TreeState) (names : List (List ℕ)) → AreSortedNamesInMap v.names names
+        → AreSortedNamesInMap (files_of v) names }
 {}
 
 /// The files of a whole state, by each of its maps, are finitely many, and each is under a name and
@@ -226,14 +229,15 @@ pub fn consecutive_reads_compose<A, B, E>()
         → OnlyReads disk_fault h0 h2 a c then }
 {}
 
-/// `HasNamedNewFile name b moments` says that at one of these moments the name led to a file whose
+/// `HasNameLedToFileFromNumber name b moments` says that at one of these moments the name led to a file whose
 /// number is `b` or larger. Then this also holds for each smaller number (`begun`), and for a
 /// longer list of moments (`later`).
 pub fn a_file_made_in_a_run_was_made_in_an_earlier_one()
     // A file made as number b or later was made as number a or later, if a is at most b.
     ensures begun { (name : List ℕ) (a b : ℕ) (moments : List TreeState) → a ≤ b
-        → HasNamedNewFile name b moments → HasNamedNewFile name a moments }
+        → HasNameLedToFileFromNumber name b moments → HasNameLedToFileFromNumber name a moments }
     // What holds of some moments also holds of these with further moments.
     ensures later { (name : List ℕ) (made : ℕ) (later moments : List TreeState)
-        → HasNamedNewFile name made moments → HasNamedNewFile name made (later ++ moments) }
+        → HasNameLedToFileFromNumber name made moments
+        → HasNameLedToFileFromNumber name made (later ++ moments) }
 {}

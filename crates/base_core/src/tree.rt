@@ -6,7 +6,7 @@ ghost use Rattle.std.specs.Option.{option_map, option_copied};
 ghost use Rattle.base_core.specs.Tree.{TreeState, files_of, after_create, after_append, after_failed_append, after_sync, after_rename, after_remove, after_sync_names, unchanged_after_failed_call, IsAlwaysAllowed, HasName, CanRead, CanCreate, CanRename, IsWellFormed};
 ghost use Rattle.base_core.specs.Faults.{Counts, CountsOnlyRise, IsFaultCountedWithCause, CountsNoNewFault};
 ghost use Rattle.base_core.specs.Calls.{IsCounted, ChangesHistory, IfObservable};
-ghost use Rattle.base_core.specs.Listed.{AreNamesBelow, IsListOf};
+ghost use Rattle.base_core.specs.Listed.{AreSortedNamesBelowFolder, IsSortedListingOfFolder};
 ghost use Rattle.base_core.specs.Read.{AppendsReadBytes, OnlyReads, bytes_in};
 ghost use Rattle.base_core.specs.declared.tree.TreeFault.TheVariants.{Memory, Disk as DiskFault};
 
@@ -175,9 +175,9 @@ pub trait Tree {
         ensures proper { (counts self.new).misuses ≡ (counts self.old).misuses }
         // What is returned, if the history is observable.
         ensures value { IfOk result (λ names.
-            IfObservable (history self.old) (λ v. IsListOf folder.now v names)) }
+            IfObservable (history self.old) (λ v. IsSortedListingOfFolder folder.now v names)) }
         // In any case these are names below the folder, in byte order, each once.
-        ensures order { IfOk result (λ names. AreNamesBelow folder.now names) };
+        ensures order { IfOk result (λ names. AreSortedNamesBelowFolder folder.now names) };
 
     /// Asks, before a change is committed, whether the tree could later rename a file from the
     /// source to the name, or, without a source, remove the name. The source need not exist yet. A

@@ -192,22 +192,23 @@ abbrev pub positive_entries_of : List Dependency → List Dependency
 positive_entries_of world = filter (λ (d : Dependency). not d.conflict) world
 
 -- whether an entry of world uses the tag
-abbrev pub uses_tag : List Dependency → List ℕ → Bool
-uses_tag world tag = list_any (λ (d : Dependency). option_map_or (bytes_eq tag) d.tag false) world
+abbrev pub is_tag_used_in_world : List Dependency → List ℕ → Bool
+is_tag_used_in_world world tag =
+    list_any (λ (d : Dependency). option_map_or (bytes_eq tag) d.tag false) world
 
 -- whether a candidate is allowed: it is installed, or from no repository or an untagged one, or from
 -- one whose tag an entry of world uses
-abbrev pub is_allowed : List Dependency → Candidate → Bool
-is_allowed world c =
-    c.installed || (not (is_some c.repository) || option_map_or (uses_tag world) c.tag true)
+abbrev pub is_allowed_by_tags_of_world : List Dependency → Candidate → Bool
+is_allowed_by_tags_of_world world c =
+    c.installed || (not (is_some c.repository) || option_map_or (is_tag_used_in_world world) c.tag true)
 
 -- whether a candidate is barred: it meets a conflict of world
-abbrev pub is_barred_by : List Dependency → Candidate → Bool
-is_barred_by world c = list_any (λ (d : Dependency). d.conflict && meets_dependency d c) world
+abbrev pub is_barred_by_world : List Dependency → Candidate → Bool
+is_barred_by_world world c = list_any (λ (d : Dependency). d.conflict && meets_dependency d c) world
 
 -- whether a candidate may be selected: it is allowed and not barred
 abbrev pub is_eligible : List Dependency → Candidate → Bool
-is_eligible world c = is_allowed world c && not (is_barred_by world c)
+is_eligible world c = is_allowed_by_tags_of_world world c && not (is_barred_by_world world c)
 
 -- whether a candidate has an install-if that can apply: it may be selected itself, and its install-if
 -- is not empty and has no conflict

@@ -70,12 +70,12 @@ abbrev pub quality_first : (Candidate → Bool) → Candidate → Candidate → 
 quality_first quality = on quality (flip_args bool_cmp)
 
 -- the greater of two versions is first, and none last
-abbrev pub greater_version : Option (List ℕ) → Option (List ℕ) → Ordering
-greater_version = flip_args (option_cmp version_cmp)
+abbrev pub greater_version_first_cmp : Option (List ℕ) → Option (List ℕ) → Ordering
+greater_version_first_cmp = flip_args (option_cmp version_cmp)
 
 -- the repository with the smaller number is first, and none last
-abbrev pub earlier_repository : Option ℕ → Option ℕ → Ordering
-earlier_repository = flip_args (option_cmp (flip_args nat_cmp))
+abbrev pub earlier_repository_first_cmp : Option ℕ → Option ℕ → Ordering
+earlier_repository_first_cmp = flip_args (option_cmp (flip_args nat_cmp))
 
 -- Keys 2 to 4. A candidate of a repository without tag is first; then one with the needed name; and then
 -- one that is installed and kept.
@@ -90,17 +90,17 @@ tag_name_kept_cmp upgraded need =
 -- one whose own version is greater.
 abbrev pub version_and_priority_cmp : Need → Candidate → Candidate → Ordering
 version_and_priority_cmp need =
-    then_cmp (on (version_meeting_need need) greater_version)
+    then_cmp (on (version_meeting_need need) greater_version_first_cmp)
     (then_cmp (on (λ (c : Candidate). c.priority) (flip_args nat_cmp))
     (then_cmp (on (λ (c : Candidate). c.name) bytes_cmp)
-    (on (λ (c : Candidate). c.version) greater_version)))
+    (on (λ (c : Candidate). c.version) greater_version_first_cmp)))
 
 -- Keys 9 and 10. The candidate whose version text is less in byte order is first; then the one of the
 -- earlier repository.
 abbrev pub version_text_and_repository_cmp : Candidate → Candidate → Ordering
 version_text_and_repository_cmp =
     then_cmp (on (λ (c : Candidate). c.version) (option_cmp bytes_cmp))
-    (on (λ (c : Candidate). c.repository) earlier_repository)
+    (on (λ (c : Candidate). c.repository) earlier_repository_first_cmp)
 
 -- the order of two candidates by keys 2 to 10, if world pins both of them, or neither of them
 abbrev pub candidate_cmp_after_pinning : UpgradedNames → Need → Candidate → Candidate → Ordering

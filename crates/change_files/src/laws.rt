@@ -18,7 +18,7 @@ ghost use Rattle.change_files.specs.FileChange.{FileChange, added_owner_listing,
 ghost use Rattle.change_files.specs.FilesAfter.{DatabaseAndWorldAfter, files_after_change, database_name, is_modified_file_kept, is_no_longer_listed, is_removed, is_written, apk_new_listing_at, listing_bytes, text_database_name, world_name, listing_written_under_name};
 ghost use Rattle.change_files.specs.NamesAfter.{is_released, name_change};
 ghost use Rattle.change_files.specs.PlanLists.{FileWrite, paths_with_apk_new_file, file_writes_of, first_reserved_path, kept_paths_of, removals_of};
-ghost use Rattle.change_files.specs.Touched.{DiffersFromOldEntry, IsModifiedConfigFile, IsPlannedWrite, is_apk_new_name, is_added_path, is_record_name};
+ghost use Rattle.change_files.specs.Touched.{DiffersFromOldEntry, IsModifiedConfigFile, IsPlannedWrite, is_apk_new_name, is_added_path, is_database_or_world_name};
 
 // ---- what is written
 
@@ -85,7 +85,7 @@ pub fn what_is_written_takes_its_name()
     ensures { (change : FileChange) (bytes_of : Listing → List ℕ) (records : DatabaseAndWorldAfter)
         (files : Files) (name : List ℕ) (l : Listing)
         → listing_written_under_name change files name ≡ Some l
-        → is_record_name records name ≡ false
+        → is_database_or_world_name records name ≡ false
         → files_after_change change bytes_of records files name ≡ Some (bytes_of l) }
 {}
 
@@ -99,7 +99,7 @@ pub fn what_is_written_is_not_reserved()
         → is_reserved name ≡ false }
     // The names of the database, of world and of a text database are reserved.
     ensures records { (records : DatabaseAndWorldAfter) (name : List ℕ) →
-        is_record_name records name ≡ true
+        is_database_or_world_name records name ≡ true
         → is_reserved name ≡ true }
 {}
 
@@ -115,7 +115,7 @@ pub fn what_is_removed_was_listed_before()
     ensures gone { (change : FileChange) (bytes_of : Listing
         → List ℕ) (records : DatabaseAndWorldAfter)
         (files : Files) (path : List ℕ) → is_removed change files path ≡ true
-        → is_record_name records path ≡ false
+        → is_database_or_world_name records path ≡ false
         → files_after_change change bytes_of records files path ≡ None }
 {}
 
@@ -158,7 +158,7 @@ pub fn the_file_of_a_kept_package_is_not_touched()
         → List ℕ) (records : DatabaseAndWorldAfter)
         (files : Files) (path : List ℕ) (l : Listing)
         → owner_listing change path ≡ Some l → is_added l.member ≡ false
-        → is_record_name records path ≡ false
+        → is_database_or_world_name records path ≡ false
         → files_after_change change bytes_of records files path ≡ files path }
 {}
 
@@ -169,7 +169,7 @@ pub fn configuration_that_the_user_changed_is_kept()
         (files : Files) (path bytes : List ℕ)
         → (change.purge ≡ false) ⊎ (is_listed_after_change change path ≡ true)
         → IsModifiedConfigFile change files path bytes
-        → is_apk_new_name change files path ≡ false → is_record_name records path ≡ false
+        → is_apk_new_name change files path ≡ false → is_database_or_world_name records path ≡ false
         → files_after_change change bytes_of records files path ≡ Some bytes }
 {}
 
@@ -177,7 +177,7 @@ pub fn configuration_that_the_user_changed_is_kept()
 pub fn what_is_kept_is_unchanged()
     ensures { (change : FileChange) (bytes_of : Listing → List ℕ) (records : DatabaseAndWorldAfter)
         (files : Files) (path : List ℕ) → is_modified_file_kept change files path ≡ true
-        → is_record_name records path ≡ false
+        → is_database_or_world_name records path ≡ false
         → files_after_change change bytes_of records files path ≡ files path }
 {}
 
@@ -187,7 +187,7 @@ pub fn a_name_that_nobody_lists_is_not_touched()
     ensures { (change : FileChange) (bytes_of : Listing → List ℕ) (records : DatabaseAndWorldAfter)
         (files : Files) (name : List ℕ) → was_listed change name ≡ false
         → is_added_path change name ≡ false
-        → is_apk_new_name change files name ≡ false → is_record_name records name ≡ false
+        → is_apk_new_name change files name ≡ false → is_database_or_world_name records name ≡ false
         → files_after_change change bytes_of records files name ≡ files name }
 {}
 
@@ -209,14 +209,14 @@ pub fn the_names_after_a_change_are_those_of_its_files()
         → List ℕ) (records : DatabaseAndWorldAfter)
         (files : Files) (name : List ℕ)
         → is_some (files name) ≡ true → is_released change files name ≡ false
-        → is_record_name records name ≡ false
+        → is_database_or_world_name records name ≡ false
         → is_some (files_after_change change bytes_of records files name) ≡ true }
     // A released name that is not written is absent after the change.
     ensures gone { (change : FileChange) (bytes_of : Listing
         → List ℕ) (records : DatabaseAndWorldAfter)
         (files : Files) (name : List ℕ)
         → is_released change files name ≡ true → is_written change files name ≡ false
-        → is_record_name records name ≡ false
+        → is_database_or_world_name records name ≡ false
         → files_after_change change bytes_of records files name ≡ None }
 {}
 

@@ -42,10 +42,10 @@ root_from_parts command database text world repositories = record {
 -- a root, given what is found under the names of the database, the text database, world and the
 -- repositories, or its first refusal; `--initdb`, which `add` alone has, lets a command begin a
 -- database
-abbrev pub root_found :
+abbrev pub root_from_files_found :
     CommandLine → Option (List ℕ) → Option (List ℕ) → Option (List ℕ) → Option (List ℕ)
     → Result Root Refusal
-root_found command file text world_file repositories_file =
+root_from_files_found command file text world_file repositories_file =
     and_then (root_database command.flags.initdb file text) (λ database.
     and_then (root_world (found_text_or_empty world_file)) (λ world.
     and_then
@@ -104,7 +104,7 @@ database_for command read =
 -- a root, given what reads find, for a command
 abbrev pub root_for : CommandLine → Reads → Result Root Refusal
 root_for command read =
-    root_found command (read database_read_number database_name)
+    root_from_files_found command (read database_read_number database_name)
     (read text_database_read_number text_database_name) (read world_read_number world_name)
     (read repositories_read_number repositories_name)
 

@@ -91,8 +91,8 @@ is_absent_or_different None bytes = true
 is_absent_or_different (Some old) bytes = not (bytes_eq old bytes)
 
 -- the database and world after a change, given the bytes of the new database
-abbrev pub new_records : Inputs → List ℕ → DatabaseAndWorldAfter
-new_records inputs database = record {
+abbrev pub database_and_world_after_change : Inputs → List ℕ → DatabaseAndWorldAfter
+database_and_world_after_change inputs database = record {
   database = database;
   world = world_text inputs.root.new_world;
   takes_text_over = inputs.root.database.from_text;
@@ -178,12 +178,12 @@ change_done inputs r wishes found files records =
 
 -- a change that is made, unless a limit of the writer is exceeded, first by the database and then by
 -- the intent
-abbrev pub unless_too_large :
+abbrev pub change_done_unless_too_large :
     Inputs → Replacement → ChangeWishes → List MemberFound → Files → Result ChangeDone Refusal
-unless_too_large inputs r wishes found files =
+change_done_unless_too_large inputs r wishes found files =
     let change = file_change inputs wishes found in
     and_then (or_result_too_large (database_of change.members (owned_flags_of change.members))) (λ database.
-    let records = new_records inputs database in
+    let records = database_and_world_after_change inputs database in
     let actions = intent_of_change inputs change files records in
     unless_overflow (overflow_of (value_of_intent actions))
     (change_done inputs r wishes found files records))
@@ -199,7 +199,7 @@ change_with_members inputs r wishes clash files found =
     (unless_clash clash
     (unless_contested change.members (first_contested_path_of_members change.members)
     (and_then (unless_trigger_due wishes.no_scripts (touched_paths change files) change.members)
-    (λ is_allowed. unless_too_large inputs r wishes found files))))
+    (λ is_allowed. change_done_unless_too_large inputs r wishes found files))))
 
 -- the packages after a change, or the first refusal of one
 abbrev pub members_after_change :

@@ -7,8 +7,8 @@ use Rattle.journal_core.specs.journal_intent.FreeNames.{HasFreeDistinctNames, Is
 use Rattle.journal_core.specs.journal_intent.IntentValue.{intent_of_lists}
 
 -- a change has fewer writes than this limit, so that their number plus 1 fits into 64 bits
-abbrev pub write_limit : ℕ
-write_limit = 2 ^ 63
+abbrev pub write_count_limit : ℕ
+write_count_limit = 2 ^ 63
 
 -- if these names are removed and written, and the others are unchanged, the files are `after`; the
 -- names are free, nothing is staged before, and the writes are below their limit
@@ -16,7 +16,7 @@ pub record ActionsLeadToFiles (removals writes : List (List ℕ)) (files after :
   -- the names are free; none is written twice, and none is both written and removed
   pub free : HasFreeDistinctNames (intent_of_lists removals writes)
   -- there are less writes than a stage can have
-  pub few : length writes < write_limit
+  pub few : length writes < write_count_limit
   -- nothing is staged in the files before
   pub empty : HasNoStagedNames files
   -- each written name has a file afterwards

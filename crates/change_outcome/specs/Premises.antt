@@ -18,7 +18,7 @@ pub record HasNoReservedPath (change : FileChange) : Type 0 where
   pub coming : first_reserved_path change.members ≡ None
 
 -- the database and world were read from these files
-pub record IsRootOfFiles (files : Files) (root : Root) : Type 0 where
+pub record AreDatabaseAndWorldReadFromFiles (files : Files) (root : Root) : Type 0 where
   -- the bytes of the database are those of its file
   pub database : root.database.file ≡ files database_name
   -- the text of world is that of its file, and empty if there is no file

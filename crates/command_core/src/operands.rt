@@ -6,7 +6,7 @@ ghost use Rattle.std.specs.Prelude.{◌≡◌, ◌<◌, ◌==◌, ◌++◌, ◌�
 ghost use Rattle.std.specs.Option.{option_map};
 ghost use Rattle.command_core.specs.Files.{without_dot_slash, is_file_argument, is_output_argument};
 ghost use Rattle.command_core.specs.Named.{file_name, are_files, operand_file};
-ghost use Rattle.command_core.specs.Operands.{at_least, at_most, exactly, first_refused_operand, allows_one_more, is_operand_of_kind, operand_at, takes};
+ghost use Rattle.command_core.specs.Operands.{at_least, at_most, exactly, first_refused_operand, allows_one_more_operand, is_operand_of_kind, operand_at, takes};
 ghost use Rattle.command_core.specs.Applets.{required_option_letter, operand_rule};
 ghost use Rattle.command_core.specs.Sound.{value_rules, IsValidCommand, are_allowed_operands, are_allowed_values, is_allowed_value, rule_for};
 ghost use Rattle.command_core.specs.Command.{CommandLine};
@@ -123,15 +123,15 @@ impl OperandRule {
     fn takes(&self, before: usize, text: &[u8]) -> bool
         ensures { result ≡ takes self.now before text.now }
     {
-        if !self.allows_one_more(before) {
+        if !self.allows_one_more_operand(before) {
             return false;
         }
         self.kind.has(text)
     }
 
     // Whether one more operand is allowed, given how many precede it.
-    fn allows_one_more(&self, before: usize) -> bool
-        ensures { result ≡ allows_one_more self.now.most before }
+    fn allows_one_more_operand(&self, before: usize) -> bool
+        ensures { result ≡ allows_one_more_operand self.now.most before }
     {
         match self.most {
             Some(most) => before < most,

@@ -39,8 +39,8 @@ is_added m = is_some m.id
 -- ---- their order
 
 -- members are in byte order of their names, each name once
-abbrev pub AreInOrder : List Member → Type 0
-AreInOrder members = AreSortedDistinctNames (map member_name members)
+abbrev pub AreMembersInNameOrder : List Member → Type 0
+AreMembersInNameOrder members = AreSortedDistinctNames (map member_name members)
 
 -- whether a name is after the last of some members, and so after all of them
 abbrev pub is_after_members : List ℕ → List Member → Bool

@@ -13,7 +13,7 @@ ghost use Rattle.db_core.specs.Members.{Member, is_after_members, member_of_adde
 ghost use Rattle.base_core.specs.ByteOrder.{precedes};
 ghost use Rattle.std.specs.List.Sorted.{IsPartitionPoint};
 ghost use Rattle.db_core.specs.Packages.{is_added_or_lists_no_reserved, lists_only_valid_names};
-ghost use Rattle.db_core.specs.SoundMembers.{AreOfSoundContainers};
+ghost use Rattle.db_core.specs.SoundMembers.{AreMembersOfSoundContainers};
 ghost use Rattle.db_core.specs.declared.members.TheConstants.{MOST_MEMBERS};
 ghost use Rattle.pkg_core.specs.Values.{payload_of_contents, value_of_contents};
 ghost use Rattle.sha2.specs.Sha256.{sha256};
@@ -72,7 +72,7 @@ pub struct Members<'a> {
     ghost free: { list_all (λ e. is_added_or_lists_no_reserved (member_of_entry e)) entries.items
         ≡ true },
     // The packages are from sound containers.
-    ghost sound: { ∥ AreOfSoundContainers (map member_of_entry entries.items) ∥₁ },
+    ghost sound: { ∥ AreMembersOfSoundContainers (map member_of_entry entries.items) ∥₁ },
     // A kept package is read from the payload of the database.
     ghost lent: { list_all (is_added_or_has_payload (payload_of_database db.now.idb)) entries.items
         ≡ true },
@@ -89,7 +89,7 @@ fn is_before(entry: &PackageWithId<'_>, name: &[u8]) -> bool
 impl<'a> Members<'a> {
     ghost use Rattle.pkg_core.specs.adb_schema.Reserved.{is_reserved};
     ghost use Rattle.base_core.specs.Name.{IsName};
-    ghost use Rattle.db_core.specs.Members.{AreInOrder, member_listings};
+    ghost use Rattle.db_core.specs.Members.{AreMembersInNameOrder, member_listings};
     ghost use Rattle.db_core.specs.Seen.{members_of, packages_of_old_database, packages_of, payload_of_old_database};
 
     /// A list without packages, for kept packages of a database and added ones.
@@ -252,7 +252,7 @@ impl<'a> Members<'a> {
     /// Members are in byte order of their names, each name once. The writer of a database requires
     /// this, since a database lists its packages in that order.
     pub fn members_are_in_order(&self)
-        ensures { AreInOrder (members_of self.now) }
+        ensures { AreMembersInNameOrder (members_of self.now) }
     {}
 
     /// Each path that a member lists is a name, so that a file may be written under it.
@@ -270,7 +270,7 @@ impl<'a> Members<'a> {
     /// The packages are from sound containers: what is read of them need not be tested again, and a
     /// database of them is sound.
     pub fn packages_are_sound(&self)
-        ensures { ∥ AreOfSoundContainers (members_of self.now) ∥₁ }
+        ensures { ∥ AreMembersOfSoundContainers (members_of self.now) ∥₁ }
     {}
 }
 

@@ -5,7 +5,7 @@
 //! list of words holds at most 4,294,967,294, and no command of `demo` comes near this limit.
 
 ghost use Rattle.std.specs.Prelude.{◌≡◌, ◌<◌, ◌++◌, ◌∷◌, [], codes, length, IfOk, OnOk, true, IsTrue, Some};
-ghost use Rattle.demo_lines.specs.Lines.{add_words, demo_name, demo_package_path, demo_package_paths, demo_version, depends_words, mkndx_words, mkpkg_words, name_unless_needed_by_first_n, names_not_needed_by_first_n};
+ghost use Rattle.demo_lines.specs.Lines.{add_words, demo_package_name, demo_package_path, demo_package_paths, demo_version, depends_words, mkndx_words, mkpkg_words, name_unless_needed_by_first_n, names_not_needed_by_first_n};
 ghost use Rattle.std.specs.Str.Parse.{digits_value};
 ghost use Rattle.command_core.specs.Operands.{exactly, is_demo_number};
 ghost use Rattle.command_core.specs.Sound.{are_allowed_operands};
@@ -64,7 +64,7 @@ fn push_option(words: &mut Words, option: &[u8], value: &[u8]) -> Result<(), All
 
 // An argument of a command line: these first bytes, followed by the name of package i.
 fn name_word(alloc: Global, front: &[u8], i: u16) -> Result<Vec<u8>, AllocError>
-    ensures { IfOk result (λ text. text.items ≡ front.now ++ demo_name i) }
+    ensures { IfOk result (λ text. text.items ≡ front.now ++ demo_package_name i) }
 {
     let mut text = Vec::from_slice(alloc, front)?;
     push_name(&mut text, i)?;

@@ -4,7 +4,7 @@
 
 ghost use Rattle.std.specs.Prelude.{◌≡◌, ◌<◌, ◌==◌, Some, length, slice_get, IfOk, IfErr, OnOk, OnErr, IsTrue, [], None, not, if◌then◌else◌};
 ghost use Rattle.dep_core.specs.Meets.{dependency};
-ghost use Rattle.dep_core.specs.World.{IsWorld, has_name, with_entry, without_name, world_of, world_text, with_new_entry, world_with_words, words_of_line};
+ghost use Rattle.dep_core.specs.World.{IsWorld, has_dependency_named, world_with_dependency_set, world_without_name, world_of, world_text, world_with_new_dependency, world_with_words, words_of_line};
 ghost use Rattle.base_core.specs.ByteOrder.{bytes_cmp};
 ghost use Rattle.dep_core.specs.Faults.{IsWorldFault};
 ghost use Rattle.dep_core.specs.DependencyText.{is_dependency, IsDependency};
@@ -89,7 +89,8 @@ impl World {
     /// nothing.
     pub fn add(&mut self, dep: &Dep<'_>) -> Result<(), AllocError>
         // On Ok, the world has the dependency in its place, instead of one of the same name.
-        ensures ok { OnOk result (self.new ≡ with_entry (dependency dep.now) self.old) }
+        ensures ok { OnOk result (self.new
+            ≡ world_with_dependency_set (dependency dep.now) self.old) }
         // An error leaves the value unchanged.
         ensures err { OnErr result (self.new ≡ self.old) }
     {
@@ -99,8 +100,8 @@ impl World {
 
     /// Removes the entry of a name, and returns whether there was one.
     pub fn del(&mut self, name: &[u8]) -> bool
-        ensures found { result ≡ has_name name.now self.old }
-        ensures rest { self.new ≡ without_name name.now self.old }
+        ensures found { result ≡ has_dependency_named name.now self.old }
+        ensures rest { self.new ≡ world_without_name name.now self.old }
     {
         take_out(&mut self.entries, name)
     }
@@ -232,7 +233,8 @@ pub fn put(entries: &mut Vec<Entry>, entry: Entry) -> Result<(), AllocError>
     // The entry is a valid dependency.
     requires dependency { IsDependency entry }
     // On Ok, the entry is in its place, instead of one of the same name.
-    ensures ok { OnOk result (entries.new.items ≡ with_entry entry entries.old.items) }
+    ensures ok { OnOk result (entries.new.items
+        ≡ world_with_dependency_set entry entries.old.items) }
     // An error leaves the entries unchanged.
     ensures err { OnErr result (entries.new.items ≡ entries.old.items) }
     ensures still_world { IsWorld entries.new.items }
@@ -249,9 +251,9 @@ pub fn take_out(entries: &mut Vec<Entry>, name: &[u8]) -> bool
     // The entries are those of a world: each name once, in order.
     requires { IsWorld entries.old.items }
     // The result says whether an entry had the name.
-    ensures found { result ≡ has_name name.now entries.old.items }
+    ensures found { result ≡ has_dependency_named name.now entries.old.items }
     // No entry has the name any more.
-    ensures rest { entries.new.items ≡ without_name name.now entries.old.items }
+    ensures rest { entries.new.items ≡ world_without_name name.now entries.old.items }
     ensures still_world { IsWorld entries.new.items }
 {
     match index_of(entries, name) {
@@ -329,7 +331,7 @@ impl<'a> Found<'a> {
     /// Adds the entry that a word denotes, and returns whether it is a dependency with a new name.
     fn add_word(&mut self, word: &'a [u8]) -> Result<bool, AllocError>
         ensures { IfOk result (λ good.
-            option_and_then (with_new_entry self.old) (dependency_of word.entry.now)
+            option_and_then (world_with_new_dependency self.old) (dependency_of word.entry.now)
             ≡ (if good then Some self.new else None)) }
     {
         match read_dep(word) {
@@ -341,9 +343,11 @@ impl<'a> Found<'a> {
     /// Adds an entry, and returns whether its name is new.
     fn add(&mut self, dep: &Dep<'a>) -> Result<bool, AllocError>
         // On Ok, the result says whether no entry had the name before.
-        ensures new { IfOk result (λ new. new ≡ not (has_name dep.now.name.now self.old)) }
+        ensures new { IfOk result (λ new. new
+            ≡ not (has_dependency_named dep.now.name.now self.old)) }
         // On Ok, the world has the dependency in its place, instead of one of the same name.
-        ensures added { OnOk result (self.new ≡ with_entry (dependency dep.now) self.old) }
+        ensures added { OnOk result (self.new
+            ≡ world_with_dependency_set (dependency dep.now) self.old) }
     {
         let entry = Entry::of(self.alloc, dep)?;
         let old = self.by_name.insert(dep.name, entry)?;

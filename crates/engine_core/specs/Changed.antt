@@ -29,10 +29,10 @@ pub record InputsAndReplacement : Type 0 where
 
 -- what is selected by a choice of candidates; without a choice no selection satisfies the new world,
 -- and that is refused
-abbrev pub selected_by :
+abbrev pub selected_from_pool_by_choice :
     CommandLine → Inputs → SealedPool → Option (List ℕ) → Result InputsAndReplacement Refusal
-selected_by command inputs pool None = Err Unsatisfied
-selected_by command inputs pool (Some trace) =
+selected_from_pool_by_choice command inputs pool None = Err Unsatisfied
+selected_from_pool_by_choice command inputs pool (Some trace) =
     Ok (record {
       inputs = inputs;
       replacement = replacement_of_choice (names_to_reinstall command.applet command.operands)
@@ -41,17 +41,18 @@ selected_by command inputs pool (Some trace) =
 
 -- What is selected by the inputs and a choice. Too many candidates are refused first, then an operand
 -- that names no package, and then a world that no selection satisfies.
-abbrev pub selected_of_inputs :
+abbrev pub selected_from_inputs_by_choice :
     CommandLine → Option (List ℕ) → Inputs → Result InputsAndReplacement Refusal
-selected_of_inputs command chosen inputs =
+selected_from_inputs_by_choice command chosen inputs =
     and_then (pool_of_inputs command inputs) (λ pool.
     unless_unknown_operand (unknown_operand_place command.applet inputs command.operands)
-    (selected_by command inputs pool chosen))
+    (selected_from_pool_by_choice command inputs pool chosen))
 
 -- what a command selects by what reads find and by the chosen candidates, or its first refusal
-abbrev pub selected_for : CommandLine → Reads → Option (List ℕ) → Result InputsAndReplacement Refusal
-selected_for command read chosen =
-    and_then (inputs_of command read) (selected_of_inputs command chosen)
+abbrev pub selected_from_reads_by_choice : CommandLine → Reads → Option (List ℕ)
+    → Result InputsAndReplacement Refusal
+selected_from_reads_by_choice command read chosen =
+    and_then (inputs_of command read) (selected_from_inputs_by_choice command chosen)
 
 -- the packages after what is selected, as reads find them, or the first refusal
 abbrev pub packages_found_after_change :
@@ -77,7 +78,8 @@ change_of_selected command read files clash s =
 unfoldable pub change_of_command :
     CommandLine → Reads → Files → Option (List ℕ) → Option NamePair → Result ChangeDone Refusal
 change_of_command command read files chosen clash =
-    and_then (selected_for command read chosen) (change_of_selected command read files clash)
+    and_then (selected_from_reads_by_choice command read chosen)
+    (change_of_selected command read files clash)
 
 -- ---- the first clash
 
@@ -103,7 +105,8 @@ IsClashOfSelectedAmong command read files present_files (Err refusal) clash = cl
 abbrev pub IsClashOfCommandAmong :
     CommandLine → Reads → Files → Files → Option (List ℕ) → Option NamePair → Type 0
 IsClashOfCommandAmong command read files present_files chosen clash =
-    IsClashOfSelectedAmong command read files present_files (selected_for command read chosen) clash
+    IsClashOfSelectedAmong command read files present_files
+    (selected_from_reads_by_choice command read chosen) clash
 
 -- *IsClashUnlessSimulatedAmong*, with the same files as `present_files`, as on an observable tree
 abbrev pub IsClashUnlessSimulated :

@@ -6,7 +6,7 @@ use Rattle.base_core.specs.Tree.{TreeState}
 use Rattle.base_core.specs.declared.cause.Cause.{Cause}
 use Rattle.change_report.specs.change_inputs.declared.root.Refused.{Refused}
 use Rattle.change_report.specs.change_inputs.declared.root.Refused.TheVariants.{Disk, Memory, Refusal as IsRefused}
-use Rattle.change_report.specs.change_outcome.ChangeOutcome.{ChangeDone, change_done, new_records}
+use Rattle.change_report.specs.change_outcome.ChangeOutcome.{ChangeDone, change_done, database_and_world_after_change}
 use Rattle.change_report.specs.change_outcome.MembersAfter.{MemberFound}
 use Rattle.change_report.specs.db_core.Members.{Member, member_name}
 use Rattle.change_report.specs.file_owners.Replaces.{package_version_text}
@@ -38,7 +38,7 @@ abbrev pub result_of_ready :
     {history : List TreeState} {p : Plan} {r : Rendered} → IsReadyToCommit history p r → ChangeDone
 result_of_ready {history} {p} {r} ready =
     change_done (inputs_of_plan p) (replacement_of_plan p) (wishes_of_plan p) ready.found ready.files
-    (new_records (inputs_of_plan p) ready.records.database.items)
+    (database_and_world_after_change (inputs_of_plan p) ready.records.database.items)
 
 -- ---- a package that was changed
 

@@ -13,7 +13,7 @@ use Rattle.change_report.specs.change_files.FileChange.{old_listings}
 use Rattle.change_report.specs.change_files.NamesAfter.{name_change}
 use Rattle.change_report.specs.path_clashes.Clash.{HasNoClash}
 use Rattle.change_report.specs.change_inputs.Inputs.{Inputs}
-use Rattle.change_report.specs.change_outcome.Premises.{IsRootOfFiles}
+use Rattle.change_report.specs.change_outcome.Premises.{AreDatabaseAndWorldReadFromFiles}
 use Rattle.change_report.specs.change_outcome.ChangeOutcome.{ChangeWishes, members_after_change, file_change, is_absent_or_different}
 use Rattle.change_report.specs.change_outcome.MembersAfter.{MemberFound, found_members}
 use Rattle.change_report.specs.change_outcome.Triggers.{unless_trigger_due}
@@ -36,7 +36,8 @@ use Rattle.engine_core.specs.declared.writes.RecordWrites.{RecordWrites}
 
 -- on an observable tree, the database and world were read from its files
 abbrev pub IsRootRead : List TreeState → Inputs → Type 0
-IsRootRead history inputs = IfObservable history (λ v. IsRootOfFiles (files_of v) inputs.root)
+IsRootRead history inputs =
+    IfObservable history (λ v. AreDatabaseAndWorldReadFromFiles (files_of v) inputs.root)
 
 -- ---- the packages
 

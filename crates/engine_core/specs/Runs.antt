@@ -18,7 +18,7 @@ use Rattle.change_report.specs.package_files.Runs.{AreReadsOfTree}
 use Rattle.change_report.specs.package_changes.Changes.{Replacement}
 use Rattle.change_report.specs.path_clashes.Clash.{NamePair}
 use Rattle.report_core.specs.declared.refusal.Refusal.{Refusal}
-use Rattle.engine_core.specs.ChangeRun.{CarriesOut}
+use Rattle.engine_core.specs.ChangeRun.{IsEndOfRunOfWantedChange}
 use Rattle.engine_core.specs.Changed.{IsClashOfSelectedAmong, InputsAndReplacement, change_of_selected, packages_found_after_change}
 
 -- a run of a change, given what is selected or the refusal instead
@@ -42,7 +42,7 @@ pub record IsRunOnSelection (command : CommandLine) (selected : Result InputsAnd
   -- the first clash of names of the change, if there is one
   pub is_clash : IsClashOfSelectedAmong command read files present_files selected clash
   -- how the run ends
-  pub comes : CarriesOut (packages_found_after_change command read selected)
+  pub comes : IsEndOfRunOfWantedChange (packages_found_after_change command read selected)
       (and_then selected (change_of_selected command read files clash))
       old now before after result
 
@@ -63,7 +63,7 @@ pub record IsRunOnFoundPackages (inputs : Inputs) (r : Replacement) (wishes : Ch
   -- the first clash of names of the change, if there is one
   pub is_clash : IsClashFoundAmong inputs wishes files present_files (Ok found) clash
   -- how the run ends
-  pub comes : CarriesOut (Ok found) (change_with_members inputs r wishes clash files found)
+  pub comes : IsEndOfRunOfWantedChange (Ok found) (change_with_members inputs r wishes clash files found)
       old now before after result
 
 -- the effect of a call on the counts of a tree that it may write

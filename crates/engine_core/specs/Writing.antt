@@ -2,7 +2,7 @@
 -- `docs/commands.md`, "What a change does with files" and "`add` and `del`", what is written.
 use Rattle.std.specs.Prelude.{◌≡◌, ◌⊎◌, ℕ, true, false, List, [], ◌∷◌, ◌++◌, Option, Some, None, Contains, is_some, option_and_then, slice_get}
 use Rattle.std.specs.Borrow.{Bor}
-use Rattle.added_packages.specs.Arrivals.{arrivals_seen, package_in}
+use Rattle.added_packages.specs.Arrivals.{arrivals_seen, added_package_in_member_read}
 use Rattle.added_packages.specs.declared.arrivals.Arrivals.{Arrivals}
 use Rattle.adb_view.specs.Plain.{Plain}
 use Rattle.change_report.specs.change_files.PlanLists.{FileWrite}
@@ -106,7 +106,8 @@ IsWriteOfChange members packages planned r write =
 
 -- the package that was read for the member at a place, if one was
 abbrev pub package_at : Arrivals → ℕ → Option TestedPackage
-package_at arrivals place = option_and_then package_in (slice_get (arrivals_seen arrivals) place)
+package_at arrivals place =
+    option_and_then added_package_in_member_read (slice_get (arrivals_seen arrivals) place)
 
 -- the package of each added member was read
 abbrev pub HasPackageOfEachAdded : List Member → Arrivals → Type 0

@@ -120,7 +120,10 @@ pub(crate) struct NewRecords {
 }
 
 /// The bytes of the database that lists the packages after a change, and the text of the new world.
-pub(crate) fn new_records(alloc: Global, plan: &Plan<'_, '_, '_>) -> Result<NewRecords, Refused>
+pub(crate) fn database_and_world_after_change(
+    alloc: Global,
+    plan: &Plan<'_, '_, '_>,
+) -> Result<NewRecords, Refused>
     // The bytes of the new database, or the refusal if it exceeds a limit of the writer.
     ensures told { Agrees (λ records. records.database.items) result
         (or_result_too_large (database_of (members_of plan.now.members) plan.now.files.owned)) }

@@ -13,7 +13,7 @@ ghost use Rattle.path_claims.specs.Seen.{claim_seen};
 ghost use Rattle.file_owners.specs.Owners.{claims_in, first_contested_path_of_members, member_beats, owned_flags_of, owner_of_path};
 ghost use Rattle.file_owners.specs.NamedPlaces.{ArePlacesNamedByEachMember};
 ghost use Rattle.db_core.specs.adb_schema.Views.{dependency_value, package_value};
-ghost use Rattle.file_owners.specs.Replaces.{replaces_entry_names, is_preferred_replacer, is_replaced_by, takes_over, package_version_text};
+ghost use Rattle.file_owners.specs.Replaces.{does_replaces_entry_name_package, is_preferred_replacer, is_package_met_by_replaces_entry, takes_over, package_version_text};
 ghost use Rattle.db_core.specs.adb_schema.Dependencies.{dependency_in};
 ghost use Rattle.db_core.specs.adb_schema.SoundValues.{IsSoundDependency};
 ghost use Rattle.version_core.specs.Order.{is_version};
@@ -108,7 +108,8 @@ fn is_replaced(dep: &DepView<'_>, name: &[u8], version: &Version<'_>) -> bool
     // The entry obeys the rules of a dependency.
     requires { IsSoundDependency (dependency_value dep.now) }
     ensures { result
-        ≡ is_replaced_by (dependency_in (dependency_value dep.now)) name.now version.now }
+        ≡ is_package_met_by_replaces_entry (dependency_in
+        (dependency_value dep.now)) name.now version.now }
 {
     match dep_of_parts(dep.name(), dep.version(), dep.matching()) {
         Some(dep) => !dep.conflict && dep.met_by(name, Some(version)),
@@ -119,12 +120,13 @@ fn is_replaced(dep: &DepView<'_>, name: &[u8], version: &Version<'_>) -> bool
 /// Whether an entry of `replaces` names another package: the entry is no conflict, and the name and
 /// the version of that package meet it. Name and version are not validated, since the packages are
 /// from sound containers.
-pub(crate) fn replaces_entry_names(entry: &DepView<'_>, pkg: &PackageView<'_>) -> bool
+pub(crate) fn does_replaces_entry_name_package(entry: &DepView<'_>, pkg: &PackageView<'_>) -> bool
     // The entry obeys the rules of a dependency.
     requires entry { IsSoundDependency (dependency_value entry.now) }
     // The package's version is valid.
     requires version { is_version (package_version_text (package_value pkg.now)) ≡ true }
-    ensures { result ≡ replaces_entry_names (dependency_value entry.now) (package_value pkg.now) }
+    ensures { result ≡ does_replaces_entry_name_package (dependency_value entry.now)
+        (package_value pkg.now) }
 {
     let info = pkg.info();
     let version = Version::of(info.version());

@@ -17,11 +17,11 @@ ghost use Rattle.db_core.specs.adb_schema.SoundValues.{IsSoundDependency};
 ghost use Rattle.db_core.specs.Members.{Member, is_found_place};
 ghost use Rattle.db_core.specs.Seen.{members_of};
 ghost use Rattle.file_owners.specs.Questions.{AreSameQuestion, IsQuestionIn, question_names_package, question_names_if_any, with_question};
-ghost use Rattle.file_owners.specs.Replaces.{replaces_entry_names};
+ghost use Rattle.file_owners.specs.Replaces.{does_replaces_entry_name_package};
 ghost use Rattle.file_owners.specs.declared.questions.Question.{Question as AskedQuestion};
 
 use crate::gather::place_of;
-use crate::owner::replaces_entry_names;
+use crate::owner::does_replaces_entry_name_package;
 use adb_view::{Adb, Arr, Val, Which, entry_word};
 use db_core::{DepView, Members, View};
 use path_claims::field_word;
@@ -81,7 +81,7 @@ pub(crate) fn places_in<'a>(
     ensures { IfOk result (λ places. (y : ℕ) (m : Member)
         → slice_get (members_of members.now) y ≡ Some m
         → list_any (λ place. place == y) places.items
-        ≡ list_any (λ entry. replaces_entry_names entry m.pkg) (list_of (entries_in
+        ≡ list_any (λ entry. does_replaces_entry_name_package entry m.pkg) (list_of (entries_in
         (array_at (payload_of adb.entry) (Kinds.Obj Tables.Dep) (array_entries entries.entry))))) }
 {
     let mut questions = questions_of(alloc, members, adb, entries)?;
@@ -108,7 +108,7 @@ fn questions_of<'a>(
     ensures asked { IfOk result (λ questions. (y : ℕ) (m : Member)
         → slice_get (members_of members.now) y ≡ Some m
         → list_any (question_names_package (payload_of adb.entry) y m.pkg) questions.items
-        ≡ list_any (λ entry. replaces_entry_names entry m.pkg) (list_of (entries_in
+        ≡ list_any (λ entry. does_replaces_entry_name_package entry m.pkg) (list_of (entries_in
         (array_at (payload_of adb.entry) (Kinds.Obj Tables.Dep) (array_entries entries.entry))))) }
     // Each question is about one of the members.
     ensures questions { IfOk result (λ questions.
@@ -144,7 +144,7 @@ fn question_of(members: &Members<'_>, adb: Adb<'_>, entry: Val) -> Option<Questi
     // For a member, the answer to the question is yes exactly if the entry names it.
     ensures asked { (y : ℕ) (m : Member) → slice_get (members_of members.now) y ≡ Some m
         → question_names_if_any (payload_of adb.entry) y m.pkg result
-        ≡ replaces_entry_names (value_at (payload_of adb.entry)
+        ≡ does_replaces_entry_name_package (value_at (payload_of adb.entry)
         (Kinds.Obj Tables.Dep) entry) m.pkg }
     // The question is about one of the members.
     ensures question { IfSome result
@@ -242,7 +242,7 @@ fn place_if_named(members: &Members<'_>, adb: Adb<'_>, question: &Question) -> O
     members.packages_are_sound();
     let place = question.place;
     let entry = DepView::of(adb, question.word);
-    if replaces_entry_names(&entry, members.view(place as usize)) {
+    if does_replaces_entry_name_package(&entry, members.view(place as usize)) {
         Some(place)
     } else {
         None

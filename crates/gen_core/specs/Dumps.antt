@@ -10,7 +10,7 @@ use Rattle.adb_dump.specs.Values.{IsOfBytes, IsNormalValueOfTable}
 use Rattle.gen_core.specs.Generated.{text_lines}
 
 -- a value of a root: a normal one of bytes, of one of the four tables that a root may have
-pub record IsRootValue (which : Which) (value : Plain) : Type 0 where
+pub record IsNormalRootValueOfTable (which : Which) (value : Plain) : Type 0 where
   -- the table is that of a root
   pub root : IsSome (schema_word which)
   -- the value is a normal one of the table
@@ -25,7 +25,7 @@ pub record AreDumpLines (lines : List Line) : Type 0 where
   -- the value of the root
   pub value : Plain
   -- it is a value that the root may have
-  pub is : IsRootValue which value
+  pub is : IsNormalRootValueOfTable which value
   -- its dump has these lines
   pub lines_are : dump_lines which value ≡ lines
 

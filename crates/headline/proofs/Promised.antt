@@ -1,6 +1,6 @@
 -- What a run recovers to, at each of its moments.
 use Rattle.std.proofs.Common.{◌≡◌, ◌⊎◌, inl, inr, ℕ, true, false, List, [], ◌∷◌, Ok, refl, subst, ◌∙◌}
-use Rattle.run_lists.specs.apk_front.Moments.{AnswersOutcome, IgnoresScratchOf, IsDurableState, MustOutcomeBeDurable}
+use Rattle.run_lists.specs.apk_front.Moments.{IsOkRefusedOrOutputFault, IgnoresScratchNameOfOutput, IsDurableAndLeavesFiles, MustOutcomeBeDurable}
 use Rattle.base_core.specs.Calls.{HoldsNow, IfObservable}
 use Rattle.base_core.specs.Undone.{IsDurable, IsCrashImage}
 use Rattle.base_core.specs.Files.{Files}
@@ -72,9 +72,9 @@ now_last (w ∷ rest) A B f a = f w refl a
 -- ---- after a list
 
 module _ (begins : (ignored : Ignored) (first v : TreeState) (events : List RootEvent) (words : List (List ℕ)) → ignored intent_name ≡ false → IsDurable (StateDependsOn ignored) first → Reaches first events v
-    → IsDurable (StateDependsOn (ignored_with_scratch (output words) (ignored_after ignored events))) v × IgnoresScratchOf (output words) (ignored_with_scratch (output words) (ignored_after ignored events)))
+    → IsDurable (StateDependsOn (ignored_with_scratch (output words) (ignored_after ignored events))) v × IgnoresScratchNameOfOutput (output words) (ignored_with_scratch (output words) (ignored_after ignored events)))
     (safe : (v : TreeState) (run : Run) → IsRunFrom v run → IsSafeAfterAnyEvents v run)
-    (one_state : (ignored : Ignored) (first v : TreeState) (events : List RootEvent) → ignored intent_name ≡ false → IsDurableState ignored (files_of first) first → ReachesOneCrashState first events v → IsDurableState (ignored_after ignored events) (files_of v) v)
+    (one_state : (ignored : Ignored) (first v : TreeState) (events : List RootEvent) → ignored intent_name ≡ false → IsDurableAndLeavesFiles ignored (files_of first) first → ReachesOneCrashState first events v → IsDurableAndLeavesFiles (ignored_after ignored events) (files_of v) v)
     (unbroken : (first v : TreeState) (events : List RootEvent) → Reaches first events v → HasNoUnfinishedRunSinceCrash events → ReachesOneCrashState first events v)
     (left : (ignored : Ignored) (first v m w : TreeState) (events later : List RootEvent) (run next : Run) → ignored intent_name ≡ false → IsDurable (StateDependsOn ignored) first → LeavesNoBadIntent first
     → ReachesWithoutBadIntent first events v → IsRunFrom v run → IsPossibleStop run m → ReachesWithoutCommit m later w → IsRunFrom w next → does_recover (effect_of_arguments (command_of next.words)) ≡ true
@@ -117,7 +117,7 @@ module _ (begins : (ignored : Ignored) (first v : TreeState) (events : List Root
   ends_settled o is settles w leaves =
       subst (λ (p : Outcome). (MustOutcomeBeDurable (effect_of_arguments (command_of run.words)) Names v p → EachCrashLeavesStateOf Names p.files w)) (unique run.words (files_of v) leaves.outcome o leaves.is_outcome is) leaves.settled settles
 
-  answered : AnswersOutcome run.answer → (o : Outcome) → IsOutcomeFrom v run o → MustOutcomeBeDurable (effect_of_arguments (command_of run.words)) Names v o → HoldsNow run.now (RootRecoversTo (λ names. HasSameState names o.files) Names)
+  answered : IsOkRefusedOrOutputFault run.answer → (o : Outcome) → IsOutcomeFrom v run o → MustOutcomeBeDurable (effect_of_arguments (command_of run.words)) Names v o → HoldsNow run.now (RootRecoversTo (λ names. HasSameState names o.files) Names)
   answered answers o is settles =
       now_last run.now (LeavesFilesOfAnsweredOutcome (ignored_after ignored events) v run) (RootRecoversTo (λ names. HasSameState names o.files) Names)
       (λ w ends leaves. recovers_to Names w (left_at w (w, last_moment run v w is_run ends, torn_self w)) (λ names. HasSameState names o.files) (state_rests o.files) (ends_settled o is settles w leaves))
@@ -127,7 +127,7 @@ module _ (begins : (ignored : Ignored) (first v : TreeState) (events : List Root
   to_one (inl to) = to
   to_one (inr none) = unbroken first v events seen none
 
-  pub promised : IsAsPromised Names v run × (IsDurableState ignored (files_of first) first → ReachesOneCrashState first events v ⊎ HasNoUnfinishedRunSinceCrash events → EachCrashLeavesStateOf Names (files_of v) v)
+  pub promised : IsAsPromised Names v run × (IsDurableAndLeavesFiles ignored (files_of first) first → ReachesOneCrashState first events v ⊎ HasNoUnfinishedRunSinceCrash events → EachCrashLeavesStateOf Names (files_of v) v)
   promised = (
     record {
       moments = moments;

@@ -3,7 +3,7 @@
 -- (states), `outcome` (what a command comes to) and `refusal_laws` (what a refusal says).
 use Rattle.std.specs.Prelude.{◌≡◌, ◌⊎◌, ℕ, Bool, true, false, List, Some, None, Ok}
 use Rattle.run_lists.specs.apk_front.Answers.{IsAnswerOfSomeOutcome, LeavesFiles}
-use Rattle.run_lists.specs.apk_front.Moments.{AnswersOutcome, IsDurableState, MustOutcomeBeDurable}
+use Rattle.run_lists.specs.apk_front.Moments.{IsOkRefusedOrOutputFault, IsDurableAndLeavesFiles, MustOutcomeBeDurable}
 use Rattle.base_core.specs.Calls.{HoldsNow}
 use Rattle.base_core.specs.Undone.{IsDurable, IsCrashImage}
 use Rattle.base_core.specs.Faults.{IsFaultCountedWithCause}
@@ -77,7 +77,7 @@ pub record IsAsPromised (ignored : List ℕ → Bool) (v : TreeState) (run : Run
   -- Suppose that the run answered by its outcome: Ok, a refusal, or a fault of an output stream. The root
   -- then recovers to the outcome's state, if this is made durable: the outcome commits, or each crash
   -- before the run left the state of the files as read, or an intent was found.
-  pub answered : AnswersOutcome run.answer → (o : Outcome) → IsOutcomeFrom v run o
+  pub answered : IsOkRefusedOrOutputFault run.answer → (o : Outcome) → IsOutcomeFrom v run o
       → MustOutcomeBeDurable (effect_of_arguments (command_of run.words)) ignored v o
       → HoldsNow run.now (RootRecoversTo (λ names. HasSameState names o.files) ignored)
   -- If the run is refused, runs out of memory, or commits nothing, the root recovers to a state from
@@ -101,6 +101,6 @@ IsAsPromisedAfterAnyEvents v run =
     (ignored : List ℕ → Bool) (first : TreeState) (events : List RootEvent)
     → HasGoodPast ignored first events v
     → IsAsPromised (ignored_during_run run (ignored_after ignored events)) v run
-    × (IsDurableState ignored (files_of first) first
+    × (IsDurableAndLeavesFiles ignored (files_of first) first
     → ReachesOneCrashState first events v ⊎ HasNoUnfinishedRunSinceCrash events
     → EachCrashLeavesStateOf (ignored_during_run run (ignored_after ignored events)) (files_of v) v)

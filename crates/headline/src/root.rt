@@ -1,7 +1,7 @@
 //! The sentence, of a call of `apk`, beside those clauses of `apk` that are about every tree, or
 //! about one run alone.
 ghost use Rattle.std.specs.Prelude.{◌≡◌, IsTrue};
-ghost use Rattle.run_lists.specs.apk_front.Answers.{is_command_named, IsAnswerExplainedByCounts, IsAnswerOfSomeOutcome, AnswersOutcomeUnlessMemory, IsFaultless, IsAnsweredInFullUnlessMemory, HasNoPlannedFailure, LeavesAnyFiles, LeavesFiles};
+ghost use Rattle.run_lists.specs.apk_front.Answers.{is_applet_help_or_version_named, IsAnswerExplainedByCounts, IsAnswerOfSomeOutcome, AnswersOutcomeUnlessMemory, IsFaultless, IsAnsweredInFullUnlessMemory, HasNoPlannedFailure, LeavesAnyFiles, LeavesFiles};
 ghost use Rattle.run_lists.specs.apk_front.Moments.{AreRecoveryTargetsAccepted, AreRunPathsFree};
 ghost use Rattle.base_core.specs.Calls.{IfObservable};
 ghost use Rattle.base_core.specs.Faults.{CountsOnlyRise, IsFaultCountedWithCause};
@@ -70,7 +70,7 @@ pub fn apk_as_promised<T: Tree, O: Sink, E: Sink>(
         (sink_before_and_after O.bytes O.counts out.old out.new) }
     ensures err_counts { IsUseWithoutMisuse
         (sink_before_and_after E.bytes E.counts err.old err.new) }
-    ensures memory { result ≡ Answer.Memory → IsTrue (is_command_named words.now) }
+    ensures memory { result ≡ Answer.Memory → IsTrue (is_applet_help_or_version_named words.now) }
     // No call is a misuse of the tree, if the paths to be written are free.
     ensures proper { IfObservable (T.history tree.old) (λ v. AreRunPathsFree words.now (files_of v)
         → (T.counts tree.new).misuses ≡ (T.counts tree.old).misuses) }

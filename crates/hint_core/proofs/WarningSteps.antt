@@ -7,7 +7,7 @@ use Rattle.std.specs.Str.{bytes_eq}
 use Rattle.std.proofs.lemmas.Option.{none-some, same_Some}
 use Rattle.std.proofs.lemmas.Slice.Eq.{bytes_eq-Decides}
 use Rattle.base_core.specs.Calls.{IfObservable}
-use Rattle.base_core.specs.Listed.{IsListOf}
+use Rattle.base_core.specs.Listed.{IsSortedListingOfFolder}
 use Rattle.base_core.specs.Tree.{TreeState, files_of}
 use Rattle.command_core.specs.declared.operands.Operand.{Operand}
 use Rattle.dep_core.specs.Repositories.{Repository, repositories_of}
@@ -17,20 +17,20 @@ use Rattle.hint_core.specs.Warnings.{HasFileBelow, WarnsOfFolder, WarnsOfTags, e
 
 -- ---- a folder
 
-nothing_below : (v : TreeState) (folder : List ℕ) (names : List (List ℕ)) → IsListOf folder v names → length names ≡ 0 → HasFileBelow v folder → ⊥
+nothing_below : (v : TreeState) (folder : List ℕ) (names : List (List ℕ)) → IsSortedListingOfFolder folder v names → length names ≡ 0 → HasFileBelow v folder → ⊥
 nothing_below v folder names listed none has =
     let at = (listed.each has.0).1 (has.1, has.2) in omega (arith, at.1, none)
 
-something_below : (v : TreeState) (folder : List ℕ) (names : List (List ℕ)) → IsListOf folder v names → (length names ≡ 0 → ⊥) → HasFileBelow v folder
+something_below : (v : TreeState) (folder : List ℕ) (names : List (List ℕ)) → IsSortedListingOfFolder folder v names → (length names ≡ 0 → ⊥) → HasFileBelow v folder
 something_below v folder [] listed some = absurd (some refl)
 something_below v folder (name ∷ names) listed some =
     let at = (listed.each name).0 (0, omega arith, refl) in (name, at.0, at.1)
 
-pub warned_below : (history : List TreeState) (folder lines : List ℕ) (names : List (List ℕ)) → IfObservable history (λ v. IsListOf folder v names) → length names ≡ 0 → lines ≡ empty_folder_line folder → IfObservable history (WarnsOfFolder folder lines)
+pub warned_below : (history : List TreeState) (folder lines : List ℕ) (names : List (List ℕ)) → IfObservable history (λ v. IsSortedListingOfFolder folder v names) → length names ≡ 0 → lines ≡ empty_folder_line folder → IfObservable history (WarnsOfFolder folder lines)
 warned_below [] folder lines names listed none is = tt
 warned_below (v ∷ earlier) folder lines names listed none is = inr (is, nothing_below v folder names listed none)
 
-pub silent_below : (history : List TreeState) (folder lines : List ℕ) (names : List (List ℕ)) → IfObservable history (λ v. IsListOf folder v names) → (length names ≡ 0 → ⊥) → lines ≡ [] → IfObservable history (WarnsOfFolder folder lines)
+pub silent_below : (history : List TreeState) (folder lines : List ℕ) (names : List (List ℕ)) → IfObservable history (λ v. IsSortedListingOfFolder folder v names) → (length names ≡ 0 → ⊥) → lines ≡ [] → IfObservable history (WarnsOfFolder folder lines)
 silent_below [] folder lines names listed some is = tt
 silent_below (v ∷ earlier) folder lines names listed some is = inl (is, something_below v folder names listed some)
 

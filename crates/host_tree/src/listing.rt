@@ -5,7 +5,7 @@ ghost use Rattle.std.specs.Cmp.Lexicographic.{slice_cmp};
 ghost use Rattle.std.specs.List.Sorted.{IsSorted};
 ghost use Rattle.std.specs.Ordering.{nat_cmp};
 ghost use Rattle.base_core.specs.Files.{IsFolderOf};
-ghost use Rattle.base_core.specs.Listed.{AreNamesBelow, AreSortedDistinctNames};
+ghost use Rattle.base_core.specs.Listed.{AreSortedNamesBelowFolder, AreSortedDistinctNames};
 
 use base_core::{Name, Names, is_folder_of};
 use host_root::{Found, Host, HostFault, Reason, Root, path_text};
@@ -21,7 +21,7 @@ pub fn list_below<R: Host>(
     folder: &Name,
     has_omitted: &mut bool,
 ) -> Result<Names, HostFault>
-    ensures { IfOk result (AreNamesBelow folder.now) }
+    ensures { IfOk result (AreSortedNamesBelowFolder folder.now) }
 {
     root.take_lock()?;
     let mut walk = Walk {
@@ -118,7 +118,7 @@ impl Walk {
     fn into_names(mut self) -> Result<Names, AllocError>
         // If all found files are below a folder, the result has only names below this folder.
         ensures { (root : List ℕ) → All (IsFolderOf root) self.files.items
-            → IfOk result (AreNamesBelow root) }
+            → IfOk result (AreSortedNamesBelowFolder root) }
     {
         self.files.sort_by(|a, b| a.as_bytes().cmp(b.as_bytes()))?;
         let names = each_once(self.alloc, self.files)?;

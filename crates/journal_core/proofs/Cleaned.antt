@@ -7,7 +7,7 @@ use Rattle.std.proofs.lemmas.List.Elements.{All-weaker}
 use Rattle.std.proofs.lemmas.Map.Views.{Contains-from_any, list_any-from_Contains}
 use Rattle.std.specs.Cmp.{IsEquivalence}
 use Rattle.base_core.specs.Files.{Files, IsFolderOf}
-use Rattle.base_core.specs.Listed.{AreNamesBelow, IsListOf, IsNameBelow}
+use Rattle.base_core.specs.Listed.{AreSortedNamesBelowFolder, IsSortedListingOfFolder, IsValidNameBelowFolder}
 use Rattle.base_core.specs.Tree.{TreeState, File, bytes_of_file_number, files_of}
 use Rattle.base_core.specs.Calls.{IfObservable, HoldsNow}
 use Rattle.base_core.specs.Crash.{Since}
@@ -29,8 +29,8 @@ use Rattle.journal_core.proofs.Waiting.{still_self}
 
 -- ---- a name below the stage
 
-pub all_staged : (folder : List ℕ) (names : List (List ℕ)) → folder ≡ stage_folder → AreNamesBelow folder names → AreStagedNames names
-all_staged folder names is below = All-weaker (IsNameBelow folder) (λ name. is_staged name ≡ true) (λ name at. begins stage_folder name (subst (λ (f : List ℕ). IsFolderOf f name) is at.below)) names below.each
+pub all_staged : (folder : List ℕ) (names : List (List ℕ)) → folder ≡ stage_folder → AreSortedNamesBelowFolder folder names → AreStagedNames names
+all_staged folder names is below = All-weaker (IsValidNameBelowFolder folder) (λ name. is_staged name ≡ true) (λ name at. begins stage_folder name (subst (λ (f : List ℕ). IsFolderOf f name) is at.below)) names below.each
 
 -- ---- what is listed is what waits
 
@@ -47,7 +47,7 @@ alike = record {
 any_of : (q : List ℕ) (names : List (List ℕ)) → Contains names q → list_any (bytes_eq q) names ≡ true
 any_of q names has = list_any-from_Contains alike q names has
 
-module _ (names : List (List ℕ)) (folder : List ℕ) (folder_is : folder ≡ stage_folder) (v : TreeState) (listed : IsListOf folder v names) where
+module _ (names : List (List ℕ)) (folder : List ℕ) (folder_is : folder ≡ stage_folder) (v : TreeState) (listed : IsSortedListingOfFolder folder v names) where
   listed_cond : (q : List ℕ) → cond (list_any (bytes_eq q) names) None (v.names q) ≡ without_staged_names v.names q
   listed_cond q = by (list_any (bytes_eq q) names) refl (is_staged q) refl (v.names q) refl
     where
@@ -65,7 +65,7 @@ module _ (names : List (List ℕ)) (folder : List ℕ) (folder_is : folder ≡ s
   pub emptied : (w : TreeState) → HasRemovedNames names v w → HasEmptiedStage v w
   emptied w files_without_names = record { map = λ q. files_without_names.map q ∙ listed_cond q; files = files_without_names.files }
 
-pub none_listed : (names : List (List ℕ)) (folder : List ℕ) → folder ≡ stage_folder → (v : TreeState) → IsListOf folder v names → HasNoStagedNames v.names → names ≡ []
+pub none_listed : (names : List (List ℕ)) (folder : List ℕ) → folder ≡ stage_folder → (v : TreeState) → IsSortedListingOfFolder folder v names → HasNoStagedNames v.names → names ≡ []
 none_listed [] folder is v listed none = refl
 none_listed (n ∷ ns) folder is v listed none =
     let at = (listed.each n).0 (Contains-from_any is_name n (n ∷ ns) (ap (λ b. b || list_any (bytes_eq n) ns) (same_name n n refl))) in
@@ -77,21 +77,21 @@ module _ (names : List (List ℕ)) (folder : List ℕ) (folder_is : folder ≡ s
   back : (B : TreeState → Type 0) → IfObservable mid B → IfObservable old B
   back B told = subst (λ (l : History). IfObservable l B) same told
 
-  pub empty_moments : AreNamesBelow folder names → IfObservable mid (λ v. (ignored : List ℕ → Bool) → IsDurable (StateDependsOn ignored) v → v.names intent_name ≡ None → AreStagedNames names → Since (StateIsUnchanged ignored v) mid new)
+  pub empty_moments : AreSortedNamesBelowFolder folder names → IfObservable mid (λ v. (ignored : List ℕ → Bool) → IsDurable (StateDependsOn ignored) v → v.names intent_name ≡ None → AreStagedNames names → Since (StateIsUnchanged ignored v) mid new)
       → IfObservable old (λ v. (ignored : List ℕ → Bool) → IsDurable (StateDependsOn ignored) v → v.names intent_name ≡ None → Since (StateIsUnchanged ignored v) old new)
   empty_moments below told = observable_map old _ _ (back _ told) (λ v t ignored is_durable none. subst (λ (l : History). Since (StateIsUnchanged ignored v) l new) same (t ignored is_durable none (all_staged folder names folder_is below)))
 
-  pub empty_shown : AreNamesBelow folder names → IfObservable mid (λ v. AreStagedNames names → Since (KeepsShown v) mid new) → IfObservable old (λ v. Since (KeepsShown v) old new)
+  pub empty_shown : AreSortedNamesBelowFolder folder names → IfObservable mid (λ v. AreStagedNames names → Since (KeepsShown v) mid new) → IfObservable old (λ v. Since (KeepsShown v) old new)
   empty_shown below told = observable_map old _ _ (back _ told) (λ v t. subst (λ (l : History). Since (KeepsShown v) l new) same (t (all_staged folder names folder_is below)))
 
   both_told : (h : History) (A B C : TreeState → Type 0) → ((v : TreeState) → A v → B v → C v) → IfObservable h A → IfObservable h B → IfObservable h C
   both_told [] A B C f a b = tt
   both_told (v ∷ h) A B C f a b = f v a b
 
-  pub empty_emptied : IfObservable old (λ v. IsListOf folder v names) → IfObservable mid (λ v. HoldsNow new (HasRemovedNames names v)) → IfObservable old (λ v. HoldsNow new (HasEmptiedStage v))
+  pub empty_emptied : IfObservable old (λ v. IsSortedListingOfFolder folder v names) → IfObservable mid (λ v. HoldsNow new (HasRemovedNames names v)) → IfObservable old (λ v. HoldsNow new (HasEmptiedStage v))
   empty_emptied listed told = both_told old _ _ _ (λ v l t. now_map new (HasRemovedNames names v) (HasEmptiedStage v) t (λ w. emptied names folder folder_is v l w)) listed (back _ told)
 
-  pub empty_idle : IfObservable old (λ v. IsListOf folder v names) → (names ≡ [] → new ≡ mid) → IfObservable old (λ v. HasNoStagedNames v.names → new ≡ old)
+  pub empty_idle : IfObservable old (λ v. IsSortedListingOfFolder folder v names) → (names ≡ [] → new ≡ mid) → IfObservable old (λ v. HasNoStagedNames v.names → new ≡ old)
   empty_idle listed told = observable_map old _ _ listed (λ v l none. told (none_listed names folder folder_is v l none) ∙ same)
 
 -- ---- all of a recovery

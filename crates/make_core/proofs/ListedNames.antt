@@ -10,7 +10,7 @@ use Rattle.base_core.specs.Name.{is_name}
 use Rattle.make_index.specs.adb_fields.FirstPair.{IsIn}
 use Rattle.make_index.proofs.adb_fields.Members.{from-flat_map, from-map}
 use Rattle.make_index.specs.adb_fields.Paths.{path_of}
-use Rattle.make_index.specs.adb_schema.Rules.{is_file_name_in_folder, is_folder_name}
+use Rattle.make_index.specs.adb_schema.Rules.{is_valid_file_name_in_folder, is_folder_name}
 use Rattle.make_package.specs.package_files.Folders.{FolderListing, prefixes_before_slashes, path_relative_to, tree_names_in_package_folder, all_folders_above, folder_of, folder_listings_of, folders_above, is_slash, folder_listing_of, last_part_of}
 use Rattle.make_package.specs.package_files.Package.{Source, SourceFolder, kind_of_file, installed_size, size_of_folder, size_of_kind}
 use Rattle.make_package.specs.package_files.Sources.{and_then, results_from_read, source_file_read_at, sources_at_place_from_read, source_folder_read_at, source_folders_at_place_from_read, found_bytes_or_missing}
@@ -84,7 +84,7 @@ folder_named dir names f all h =
 -- the names of a folder's files
 abbrev pub AreFileNames : List ℕ → List (List ℕ) → Type 0
 AreFileNames f [] = Unit {0}
-AreFileNames f (part ∷ parts) = (is_file_name_in_folder f part ≡ true) × AreFileNames f parts
+AreFileNames f (part ∷ parts) = (is_valid_file_name_in_folder f part ≡ true) × AreFileNames f parts
 
 abbrev pub stands_in : List ℕ → List ℕ → List ℕ → Bool
 stands_in dir f name = bytes_eq (folder_of (path_relative_to dir name)) f
@@ -92,12 +92,12 @@ stands_in dir f name = bytes_eq (folder_of (path_relative_to dir name)) f
 part_is : (dir name : List ℕ) → IsListed dir name → last_part_of name ≡ last_part_of (path_relative_to dir name)
 part_is dir name l = ap last_part_of l.is ∙ same_part dir (path_relative_to dir name)
 
-file_named : (dir f name : List ℕ) → IsListed dir name → stands_in dir f name ≡ true → is_file_name_in_folder f (last_part_of name) ≡ true
+file_named : (dir f name : List ℕ) → IsListed dir name → stands_in dir f name ≡ true → is_valid_file_name_in_folder f (last_part_of name) ≡ true
 file_named dir f name l here =
     let path : List ℕ = path_relative_to dir name in
     let folder : folder_of path ≡ f = (bytes_eq-Decides (folder_of path) f).0 here in
     let part = part_is dir name l in
-    (λ k. is_file_name_in_folder (sym folder k) (part k)) ∙ (path_good path l.named).good
+    (λ k. is_valid_file_name_in_folder (sym folder k) (part k)) ∙ (path_good path l.named).good
 
 pub recovered : (dir f name : List ℕ) → IsListed dir name → stands_in dir f name ≡ true → name ≡ dir ++ 47 ∷ path_of f (last_part_of name)
 recovered dir f name l here =

@@ -9,7 +9,7 @@ use Rattle.std.proofs.lemmas.List.Concat.{flat_map-cons}
 use Rattle.std.proofs.lemmas.List.Elements.{All-cons, All-nil}
 use Rattle.std.proofs.lemmas.List.Sorted.{IsPermutation-map}
 use Rattle.base_core.specs.Files.{Files}
-use Rattle.base_core.specs.Listed.{AreNamesBelow}
+use Rattle.base_core.specs.Listed.{AreSortedNamesBelowFolder}
 use Rattle.make_index.specs.adb_fields.FirstPair.{IsIn}
 use Rattle.make_index.specs.adb_fields.Paths.{path_of}
 use Rattle.make_index.specs.adb_fields.Repeated.{files_in, folders_in, name_of, paths_of_folder_files}
@@ -169,7 +169,7 @@ read_below law files place n dir names sources pkg all e is =
     }
 
 pub made_below : OneFolder → Holds IsReadBack → Sizes → Exact → Needs → Tells → (command : CommandLine) (names : List (List ℕ)) (files : Files) (bytes : List ℕ) (folder : OptionValue) (others : List OptionValue)
-    → values_of_letter FILES command.values ≡ folder ∷ others → AreNamesBelow (without_dot_slash folder.text) names → made_package command names (λ n name. files name) ≡ Ok bytes → length bytes < 2 ^ 64
+    → values_of_letter FILES command.values ≡ folder ∷ others → AreSortedNamesBelowFolder (without_dot_slash folder.text) names → made_package command names (λ n name. files name) ≡ Ok bytes → length bytes < 2 ^ 64
     → HasJustNamedFilesBelowFolder files (without_dot_slash folder.text) names (root_value Package (payload_in bytes))
 made_below law holds sizes exact needs tells command names files bytes folder others given below e short =
     let named : AreNamesBelowFirstFolder (values_of_letter FILES command.values) names = subst (λ (l : List OptionValue). AreNamesBelowFirstFolder l names) (sym given) below in

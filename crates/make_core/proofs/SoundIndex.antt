@@ -27,7 +27,7 @@ use Rattle.make_index.specs.EntryOrder.{entry_cmp}
 use Rattle.base_core.specs.Sorted.{sorted_by, with_element_inserted}
 use Rattle.base_core.specs.Files.{AreFileBytes}
 use Rattle.make_index.specs.Files.{AreOperandReadsFileBytes}
-use Rattle.make_package.specs.adb_sound.Root.{IsRootOf}
+use Rattle.make_package.specs.adb_sound.Root.{IsValidRootValueOfTable}
 use Rattle.make_index.specs.make_info.declared.fault.MakeFault.{MakeFault}
 use Rattle.make_core.specs.ReadBack.{index_value_of_command, index_value_of_entries}
 use Rattle.make_core.proofs.IndexEntry.{entry_good}
@@ -112,7 +112,7 @@ not_package e = (cc)
 -- what holds of the value and of the container of each good index
 module _ (P : Plain → List ℕ → Type 0) where
   abbrev pub Holds : Type 0
-  Holds = (v : Plain) → IsRootOf Index v → P v (file_of INDEX_WORD (canonical v))
+  Holds = (v : Plain) → IsValidRootValueOfTable Index v → P v (file_of INDEX_WORD (canonical v))
 
   file_holds : Holds → Exact → (v : Plain) (r : Result (List ℕ) PayloadCounts) (bytes : List ℕ) → IsGood (shape_of (Obj Index)) 0 (surroundings_of_root Index) v → payload_or_overflow v ≡ r → index_container r ≡ Ok bytes → P v bytes
   file_holds holds exact v (Err c) bytes g w e = absurd (cc (e))
@@ -139,7 +139,7 @@ module _ (P : Plain → List ℕ → Type 0) where
 
 -- a container of a good value is sound, and so is an index that is made
 abbrev pub Sound : Type 0
-Sound = (which : Which) (schema : ℕ) (v : Plain) → schema_word which ≡ Some schema → which ≢ Package → IsRootOf which v → container_fault (file_of schema (canonical v)) ≡ None
+Sound = (which : Which) (schema : ℕ) (v : Plain) → schema_word which ≡ Some schema → which ≢ Package → IsValidRootValueOfTable which v → container_fault (file_of schema (canonical v)) ≡ None
 
 pub made_sound : Sound → Exact → Values → (command : CommandLine) (read : ℕ → List ℕ → Option (List ℕ)) (bytes : List ℕ) → AreOperandReadsFileBytes read 0 command.operands → made_index command read ≡ Ok bytes → container_fault bytes ≡ None
 made_sound sound exact values command read bytes files e =
@@ -147,7 +147,7 @@ made_sound sound exact values command read bytes files e =
 
 -- its value is read back, and so is that of an index that is made
 abbrev pub Back : Type 0
-Back = (which : Which) (schema : ℕ) (v : Plain) → schema_word which ≡ Some schema → IsRootOf which v → root_value which (payload_in (file_of schema (canonical v))) ≡ v
+Back = (which : Which) (schema : ℕ) (v : Plain) → schema_word which ≡ Some schema → IsValidRootValueOfTable which v → root_value which (payload_in (file_of schema (canonical v))) ≡ v
 
 pub made_back : Back → Exact → Values → (command : CommandLine) (read : ℕ → List ℕ → Option (List ℕ)) (bytes : List ℕ) → AreOperandReadsFileBytes read 0 command.operands → made_index command read ≡ Ok bytes → index_value_of_command command read ≡ Ok (root_value Index (payload_in bytes))
 made_back back exact values command read bytes files e =

@@ -4,7 +4,7 @@
 -- `a_made_package_is_read_back` and `a_made_index_is_read_back`.
 use Rattle.command_core.specs.declared.values.TheConstants.{FILES, SCRIPT, TRIGGER}
 use Rattle.std.specs.Prelude.{ℕ, List, length, Result, Ok, Err}
-use Rattle.make_package.specs.adb_sound.Container.{packed_from_parts}
+use Rattle.make_package.specs.adb_sound.Container.{package_with_contents_from_parts}
 use Rattle.adb_view.specs.Plain.{Plain}
 use Rattle.command_core.specs.Command.{CommandLine}
 use Rattle.make_index.specs.EntryOrder.{entry_cmp}
@@ -24,7 +24,7 @@ abbrev pub packed_of_parts :
     CommandLine → List Script → List FieldWithValue → List SourceFolder
     → Result PackageWithContents MakeFault
 packed_of_parts command scripts about folders =
-    Ok (packed_from_parts
+    Ok (package_with_contents_from_parts
     (value_of_package (information_value about (installed_size folders)) folders scripts
     (texts_of (values_of_letter TRIGGER command.values)) (replaces_priority about))
     (contents_of_folders 1 folders))

@@ -14,7 +14,7 @@ ghost use Rattle.make_core.specs.ReadBack.{index_value_of_command, packed_packag
 ghost use Rattle.make_index.specs.pkg_core.Whole.{container_fault, package_with_contents};
 ghost use Rattle.std.specs.Prelude.{◌≡◌, ◌<◌, ◌^◌, ◌∷◌, ◌⊎◌, ℕ, List, length, None, Ok, Err};
 ghost use Rattle.base_core.specs.Files.{Files};
-ghost use Rattle.base_core.specs.Listed.{AreNamesBelow};
+ghost use Rattle.base_core.specs.Listed.{AreSortedNamesBelowFolder};
 ghost use Rattle.command_core.specs.Command.{CommandLine};
 ghost use Rattle.command_core.specs.Files.{without_dot_slash};
 ghost use Rattle.command_core.specs.declared.values.OptionValue.{OptionValue};
@@ -118,7 +118,7 @@ pub fn a_made_package_has_the_files_below_its_folder()
     ensures { (command : CommandLine) (names : List (List ℕ)) (files : Files) (bytes : List ℕ)
         (folder : OptionValue) (others : List OptionValue)
         → values_of_letter FILES command.values ≡ folder ∷ others
-        → AreNamesBelow (without_dot_slash folder.text) names
+        → AreSortedNamesBelowFolder (without_dot_slash folder.text) names
         → made_package command names (λ n name. files name) ≡ Ok bytes → length bytes < 2 ^ 64
         → HasJustNamedFilesBelowFolder files (without_dot_slash folder.text) names
         (root_value Package (payload_in bytes)) }

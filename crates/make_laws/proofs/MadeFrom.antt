@@ -2,7 +2,7 @@
 use Rattle.command_core.specs.declared.values.TheConstants.{FILES, SCRIPT, TRIGGER}
 use Rattle.std.proofs.Common.{◌≡◌, ℕ, ◌^◌, ◌<◌, List, [], ◌∷◌, length, map, Ok, refl, ap, sym, ◌∙◌}
 use Rattle.make_core.specs.adb_fields.Repeated.{folders_in, list_of}
-use Rattle.make_core.specs.adb_sound.Container.{packed_from_parts}
+use Rattle.make_core.specs.adb_sound.Container.{package_with_contents_from_parts}
 use Rattle.adb_view.specs.Values.{entries_in, entry_in, text_in}
 use Rattle.adb_view.proofs.ValueEntries.{entries_arr, nth_obj, text_blob}
 use Rattle.adb_view.specs.Plain.{Plain, blob_or_null}
@@ -44,7 +44,7 @@ made_from back command names read bytes made =
     let three = after_ok (source_folders_of_first_option read (length one.x) (values_of_letter FILES command.values) names) (packed_of_parts command one.x two.x) whole two.gives in
     let gives = three.gives in
     let v : Plain = value_of_package (information_value two.x (installed_size three.x)) three.x one.x (texts_of (values_of_letter TRIGGER command.values)) (replaces_priority two.x) in
-    let same : packed_from_parts v (contents_of_folders 1 three.x) ≡ whole = cc (gives) in
+    let same : package_with_contents_from_parts v (contents_of_folders 1 three.x) ≡ whole = cc (gives) in
     record {
       scripts = one.x;
       items = two.x;

@@ -16,7 +16,7 @@ use Rattle.adb_block.specs.Written.{block_bytes}
 use Rattle.adb_view.specs.Plain.{Plain}
 use Rattle.package_files.specs.adb_schema.declared.read.TheConstants.{PACKAGE_WORD}
 use Rattle.package_files.specs.adb_write.Canonical.{PayloadCounts, canonical, or_overflow, overflow_of, payload_or_overflow}
-use Rattle.package_files.specs.adb_write.File.{adb_piece, file_of}
+use Rattle.package_files.specs.adb_write.File.{adb_block_of_payload, file_of}
 use Rattle.package_files.specs.pkg_core.Contents.{Contents}
 use Rattle.command_core.specs.Sound.{value_rules, IsValidCommand, may_both_be_given, rule_for, is_allowed_value, are_allowed_values}
 use Rattle.command_core.specs.declared.values.ValueRule.{ValueRule}
@@ -31,7 +31,7 @@ use Rattle.package_files.specs.Blocks.{contents_block, contents_blocks}
 use Rattle.package_files.specs.make_info.Faults.{IsOverflowFault}
 use Rattle.package_files.specs.make_info.Information.{FieldWithValue, information_value, replaces_priority}
 use Rattle.package_files.specs.adb_sound.Contents.{contents_size}
-use Rattle.package_files.specs.adb_sound.Container.{contents_piece, container_of}
+use Rattle.package_files.specs.adb_sound.Container.{contents_piece, container_of_value_and_contents}
 use Rattle.make_package.specs.Answers.{IsBytes, IsFirstValue, IsNotDisk}
 use Rattle.make_package.specs.Making.{container_unless_too_large, package_container}
 use Rattle.package_files.specs.Package.{Script, Source, SourceFolder, contents_of_folders, value_of_file, value_of_folder, folder_with, installed_size, kind_of_file, value_of_kind, value_of_package, package_with, size_of_folder, size_of_kind}
@@ -213,9 +213,9 @@ sizes_held held blocks folders sources h =
 
 -- ---- the file
 
-pub laid_is : (v : Plain) (contents : List Contents) → file_of PACKAGE_WORD (canonical v) ++ contents_blocks contents ≡ container_of PACKAGE_WORD v contents
+pub laid_is : (v : Plain) (contents : List Contents) → file_of PACKAGE_WORD (canonical v) ++ contents_blocks contents ≡ container_of_value_and_contents PACKAGE_WORD v contents
 laid_is v contents =
-    let piece : Piece = adb_piece (canonical v) in
+    let piece : Piece = adb_block_of_payload (canonical v) in
     let mark : List ℕ = codes "ADB." in
     let schema : List ℕ = to_le_bytes w32 PACKAGE_WORD in
     let payload : List ℕ = flat_map block_bytes (piece ∷ []) in

@@ -6,7 +6,7 @@ use Rattle.std.specs.Result.{IsErrAnd}
 use Rattle.std.proofs.lemmas.List.{map-append, take-append-drop}
 use Rattle.base_core.specs.Calls.{IfObservable}
 use Rattle.base_core.specs.Read.{OnlyReads}
-use Rattle.base_core.specs.Listed.{AreNamesBelow, IsListOf}
+use Rattle.base_core.specs.Listed.{AreSortedNamesBelowFolder, IsSortedListingOfFolder}
 use Rattle.base_core.specs.Faults.{Counts}
 use Rattle.base_core.specs.Tree.{TreeState}
 use Rattle.command_core.specs.Command.{CommandLine}
@@ -241,16 +241,16 @@ package_as command about borrowed scripts packing r e made sources is =
 -- ---- of the folder that is given, or of none
 
 pub listed_for : (told : List TreeState) (vs : List OptionValue) (folder : List ℕ) (names : List (List ℕ)) → IsFolder vs folder
-    → IfObservable told (λ w. IsListOf folder w names) → IfObservable told (λ w. AreNamesBelowFirstOption (values_of_letter FILES vs) w names)
+    → IfObservable told (λ w. IsSortedListingOfFolder folder w names) → IfObservable told (λ w. AreNamesBelowFirstOption (values_of_letter FILES vs) w names)
 listed_for told vs folder names f h =
     let P : List OptionValue → Type 0 = λ l. IfObservable told (λ w. AreNamesBelowFirstOption l w names) in
-    let Q : List ℕ → Type 0 = λ d. IfObservable told (λ w. IsListOf d w names) in
+    let Q : List ℕ → Type 0 = λ d. IfObservable told (λ w. IsSortedListingOfFolder d w names) in
     subst P (sym f.first) (subst Q (sym f.name) h)
 
-pub named_for : (vs : List OptionValue) (folder : List ℕ) (names : List (List ℕ)) → IsFolder vs folder → AreNamesBelow folder names → AreNamesBelowFirstFolder (values_of_letter FILES vs) names
+pub named_for : (vs : List OptionValue) (folder : List ℕ) (names : List (List ℕ)) → IsFolder vs folder → AreSortedNamesBelowFolder folder names → AreNamesBelowFirstFolder (values_of_letter FILES vs) names
 named_for vs folder names f h =
     let P : List OptionValue → Type 0 = λ l. AreNamesBelowFirstFolder l names in
-    let Q : List ℕ → Type 0 = λ d. AreNamesBelow d names in
+    let Q : List ℕ → Type 0 = λ d. AreSortedNamesBelowFolder d names in
     subst P (sym f.first) (subst Q (sym f.name) h)
 
 pub packed_for : (told : List TreeState) (dirs : List OptionValue) (v : OptionValue) (others : List OptionValue) (dir : List ℕ) (names : List (List ℕ)) (r : Result Packing MakeFault) (n : ℕ) → dirs ≡ v ∷ others

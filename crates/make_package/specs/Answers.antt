@@ -6,7 +6,7 @@ use Rattle.std.specs.Prelude.{◌≡◌, ℕ, List, [], ◌∷◌, Option, Some,
 use Rattle.std.specs.Borrow.{Bor}
 use Rattle.std.specs.declared.alloc.Global.{Global}
 use Rattle.base_core.specs.Calls.{IfObservable}
-use Rattle.base_core.specs.Listed.{IsListOf}
+use Rattle.base_core.specs.Listed.{IsSortedListingOfFolder}
 use Rattle.base_core.specs.Tree.{TreeState, files_of}
 use Rattle.command_core.specs.Command.{CommandLine}
 use Rattle.command_core.specs.Files.{without_dot_slash}
@@ -46,7 +46,7 @@ IsNotDisk result = Unit {0}
 -- tree of this state
 abbrev pub AreNamesBelowFirstOption : List OptionValue → TreeState → List (List ℕ) → Type 0
 AreNamesBelowFirstOption [] v names = Unit {0}
-AreNamesBelowFirstOption (dir ∷ dirs) v names = IsListOf (without_dot_slash dir.text) v names
+AreNamesBelowFirstOption (dir ∷ dirs) v names = IsSortedListingOfFolder (without_dot_slash dir.text) v names
 
 -- `P` holds of the refusal with this error; of an I/O error of the tree and of out of memory
 -- nothing is required

@@ -9,7 +9,7 @@ use Rattle.package_files.specs.adb_schema.declared.read.TheConstants.{PACKAGE_WO
 use Rattle.package_files.specs.adb_write.Canonical.{PayloadCounts, overflow_of}
 use Rattle.package_files.specs.pkg_core.Contents.{Contents}
 use Rattle.command_core.specs.Command.{CommandLine}
-use Rattle.package_files.specs.adb_sound.Container.{container_of}
+use Rattle.package_files.specs.adb_sound.Container.{container_of_value_and_contents}
 use Rattle.package_files.specs.make_info.Information.{FieldWithValue, information, information_value, replaces_priority}
 use Rattle.package_files.specs.make_info.Reads.{Reads}
 use Rattle.package_files.specs.make_info.declared.fault.MakeFault.{MakeFault}
@@ -23,7 +23,7 @@ use Rattle.package_files.specs.Sources.{and_then, values_of_letter, texts_of, sc
 -- two counts at which it does
 abbrev pub container_unless_too_large :
     Option PayloadCounts → Plain → List Contents → Result (List ℕ) MakeFault
-container_unless_too_large None v contents = Ok (container_of PACKAGE_WORD v contents)
+container_unless_too_large None v contents = Ok (container_of_value_and_contents PACKAGE_WORD v contents)
 container_unless_too_large (Some counts) v contents = Err (TooLarge counts.0 counts.1)
 
 -- the container of a package's value and of the contents of its files; an error if the value

@@ -8,7 +8,7 @@ use Rattle.std.specs.Option.{option_cmp}
 use Rattle.std.specs.Ordering.{bool_cmp, flip_args, nat_cmp, on, then_cmp}
 use Rattle.std.specs.declared.cmp.Ordering.{Ordering}
 use Rattle.candidate_core.specs.Candidates.{Candidate, Need, version_meeting_need}
-use Rattle.candidate_core.specs.Rank.{SealedPool, bytes_cmp, candidate_at, earlier_repository, greater_version, has_needed_name, is_kept_installed, is_pinned, is_untagged}
+use Rattle.candidate_core.specs.Rank.{SealedPool, bytes_cmp, candidate_at, earlier_repository_first_cmp, greater_version_first_cmp, has_needed_name, is_kept_installed, is_pinned, is_untagged}
 use Rattle.option_ranks.specs.declared.rank.VersionKey.{VersionKey}
 use Rattle.option_ranks.specs.declared.rank.VersionKey.TheVariants.{ByRank, ByText}
 use Rattle.candidate_core.specs.declared.versions.RankedVersion.{RankedVersion}
@@ -74,8 +74,8 @@ IsRankingIn pool need r = (c : Candidate) × ((candidate_at pool r.place ≡ Som
 -- the order of two versions of a kind: the greater is first; equal own versions of candidates are
 -- ordered by their texts
 abbrev pub version_order : VersionKind → Option (List ℕ) → Option (List ℕ) → Ordering
-version_order Under = greater_version
-version_order Own = then_cmp greater_version (option_cmp bytes_cmp)
+version_order Under = greater_version_first_cmp
+version_order Own = then_cmp greater_version_first_cmp (option_cmp bytes_cmp)
 
 -- the order of two versions of a kind by their ranks, the lesser first, or by the versions themselves
 abbrev pub version_key_cmp : VersionKey → VersionKind → RankedVersion → RankedVersion → Ordering
@@ -111,7 +111,7 @@ merit_ranking_cmp key =
 
 -- key 10: the earlier repository first, and none last
 abbrev pub repository_ranking_cmp : Ranking → Ranking → Ordering
-repository_ranking_cmp = on (λ (r : Ranking). r.repository) earlier_repository
+repository_ranking_cmp = on (λ (r : Ranking). r.repository) earlier_repository_first_cmp
 
 -- the order of two options by keys 2 to 10, if world pins both of them, or neither of them
 abbrev pub unpinned_ranking_cmp : VersionKey → Ranking → Ranking → Ordering

@@ -6,7 +6,7 @@
 ghost use Rattle.std.specs.Prelude.{◌≡◌};
 ghost use Rattle.std.specs.Option.{option_cmp};
 ghost use Rattle.std.specs.Ordering.{bool_cmp, flip_args, then_cmp};
-ghost use Rattle.candidate_core.specs.Rank.{bytes_cmp, earlier_repository, greater_version};
+ghost use Rattle.candidate_core.specs.Rank.{bytes_cmp, earlier_repository_first_cmp, greater_version_first_cmp};
 ghost use Rattle.option_ranks.specs.Ranking.{candidate_ranking_cmp, merit_ranking_cmp, name_ranking_cmp, priority_ranking_cmp, quality_ranking_cmp, ranking_cmp, repository_ranking_cmp, unpinned_ranking_cmp, version_key_cmp, version_order};
 ghost use Rattle.option_ranks.specs.VersionRanks.{version_of, with_version_rank};
 
@@ -219,7 +219,7 @@ pub(crate) fn compare_versions(
 // The order of two versions: the greater first. Equal versions are ordered by the bytes of their
 // texts, which are compared only then, since they may be long.
 fn by_version_and_text(one: &Option<Version<'_>>, other: &Option<Version<'_>>) -> Ordering
-    ensures { result ≡ then_cmp greater_version (option_cmp bytes_cmp) one.now other.now }
+    ensures { result ≡ then_cmp greater_version_first_cmp (option_cmp bytes_cmp) one.now other.now }
 {
     match by_version(one, other) {
         Ordering::Less => Ordering::Less,
@@ -230,7 +230,7 @@ fn by_version_and_text(one: &Option<Version<'_>>, other: &Option<Version<'_>>) -
 
 // The order of two versions: the greater is first, and none last.
 fn by_version(one: &Option<Version<'_>>, other: &Option<Version<'_>>) -> Ordering
-    ensures { result ≡ greater_version one.now other.now }
+    ensures { result ≡ greater_version_first_cmp one.now other.now }
 {
     match (one, other) {
         (None, None) => Ordering::Equal,
@@ -254,7 +254,7 @@ fn by_version_text(one: &Option<Version<'_>>, other: &Option<Version<'_>>) -> Or
 
 // The order of two repositories: the smaller number is first, and none last.
 fn by_repo(one: Option<u64>, other: Option<u64>) -> Ordering
-    ensures { result ≡ earlier_repository one other }
+    ensures { result ≡ earlier_repository_first_cmp one other }
 {
     match (one, other) {
         (None, None) => Ordering::Equal,

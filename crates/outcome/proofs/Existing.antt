@@ -5,7 +5,7 @@ use Rattle.std.specs.List.{list_any, starts_with}
 use Rattle.std.specs.Str.{bytes_eq}
 use Rattle.std.proofs.lemmas.Bool.{false≢true}
 use Rattle.base_core.specs.Files.{Files, HasNamesAmong}
-use Rattle.base_core.specs.Listed.{IsNamesOf}
+use Rattle.base_core.specs.Listed.{AreSortedNamesInMap}
 use Rattle.base_core.specs.declared.cause.Cause.{Cause}
 use Rattle.engine_core.specs.Choice.{IsChoiceFrom}
 use Rattle.engine_core.specs.Selecting.{pool_of_command}
@@ -32,10 +32,10 @@ use Rattle.outcome.specs.Work.{recovery_fault, files_recovered_if_needed}
 
 -- files under finitely many names have a list of them, and no second one
 abbrev pub HaveList : Type 0
-HaveList = (files : Files) (within : List (List ℕ)) → HasNamesAmong within files → (names : List (List ℕ)) × IsNamesOf files names
+HaveList = (files : Files) (within : List (List ℕ)) → HasNamesAmong within files → (names : List (List ℕ)) × AreSortedNamesInMap files names
 
 abbrev pub HaveOneList : Type 0
-HaveOneList = (files : Files) (a b : List (List ℕ)) → IsNamesOf files a → IsNamesOf files b → a ≡ b
+HaveOneList = (files : Files) (a b : List (List ℕ)) → AreSortedNamesInMap files a → AreSortedNamesInMap files b → a ≡ b
 
 -- what is below a folder is within the files
 within_below : (folder : List ℕ) (files : Files) (within : List (List ℕ)) → HasNamesAmong within files → HasNamesAmong within (files_below folder files)

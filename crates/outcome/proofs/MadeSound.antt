@@ -8,7 +8,7 @@ use Rattle.gen_core.specs.adb_schema.Reserved.{is_reserved}
 use Rattle.adb_view.specs.Plain.{Plain}
 use Rattle.gen_core.specs.adb_write.Canonical.{PayloadCounts, overflow_of, payload_or_overflow}
 use Rattle.base_core.specs.Files.{HaveValidNamesAndBytes, Files, drop_name}
-use Rattle.base_core.specs.Listed.{AreNamesBelow, IsNameBelow, IsNamesOf}
+use Rattle.base_core.specs.Listed.{AreSortedNamesBelowFolder, IsValidNameBelowFolder, AreSortedNamesInMap}
 use Rattle.base_core.specs.Tree.{IsWellFormed, TreeState, files_of}
 use Rattle.base_core.specs.declared.cause.Cause.{Cause}
 use Rattle.command_core.specs.declared.values.TheConstants.{FILES, SCRIPT, TRIGGER}
@@ -58,15 +58,15 @@ SoundIndex = (command : CommandLine) (read : Reads) (bytes : List ℕ) → AreOp
 
 -- ---- the names below a folder are names below it
 
-name_below : (folder : List ℕ) (files : Files) → HaveValidNamesAndBytes files → (q : List ℕ) → IsSome (files_below folder files q) → IsNameBelow folder q
+name_below : (folder : List ℕ) (files : Files) → HaveValidNamesAndBytes files → (q : List ℕ) → IsSome (files_below folder files q) → IsValidNameBelowFolder folder q
 name_below folder files good q some =
     let found = if_some (starts_with nat_eq q (folder ++ codes "/")) (files q) some in
     record { named = good.named q found.1; below = is_below folder q found.0 }
 
-names_below : (folder : List ℕ) (files : Files) (names : List (List ℕ)) → HaveValidNamesAndBytes files → IsNamesOf (files_below folder files) names → AreNamesBelow folder names
+names_below : (folder : List ℕ) (files : Files) (names : List (List ℕ)) → HaveValidNamesAndBytes files → AreSortedNamesInMap (files_below folder files) names → AreSortedNamesBelowFolder folder names
 names_below folder files names good are = record {
   rising = are.rising;
-  each = All-weaker (Contains names) (IsNameBelow folder) (λ q here. name_below folder files good q ((are.each q).0 here)) names (All-contains_itself names);
+  each = All-weaker (Contains names) (IsValidNameBelowFolder folder) (λ q here. name_below folder files good q ((are.each q).0 here)) names (All-contains_itself names);
 }
 
 names_for : (values : List OptionValue) (files : Files) (names : List (List ℕ)) → HaveValidNamesAndBytes files → AreNamesBelowOptionFolder values files names → AreNamesBelowFirstFolder values names

@@ -1,7 +1,7 @@
 -- A command that only reports is refused for its input alone.
 use Rattle.std.proofs.Common.{◌≡◌, ℕ, Bool, true, false, List, [], ◌∷◌, ◌++◌, Option, Some, None, Result, Ok, Err, refl, ap, sym, subst, ◌∙◌}
 use Rattle.adb_view.specs.Plain.{Plain}
-use Rattle.tell_core.specs.audit_core.Manifest.{manifest_of, manifest_with, operand_package, package_manifest}
+use Rattle.tell_core.specs.audit_core.Manifest.{manifest_of, manifest_with_package_of_operand, package_named_by_operand, package_manifest}
 use Rattle.tell_core.specs.candidate_core.Rank.{no_names}
 use Rattle.tell_core.specs.change_inputs.Candidates.{root_pool}
 use Rattle.tell_core.specs.change_inputs.Chains.{and_then}
@@ -36,13 +36,13 @@ then_all_stated (Err refusal) next h rest = h
 -- ---- a manifest
 
 -- with one operand more
-with_stated : (o : Operand) (found : Option Plain) (further : Result (List ℕ) Refusal) → HasKnownRefusal is_input_refusal further → HasKnownRefusal is_input_refusal (manifest_with o found further)
+with_stated : (o : Operand) (found : Option Plain) (further : Result (List ℕ) Refusal) → HasKnownRefusal is_input_refusal further → HasKnownRefusal is_input_refusal (manifest_with_package_of_operand o found further)
 with_stated o None further h = refl
 with_stated o (Some pkg) further h = then_stated is_input_refusal further (λ more. Ok (package_manifest pkg ++ more)) h (λ more. tt)
 
 manifest_stated : (packages : List Plain) (operands : List Operand) → HasKnownRefusal is_input_refusal (manifest_of packages operands)
 manifest_stated packages [] = tt
-manifest_stated packages (o ∷ operands) = with_stated o (operand_package packages o) (manifest_of packages operands) (manifest_stated packages operands)
+manifest_stated packages (o ∷ operands) = with_stated o (package_named_by_operand packages o) (manifest_of packages operands) (manifest_stated packages operands)
 
 -- ---- a query
 

@@ -7,7 +7,7 @@ use Rattle.base_core.specs.Files.{Files}
 use Rattle.base_core.specs.declared.cause.Cause.{Cause}
 use Rattle.engine_core.specs.change_outcome.ChangeOutcome.{ChangeDone}
 use Rattle.command_core.specs.Command.{CommandLine}
-use Rattle.engine_core.specs.Changed.{IsClashOfCommand, InputsAndReplacement, change_of_selected, selected_for}
+use Rattle.engine_core.specs.Changed.{IsClashOfCommand, InputsAndReplacement, change_of_selected, selected_from_reads_by_choice}
 use Rattle.engine_core.specs.Selecting.{pool_of_command}
 use Rattle.engine_core.specs.package_changes.Changes.{changes_of}
 use Rattle.engine_core.specs.package_changes.Placed.{candidates_at}
@@ -64,7 +64,7 @@ pub record IsInputRefused (command : CommandLine) (files : Files) (o : Outcome) 
   pub stated : is_input_refusal refusal ≡ true
   -- the input is refused whichever candidates are chosen
   pub unchosen : (chosen : Option (List ℕ))
-      → selected_for command (reads_in files) chosen ≡ Err refusal
+      → selected_from_reads_by_choice command (reads_in files) chosen ≡ Err refusal
   -- the outcome is this refusal, and the files are unchanged
   pub outcome : o ≡ just_refusal files refusal
 
@@ -115,7 +115,7 @@ pub record TakesFirstPreferredSelection (command : CommandLine) (files : Files) 
   -- what is read, and the packages before with the candidates that replace them
   pub selected : InputsAndReplacement
   -- the command takes this selection
-  pub selects : selected_for command (reads_in files) (Some trace) ≡ Ok selected
+  pub selects : selected_from_reads_by_choice command (reads_in files) (Some trace) ≡ Ok selected
   -- the selected candidates are those of the trace
   pub candidates : selected.replacement.selected ≡ candidates_at pool trace
   -- the first clash of the names after the change, if there is one

@@ -5,7 +5,7 @@ use Rattle.std.specs.Fmt.{decimal}
 use Rattle.std.specs.List.{starts_with}
 use Rattle.gen_core.specs.adb_schema.Reserved.{is_reserved}
 use Rattle.base_core.specs.Files.{Files}
-use Rattle.base_core.specs.Listed.{IsNamesOf}
+use Rattle.base_core.specs.Listed.{AreSortedNamesInMap}
 use Rattle.engine_core.specs.journal_core.Replacing.{files_after_replacement}
 use Rattle.make_core.specs.make_index.Index.{made_index}
 use Rattle.make_core.specs.make_package.Making.{made_package}
@@ -30,7 +30,7 @@ files_below folder files name =
 abbrev pub AreNamesBelowOptionFolder : List OptionValue → Files → List (List ℕ) → Type 0
 AreNamesBelowOptionFolder [] files names = names ≡ []
 AreNamesBelowOptionFolder (folder ∷ values) files names =
-    IsNamesOf (files_below (without_dot_slash folder.text) files) names
+    AreSortedNamesInMap (files_below (without_dot_slash folder.text) files) names
 
 -- ---- the outcome
 

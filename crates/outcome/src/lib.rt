@@ -20,7 +20,7 @@
 
 ghost use Rattle.std.specs.Prelude.{◌≡◌, ◌⊎◌, ℕ, true, false, List, None, Some, Result, Ok, Err, IsSome, IsTrue, is_some, not};
 ghost use Rattle.base_core.specs.Files.{Files, HasNamesAmong};
-ghost use Rattle.base_core.specs.Listed.{IsListOf, IsNamesOf};
+ghost use Rattle.base_core.specs.Listed.{IsSortedListingOfFolder, AreSortedNamesInMap};
 ghost use Rattle.base_core.specs.Tree.{IsWellFormed, TreeState, files_of};
 ghost use Rattle.base_core.specs.declared.cause.Cause.{Cause};
 ghost use Rattle.tell_core.specs.change_inputs.Inputs.{database_for};
@@ -292,7 +292,8 @@ fn words_alone_are_the_same_everywhere()
 /// The names below a folder, as a tree lists them, are those of its files.
 pub fn a_listing_of_a_tree_is_that_of_its_files()
     ensures { (folder : List ℕ) (v : TreeState) (names : List (List ℕ))
-        → IsListOf folder v names → IsNamesOf (files_below folder (files_of v)) names }
+        → IsSortedListingOfFolder folder v names
+        → AreSortedNamesInMap (files_below folder (files_of v)) names }
 {}
 
 /// The file that `mkpkg` or `mkndx` leaves as its output passes all tests of a container, if it has

@@ -4,7 +4,7 @@ use Rattle.std.specs.Prelude.{◌≡◌, ◌<◌, ℕ, List, Option, Some, None,
 use Rattle.base_core.specs.declared.cause.Cause.{Cause}
 use Rattle.command_core.specs.Files.{without_dot_slash}
 use Rattle.command_core.specs.declared.operands.Operand.{Operand}
-use Rattle.container_laws.specs.TestsInOrder.{IsContainerFault, PassesEveryTest}
+use Rattle.container_laws.specs.TestsInOrder.{IsContainerFault, PassesEveryContainerTest}
 use Rattle.outcome.specs.make_info.Reads.{Reads}
 use Rattle.report_core.specs.declared.refusal.Refusal.{Refusal}
 use Rattle.report_core.specs.declared.refusal.Refusal.TheVariants.{FileBad, FileMissing}
@@ -15,7 +15,7 @@ pub record IsFoundSound (found : Option (List ℕ)) : Type 0 where
   pub file : List ℕ
   pub is : found ≡ Some file
   -- they pass every test of a container
-  pub passes : PassesEveryTest file
+  pub passes : PassesEveryContainerTest file
 
 -- the read with an operand's number, from 0, finds a file that passes every test
 abbrev pub IsOperandSound : Reads → List Operand → ℕ → Type 0

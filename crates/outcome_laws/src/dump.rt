@@ -6,7 +6,7 @@ ghost use Rattle.base_core.specs.Files.{Files};
 ghost use Rattle.base_core.specs.declared.cause.Cause.{Cause};
 ghost use Rattle.command_core.specs.Files.{without_dot_slash};
 ghost use Rattle.command_core.specs.declared.operands.Operand.{Operand};
-ghost use Rattle.container_laws.specs.TestsInOrder.{PassesEveryTest};
+ghost use Rattle.container_laws.specs.TestsInOrder.{PassesEveryContainerTest};
 ghost use Rattle.outcome.specs.make_info.Reads.{Reads};
 ghost use Rattle.outcome.specs.Dump.{adbdump};
 ghost use Rattle.outcome_laws.specs.DumpedFiles.{HasDumpTextOfRootValue, IsDumpRefusalCause};
@@ -27,7 +27,7 @@ pub fn adbdump_prints_the_text_of_the_value()
 pub fn adbdump_prints_what_passes_every_test()
     // A file that passes every test is not refused.
     ensures sound { (read : Reads) (files : Files) (o : Operand) (file : List ℕ)
-        → read 0 (without_dot_slash o.text) ≡ Some file → PassesEveryTest file
+        → read 0 (without_dot_slash o.text) ≡ Some file → PassesEveryContainerTest file
         → (adbdump read files (o ∷ [])).refusal ≡ None }
     // An absent file is refused as missing.
     ensures absent { (read : Reads) (files : Files) (o : Operand)

@@ -3,7 +3,7 @@
 -- `-F`, and the place at which an absent file is reported.
 use Rattle.std.specs.Prelude.{ℕ, ◌+◌, ◌==◌, List, [], ◌∷◌, length, map, filter, Option, Some, None, Result, Ok, Err}
 pub use Rattle.base_core.specs.Lists.{and_then}
-use Rattle.base_core.specs.Listed.{AreNamesBelow}
+use Rattle.base_core.specs.Listed.{AreSortedNamesBelowFolder}
 use Rattle.command_core.specs.Values.{script_type, script_file}
 use Rattle.command_core.specs.Files.{without_dot_slash}
 use Rattle.command_core.specs.declared.values.OptionValue.{OptionValue}
@@ -41,7 +41,8 @@ texts_of values = map (λ (v : OptionValue). v.text) values
 -- the names are names below the folder that the first of some values gives, if there is one
 abbrev pub AreNamesBelowFirstFolder : List OptionValue → List (List ℕ) → Type 0
 AreNamesBelowFirstFolder [] names = Unit {0}
-AreNamesBelowFirstFolder (folder ∷ others) names = AreNamesBelow (without_dot_slash folder.text) names
+AreNamesBelowFirstFolder (folder ∷ others) names =
+    AreSortedNamesBelowFolder (without_dot_slash folder.text) names
 
 -- ---- scripts
 

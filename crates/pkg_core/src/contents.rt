@@ -28,7 +28,7 @@ pub struct Contents<'a> {
 }
 
 impl<'a> Contents<'a> {
-    ghost use Rattle.adb_schema.specs.SoundValues.{KeepsRules};
+    ghost use Rattle.adb_schema.specs.SoundValues.{ObeysFieldRulesOfTable};
     ghost use Rattle.adb_schema.specs.Views.{package_value};
     ghost use Rattle.adb_schema.specs.SoundContainers.{IsSoundValue};
     ghost use Rattle.adb_view.specs.Plain.{IsNormal};
@@ -81,7 +81,7 @@ impl<'a> Contents<'a> {
     /// Each text and number of a package obeys the rule of its field: a folder's name is a path,
     /// and so is a file's name after it.
     pub fn values_keep_their_rules(&self)
-        ensures { KeepsRules Tables.Package (value_of_contents self.now) }
+        ensures { ObeysFieldRulesOfTable Tables.Package (value_of_contents self.now) }
     {
         // A law that the proof needs; it has no effect at run time.
         no_text_is_bad_where_each_keeps_its_rule();

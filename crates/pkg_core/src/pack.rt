@@ -74,7 +74,7 @@ pub struct Package<'a> {
 }
 
 impl<'a> Package<'a> {
-    ghost use Rattle.adb_schema.specs.SoundValues.{KeepsRules};
+    ghost use Rattle.adb_schema.specs.SoundValues.{ObeysFieldRulesOfTable};
     ghost use Rattle.adb_schema.specs.Views.{package_value};
     ghost use Rattle.pkg_core.specs.Opened.{opened_files, opened_payload, opened_value, IsNextFile};
     ghost use Rattle.pkg_core.specs.Whole.{package_id};
@@ -120,7 +120,7 @@ impl<'a> Package<'a> {
     /// Each text and number of a package obeys the rule of its field: a folder's name is a path,
     /// and so is a file's name after it.
     pub fn values_keep_their_rules(&self)
-        ensures { KeepsRules Tables.Package (opened_value self.now) }
+        ensures { ObeysFieldRulesOfTable Tables.Package (opened_value self.now) }
     {
         // A law that the proof needs; it has no effect at run time.
         self.checked.values_keep_their_rules();

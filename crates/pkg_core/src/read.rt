@@ -4,7 +4,7 @@
 ghost use Rattle.std.specs.Prelude.{◌≡◌, ◌≤◌, ◌+◌, ◌-◌, ℕ, List, Option, None, true, length, min, take, IfOk, IfErr, IfSome};
 ghost use Rattle.adb_block.specs.Framing.{next_step};
 ghost use Rattle.adb_block.specs.Frames.{IsHeadPrefix, IsFrameOfStep, head_len, raw_size};
-ghost use Rattle.adb_block.specs.Header.{header_of};
+ghost use Rattle.adb_block.specs.Header.{schema_of_header};
 ghost use Rattle.adb_block.specs.Piece.{may_be_next_kind, padding_of};
 ghost use Rattle.base_core.specs.Calls.{IfObservable};
 ghost use Rattle.base_core.specs.Read.{OnlyReads};
@@ -101,7 +101,7 @@ impl Header {
 
     /// The schema in the header, or the first failed test.
     fn schema(&self) -> Result<u32, Cause>
-        ensures { result ≡ header_of self.now }
+        ensures { result ≡ schema_of_header self.now }
     {
         let blocks = Blocks::new(&self.bytes[..self.len])?;
         Ok(blocks.schema())

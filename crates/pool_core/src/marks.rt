@@ -8,7 +8,7 @@ ghost use Rattle.std.specs.Option.{option_map_or};
 ghost use Rattle.std.specs.List.{list_any};
 ghost use Rattle.std.specs.Str.{bytes_eq};
 ghost use Rattle.dep_core.specs.Meets.{dependency};
-ghost use Rattle.option_ranks.specs.candidate_core.Candidates.{is_allowed, is_barred_by, meets_dependency, uses_tag};
+ghost use Rattle.option_ranks.specs.candidate_core.Candidates.{is_allowed_by_tags_of_world, is_barred_by_world, meets_dependency, is_tag_used_in_world};
 ghost use Rattle.option_ranks.specs.candidate_core.Matches.{AreRememberedMatchesOf};
 ghost use Rattle.pool_core.specs.Marks.{affects, is_affected, with_mark_set_at, with_marks_set};
 ghost use Rattle.pool_core.specs.PoolMatches.{IsCandidateWithMatches};
@@ -43,8 +43,8 @@ pub(crate) fn eligible_marks(
     requires { HasPlacesOfEachName table.now (candidates_of_packages packages.now) }
     // A candidate's mark is true if it is allowed and not barred.
     ensures { IfOk result (λ marks. marks.items ≡ map (λ one.
-        is_allowed (map dependency tagged.now) one
-        && not (is_barred_by (map dependency conflicts.now) one))
+        is_allowed_by_tags_of_world (map dependency tagged.now) one
+        && not (is_barred_by_world (map dependency conflicts.now) one))
         (candidates_of_packages packages.now)) }
 {
     let mut ineligible = disallowed_marks(alloc, packages, tagged)?;
@@ -85,12 +85,12 @@ fn disallowed_marks(
     tagged: &[Dep<'_>],
 ) -> Result<Vec<bool>, AllocError>
     ensures { IfOk result (λ marks. marks.items
-        ≡ map (λ one. not (is_allowed (map dependency tagged.now) one))
+        ≡ map (λ one. not (is_allowed_by_tags_of_world (map dependency tagged.now) one))
         (candidates_of_packages packages.now)) }
 {
     let mut marks = Vec::with_capacity(alloc, packages.len())?;
     for place in 0..packages.len() {
-        marks.push(!is_allowed(&packages.get(place), tagged))?;
+        marks.push(!is_allowed_by_tags_of_world(&packages.get(place), tagged))?;
     }
     Ok(marks)
 }
@@ -273,8 +273,8 @@ fn has_tag(dep: &Dep<'_>, tag: &[u8]) -> bool
 
 // Whether a candidate is allowed: installed, or from a repository without tag, or from one whose
 // tag one of the tagged entries of world has.
-fn is_allowed(one: &Details<'_>, tagged: &[Dep<'_>]) -> bool
-    ensures { result ≡ is_allowed (map dependency tagged.now) one.now }
+fn is_allowed_by_tags_of_world(one: &Details<'_>, tagged: &[Dep<'_>]) -> bool
+    ensures { result ≡ is_allowed_by_tags_of_world (map dependency tagged.now) one.now }
 {
     if one.is_installed() {
         return true;
@@ -284,14 +284,14 @@ fn is_allowed(one: &Details<'_>, tagged: &[Dep<'_>]) -> bool
     }
     match one.tag() {
         None => true,
-        Some(tag) => uses_tag(tagged, tag),
+        Some(tag) => is_tag_used_in_world(tagged, tag),
     }
 }
 
 // Whether an entry of the list, which is of world, has this tag.
 #[tactic(auto, using(candidate_core::proofs::Anyone::any_map))]
-fn uses_tag(tagged: &[Dep<'_>], tag: &[u8]) -> bool
-    ensures { result ≡ uses_tag (map dependency tagged.now) tag.now }
+fn is_tag_used_in_world(tagged: &[Dep<'_>], tag: &[u8]) -> bool
+    ensures { result ≡ is_tag_used_in_world (map dependency tagged.now) tag.now }
 {
     any_has_tag(tagged, tag)
 }

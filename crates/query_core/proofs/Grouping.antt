@@ -18,7 +18,7 @@ use Rattle.std.proofs.lemmas.Bool.{and_parts, cases_Bool, ltb-true, ltb-false}
 use Rattle.pool_core.proofs.SamePackage.{same_version}
 use Rattle.pool_core.specs.candidate_core.Candidates.{Candidate, is_same_version}
 use Rattle.pool_core.specs.candidate_core.Options.{IsIn, places_passing_from}
-use Rattle.pool_core.specs.candidate_core.Rank.{bytes_cmp, greater_version}
+use Rattle.pool_core.specs.candidate_core.Rank.{bytes_cmp, greater_version_first_cmp}
 use Rattle.pool_core.proofs.candidate_core.OptionLists.{in_places, places_in}
 use Rattle.pool_core.proofs.candidate_core.LoopTests.{any_at}
 use Rattle.pool_core.proofs.candidate_core.Steps.{get_at}
@@ -43,7 +43,7 @@ version_of r = r.version.version
 equal_parts : (a b : Candidate) → name_and_version_cmp a b ≡ Equal → a.version ≡ b.version
 equal_parts a b h =
     texts_same a.version b.version
-    (last_decides (greater_version a.version b.version) (option_cmp bytes_cmp a.version b.version) (last_decides (bytes_cmp a.name b.name) (ordering_then (greater_version a.version b.version) (option_cmp bytes_cmp a.version b.version)) h))
+    (last_decides (greater_version_first_cmp a.version b.version) (option_cmp bytes_cmp a.version b.version) (last_decides (bytes_cmp a.name b.name) (ordering_then (greater_version_first_cmp a.version b.version) (option_cmp bytes_cmp a.version b.version)) h))
 
 less_first : (o r : Ordering) → is_lt (ordering_then o r) ≡ false → is_lt o ≡ false
 less_first Less r h = h
@@ -53,8 +53,8 @@ less_first Greater r h = refl
 module _ (versions : IsTotalOrder version_cmp) where
   equal_when : (a b : Candidate) → a.name ≡ b.name → a.version ≡ b.version → name_and_version_cmp a b ≡ Equal
   equal_when a b e f =
-      ap (λ (n : List ℕ). ordering_then (bytes_cmp a.name n) (ordering_then (greater_version a.version b.version) (option_cmp bytes_cmp a.version b.version))) (sym e)
-      ∙ (ap (λ (v : Option (List ℕ)). ordering_then (bytes_cmp a.name a.name) (ordering_then (greater_version a.version v) (option_cmp bytes_cmp a.version v))) (sym f)
+      ap (λ (n : List ℕ). ordering_then (bytes_cmp a.name n) (ordering_then (greater_version_first_cmp a.version b.version) (option_cmp bytes_cmp a.version b.version))) (sym e)
+      ∙ (ap (λ (v : Option (List ℕ)). ordering_then (bytes_cmp a.name a.name) (ordering_then (greater_version_first_cmp a.version v) (option_cmp bytes_cmp a.version v))) (sym f)
       ∙ tied_itself (candidates_total versions) a)
 
   -- of three in order, if the outer two have one name and version, the one between has the version

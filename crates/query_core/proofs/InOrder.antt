@@ -18,7 +18,7 @@ use Rattle.base_core.specs.Sorted.{sorted_by, with_element_inserted}
 use Rattle.base_core.proofs.Sorting.{Rises, ranks, rises_in_order, sorted_same}
 use Rattle.pool_core.specs.candidate_core.Candidates.{Candidate, is_same_version}
 use Rattle.pool_core.specs.candidate_core.Options.{AreDistinct, IsIn, places_passing_from}
-use Rattle.pool_core.specs.candidate_core.Rank.{bytes_cmp, greater_version}
+use Rattle.pool_core.specs.candidate_core.Rank.{bytes_cmp, greater_version_first_cmp}
 use Rattle.pool_core.proofs.candidate_core.OptionLists.{in_places, places_apart, places_in}
 use Rattle.dep_core.specs.Repositories.{Repository}
 use Rattle.pool_core.proofs.option_ranks.MovedMembers.{moved_member}
@@ -35,7 +35,7 @@ use Rattle.query_core.proofs.Runs.{same_text}
 -- ---- key by key
 
 cmp_is : (cs : List Candidate) (a b : ℕ) (x y : Candidate) → slice_get cs a ≡ Some x → slice_get cs b ≡ Some y
-    → candidate_places_cmp cs a b ≡ ordering_then (ordering_then (bytes_cmp x.name y.name) (ordering_then (greater_version x.version y.version) (option_cmp bytes_cmp x.version y.version))) (nat_cmp a b)
+    → candidate_places_cmp cs a b ≡ ordering_then (ordering_then (bytes_cmp x.name y.name) (ordering_then (greater_version_first_cmp x.version y.version) (option_cmp bytes_cmp x.version y.version))) (nat_cmp a b)
 cmp_is cs a b x y h g = rw (h, g) refl
 
 pub by_name : (cs : List Candidate) (a b : ℕ) (x y : Candidate) → slice_get cs a ≡ Some x → slice_get cs b ≡ Some y → bytes_cmp x.name y.name ≡ Less → candidate_places_cmp cs a b ≡ Less
@@ -57,7 +57,7 @@ module _ (versions : IsTotalOrder version_cmp) where
 
   pub by_place : (cs : List Candidate) (a b : ℕ) (x y : Candidate) → slice_get cs a ≡ Some x → slice_get cs b ≡ Some y → x.name ≡ y.name → x.version ≡ y.version → a < b → candidate_places_cmp cs a b ≡ Less
   by_place cs a b x y h g n v low =
-      let one : greater_version x.version y.version ≡ Equal = ap (greater_version x.version) (sym v) ∙ tied_itself (versions_back versions) x.version in
+      let one : greater_version_first_cmp x.version y.version ≡ Equal = ap (greater_version_first_cmp x.version) (sym v) ∙ tied_itself (versions_back versions) x.version in
       let two : option_cmp bytes_cmp x.version y.version ≡ Equal = ap (option_cmp bytes_cmp x.version) (sym v) ∙ tied_itself (options_total nat_list_cmp_total) x.version in
       let less : nat_cmp a b ≡ Less = less_of a b low in
       cmp_is cs a b x y h g ∙ rw (same_names x y n, one, two, less) refl
@@ -195,7 +195,7 @@ versions_each cs name version is =
     subst (λ (v : Option (List ℕ)). IsIn v (versions_of_name cs name)) is.version_is (in_once is.candidate.version (map (λ (c : Candidate). c.version) (sorted_candidates_passing (has_own_name name) cs)) there)
 
 abbrev version_text_cmp : Option (List ℕ) → Option (List ℕ) → Ordering
-version_text_cmp = then_cmp greater_version (option_cmp bytes_cmp)
+version_text_cmp = then_cmp greater_version_first_cmp (option_cmp bytes_cmp)
 
 -- no version comes before one that it is listed after, but where both are one
 abbrev NeverBefore : List (Option (List ℕ)) → Type 0
@@ -224,7 +224,7 @@ module _ (versions : IsTotalOrder version_cmp) (cs : List Candidate) (name : Lis
     where
       by : (o : Ordering) → o ≡ version_text_cmp v w → (version_text_cmp v w ≡ Less) ⊎ (v ≡ w)
       by Less f = inl (sym f)
-      by Equal f = inr (texts_same v w (last_decides (greater_version v w) (option_cmp bytes_cmp v w) (sym f)))
+      by Equal f = inr (texts_same v w (last_decides (greater_version_first_cmp v w) (option_cmp bytes_cmp v w) (sym f)))
       by Greater f = let bad : Greater ≡ Less = rw (e, sym f) at h in absurd (cc)
 
   never_before : (places : List ℕ) → AreStrictlyInOrderBy (candidate_places_cmp cs) places → ((p : ℕ) (c : Candidate) → IsIn p places → slice_get cs p ≡ Some c → c.name ≡ name) → NeverBefore (map (λ (c : Candidate). c.version) (filter_map (slice_get cs) places))

@@ -17,7 +17,7 @@ use Rattle.pool_core.proofs.SamePackage.{same_version}
 use Rattle.version_core.specs.Order.{version_cmp}
 use Rattle.version_core.proofs.Fits.{nat_cmp-Equal}
 use Rattle.pool_core.specs.candidate_core.Candidates.{Candidate, is_same_version}
-use Rattle.pool_core.specs.candidate_core.Rank.{bytes_cmp, greater_version}
+use Rattle.pool_core.specs.candidate_core.Rank.{bytes_cmp, greater_version_first_cmp}
 use Rattle.pool_core.specs.candidate_core.declared.versions.VersionKind.{VersionKind}
 use Rattle.pool_core.specs.candidate_core.declared.versions.VersionKind.TheVariants.{Under, Own}
 use Rattle.pool_core.specs.option_ranks.Ranking.{Ranking, ranking_from_parts, ranking_cmp, version_order}
@@ -62,7 +62,7 @@ module _ (cs : List Candidate) where
   read_by_text : (a b : Ranking) (x y : Candidate) → slice_get cs a.place ≡ Some x → slice_get cs b.place ≡ Some y → ranking_cmp ByText (query_ranking x a) (query_ranking y b) ≡ candidate_places_cmp cs a.place b.place
   unfolding ranking_cmp
   read_by_text a b x y h g =
-      rw (h, g) (last_equal (ordering_then (bytes_cmp x.name y.name) (ordering_then (greater_version x.version y.version) (option_cmp bytes_cmp x.version y.version))) (nat_cmp a.place b.place))
+      rw (h, g) (last_equal (ordering_then (bytes_cmp x.name y.name) (ordering_then (greater_version_first_cmp x.version y.version) (option_cmp bytes_cmp x.version y.version))) (nat_cmp a.place b.place))
 
   same_by_text : (a b : Ranking) → IsQueryRanking cs a → IsQueryRanking cs b → ranking_cmp ByText a b ≡ candidate_places_cmp cs a.place b.place
   same_by_text a b p q =
@@ -75,10 +75,10 @@ module _ (cs : List Candidate) where
       pub under : HasRank Under unders r
       pub own : HasRank Own owns r
 
-    as_read : (a b : Ranking) (x y : Candidate) → slice_get cs a.place ≡ Some x → slice_get cs b.place ≡ Some y → nat_cmp a.under.rank b.under.rank ≡ Equal → nat_cmp a.version.rank b.version.rank ≡ ordering_then (greater_version x.version y.version) (option_cmp bytes_cmp x.version y.version) → ranking_cmp ByRank (query_ranking x a) (query_ranking y b) ≡ candidate_places_cmp cs a.place b.place
+    as_read : (a b : Ranking) (x y : Candidate) → slice_get cs a.place ≡ Some x → slice_get cs b.place ≡ Some y → nat_cmp a.under.rank b.under.rank ≡ Equal → nat_cmp a.version.rank b.version.rank ≡ ordering_then (greater_version_first_cmp x.version y.version) (option_cmp bytes_cmp x.version y.version) → ranking_cmp ByRank (query_ranking x a) (query_ranking y b) ≡ candidate_places_cmp cs a.place b.place
     unfolding ranking_cmp
     as_read a b x y h g under own =
-        rw (h, g, under, own) (last_equal (ordering_then (bytes_cmp x.name y.name) (ordering_then (greater_version x.version y.version) (option_cmp bytes_cmp x.version y.version))) (nat_cmp a.place b.place))
+        rw (h, g, under, own) (last_equal (ordering_then (bytes_cmp x.name y.name) (ordering_then (greater_version_first_cmp x.version y.version) (option_cmp bytes_cmp x.version y.version))) (nat_cmp a.place b.place))
 
     same_order : (a b : Ranking) → IsRanked a → IsRanked b → ranking_cmp ByRank a b ≡ candidate_places_cmp cs a.place b.place
     same_order a b p q =
@@ -86,7 +86,7 @@ module _ (cs : List Candidate) where
         let y : Candidate = q.read.0 in
         let under : nat_cmp a.under.rank b.under.rank ≡ Equal =
         same_by_rank versions Under unders a b p.under q.under
-        ∙ (ap (λ (r : Ranking). greater_version r.under.version b.under.version) p.read.1.1 ∙ ap (λ (r : Ranking). greater_version None r.under.version) q.read.1.1) in
+        ∙ (ap (λ (r : Ranking). greater_version_first_cmp r.under.version b.under.version) p.read.1.1 ∙ ap (λ (r : Ranking). greater_version_first_cmp None r.under.version) q.read.1.1) in
         let own : nat_cmp a.version.rank b.version.rank ≡ version_order Own x.version y.version =
         same_by_rank versions Own owns a b p.own q.own
         ∙ (ap (λ (r : Ranking). version_order Own r.version.version b.version.version) p.read.1.1 ∙ ap (λ (r : Ranking). version_order Own x.version r.version.version) q.read.1.1) in
@@ -109,7 +109,7 @@ module _ (versions : IsTotalOrder version_cmp) (owns : List (Option (List ℕ)))
   alike_by_rank : (a.version.rank == b.version.rank) ≡ true → a.version.version ≡ b.version.version
   alike_by_rank h =
       texts_same a.version.version b.version.version
-      (last_decides (greater_version a.version.version b.version.version) (option_cmp bytes_cmp a.version.version b.version.version)
+      (last_decides (greater_version_first_cmp a.version.version b.version.version) (option_cmp bytes_cmp a.version.version b.version.version)
       (sym (same_by_rank versions Own owns a b p q) ∙ nat_same a.version.rank b.version.rank ((Decides-eqb a.version.rank b.version.rank).0 h)))
 
   same_by_version : a.version.version ≡ b.version.version → (a.version.rank == b.version.rank) ≡ true

@@ -2,7 +2,7 @@
 //! The rules are in `docs/commands.md`, "`list`", "`search`" and "`policy`".
 ghost use Rattle.pool_core.specs.candidate_core.Candidates.{Candidate};
 ghost use Rattle.pool_core.specs.candidate_core.Options.{IsIn};
-ghost use Rattle.pool_core.specs.candidate_core.Rank.{UpgradedNames, bytes_cmp, greater_version, sealed_pool_from_parts};
+ghost use Rattle.pool_core.specs.candidate_core.Rank.{UpgradedNames, bytes_cmp, greater_version_first_cmp, sealed_pool_from_parts};
 ghost use Rattle.command_core.specs.Command.{CommandLine};
 ghost use Rattle.command_core.specs.declared.operands.Operand.{Operand};
 ghost use Rattle.dep_core.specs.Dependency.{Dependency};
@@ -105,7 +105,7 @@ pub fn policy_prints_each_version_once()
         → IsVersionOfName cs name version → IsIn version (versions_of_name cs name) }
     // The greater version comes first, and of equal ones the byte-lesser text.
     ensures order { (cs : List Candidate) (name : List ℕ)
-        → AreStrictlyInOrderBy (then_cmp greater_version (option_cmp bytes_cmp))
+        → AreStrictlyInOrderBy (then_cmp greater_version_first_cmp (option_cmp bytes_cmp))
         (versions_of_name cs name) }
     // For a name without a candidate only the heading is printed.
     ensures unknown { (cs : List Candidate) (repositories : List Repository) (name : List ℕ)

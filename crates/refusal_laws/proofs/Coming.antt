@@ -9,7 +9,7 @@ use Rattle.base_core.specs.declared.cause.Cause.{Cause}
 use Rattle.outcome.specs.change_inputs.Inputs.{Inputs, first_index_read_number}
 use Rattle.outcome.specs.change_outcome.ChangeOutcome.{ChangeWishes}
 use Rattle.outcome.specs.change_outcome.MembersAfter.{added_package_by_path}
-use Rattle.outcome.specs.change_outcome.PackageFiles.{AddedPackage, first_script_of, has_script_of, package_file_of, added_package_or_refusal, package_in_file, scripts_of_change, unless_different, unless_script_number, unless_package_bad, unless_script_needed}
+use Rattle.outcome.specs.change_outcome.PackageFiles.{AddedPackage, first_script_of, has_script_of, package_file_path_of_candidate, added_package_or_refusal, package_in_file, scripts_of_change, package_unless_other_than_candidate, unless_script_number, unless_package_bad, unless_script_needed}
 use Rattle.outcome.specs.file_owners.Replaces.{package_version_text}
 use Rattle.outcome.specs.make_info.Reads.{Reads}
 use Rattle.outcome.specs.package_changes.Changes.{Replacement, change_of_name, is_candidate_named, names_before_and_selected, candidate_version_text}
@@ -44,7 +44,7 @@ module _ (c : Candidate) (pkg : AddedPackage) where
       if not a then Err (differs c HASHES_FIELD c.id pkg.id) else if not b then Err (differs c NAME_FIELD c.name (package_name pkg.value))
       else if not v then Err (differs c VERSION_FIELD (candidate_version_text c) (package_version_text pkg.value)) else Ok pkg
 
-  pub different_err : (refusal : Refusal) → unless_different c pkg ≡ Err refusal → IsTold c pkg refusal
+  pub different_err : (refusal : Refusal) → package_unless_other_than_candidate c pkg ≡ Err refusal → IsTold c pkg refusal
   different_err refusal e = by_tests (is_same_id c.id pkg.id) refl (bytes_eq c.name (package_name pkg.value)) refl (bytes_eq (candidate_version_text c) (package_version_text pkg.value)) refl e
     where
       by_tests : (a : Bool) → is_same_id c.id pkg.id ≡ a → (b : Bool) → bytes_eq c.name (package_name pkg.value) ≡ b → (v : Bool) → bytes_eq (candidate_version_text c) (package_version_text pkg.value) ≡ v
@@ -66,7 +66,7 @@ module _ (c : Candidate) (pkg : AddedPackage) where
       )
       by_tests true i true n true w e = absurd (cc (e))
 
-  different_ok : (p : AddedPackage) → unless_different c pkg ≡ Ok p → (p ≡ pkg) × (is_same_id c.id pkg.id ≡ true) × (package_name pkg.value ≡ c.name) × (package_version_text pkg.value ≡ candidate_version_text c)
+  different_ok : (p : AddedPackage) → package_unless_other_than_candidate c pkg ≡ Ok p → (p ≡ pkg) × (is_same_id c.id pkg.id ≡ true) × (package_name pkg.value ≡ c.name) × (package_version_text pkg.value ≡ candidate_version_text c)
   different_ok p e = by_tests (is_same_id c.id pkg.id) refl (bytes_eq c.name (package_name pkg.value)) refl (bytes_eq (candidate_version_text c) (package_version_text pkg.value)) refl e
     where
       by_tests : (a : Bool) → is_same_id c.id pkg.id ≡ a → (b : Bool) → bytes_eq c.name (package_name pkg.value) ≡ b → (v : Bool) → bytes_eq (candidate_version_text c) (package_version_text pkg.value) ≡ v
@@ -160,7 +160,7 @@ module _ (inputs : Inputs) (r : Replacement) (wishes : ChangeWishes) (read : Rea
       is_file = ap (λ k. package_file_found_by_read read k inputs.root.repositories c) at.is_number ∙ is;
     }
 
-    different_fault : (file : List ℕ) (refusal : Refusal) → package_file_found_by_read read n inputs.root.repositories c ≡ Some file → package_fault file ≡ None → unless_different c (package_in_file file) ≡ Err refusal → IsTrue refusal
+    different_fault : (file : List ℕ) (refusal : Refusal) → package_file_found_by_read read n inputs.root.repositories c ≡ Some file → package_fault file ≡ None → package_unless_other_than_candidate c (package_in_file file) ≡ Err refusal → IsTrue refusal
     different_fault file refusal is sound e =
         let why = different_err c (package_in_file file) refusal e in
         let same : PackageDiffers name (candidate_version_text c) why.0 why.1 why.2 ≡ refusal = ap (λ q. PackageDiffers q (candidate_version_text c) why.0 why.1 why.2) (sym named) ∙ why.4 in
@@ -180,12 +180,12 @@ module _ (inputs : Inputs) (r : Replacement) (wishes : ChangeWishes) (read : Rea
             let same : PackageBad name (candidate_version_text c) cause ≡ refusal = ap (λ q. PackageBad q (candidate_version_text c) cause) (sym named) ∙ told in
             subst IsTrue same (record { file = file; is_read = read_for (Some file) is; fault = fault })
 
-    pub coming_fault : (refusal : Refusal) → added_package_by_path read n c (package_file_of inputs.root.repositories c) ≡ Err refusal → IsTrue refusal
+    pub coming_fault : (refusal : Refusal) → added_package_by_path read n c (package_file_path_of_candidate inputs.root.repositories c) ≡ Err refusal → IsTrue refusal
     coming_fault refusal e =
-        file_fault (package_file_found_by_read read n inputs.root.repositories c) refusal refl (sym (path_is read n c (package_file_of inputs.root.repositories c)) ∙ e)
+        file_fault (package_file_found_by_read read n inputs.root.repositories c) refusal refl (sym (path_is read n c (package_file_path_of_candidate inputs.root.repositories c)) ∙ e)
 
-    pub brought : (pkg : AddedPackage) → added_package_by_path read n c (package_file_of inputs.root.repositories c) ≡ Ok pkg → IsAddedAsSelected inputs r read name pkg
-    brought pkg e = by_file (package_file_found_by_read read n inputs.root.repositories c) refl (sym (path_is read n c (package_file_of inputs.root.repositories c)) ∙ e)
+    pub brought : (pkg : AddedPackage) → added_package_by_path read n c (package_file_path_of_candidate inputs.root.repositories c) ≡ Ok pkg → IsAddedAsSelected inputs r read name pkg
+    brought pkg e = by_file (package_file_found_by_read read n inputs.root.repositories c) refl (sym (path_is read n c (package_file_path_of_candidate inputs.root.repositories c)) ∙ e)
       where
         by_file : (file : Option (List ℕ)) → package_file_found_by_read read n inputs.root.repositories c ≡ file → added_package_or_refusal c file ≡ Ok pkg → IsAddedAsSelected inputs r read name pkg
         by_file None is e = absurd (cc (e))

@@ -14,8 +14,8 @@ use Rattle.outcome.proofs.change_files.InOrder.{in_left, in_order, order_rises}
 use Rattle.outcome.specs.change_inputs.Chains.{and_then}
 use Rattle.outcome.specs.change_inputs.Inputs.{Inputs, first_index_read_number}
 use Rattle.outcome.specs.change_outcome.ChangeOutcome.{ChangeWishes, members_after_change}
-use Rattle.outcome.specs.change_outcome.MembersAfter.{MemberFound, added_package_by_path, added_member_found, members_after, member_of_name_after, member_of_name_by_change, member_of_name_by_selected, member_of_added_name, member_of_removed_name, names_after}
-use Rattle.outcome.specs.change_outcome.PackageFiles.{AddedPackage, first_script_of, package_file_of, added_package_or_refusal, package_in_file, scripts_of_change, unless_script_number, unless_package_bad, unless_script_needed}
+use Rattle.outcome.specs.change_outcome.MembersAfter.{MemberFound, added_package_by_path, added_member_found, members_after, member_of_name_after, member_of_name_by_change, member_of_name_by_selected, member_of_added_name, member_of_removed_name, members_of_names_after}
+use Rattle.outcome.specs.change_outcome.PackageFiles.{AddedPackage, first_script_of, package_file_path_of_candidate, added_package_or_refusal, package_in_file, scripts_of_change, unless_script_number, unless_package_bad, unless_script_needed}
 use Rattle.outcome.specs.db_core.Packages.{is_package_named}
 use Rattle.outcome.specs.file_owners.Replaces.{package_version_text}
 use Rattle.base_core.specs.ByteOrder.{precedes}
@@ -84,8 +84,8 @@ module _ (inputs : Inputs) (r : Replacement) (wishes : ChangeWishes) (read : Rea
     where
       comes : (change : Change) (c : Candidate) → c.name ≡ name → member_of_added_name read inputs.root.repositories wishes.no_scripts n name change c ≡ Err refusal → refused_name refusal ≡ name
       comes change c named e =
-          elim (and_then_err (added_package_by_path read n c (package_file_of inputs.root.repositories c)) (with_scripts name change) refusal e) [
-            | inl first ↦ found_name c _ refusal (sym (path_is read n c (package_file_of inputs.root.repositories c)) ∙ first) ∙ named
+          elim (and_then_err (added_package_by_path read n c (package_file_path_of_candidate inputs.root.repositories c)) (with_scripts name change) refusal e) [
+            | inl first ↦ found_name c _ refusal (sym (path_is read n c (package_file_path_of_candidate inputs.root.repositories c)) ∙ first) ∙ named
             | inr next ↦ script_name wishes.no_scripts name next.0.value (scripts_of_change change) (Some (added_member_found next.0)) refusal next.2
           ]
 
@@ -108,10 +108,10 @@ module _ (inputs : Inputs) (r : Replacement) (wishes : ChangeWishes) (read : Rea
     pub refused : of_name (n + place) name ≡ Err refusal
     pub before : (i : ℕ) (q : List ℕ) → i < place → slice_get names i ≡ Some q → (o : Option MemberFound) × (of_name (n + i) q ≡ Ok o)
 
-  refused_in : (n : ℕ) (names : List (List ℕ)) (refusal : Refusal) → names_after r read inputs.root.repositories wishes.no_scripts n names ≡ Err refusal → IsRefusedAt n names refusal
+  refused_in : (n : ℕ) (names : List (List ℕ)) (refusal : Refusal) → members_of_names_after r read inputs.root.repositories wishes.no_scripts n names ≡ Err refusal → IsRefusedAt n names refusal
   refused_in n [] refusal e = absurd (cc (e))
   refused_in n (name ∷ names) refusal e =
-      elim (and_then_err (of_name n name) (λ first. and_then (names_after r read inputs.root.repositories wishes.no_scripts (suc n) names) (λ others. Ok (cons_option first others))) refusal e) [
+      elim (and_then_err (of_name n name) (λ first. and_then (members_of_names_after r read inputs.root.repositories wishes.no_scripts (suc n) names) (λ others. Ok (cons_option first others))) refusal e) [
         | inl first ↦ record { place = 0; name = name; at = refl; refused = (let k : n + 0 ≡ n = omega arith in ap (λ m. of_name m name) k ∙ first); before = λ i q less. absurd (omega arith) }
         | inr next ↦ by_others next.0 next.1 next.2 (λ others. refused_in (suc n) names refusal others)
       ]
@@ -129,10 +129,10 @@ module _ (inputs : Inputs) (r : Replacement) (wishes : ChangeWishes) (read : Rea
           before zero q less at = (first, (let k : n + zero ≡ n = omega arith in let same : q ≡ name = cc in (λ j. of_name (k j) (same j)) ∙ ok))
           before (suc i) q less at = let o = more.before i q (omega arith) at in (o.0, (let k : n + suc i ≡ suc n + i = omega arith in ap (λ m. of_name m q) k ∙ o.1))
 
-      by_others : (first : Option MemberFound) → of_name n name ≡ Ok first → and_then (names_after r read inputs.root.repositories wishes.no_scripts (suc n) names) (λ others. Ok (cons_option first others)) ≡ Err refusal
-          → (names_after r read inputs.root.repositories wishes.no_scripts (suc n) names ≡ Err refusal → IsRefusedAt (suc n) names refusal) → IsRefusedAt n (name ∷ names) refusal
+      by_others : (first : Option MemberFound) → of_name n name ≡ Ok first → and_then (members_of_names_after r read inputs.root.repositories wishes.no_scripts (suc n) names) (λ others. Ok (cons_option first others)) ≡ Err refusal
+          → (members_of_names_after r read inputs.root.repositories wishes.no_scripts (suc n) names ≡ Err refusal → IsRefusedAt (suc n) names refusal) → IsRefusedAt n (name ∷ names) refusal
       by_others first ok e more =
-          elim (and_then_err (names_after r read inputs.root.repositories wishes.no_scripts (suc n) names) (λ others. Ok (cons_option first others)) refusal e) [
+          elim (and_then_err (members_of_names_after r read inputs.root.repositories wishes.no_scripts (suc n) names) (λ others. Ok (cons_option first others)) refusal e) [
             | inl others ↦ behind first ok (more others)
             | inr last ↦ absurd (no_refusal (cons_option first last.0) last.2)
           ]
@@ -156,7 +156,7 @@ module _ (inputs : Inputs) (r : Replacement) (wishes : ChangeWishes) (read : Rea
   file_is : (name version : List ℕ) (file : Option (List ℕ)) (is : IsFileReadForAddedPackage inputs r read name version file) → of_name (first_read + is.place) name ≡ and_then (added_package_or_refusal is.candidate file) (with_scripts name is.change)
   file_is name version file is =
       comes_is (first_read + is.place) name is.change is.candidate is.becomes is.selected
-      ∙ ap (λ p. and_then p (with_scripts name is.change)) (path_is read (first_read + is.place) is.candidate (package_file_of inputs.root.repositories is.candidate) ∙ ap (added_package_or_refusal is.candidate) is.is_file)
+      ∙ ap (λ p. and_then p (with_scripts name is.change)) (path_is read (first_read + is.place) is.candidate (package_file_path_of_candidate inputs.root.repositories is.candidate) ∙ ap (added_package_or_refusal is.candidate) is.is_file)
 
   named : (name version : List ℕ) (file : Option (List ℕ)) (is : IsFileReadForAddedPackage inputs r read name version file) → is.candidate.name ≡ name
   named name version file is = candidate_named name r.selected is.candidate is.selected

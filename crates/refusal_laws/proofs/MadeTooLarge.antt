@@ -1,7 +1,7 @@
 -- A package that is too large is refused with its counts.
 use Rattle.command_core.specs.declared.values.TheConstants.{FILES, SCRIPT, TRIGGER}
 use Rattle.std.proofs.Common.{◌≡◌, ◌⊎◌, inl, inr, ◌∙◌, ℕ, ◌+◌, List, [], ◌∷◌, length, Option, Some, None, Result, Ok, Err, refl, ap}
-use Rattle.outcome.specs.adb_sound.Container.{packed_from_parts}
+use Rattle.outcome.specs.adb_sound.Container.{package_with_contents_from_parts}
 use Rattle.adb_view.specs.Plain.{Plain}
 use Rattle.outcome.specs.adb_write.Canonical.{PayloadCounts, overflow_of}
 use Rattle.command_core.specs.Command.{CommandLine}
@@ -98,7 +98,7 @@ module _ (bytes values : ℕ) where
           | inr two ↦ elim (success_err (source_folders_of_first_option read (length one.0) (values_of_letter FILES command.values) names) (package_of_parts command one.0 two.0) (TooLarge bytes values) two.2) [
             | inl third ↦ absurd (folders_never read (length one.0) (values_of_letter FILES command.values) names third)
             | inr three ↦ record {
-              packed = packed_from_parts (value_of one.0 two.0 three.0) (contents_of_folders 1 three.0);
+              packed = package_with_contents_from_parts (value_of one.0 two.0 three.0) (contents_of_folders 1 three.0);
               is_packed = packed_is one.0 two.0 three.0 one.1 two.1 three.1;
               passes = too_large (value_of one.0 two.0 three.0) (bytes, values) (container_counts (value_of one.0 two.0 three.0) (contents_of_folders 1 three.0) three.2);
             }
@@ -120,7 +120,7 @@ module _ (bytes values : ℕ) where
           value_of_package (information_value about (installed_size folders)) folders found (texts_of (values_of_letter TRIGGER command.values)) (replaces_priority about)
 
       packed_is : (found : List Script) (about : List FieldWithValue) (folders : List SourceFolder) → scripts ≡ Ok found → or_info_bad (information command) ≡ Ok about
-          → source_folders_of_first_option read (length found) (values_of_letter FILES command.values) names ≡ Ok folders → packed_package command names read ≡ Ok (packed_from_parts (value_of found about folders) (contents_of_folders 1 folders))
+          → source_folders_of_first_option read (length found) (values_of_letter FILES command.values) names ≡ Ok folders → packed_package command names read ≡ Ok (package_with_contents_from_parts (value_of found about folders) (contents_of_folders 1 folders))
       packed_is found about folders s a f =
           ap (λ (x : Result (List Script) MakeFault). and_then x (λ scripts.
           and_then (or_info_bad (information command)) (λ about.

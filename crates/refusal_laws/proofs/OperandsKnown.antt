@@ -7,7 +7,7 @@ use Rattle.command_core.specs.Command.{CommandLine}
 use Rattle.command_core.specs.declared.command.Applet.{Applet}
 use Rattle.command_core.specs.declared.command.Applet.TheVariants.{Del, Fix, Upgrade}
 use Rattle.command_core.specs.declared.operands.Operand.{Operand}
-use Rattle.outcome.specs.engine_core.Changed.{selected_by, selected_of_inputs}
+use Rattle.outcome.specs.engine_core.Changed.{selected_from_pool_by_choice, selected_from_inputs_by_choice}
 use Rattle.outcome.specs.engine_core.Selecting.{pool_of_inputs}
 use Rattle.outcome.specs.engine_core.Wishes.{place_of_first_unknown_operand, is_installed_name, is_known_name, names_to_upgrade, unknown_operand_place, unless_unknown_operand}
 use Rattle.outcome.specs.candidate_core.Rank.{SealedPool}
@@ -93,7 +93,7 @@ module _ (command : CommandLine) (inputs : Inputs) where
   no_place applet same e = λ o inside unknown. subst (λ (a : Applet). IsNameUnknownToApplet a inputs o.text) (sym same) unknown
 
   passed : (pool : SealedPool) → pool_of_inputs command inputs ≡ Ok pool → (place : Option ℕ) → unknown_operand_place command.applet inputs command.operands ≡ place → (chosen : Option (List ℕ)) (refusal : Refusal)
-      → unless_unknown_operand place (selected_by command inputs pool chosen) ≡ Err refusal → HasPassedBeforeSelectionRefusal command inputs refusal
+      → unless_unknown_operand place (selected_from_pool_by_choice command inputs pool chosen) ≡ Err refusal → HasPassedBeforeSelectionRefusal command inputs refusal
   passed pool is (Some place) at chosen refusal e =
       let same : NotInstalled place ≡ refusal = cc in
       subst (HasPassedBeforeSelectionRefusal command inputs) same ((pool, is), first_place command.applet place refl at)
@@ -102,9 +102,9 @@ module _ (command : CommandLine) (inputs : Inputs) where
       subst (HasPassedBeforeSelectionRefusal command inputs) same ((pool, is), no_place command.applet refl at)
   passed pool is None at (Some trace) refusal e = absurd (cc (e))
 
-  pub selection_passed : (chosen : Option (List ℕ)) (refusal : Refusal) → selected_of_inputs command chosen inputs ≡ Err refusal → HasPassedBeforeSelectionRefusal command inputs refusal
+  pub selection_passed : (chosen : Option (List ℕ)) (refusal : Refusal) → selected_from_inputs_by_choice command chosen inputs ≡ Err refusal → HasPassedBeforeSelectionRefusal command inputs refusal
   selection_passed chosen refusal e =
-      elim (and_then_err (pool_of_inputs command inputs) (λ pool. unless_unknown_operand (unknown_operand_place command.applet inputs command.operands) (selected_by command inputs pool chosen)) refusal e) [
+      elim (and_then_err (pool_of_inputs command inputs) (λ pool. unless_unknown_operand (unknown_operand_place command.applet inputs command.operands) (selected_from_pool_by_choice command inputs pool chosen)) refusal e) [
         | inl first ↦ (let many = pool_fault inputs (names_to_upgrade command.applet command.operands) refusal first in subst (HasPassedBeforeSelectionRefusal command inputs) many.2 tt)
         | inr next ↦ passed next.0 next.1 (unknown_operand_place command.applet inputs command.operands) refl chosen refusal next.2
       ]

@@ -11,8 +11,8 @@ use Rattle.outcome.proofs.change_files.InOrder.{in_order, in_right, order_rises}
 use Rattle.outcome.specs.change_inputs.Chains.{and_then}
 use Rattle.outcome.specs.change_inputs.Inputs.{Inputs, first_index_read_number}
 use Rattle.outcome.specs.change_outcome.ChangeOutcome.{ChangeWishes, members_after_change}
-use Rattle.outcome.specs.change_outcome.MembersAfter.{MemberFound, added_package_by_path, added_member_found, members_after, found_members, member_of_name_after, member_of_name_by_change, member_of_name_by_selected, member_of_added_name, member_of_removed_name, names_after, kept_member_found}
-use Rattle.outcome.specs.change_outcome.PackageFiles.{AddedPackage, package_file_of, scripts_of_change, unless_script_needed}
+use Rattle.outcome.specs.change_outcome.MembersAfter.{MemberFound, added_package_by_path, added_member_found, members_after, found_members, member_of_name_after, member_of_name_by_change, member_of_name_by_selected, member_of_added_name, member_of_removed_name, members_of_names_after, kept_member_found}
+use Rattle.outcome.specs.change_outcome.PackageFiles.{AddedPackage, package_file_path_of_candidate, scripts_of_change, unless_script_needed}
 use Rattle.outcome.specs.db_core.Members.{member_name}
 use Rattle.outcome.specs.db_core.Packages.{is_package_named}
 use Rattle.outcome.specs.make_info.Reads.{Reads}
@@ -82,7 +82,7 @@ module _ (inputs : Inputs) (r : Replacement) (wishes : ChangeWishes) (read : Rea
   comes : (n : ℕ) (name : List ℕ) (change : Change) (c : Candidate) (o : Option MemberFound) → IsNameAt inputs r n name → selected_candidate_of_name r name ≡ Some c → change_of_name r name ≡ Some change
       → member_of_added_name read inputs.root.repositories wishes.no_scripts n name change c ≡ Ok o → IfFound name o
   comes n name change c o at selected becomes e =
-      let pkg = and_then_ok (added_package_by_path read n c (package_file_of inputs.root.repositories c)) (λ pkg.
+      let pkg = and_then_ok (added_package_by_path read n c (package_file_path_of_candidate inputs.root.repositories c)) (λ pkg.
       unless_script_needed wishes.no_scripts name pkg.value (scripts_of_change change) (Some (added_member_found pkg))) o e in
       let is = brought inputs r wishes read n name at change becomes c selected pkg.0 pkg.1 in
       let named : c.name ≡ name = (bytes_eq-Decides c.name name).0 (found_in (is_candidate_named name) r.selected c selected).1 in
@@ -149,15 +149,15 @@ module _ (inputs : Inputs) (r : Replacement) (wishes : ChangeWishes) (read : Rea
   }
 
   names_found : (n place : ℕ) (names : List (List ℕ)) (fs : List MemberFound) → first_index_read_number + length inputs.root.repositories + place ≡ n → AreNamesFrom r place names → Names.Rises names
-      → names_after r read inputs.root.repositories wishes.no_scripts n names ≡ Ok fs → AreFoundFor names fs
+      → members_of_names_after r read inputs.root.repositories wishes.no_scripts n names ≡ Ok fs → AreFoundFor names fs
   names_found n place [] fs number are rises e =
       let same : [] ≡ fs = cc in
       subst (AreFoundFor []) same (record { rises = tt; within = λ q here. absurd here; each = λ f here. absurd here; all = λ q c here some. absurd here })
   names_found n place (name ∷ names) fs number are rises e =
       let first = and_then_ok (member_of_name_after r read inputs.root.repositories wishes.no_scripts n name) (λ first.
-      and_then (names_after r read inputs.root.repositories wishes.no_scripts (suc n) names) (λ others.
+      and_then (members_of_names_after r read inputs.root.repositories wishes.no_scripts (suc n) names) (λ others.
       Ok (cons_option first others))) fs e in
-      let others = and_then_ok (names_after r read inputs.root.repositories wishes.no_scripts (suc n) names) (λ others. Ok (cons_option first.0 others)) fs first.2 in
+      let others = and_then_ok (members_of_names_after r read inputs.root.repositories wishes.no_scripts (suc n) names) (λ others. Ok (cons_option first.0 others)) fs first.2 in
       let same : cons_option first.0 others.0 ≡ fs = (let last = others.2 in cc) in
       subst (AreFoundFor (name ∷ names)) same
       (one_more name names first.0 others.0 rises

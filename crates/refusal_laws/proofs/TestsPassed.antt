@@ -10,11 +10,11 @@ use Rattle.outcome.specs.change_files.PlanLists.{first_reserved_path}
 use Rattle.outcome.proofs.change_files.InOrder.{in_order}
 use Rattle.outcome.specs.change_inputs.Chains.{and_then}
 use Rattle.outcome.specs.change_inputs.Inputs.{Inputs}
-use Rattle.outcome.specs.change_outcome.ChangeOutcome.{ChangeDone, ChangeWishes, IsClashFound, IsClashOfChange, members_after_change, change_or_refusal, change_with_members, file_change, member_name_at_place, touched_paths, unless_clash, unless_contested, unless_reserved_path, unless_too_large}
+use Rattle.outcome.specs.change_outcome.ChangeOutcome.{ChangeDone, ChangeWishes, IsClashFound, IsClashOfChange, members_after_change, change_or_refusal, change_with_members, file_change, member_name_at_place, touched_paths, unless_clash, unless_contested, unless_reserved_path, change_done_unless_too_large}
 use Rattle.outcome.specs.change_outcome.MembersAfter.{MemberFound}
 use Rattle.outcome.specs.change_outcome.PackageFiles.{has_script_of}
 use Rattle.report_core.specs.Numbers.{TRIGGER_SCRIPT}
-use Rattle.outcome.specs.change_outcome.Triggers.{folders_of_paths, has_due_trigger, is_trigger_due, is_folder_matched, watches_folder, patterns_of, unless_trigger_due}
+use Rattle.outcome.specs.change_outcome.Triggers.{folders_of_paths, has_due_trigger, is_trigger_due, is_folder_matched_by_pattern, watches_folder, trigger_patterns_of_package, unless_trigger_due}
 use Rattle.outcome.specs.db_core.Members.{Member, member_name}
 use Rattle.outcome.specs.file_owners.Owners.{first_contested_path_of_members}
 use Rattle.outcome.specs.make_info.Reads.{Reads}
@@ -38,7 +38,7 @@ is_due_where change files pkg has watched =
     let folder : List ℕ = folder_of watched.path in
     in_any (is_trigger_due pkg) (folders_of_paths (touched_paths change files)) folder
     (name_in folder (folders_of_paths (touched_paths change files)) (in_order folder folders (in_mapped folder_of (touched_paths change files) watched.path watched.touched)))
-    (and_from (has_script_of pkg TRIGGER_SCRIPT) (watches_folder pkg folder) has (in_any (is_folder_matched folder) (patterns_of pkg) watched.pattern watched.is_pattern watched.matched))
+    (and_from (has_script_of pkg TRIGGER_SCRIPT) (watches_folder pkg folder) has (in_any (is_folder_matched_by_pattern folder) (trigger_patterns_of_package pkg) watched.pattern watched.is_pattern watched.matched))
 
 none_due : (paths : List (List ℕ)) (members : List Member) (is_allowed : Bool) → unless_trigger_due false paths members ≡ Ok is_allowed → (m : Member) → IsIn m members → has_due_trigger (folders_of_paths paths) m.pkg ≡ true → ⊥
 none_due paths [] is_allowed e m here due = here
@@ -65,7 +65,7 @@ module _ (inputs : Inputs) (r : Replacement) (wishes : ChangeWishes) (files : Fi
   IsSo refusal = HasPassedTestsBeforeRefusal wishes change files refusal
 
   abbrev with_triggers : Result ChangeDone Refusal
-  with_triggers = and_then (unless_trigger_due wishes.no_scripts (touched_paths change files) change.members) (λ is_allowed. unless_too_large inputs r wishes found files)
+  with_triggers = and_then (unless_trigger_due wishes.no_scripts (touched_paths change files) change.members) (λ is_allowed. change_done_unless_too_large inputs r wishes found files)
 
   -- ---- refused
 
@@ -79,7 +79,7 @@ module _ (inputs : Inputs) (r : Replacement) (wishes : ChangeWishes) (files : Fi
 
   triggers_passed : (refusal : Refusal) → HasNoReservedClashingOrUnownedPath change files → with_triggers ≡ Err refusal → IsSo refusal
   triggers_passed refusal owners e =
-      elim (and_then_err (unless_trigger_due wishes.no_scripts (touched_paths change files) change.members) (λ is_allowed. unless_too_large inputs r wishes found files) refusal e) [
+      elim (and_then_err (unless_trigger_due wishes.no_scripts (touched_paths change files) change.members) (λ is_allowed. change_done_unless_too_large inputs r wishes found files) refusal e) [
         | inl first ↦ trigger_passed wishes.no_scripts refusal owners first
         | inr next ↦ (let told = large_told inputs r wishes files found refusal next.2 in
             subst IsSo told.2 (owners, no_trigger wishes change files next.0 next.1))
@@ -107,7 +107,7 @@ module _ (inputs : Inputs) (r : Replacement) (wishes : ChangeWishes) (files : Fi
 
   owners_made : (o : Option ContestedPath) (done : ChangeDone) → first_contested_path_of_members change.members ≡ o → HasNoReservedOrClashingPath change files → unless_contested change.members o with_triggers ≡ Ok done → PassesChangeTestsExceptLimits wishes change files
   owners_made None done is names e =
-      let triggers = and_then_ok (unless_trigger_due wishes.no_scripts (touched_paths change files) change.members) (λ is_allowed. unless_too_large inputs r wishes found files) done e in
+      let triggers = and_then_ok (unless_trigger_due wishes.no_scripts (touched_paths change files) change.members) (λ is_allowed. change_done_unless_too_large inputs r wishes found files) done e in
       ((names, have_owners change.members is), no_trigger wishes change files triggers.0 triggers.1)
   owners_made (Some c) done is names e = absurd (cc (e))
 

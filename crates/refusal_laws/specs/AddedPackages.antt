@@ -4,7 +4,7 @@ use Rattle.std.specs.Prelude.{◌≡◌, ◌+◌, ℕ, true, List, length, Optio
 use Rattle.std.specs.List.{find}
 use Rattle.outcome.specs.adb_fields.Repeated.{package_name}
 use Rattle.outcome.specs.change_inputs.Inputs.{Inputs, first_index_read_number}
-use Rattle.outcome.specs.change_outcome.PackageFiles.{AddedPackage, package_file_of, package_in_file}
+use Rattle.outcome.specs.change_outcome.PackageFiles.{AddedPackage, package_file_path_of_candidate, package_in_file}
 use Rattle.dep_core.specs.Repositories.{Repository}
 use Rattle.outcome.specs.file_owners.Replaces.{package_version_text}
 use Rattle.outcome.specs.make_info.Reads.{Reads}
@@ -21,7 +21,7 @@ selected_candidate_of_name r name = find (is_candidate_named name) r.selected
 -- path
 abbrev pub package_file_found_by_read : Reads → ℕ → List Repository → Candidate → Option (List ℕ)
 package_file_found_by_read read n repositories c =
-    option_and_then (read n) (package_file_of repositories c)
+    option_and_then (read n) (package_file_path_of_candidate repositories c)
 
 -- The selected candidate of this name is added, since the name's package changes; it has this version,
 -- and this is found under the path of its file. After those of the indexes there is a read for each

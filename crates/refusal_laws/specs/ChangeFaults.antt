@@ -10,11 +10,11 @@ use Rattle.base_core.specs.Files.{Files}
 use Rattle.outcome.specs.change_files.FileChange.{FileChange}
 use Rattle.outcome.specs.change_files.NamesAfter.{added_paths, name_change}
 use Rattle.outcome.specs.change_inputs.Inputs.{Inputs}
-use Rattle.outcome.specs.change_outcome.ChangeOutcome.{ChangeWishes, intent_of_change, members_after_change, file_change, new_records, touched_paths}
+use Rattle.outcome.specs.change_outcome.ChangeOutcome.{ChangeWishes, intent_of_change, members_after_change, file_change, database_and_world_after_change, touched_paths}
 use Rattle.outcome.specs.change_outcome.MembersAfter.{MemberFound, found_members}
 use Rattle.outcome.specs.change_outcome.PackageFiles.{has_script_of}
 use Rattle.report_core.specs.Numbers.{TRIGGER_SCRIPT}
-use Rattle.outcome.specs.change_outcome.Triggers.{is_folder_matched, patterns_of}
+use Rattle.outcome.specs.change_outcome.Triggers.{is_folder_matched_by_pattern, trigger_patterns_of_package}
 use Rattle.outcome.specs.db_core.Members.{Listing, Member, member_listings, member_name}
 use Rattle.outcome.specs.db_write.NewDatabase.{database_of, database_value}
 use Rattle.outcome.specs.file_owners.Owners.{owned_flags_of, owner_of_path}
@@ -83,9 +83,9 @@ pub record HasPatternOfTouchedFolder (change : FileChange) (files : Files) (pkg 
   pub touched : IsIn path (touched_paths change files)
   -- a pattern of the package's trigger
   pub pattern : List ℕ
-  pub is_pattern : IsIn pattern (patterns_of pkg)
+  pub is_pattern : IsIn pattern (trigger_patterns_of_package pkg)
   -- the pattern matches the folder of the path
-  pub matched : is_folder_matched (folder_of path) pattern ≡ true
+  pub matched : is_folder_matched_by_pattern (folder_of path) pattern ≡ true
 
 -- a package of this name has a trigger script and watches the folder of a file that the change touches,
 -- and scripts are not skipped
@@ -121,7 +121,8 @@ pub record IsIntentTooLarge (inputs : Inputs) (change : FileChange) (files : Fil
   pub database : List ℕ
   pub fits : database_of change.members (owned_flags_of change.members) ≡ Ok database
   -- the value of the intent exceeds a limit, at these numbers of bytes and values
-  pub passes : (let actions = intent_of_change inputs change files (new_records inputs database) in
+  pub passes : (let actions =
+      intent_of_change inputs change files (database_and_world_after_change inputs database) in
       IsTooLarge (value_of_intent actions) bytes values)
 
 -- what a change writes exceeds a limit: of the database or, if that fits, of the intent

@@ -8,8 +8,8 @@ use Rattle.command_core.specs.Command.{CommandLine}
 use Rattle.command_core.specs.declared.command.Applet.{Applet}
 use Rattle.command_core.specs.declared.command.Applet.TheVariants.{Del, Fix, Upgrade}
 use Rattle.command_core.specs.declared.operands.Operand.{Operand}
-use Rattle.dep_core.specs.World.{has_name}
-use Rattle.outcome.specs.engine_core.Changed.{InputsAndReplacement, selected_for}
+use Rattle.dep_core.specs.World.{has_dependency_named}
+use Rattle.outcome.specs.engine_core.Changed.{InputsAndReplacement, selected_from_reads_by_choice}
 use Rattle.outcome.specs.engine_core.Selecting.{pool_of_inputs}
 use Rattle.outcome.specs.engine_core.Wishes.{is_installed_name, wishes_of}
 use Rattle.outcome.specs.make_info.Reads.{Reads}
@@ -26,7 +26,7 @@ use Rattle.refusal_laws.specs.InputFaults.{IsCountReportedAsTooMany, IsFaultOfIn
 -- one that is installed
 abbrev pub IsNameUnknownToApplet : Applet → Inputs → List ℕ → Type 0
 IsNameUnknownToApplet Del inputs name =
-    (has_name name inputs.root.world ≡ false) × (is_installed_name inputs name ≡ false)
+    (has_dependency_named name inputs.root.world ≡ false) × (is_installed_name inputs name ≡ false)
 IsNameUnknownToApplet Upgrade inputs name = is_installed_name inputs name ≡ false
 IsNameUnknownToApplet Fix inputs name = is_installed_name inputs name ≡ false
 IsNameUnknownToApplet applet inputs name = ⊥
@@ -68,7 +68,7 @@ IsSelectionRefused command read refusal =
 abbrev pub IsChangeRefused :
     CommandLine → Reads → Files → Option (List ℕ) → Refusal → Type 0
 IsChangeRefused command read files chosen refusal =
-    (s : InputsAndReplacement) × (selected_for command read chosen ≡ Ok s)
+    (s : InputsAndReplacement) × (selected_from_reads_by_choice command read chosen ≡ Ok s)
     × (command.flags.simulate ≡ false)
     × IsFaultOfChange s.inputs s.replacement (wishes_of command) read files refusal
 

@@ -7,7 +7,7 @@ use Rattle.adb_view.specs.Plain.{Plain}
 use Rattle.outcome.specs.change_inputs.Inputs.{Inputs}
 use Rattle.outcome.specs.change_outcome.MembersAfter.{MemberFound, added_member_found, found_members, kept_member_found}
 use Rattle.outcome.specs.change_outcome.PackageFiles.{AddedPackage}
-use Rattle.outcome.specs.db_core.Members.{AreInOrder, member_name}
+use Rattle.outcome.specs.db_core.Members.{AreMembersInNameOrder, member_name}
 use Rattle.outcome.specs.db_core.Packages.{is_package_named}
 use Rattle.outcome.specs.make_info.Reads.{Reads}
 use Rattle.outcome.specs.package_changes.Changes.{Replacement, change_of_name, is_candidate_this_package}
@@ -53,7 +53,7 @@ pub record IsSelectedMember (inputs : Inputs) (r : Replacement) (read : Reads) (
 pub record AreSelectedMembers (inputs : Inputs) (r : Replacement) (read : Reads)
     (found : List MemberFound) : Type 0 where
   -- the packages are in byte order of names, each name once
-  pub in_order : AreInOrder (found_members found)
+  pub in_order : AreMembersInNameOrder (found_members found)
   -- each package is one of a selected candidate
   pub each : (f : MemberFound) → IsIn f found → IsSelectedMember inputs r read f
   -- each selected candidate has a package

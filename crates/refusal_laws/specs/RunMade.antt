@@ -5,7 +5,7 @@ use Rattle.base_core.specs.Files.{Files}
 use Rattle.outcome.specs.change_outcome.ChangeOutcome.{members_after_change, file_change}
 use Rattle.outcome.specs.change_outcome.MembersAfter.{MemberFound}
 use Rattle.command_core.specs.Command.{CommandLine}
-use Rattle.outcome.specs.engine_core.Changed.{InputsAndReplacement, selected_for}
+use Rattle.outcome.specs.engine_core.Changed.{InputsAndReplacement, selected_from_reads_by_choice}
 use Rattle.outcome.specs.engine_core.Selecting.{pool_of_command}
 use Rattle.outcome.specs.engine_core.Wishes.{wishes_of}
 use Rattle.outcome.specs.Commands.{reads_in}
@@ -26,7 +26,7 @@ pub record HasFaultlessFirstPreferredSelection (command : CommandLine) (files : 
   pub first : IsFirstPreferredSelection pool trace
   -- what is read, and the packages before with the candidates that replace them
   pub selected : InputsAndReplacement
-  pub selects : selected_for command (reads_in files) (Some trace) ≡ Ok selected
+  pub selects : selected_from_reads_by_choice command (reads_in files) (Some trace) ≡ Ok selected
   -- the selected candidates are those of the trace
   pub candidates : selected.replacement.selected ≡ candidates_at pool trace
   -- the packages after the change

@@ -8,7 +8,7 @@ ghost use Rattle.outcome.specs.change_inputs.Inputs.{Inputs, inputs_of};
 ghost use Rattle.outcome.specs.change_outcome.ChangeOutcome.{ChangeDone, ChangeWishes, IsClashOfChange, members_after_change, change_or_refusal, file_change};
 ghost use Rattle.outcome.specs.change_outcome.MembersAfter.{MemberFound};
 ghost use Rattle.command_core.specs.Command.{CommandLine};
-ghost use Rattle.outcome.specs.engine_core.Changed.{IsClashOfCommand, change_of_command, selected_of_inputs};
+ghost use Rattle.outcome.specs.engine_core.Changed.{IsClashOfCommand, change_of_command, selected_from_inputs_by_choice};
 ghost use Rattle.outcome.specs.engine_core.Choice.{IsChoiceFrom};
 ghost use Rattle.outcome.specs.engine_core.Selecting.{pool_of_command};
 ghost use Rattle.outcome.specs.installed_info.declared.telling.ReportAndRefusal.{ReportAndRefusal};
@@ -135,7 +135,7 @@ pub fn a_refused_command_has_its_fault()
 /// is refused only if there is no such operand either.
 pub fn a_refused_selection_has_passed_the_tests_before()
     ensures { (command : CommandLine) (inputs : Inputs) (chosen : Option (List ℕ))
-        (refusal : Refusal) → selected_of_inputs command chosen inputs ≡ Err refusal
+        (refusal : Refusal) → selected_from_inputs_by_choice command chosen inputs ≡ Err refusal
         → HasPassedBeforeSelectionRefusal command inputs refusal }
 {}
 

@@ -16,7 +16,7 @@ use Rattle.engine_core.specs.change_inputs.Repositories.{root_repositories}
 use Rattle.engine_core.specs.change_inputs.World.{new_world, root_world, found_text_or_empty}
 use Rattle.engine_core.proofs.change_outcome.Made.{and_then_ok}
 use Rattle.command_core.specs.Command.{CommandLine}
-use Rattle.engine_core.specs.db_core.SoundMembers.{IsOfSoundContainer, IsOfSoundDatabase}
+use Rattle.engine_core.specs.db_core.SoundMembers.{IsPackageOfSoundContainer, IsOfSoundDatabase}
 use Rattle.dep_core.specs.Dependency.{Dependency}
 use Rattle.dep_core.specs.Repositories.{Repository}
 use Rattle.dep_core.specs.World.{IsWorld}
@@ -38,7 +38,7 @@ AllSound pkgs = (pkg : Plain) → IsIn pkg pkgs → IsOfSoundDatabase pkg
 
 -- what is said of a file and of a text
 abbrev pub FilesMayStay : Type 0
-FilesMayStay = (file : List ℕ) (pkg : Plain) → IsSoundContainer Idb file → All (λ b. b < 256) (payload_in file) → IsIn pkg (entries_at 0 (root_value Idb (payload_in file))) → IsOfSoundContainer pkg None
+FilesMayStay = (file : List ℕ) (pkg : Plain) → IsSoundContainer Idb file → All (λ b. b < 256) (payload_in file) → IsIn pkg (entries_at 0 (root_value Idb (payload_in file))) → IsPackageOfSoundContainer pkg None
 
 abbrev pub TextsAreSound : Type 0
 TextsAreSound = (text payload : List ℕ) → payload_of_text text ≡ Ok payload → AllSound (entries_at 0 (root_value Idb payload))

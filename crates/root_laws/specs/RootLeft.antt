@@ -12,7 +12,7 @@ use Rattle.command_core.specs.Command.{CommandLine}
 use Rattle.engine_core.specs.db_core.Members.{Member}
 use Rattle.engine_core.specs.db_write.NewDatabase.{packages_in_new_database}
 use Rattle.dep_core.specs.World.{world_text}
-use Rattle.engine_core.specs.Changed.{InputsAndReplacement, selected_for}
+use Rattle.engine_core.specs.Changed.{InputsAndReplacement, selected_from_reads_by_choice}
 use Rattle.engine_core.specs.Wishes.{wishes_of}
 use Rattle.engine_core.specs.file_owners.Owners.{owned_flags_of}
 use Rattle.make_index.specs.make_info.Reads.{Reads}
@@ -42,7 +42,7 @@ pub record IsRootLeftByChange (command : CommandLine) (read : Reads) (chosen : O
     (done : ChangeDone) : Type 0 where
   -- what the change read, and the packages before with the candidates that replace them
   pub selected : InputsAndReplacement
-  pub is_selected : selected_for command read chosen ≡ Ok selected
+  pub is_selected : selected_from_reads_by_choice command read chosen ≡ Ok selected
   -- the packages after the change
   pub found : List MemberFound
   pub members : members_after_change selected.inputs selected.replacement (wishes_of command) read

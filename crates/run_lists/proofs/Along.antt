@@ -1,6 +1,6 @@
 -- Along a list of runs, stops and crashes.
 use Rattle.std.proofs.Common.{◌≡◌, inl, inr, ⊎_elim, ℕ, false, List, [], ◌∷◌, Option, None, sym, subst, ◌∙◌}
-use Rattle.apk_front.specs.Moments.{AnswersOutcome, IgnoresScratchOf, IsDurableState, ignored_except_output}
+use Rattle.apk_front.specs.Moments.{IsOkRefusedOrOutputFault, IgnoresScratchNameOfOutput, IsDurableAndLeavesFiles, ignored_except_output}
 use Rattle.apk_front.specs.declared.answer.Answer.{Answer}
 use Rattle.apk_front.specs.declared.answer.Answer.TheVariants.{Ok as Done, Refused, TreeFault, OutFault, Memory}
 use Rattle.base_core.specs.Calls.{HoldsNow}
@@ -58,7 +58,7 @@ module _ (facts : Facts) (start : Ignored) (off : start intent_name ≡ false) w
   seen_durable first v (event ∷ earlier) is_durable (u, seen, leads) = led_durable event earlier u v (seen_durable first u earlier is_durable seen) leads
 
   pub seen_begins : (first v : TreeState) (events : List RootEvent) (words : List (List ℕ)) → IsDurable (StateDependsOn start) first → Reaches first events v
-      → IsDurable (StateDependsOn (ignored_with_scratch (output words) (ignored_after start events))) v × IgnoresScratchOf (output words) (ignored_with_scratch (output words) (ignored_after start events))
+      → IsDurable (StateDependsOn (ignored_with_scratch (output words) (ignored_after start events))) v × IgnoresScratchNameOfOutput (output words) (ignored_with_scratch (output words) (ignored_after start events))
   seen_begins first v events words is_durable seen = (
     more_durable facts (output words) (ignored_after start events) v (seen_durable first v events is_durable seen),
     hides (output words) (ignored_after start events) (after_hides start off events),
@@ -82,11 +82,11 @@ one_rests facts = record {
 }
 
 -- without an output nothing is ignored that was not ignored before
-by_no_output : (Q : Ignored → Type 0) (ignored : Ignored) (run : Run) (answer : Answer) → AnswersOutcome answer → output run.words ≡ None → Q (ignored_during_run run ignored) → Q (ignored_after_answer answer run ignored)
+by_no_output : (Q : Ignored → Type 0) (ignored : Ignored) (run : Run) (answer : Answer) → IsOkRefusedOrOutputFault answer → output run.words ≡ None → Q (ignored_during_run run ignored) → Q (ignored_after_answer answer run ignored)
 by_no_output Q ignored run answer answers none q =
     by answer answers (subst (λ (o : Option (List ℕ)). Q (ignored_with_scratch o ignored)) none q)
   where
-    by : (answer : Answer) → AnswersOutcome answer → Q ignored → Q (ignored_after_answer answer run ignored)
+    by : (answer : Answer) → IsOkRefusedOrOutputFault answer → Q ignored → Q (ignored_after_answer answer run ignored)
     by Done answers q = subst (λ (o : Option (List ℕ)). Q (ignored_except_output o ignored)) (sym none) q
     by (Refused r) answers q = q
     by OutFault answers q = q
@@ -119,7 +119,7 @@ module _ (facts : Facts) (ignored : Ignored) (v : TreeState) (run : Run) (is_run
     pub stopped_one : (m : TreeState) → IsMomentOf run m → DiffersOnlyInUnsyncedBytes m w → IsRunWithoutCommit v run → One (ignored_during_run run ignored)
     stopped_one m moment torn idle = idle_one (torn_quiet m w torn ignored v (idle_moment ignored v run is_run is_durable idle m moment).quiet)
 
-module _ (facts : Facts) (start : Ignored) (off : start intent_name ≡ false) (first : TreeState) (rest : IsDurableState start (files_of first) first) where
+module _ (facts : Facts) (start : Ignored) (off : start intent_name ≡ false) (first : TreeState) (rest : IsDurableAndLeavesFiles start (files_of first) first) where
   pub seen_of : (v : TreeState) (events : List RootEvent) → ReachesOneCrashState first events v → Reaches first events v
   seen_of v [] is = is
   seen_of v (event ∷ earlier) (u, leads, inl (seen, makes)) = (u, seen, leads)
@@ -156,7 +156,7 @@ module _ (facts : Facts) (start : Ignored) (off : start intent_name ≡ false) (
   seen_settled v (event ∷ earlier) (u, leads, inr (seen, keeps)) =
       led_kept event earlier u v (order_of u earlier (seen_of u earlier seen)) (seen_settled u earlier seen) keeps leads
 
-  pub seen_one : (v : TreeState) (events : List RootEvent) → ReachesOneCrashState first events v → IsDurableState (ignored_after start events) (files_of v) v
+  pub seen_one : (v : TreeState) (events : List RootEvent) → ReachesOneCrashState first events v → IsDurableAndLeavesFiles (ignored_after start events) (files_of v) v
   seen_one v events seen = record { is_durable = order_of v events (seen_of v events seen); settled = seen_settled v events seen }
 
   pub seen_atomic : (v : TreeState) (events : List RootEvent) → ReachesOneCrashState first events v → (run : Run) → IsRunFrom v run → IsAtomic (ignored_after start events) v run

@@ -13,7 +13,7 @@ use Rattle.apk_front.specs.change_outcome.ChangeOutcome.{ChangeDone, ChangeWishe
 use Rattle.command_core.specs.Command.{CommandLine}
 use Rattle.command_core.specs.declared.command.Applet.{Applet}
 use Rattle.command_core.specs.declared.command.Applet.TheVariants.{Demo, Mkndx, Mkpkg}
-use Rattle.apk_front.specs.engine_core.Changed.{InputsAndReplacement, change_of_selected, change_of_command, selected_for, simulated_change}
+use Rattle.apk_front.specs.engine_core.Changed.{InputsAndReplacement, change_of_selected, change_of_command, selected_from_reads_by_choice, simulated_change}
 use Rattle.apk_front.specs.engine_core.Wishes.{wishes_of}
 use Rattle.apk_front.specs.journal_core.Recovery.{intent_name}
 use Rattle.apk_front.specs.journal_core.Replacing.{files_after_replacement, scratch_name_of}
@@ -71,7 +71,7 @@ module _ (gone : BringsNoIntent) where
   changed_none : (command : CommandLine) (read : Reads) (files : Files) (chosen : Option (List ℕ)) (clash : Option NamePair) (done : ChangeDone)
       → change_of_command command read files chosen clash ≡ Ok done → files intent_name ≡ None → done.files intent_name ≡ None
   unfolding change_of_command
-  changed_none command read files chosen clash done is absent = by_selected command read files clash (selected_for command read chosen) done is absent
+  changed_none command read files chosen clash done is absent = by_selected command read files clash (selected_from_reads_by_choice command read chosen) done is absent
 
   change_none : (command : CommandLine) (files : Files) (chosen : Option (List ℕ)) (clash : Option NamePair) (result : Result ChangeDone Refusal)
       → change_of_command command (reads_in files) files chosen clash ≡ result → files intent_name ≡ None → Brings (change_outcome files result)

@@ -4,7 +4,7 @@ use Rattle.std.specs.Prelude.{IsTrue, if◌then◌else◌}
 use Rattle.std.specs.Str.{bytes_eq}
 use Rattle.std.proofs.lemmas.Bool.{false≢true, or_right, or_left}
 use Rattle.std.proofs.lemmas.Slice.Eq.{bytes_eq-Decides}
-use Rattle.apk_front.specs.Moments.{IgnoresScratchOf, ignored_except_output}
+use Rattle.apk_front.specs.Moments.{IgnoresScratchNameOfOutput, ignored_except_output}
 use Rattle.apk_front.specs.declared.answer.Answer.{Answer}
 use Rattle.apk_front.specs.declared.answer.Answer.TheVariants.{Ok as Done, Refused, TreeFault, OutFault, Memory}
 use Rattle.apk_front.proofs.file_replacement.Suffix.{intent_is_no_scratch}
@@ -27,7 +27,7 @@ scratch_hides None ignored off = off
 scratch_hides (Some name) ignored off =
     neither (bytes_eq intent_name (scratch_name_of name)) (ignored intent_name) (λ is. intent_is_no_scratch name ((bytes_eq-Decides intent_name (scratch_name_of name)).0 is)) off
 
-pub hides : (o : Option (List ℕ)) (ignored : Ignored) → ignored intent_name ≡ false → IgnoresScratchOf o (ignored_with_scratch o ignored)
+pub hides : (o : Option (List ℕ)) (ignored : Ignored) → ignored intent_name ≡ false → IgnoresScratchNameOfOutput o (ignored_with_scratch o ignored)
 hides None ignored off = tt
 hides (Some name) ignored off = record {
   scratch = or_left (bytes_eq (scratch_name_of name) (scratch_name_of name)) (ignored (scratch_name_of name)) ((bytes_eq-Decides (scratch_name_of name) (scratch_name_of name)).1 refl);

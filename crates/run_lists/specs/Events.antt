@@ -4,7 +4,7 @@
 use Rattle.std.specs.Prelude.{◌≡◌, ◌≢◌, ◌⊎◌, ◌++◌, ◌||◌, ℕ, Bool, true, false, if◌then◌else◌, List, [], ◌∷◌, Option, Some, None, Contains, IsSome, IsTrue, is_some}
 use Rattle.std.specs.Str.{bytes_eq}
 use Rattle.apk_front.specs.Answers.{IsAnswerOfSomeOutcome, LeavesFiles}
-use Rattle.apk_front.specs.Moments.{AnswersOutcome, AreFilesReadDuringRun, AreStatesOldOrLeadToOutcome, CanRecover, IsRefusedOrCommitsNothing, HasNothingToRecover, IgnoresScratchOf, LeavesDurableStateIfCommitted, LeavesDurableFilesOnceAnswered, NamesAreDurableWithoutIntentExcept, ignored_except_output}
+use Rattle.apk_front.specs.Moments.{IsOkRefusedOrOutputFault, AreStatesOfRecoveryOrCommittingRun, AreStatesOldOrLeadToOutcome, CanRecover, IsRefusedOrCommitsNothing, HasNothingToRecover, IgnoresScratchNameOfOutput, LeavesDurableStateIfCommitted, LeavesDurableFilesOnceAnswered, NamesAreDurableWithoutIntentExcept, ignored_except_output}
 use Rattle.apk_front.specs.declared.answer.Answer.{Answer}
 use Rattle.apk_front.specs.declared.answer.Answer.TheVariants.{Ok, TreeFault}
 use Rattle.base_core.specs.Calls.{HoldsNow}
@@ -65,8 +65,9 @@ pub record IsRunFrom (v : TreeState) (run : Run) : Type 0 where
   -- if the intent (journal entry) is bad, nothing is written
   pub bad_intent : IsSome (recovery_fault (effect_of_arguments (command_of run.words)) (files_of v))
       → run.now ≡ run.old
-  -- which files are read at each moment of the run (*AreFilesReadDuringRun*)
-  pub reads : AreFilesReadDuringRun (IsOutcomeFrom v run) (effect_of_arguments (command_of run.words))
+  -- which files are read at each moment of the run (*AreStatesOfRecoveryOrCommittingRun*)
+  pub reads : AreStatesOfRecoveryOrCommittingRun (IsOutcomeFrom v run)
+      (effect_of_arguments (command_of run.words))
       (output run.words) v run.old run.now
   -- if there was an intent, crashes undo no change of a name from the moment at which no intent is read
   pub last : IsSome (v.names intent_name)
@@ -76,24 +77,24 @@ pub record IsRunFrom (v : TreeState) (run : Run) : Type 0 where
       → IsDurable (StateDependsOn ignored) v → Since (StateIsUnchanged ignored v) run.old run.now
   -- a crash of a durable tree during the run leaves an old state, or that of an outcome that commits
   pub crash : (ignored : List ℕ → Bool)
-      → IsDurable (StateDependsOn ignored) v → IgnoresScratchOf (output run.words) ignored
+      → IsDurable (StateDependsOn ignored) v → IgnoresScratchNameOfOutput (output run.words) ignored
       → AreStatesOldOrLeadToOutcome (IsOutcomeFrom v run) (is_some (output run.words)) ignored v run.old
       run.now
   -- a durable tree is durable after the run
   pub is_durable : (ignored : List ℕ → Bool)
-      → IsDurable (StateDependsOn ignored) v → IgnoresScratchOf (output run.words) ignored
+      → IsDurable (StateDependsOn ignored) v → IgnoresScratchNameOfOutput (output run.words) ignored
       → HoldsNow run.now (IsDurable (StateDependsOn ignored))
   -- once an outcome is answered, each crash leaves its files, if they must be durable
   pub settled : (ignored : List ℕ → Bool)
-      → IsDurable (StateDependsOn ignored) v → IgnoresScratchOf (output run.words) ignored
+      → IsDurable (StateDependsOn ignored) v → IgnoresScratchNameOfOutput (output run.words) ignored
       → LeavesDurableFilesOnceAnswered (IsOutcomeFrom v run)
       (effect_of_arguments (command_of run.words)) ignored v
       run.now
       run.answer
   -- once an outcome that commits is answered, each crash leaves its files, also under the output's name
   pub durable_state : (ignored : List ℕ → Bool)
-      → IsDurable (StateDependsOn ignored) v → IgnoresScratchOf (output run.words) ignored
-      → AnswersOutcome run.answer
+      → IsDurable (StateDependsOn ignored) v → IgnoresScratchNameOfOutput (output run.words) ignored
+      → IsOkRefusedOrOutputFault run.answer
       → LeavesDurableStateIfCommitted (IsOutcomeFrom v run) (output run.words) ignored run.now
 
 -- a moment of a run: the state in which it begins, or one that it made
@@ -206,7 +207,7 @@ ReachesWithoutCommit first (event ∷ earlier) w =
 -- this commits, or the run has no output and found an intent.
 abbrev pub EnsuresOneCrashState : TreeState → RootEvent → Type 0
 EnsuresOneCrashState v (Ends run) =
-    AnswersOutcome run.answer
+    IsOkRefusedOrOutputFault run.answer
     × (HasOutcomeThatCommits v run
     ⊎ ((output run.words ≡ None) × CanRecover (effect_of_arguments (command_of run.words)) v))
 EnsuresOneCrashState v (Stops run) = ⊥

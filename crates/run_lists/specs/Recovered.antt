@@ -1,7 +1,7 @@
 -- What keeps a root recoverable, and the state after a run that was stopped. The rules are in
 -- `docs/crash-safety.md`, "Recovery", its table of what is found and its last part.
 use Rattle.std.specs.Prelude.{◌≡◌, ◌≢◌, ◌⊎◌, ℕ, Bool, true, List, [], ◌∷◌, None}
-use Rattle.apk_front.specs.Moments.{AnswersOutcome, HasOutcomeWithoutCommit}
+use Rattle.apk_front.specs.Moments.{IsOkRefusedOrOutputFault, HasOutcomeWithoutCommit}
 use Rattle.apk_front.specs.declared.answer.Answer.TheVariants.{Refused}
 use Rattle.base_core.specs.Calls.{HoldsNow}
 use Rattle.base_core.specs.Undone.{IsCrashImage}
@@ -86,5 +86,5 @@ pub record IsRecoveredBy (HasState : Files → Type 0) (w : TreeState) (next : R
   -- recovery leaves files of this state, with nothing left to do
   pub files : AreRecoveredWithState HasState (unstaged_files (files_of w))
   -- after an answer whose outcome commits nothing, the files as read are the recovered ones
-  pub read : AnswersOutcome next.answer → HasOutcomeWithoutCommit (IsOutcomeFrom w next)
+  pub read : IsOkRefusedOrOutputFault next.answer → HasOutcomeWithoutCommit (IsOutcomeFrom w next)
       → HoldsNow next.now (λ u. files_of u ≡ unstaged_files (files_of w))

@@ -2,7 +2,7 @@
 -- "Recovery": the table of what a run may leave, and its last part.
 use Rattle.std.specs.Prelude.{◌≡◌, ◌⊎◌, ℕ, Bool, true, false, List}
 use Rattle.apk_front.specs.Answers.{answer_of}
-use Rattle.apk_front.specs.Moments.{AnswersOutcome, IsDurableState, MustOutcomeBeDurable, ignored_except_output}
+use Rattle.apk_front.specs.Moments.{IsOkRefusedOrOutputFault, IsDurableAndLeavesFiles, MustOutcomeBeDurable, ignored_except_output}
 use Rattle.apk_front.specs.declared.answer.Answer.TheVariants.{OutFault}
 use Rattle.base_core.specs.Calls.{HoldsNow}
 use Rattle.base_core.specs.Undone.{IsDurable, IsCrashImage}
@@ -52,7 +52,7 @@ pub record LeavesFilesOfAnsweredOutcome (ignored : List ℕ → Bool) (v : TreeS
       → EachCrashLeavesStateOf (ignored_during_run run ignored) outcome.files w
   -- if it commits, under its output and the scratch name too
   pub durable_state : outcome.commits ≡ true
-      → IsDurableState (ignored_except_output (output run.words) ignored) outcome.files w
+      → IsDurableAndLeavesFiles (ignored_except_output (output run.words) ignored) outcome.files w
 
 -- A run is safe: at each moment a crash leaves a state from before or that of the outcome. Once the
 -- outcome is answered its files are read, and are durable. A run that commits nothing keeps the state.
@@ -61,7 +61,8 @@ pub record IsSafeRun (ignored : List ℕ → Bool) (v : TreeState) (run : Run) :
   pub moments : (m : TreeState) → IsMomentOf run m
       → LeavesOldOrOutcome (ignored_during_run run ignored) v run m
   -- after the answer of an outcome its files are read, or after a fault of a sink in its place
-  pub answered : AnswersOutcome run.answer → HoldsNow run.now (LeavesFilesOfAnsweredOutcome ignored v run)
+  pub answered : IsOkRefusedOrOutputFault run.answer
+      → HoldsNow run.now (LeavesFilesOfAnsweredOutcome ignored v run)
   -- a run without a commit keeps the state at each moment
   pub left : IsRunWithoutCommit v run
       → (m : TreeState) → IsMomentOf run m → KeepsStateFromBefore ignored v m
@@ -84,7 +85,7 @@ pub record IsAtomic (ignored : List ℕ → Bool) (v : TreeState) (run : Run) : 
   pub moments : (m : TreeState) → IsMomentOf run m → (image : Files) → IsCrashImage m image
       → HasStateAsReadOrOutcome (ignored_during_run run ignored) v run image
   -- after the answer of an outcome each crash leaves the files of the outcome
-  pub answered : AnswersOutcome run.answer → (outcome : Outcome) → IsOutcomeFrom v run outcome
+  pub answered : IsOkRefusedOrOutputFault run.answer → (outcome : Outcome) → IsOutcomeFrom v run outcome
       → HoldsNow run.now (EachCrashLeavesStateOf (ignored_during_run run ignored) outcome.files)
   -- at each moment of a run without a commit, each crash leaves the files as read at its start
   pub left : IsRunWithoutCommit v run
@@ -104,6 +105,6 @@ IsSafeAfterAnyEvents v run =
 abbrev pub IsAtomicAfterAnyEvents : TreeState → Run → Type 0
 IsAtomicAfterAnyEvents v run =
     (ignored : List ℕ → Bool) (first : TreeState) (events : List RootEvent)
-    → ignored intent_name ≡ false → IsDurableState ignored (files_of first) first
+    → ignored intent_name ≡ false → IsDurableAndLeavesFiles ignored (files_of first) first
     → ReachesOneCrashState first events v
     → IsAtomic (ignored_after ignored events) v run

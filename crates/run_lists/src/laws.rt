@@ -1,7 +1,7 @@
 //! Laws on lists of runs, stops and crashes. The rules are in `docs/crash-safety.md`, "Recovery",
 //! its last two paragraphs; the sentence is in the README of this crate.
 ghost use Rattle.std.specs.Prelude.{◌≡◌, ℕ, Bool, false, true, List, None, Option, IsSome, IsTrue};
-ghost use Rattle.apk_front.specs.Moments.{AnswersOutcome, HasOutcomeWithoutCommit, IgnoresScratchOf, IsDurableState};
+ghost use Rattle.apk_front.specs.Moments.{IsOkRefusedOrOutputFault, HasOutcomeWithoutCommit, IgnoresScratchNameOfOutput, IsDurableAndLeavesFiles};
 ghost use Rattle.base_core.specs.Calls.{HoldsNow};
 ghost use Rattle.base_core.specs.Undone.{IsDurable, IsCrashImage};
 ghost use Rattle.base_core.specs.Files.{Files};
@@ -50,7 +50,7 @@ pub fn a_run_is_safe_after_any_events()
         → IsDurable (StateDependsOn ignored) first
         → Reaches first events v
         → let names = ignored_with_scratch (output words) (ignored_after ignored events) in
-        IsDurable (StateDependsOn names) v × IgnoresScratchOf (output words) names }
+        IsDurable (StateDependsOn names) v × IgnoresScratchNameOfOutput (output words) names }
 
     // On an ordinary root no name is ignored, and none is until a run with an output is stopped, or
     // ends by an I/O error of the tree.
@@ -66,9 +66,9 @@ pub fn a_run_is_safe_after_any_events()
     // after a crash, after a synced change by others, after a commit that was answered, and after a
     // change that was found and completed.
     ensures one_state { (ignored : List ℕ → Bool) (first v : TreeState) (events : List RootEvent)
-        → ignored intent_name ≡ false → IsDurableState ignored (files_of first) first
+        → ignored intent_name ≡ false → IsDurableAndLeavesFiles ignored (files_of first) first
         → ReachesOneCrashState first events v
-        → IsDurableState (ignored_after ignored events) (files_of v) v }
+        → IsDurableAndLeavesFiles (ignored_after ignored events) (files_of v) v }
 
     // After a list of events each crash leaves one state, if since the last crash or change by
     // others no run was stopped, and none ended by an I/O error of the tree. A power cut during a
@@ -94,13 +94,13 @@ pub fn a_root_that_commits_nothing_keeps_its_state()
     // Crashes, and runs that commit nothing, ended or stopped, leave the state unchanged, apart
     // from names that others touched.
     ensures again { (ignored : List ℕ → Bool) (v w : TreeState) (events : List RootEvent)
-        → IsDurableState ignored (files_of v) v → ReachesWithoutCommit v events w
-        → IsDurableState (ignored_with_all_touched events ignored) (files_of v) w }
+        → IsDurableAndLeavesFiles ignored (files_of v) v → ReachesWithoutCommit v events w
+        → IsDurableAndLeavesFiles (ignored_with_all_touched events ignored) (files_of v) w }
 
     // So two roots that come from one root by events without a commit have the same state, except
     // under ignored names.
     ensures agree { (ignored names : List ℕ → Bool) (v w u : TreeState)
-        (events others : List RootEvent) → IsDurableState ignored (files_of v) v
+        (events others : List RootEvent) → IsDurableAndLeavesFiles ignored (files_of v) v
         → ReachesWithoutCommit v events w → ReachesWithoutCommit v others u
         → AreNamesAmong (ignored_with_all_touched events ignored) names
         → AreNamesAmong (ignored_with_all_touched others ignored) names
@@ -119,7 +119,7 @@ pub fn a_root_that_commits_nothing_keeps_its_state()
     ensures recovers { (v : TreeState) (run : Run) → IsRunFrom v run
         → does_recover (effect_of_arguments (command_of run.words)) ≡ true
         → recovery_fault (effect_of_arguments (command_of run.words)) (files_of v) ≡ None
-        → AnswersOutcome run.answer → HasOutcomeWithoutCommit (IsOutcomeFrom v run)
+        → IsOkRefusedOrOutputFault run.answer → HasOutcomeWithoutCommit (IsOutcomeFrom v run)
         → HoldsNow run.now (λ w. files_of w ≡ unstaged_files (files_of v)) }
 {
     // Laws that the proof needs; they have no effect at run time.

@@ -6,7 +6,7 @@ ghost use Rattle.std.specs.Option.{option_map, option_copied};
 ghost use Rattle.base_core.specs.Calls.{IsCounted, ChangesHistory, IfObservable};
 ghost use Rattle.base_core.specs.Faults.{CountsOnlyRise, IsFaultCountedWithCause, CountsNoNewFault, saturating_increment};
 ghost use Rattle.base_core.specs.Files.{put_name};
-ghost use Rattle.base_core.specs.Listed.{AreNamesBelow, IsNamesOf, IsListOf};
+ghost use Rattle.base_core.specs.Listed.{AreSortedNamesBelowFolder, AreSortedNamesInMap, IsSortedListingOfFolder};
 ghost use Rattle.base_core.specs.Tree.{files_of, after_create, after_append, after_failed_append, after_sync, after_rename, after_remove, after_sync_names, unchanged_after_failed_call, IsAlwaysAllowed, HasName, CanRead, CanCreate, CanRename};
 ghost use Rattle.base_core.specs.Undone.{IsAfterCrash};
 ghost use Rattle.base_core.specs.declared.tree.TreeFault.TheVariants.{Memory, Disk as DiskFault};
@@ -100,7 +100,7 @@ impl MemoryTree {
 
     /// All names, in byte order.
     pub fn names(&self, alloc: Global) -> Result<Names, AllocError>
-        ensures { IfOk result (IsNamesOf (tree_state self.now).names) }
+        ensures { IfOk result (AreSortedNamesInMap (tree_state self.now).names) }
     {
         self.store.names(alloc)
     }
@@ -435,9 +435,9 @@ impl Tree for MemoryTree {
         ensures proper { (counts_of self.new).misuses ≡ (counts_of self.old).misuses }
         // What is returned, if the history is observable.
         ensures value { IfOk result (λ names.
-            IfObservable (history_of self.old) (λ v. IsListOf folder.now v names)) }
+            IfObservable (history_of self.old) (λ v. IsSortedListingOfFolder folder.now v names)) }
         // The answer has only names below the folder, in byte order.
-        ensures order { IfOk result (λ names. AreNamesBelow folder.now names) }
+        ensures order { IfOk result (λ names. AreSortedNamesBelowFolder folder.now names) }
 
         // The call fails with an I/O error exactly if its failure is planned.
         ensures when { IsErrOf result DiskFault ↔ (is_next_call_to_fail (plan_of self.old) ≡ true) }

@@ -16,7 +16,7 @@ use Rattle.command_core.specs.declared.values.OptionValue.{OptionValue}
 use Rattle.command_core.specs.declared.values.ValueRule.{ValueRule}
 use Rattle.command_core.specs.Applets.{required_option_letter, operand_rule}
 use Rattle.command_core.specs.Flags.{has_flag, has_command_kind_flag, no_flags, with_flag}
-use Rattle.command_core.specs.Operands.{at_least, first_refused_operand, allows_one_more, is_operand_of_kind, takes}
+use Rattle.command_core.specs.Operands.{at_least, first_refused_operand, allows_one_more_operand, is_operand_of_kind, takes}
 use Rattle.command_core.specs.Values.{excludes, is_excluded_by_earlier_value, is_given, is_single_and_given, is_value_of_kind, is_required_value_missing, option_value_from_place_and_letter}
 use Rattle.words_core.specs.declared.next.NextWord.{NextWord}
 use Rattle.words_core.specs.declared.next.NextWord.TheVariants.{OptionOrCommand, OptionOrOperand, Value as NextValue, Operand as OperandAlone}
@@ -185,15 +185,15 @@ module _ (words : List (List ℕ)) (start : Start) (s : start_of_command_line wo
       ∙ (operand_why start.applet (operand_rule_of_words words start) h.word (next_word_of_command_line (take (place - 1) words)) h.next
       ∙ ap (operand_reason h.word) r))
       (elim (is_operand_of_kind rule.kind h.word) as (λ b. is_operand_of_kind rule.kind h.word ≡ b → IsUsageReason (if b then TooManyOperands else OperandBad rule.kind) words place) [
-        | true ↦ λ k. too_many k (allows_one_more rule.most h.count) refl (sym (ap (λ b. allows_one_more rule.most h.count && b) k) ∙ h.refuses)
+        | true ↦ λ k. too_many k (allows_one_more_operand rule.most h.count) refl (sym (ap (λ b. allows_one_more_operand rule.most h.count && b) k) ∙ h.refuses)
         | false ↦ λ k. (h.word, h.at, (start, s, (rule, r, (refl, k))))
       ] refl)
     where
-      by_most : (most : Option ℕ) → rule.most ≡ most → allows_one_more most h.count ≡ false → IsUsageReason TooManyOperands words place
+      by_most : (most : Option ℕ) → rule.most ≡ most → allows_one_more_operand most h.count ≡ false → IsUsageReason TooManyOperands words place
       by_most None m n = absurd (true≢false n)
       by_most (Some most) m n = (let full : most ≤ h.count = ltb-false h.count most n in let less = h.less in (start, s, (rule, r, (most, m, omega (arith, full, less)))))
 
-      too_many : is_operand_of_kind rule.kind h.word ≡ true → (room : Bool) → allows_one_more rule.most h.count ≡ room → (allows_one_more rule.most h.count && true) ≡ false → IsUsageReason TooManyOperands words place
+      too_many : is_operand_of_kind rule.kind h.word ≡ true → (room : Bool) → allows_one_more_operand rule.most h.count ≡ room → (allows_one_more_operand rule.most h.count && true) ≡ false → IsUsageReason TooManyOperands words place
       too_many k true e n = absurd (true≢false (sym (ap (λ b. b && true) e) ∙ n))
       too_many k false e n = by_most rule.most refl e
 

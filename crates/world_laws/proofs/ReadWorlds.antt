@@ -1,6 +1,6 @@
 -- World among what a change reads of a root.
 use Rattle.std.proofs.Common.{◌≡◌, ℕ, List, Result, Ok, Err, refl, ap, subst}
-use Rattle.engine_core.specs.change_inputs.Chains.{and_then, refused_as}
+use Rattle.engine_core.specs.change_inputs.Chains.{and_then, with_error_as_refusal}
 use Rattle.engine_core.specs.change_inputs.Database.{root_database}
 use Rattle.engine_core.specs.change_inputs.Inputs.{Inputs, Root, database_read_number, indexes_of, inputs_from_parts, inputs_of, repositories_read_number, root_from_parts, root_for, text_database_read_number, world_read_number}
 use Rattle.engine_core.specs.change_inputs.Repositories.{root_repositories}
@@ -18,7 +18,7 @@ pub and_then_ok : {A B : Type 0} (a : Result A Refusal) (next : A → Result B R
 and_then_ok (Ok x) next b e = (x, refl, e)
 and_then_ok (Err refusal) next b e = absurd (cc (e))
 
-refused_ok : {A E : Type 0} (refusal : E → Refusal) (a : Result A E) (x : A) → refused_as refusal a ≡ Ok x → a ≡ Ok x
+refused_ok : {A E : Type 0} (refusal : E → Refusal) (a : Result A E) (x : A) → with_error_as_refusal refusal a ≡ Ok x → a ≡ Ok x
 refused_ok refusal (Ok a) x e = let same : a ≡ x = cc in ap Ok same
 refused_ok refusal (Err e) x is = absurd (cc (is))
 

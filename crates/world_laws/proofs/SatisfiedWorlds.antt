@@ -6,7 +6,7 @@ use Rattle.std.specs.List.{filter, filter_map, list_all}
 use Rattle.std.proofs.lemmas.Bool.{and_from, and_parts, eqb-false, eqb-true, not_from_false}
 use Rattle.std.proofs.lemmas.Slice.Eq.{bytes_eq-Decides}
 use Rattle.dep_core.specs.Dependency.{Dependency}
-use Rattle.engine_core.specs.candidate_core.Candidates.{Candidate, Need, entry, named, has_usable_install_if, is_allowed, is_barred_by, is_eligible, meets_dependency, meets_need, occupies_name}
+use Rattle.engine_core.specs.candidate_core.Candidates.{Candidate, Need, entry, named, has_usable_install_if, is_allowed_by_tags_of_world, is_barred_by_world, is_eligible, meets_dependency, meets_need, occupies_name}
 use Rattle.engine_core.specs.candidate_core.Options.{IsIn}
 use Rattle.engine_core.specs.candidate_core.Rank.{SealedPool, candidate_at, candidate_at_passes, meets_at}
 use Rattle.engine_core.specs.package_changes.Placed.{candidates_at}
@@ -84,12 +84,12 @@ module _ (pool : SealedPool) (trace : List ℕ) (are : IsSatisfying pool trace) 
       sym (test_at pool (is_eligible pool.world) place.0 c place.2) ∙ are.eligible place.0 place.1
 
   not_barred : (c : Candidate) (d : Dependency) → IsIn c packages → IsIn d pool.world → d.conflict ≡ true → meets_dependency d c ≡ false
-  not_barred c d here among on = by (meets_dependency d c) refl (is_barred_by pool.world c) refl
+  not_barred c d here among on = by (meets_dependency d c) refl (is_barred_by_world pool.world c) refl
     where
-      by : (t : Bool) → meets_dependency d c ≡ t → (b : Bool) → is_barred_by pool.world c ≡ b → t ≡ false
+      by : (t : Bool) → meets_dependency d c ≡ t → (b : Bool) → is_barred_by_world pool.world c ≡ b → t ≡ false
       by false e b f = refl
       by true e true f =
-          let parts = and_parts (is_allowed pool.world c) (not (is_barred_by pool.world c)) (eligible c here) in
+          let parts = and_parts (is_allowed_by_tags_of_world pool.world c) (not (is_barred_by_world pool.world c)) (eligible c here) in
           let bad : not true ≡ true = sym (ap not f) ∙ parts.1 in
           absurd (true≢false (sym bad))
       by true e false f =
@@ -142,7 +142,7 @@ module _ (pool : SealedPool) (trace : List ℕ) (are : IsSatisfying pool trace) 
   pub satisfied : SatisfyWorld pool.candidates pool.world packages
   satisfied = record {
     are_candidates = λ c here. (let place = in_at pool trace c here in at_is_in pool.candidates place.0 c place.2);
-    allowed = λ c here. (and_parts (is_allowed pool.world c) (not (is_barred_by pool.world c)) (eligible c here)).0;
+    allowed = λ c here. (and_parts (is_allowed_by_tags_of_world pool.world c) (not (is_barred_by_world pool.world c)) (eligible c here)).0;
     not_barred = not_barred;
     world_met = λ d here off. one_met d (are.world_met (entry d) (as_need d pool.world here off));
     depends_met = λ c d here among off. (let place = in_at pool trace c here in

@@ -3,7 +3,7 @@
 -- is taken", the end of its second paragraph.
 use Rattle.std.specs.Prelude.{◌≡◌, ◌⊎◌, ◌↔◌, ℕ, true, false, List}
 use Rattle.engine_core.specs.adb_fields.FirstPair.{IsIn}
-use Rattle.engine_core.specs.candidate_core.Candidates.{Candidate, has_usable_install_if, is_allowed, meets_dependency, occupies_name}
+use Rattle.engine_core.specs.candidate_core.Candidates.{Candidate, has_usable_install_if, is_allowed_by_tags_of_world, meets_dependency, occupies_name}
 use Rattle.dep_core.specs.Dependency.{Dependency}
 
 -- ---- world
@@ -30,7 +30,7 @@ pub record SatisfyWorld (candidates : List Candidate) (world : List Dependency)
   -- each is a candidate, is allowed, and meets no conflict of world
   pub are_candidates : (c : Candidate) → IsIn c packages → IsIn c candidates
   -- each package is installed, or from a repository whose packages world allows
-  pub allowed : (c : Candidate) → IsIn c packages → is_allowed world c ≡ true
+  pub allowed : (c : Candidate) → IsIn c packages → is_allowed_by_tags_of_world world c ≡ true
   -- no package meets a conflict of world
   pub not_barred : (c : Candidate) (d : Dependency) → IsIn c packages → IsIn d world
       → d.conflict ≡ true → meets_dependency d c ≡ false

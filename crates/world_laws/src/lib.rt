@@ -18,7 +18,7 @@ ghost use Rattle.base_core.specs.Files.{Files};
 ghost use Rattle.engine_core.specs.change_files.FileChange.{FileChange};
 ghost use Rattle.engine_core.specs.change_outcome.ChangeOutcome.{ChangeDone, ChangeWishes, change_report};
 ghost use Rattle.command_core.specs.Command.{CommandLine};
-ghost use Rattle.engine_core.specs.Changed.{InputsAndReplacement, change_of_command, selected_for};
+ghost use Rattle.engine_core.specs.Changed.{InputsAndReplacement, change_of_command, selected_from_reads_by_choice};
 ghost use Rattle.engine_core.specs.Choice.{IsPreferredChoice, IsChoiceFrom};
 ghost use Rattle.engine_core.specs.Selecting.{pool_of_command};
 ghost use Rattle.engine_core.specs.Wishes.{unknown_operand_place};
@@ -128,13 +128,13 @@ pub fn the_selected_packages_satisfy_the_new_world()
     // The selected packages satisfy the new world.
     ensures satisfied { (command : CommandLine) (read : Reads) (chosen : Option (List ℕ))
         (s : InputsAndReplacement) → IsChoiceFrom (pool_of_command command read) chosen
-        → selected_for command read chosen ≡ Ok s
+        → selected_from_reads_by_choice command read chosen ≡ Ok s
         → SatisfyWorld (candidates_of s.inputs) s.inputs.root.new_world s.replacement.selected }
     // Each selected package is needed.
     ensures needed { (command : CommandLine) (read : Reads) (chosen : Option (List ℕ))
         (s : InputsAndReplacement) (c : Candidate)
         → IsChoiceFrom (pool_of_command command read) chosen
-        → selected_for command read chosen ≡ Ok s → IsIn c s.replacement.selected
+        → selected_from_reads_by_choice command read chosen ≡ Ok s → IsIn c s.replacement.selected
         → IsNeededByWorldOrPackages
         (candidates_of s.inputs) s.inputs.root.new_world s.replacement.selected c }
 {}
@@ -158,7 +158,7 @@ pub fn a_selection_satisfies_world_exactly_if_packages_do()
     // If it is refused as unsatisfied, no packages satisfy its new world.
     ensures refused { (command : CommandLine) (read : Reads) (chosen : Option (List ℕ))
         → IsChoiceFrom (pool_of_command command read) chosen
-        → selected_for command read chosen ≡ Err Unsatisfied
+        → selected_from_reads_by_choice command read chosen ≡ Err Unsatisfied
         → (inputs : Inputs) × (inputs_of command read ≡ Ok inputs)
         × IsUnsatisfiable (candidates_of inputs) inputs.root.new_world }
     // If no packages satisfy its new world, the command is refused as unsatisfied, unless an
@@ -168,5 +168,5 @@ pub fn a_selection_satisfies_world_exactly_if_packages_do()
         → inputs_of command read ≡ Ok inputs → pool_of_command command read ≡ Ok pool
         → unknown_operand_place command.applet inputs command.operands ≡ None
         → IsUnsatisfiable (candidates_of inputs) inputs.root.new_world
-        → selected_for command read chosen ≡ Err Unsatisfied }
+        → selected_from_reads_by_choice command read chosen ≡ Err Unsatisfied }
 {}
