@@ -5,7 +5,7 @@ use Rattle.std.proofs.lemmas.Bool.{le-ltb, ne_eqb}
 use Rattle.std.proofs.lemmas.List.{take_at, drop_at, length-append, length-drop, drop-drop, drop_all, take-append-le, drop-append-le}
 use Rattle.adb_block.specs.Container.{IsHead, IsShortHead, IsLongHead, IsPadding, IsBlock, MayFollow, HasBlockBefore}
 use Rattle.adb_block.specs.Piece.{Piece, kind_number, may_be_next_kind, least_payload_len, padding_of}
-use Rattle.adb_block.specs.Header.{word_at, long_at}
+use Rattle.adb_block.specs.Header.{word_at, eight_byte_number_at}
 use Rattle.adb_block.specs.Framing.{HeadFields, block_head_fields, kind_of_number, ended, block, step_by_order, next_step}
 use Rattle.adb_block.specs.declared.block.BlockKind.{BlockKind}
 use Rattle.adb_block.specs.declared.block.BlockKind.TheVariants.{Adb, Signature, Contents}
@@ -48,7 +48,7 @@ long_again k len head more h =
     let total = length-append head more in
     let word : word_at 0 (head ++ more) ≡ 3 * 2 ^ 30 + kind_number k = ap (from_le_bytes w32) (take-append-le 4 head more (omega arith)) ∙ h.word in
     let back : take 8 (drop 8 (head ++ more)) ≡ drop 8 head = ap (take 8) (drop-append-le 8 head more (omega arith)) ∙ take_at (drop 8 head) more 8 (omega (arith, length-drop 8 head)) in
-    let raw : long_at 8 (head ++ more) ≡ 16 + len = ap (from_le_bytes w64) back ∙ h.raw in
+    let raw : eight_byte_number_at 8 (head ++ more) ≡ 16 + len = ap (from_le_bytes w64) back ∙ h.raw in
     let k_small = number_small k in
     let high : (3 * 2 ^ 30 + kind_number k) / 2 ^ 30 ≡ 3 = omega arith in
     let low : (3 * 2 ^ 30 + kind_number k) % 2 ^ 30 ≡ kind_number k = omega arith in

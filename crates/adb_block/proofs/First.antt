@@ -6,7 +6,7 @@ use Rattle.base_core.specs.declared.Cause.{Cause}
 use Rattle.base_core.specs.declared.Cause.TheVariants.{Truncated, BlockOrder}
 use Rattle.adb_block.specs.Piece.{Piece, may_be_next_kind, least_payload_len}
 use Rattle.adb_block.specs.Container.{IsBlock, MayFollow}
-use Rattle.adb_block.specs.Header.{header_of}
+use Rattle.adb_block.specs.Header.{schema_of_header}
 use Rattle.adb_block.specs.Framing.{HeadFields, block_head_fields, kind_of_number, Step, ended, failed, block, step_by_size, step_by_order, step_by_head, step_at_end, next_step}
 use Rattle.adb_block.specs.FirstFraming.{BeginWithBlocks, last_kind, IsWrongSize, HaveBlockFault, IsFirstFramingFault}
 use Rattle.adb_block.specs.ReaderPosition.{first_block_position}
@@ -133,7 +133,7 @@ rest_fails : (schema : ℕ) (file : List ℕ) (c : Cause) → 8 ≤ length file 
 unfolding blocks_from_position block_stream_from
 rest_fails schema file c long e = reading_fails (suc (length (drop 8 file))) (length file) None 8 (drop 8 file) c (omega arith) (omega (arith, length-drop 8 file)) e
 
-pub first_told : (file : List ℕ) (schema : ℕ) (c : Cause) → header_of file ≡ Ok schema → blocks_of file ≡ Err c → IsFirstFramingFault file c
+pub first_told : (file : List ℕ) (schema : ℕ) (c : Cause) → schema_of_header file ≡ Ok schema → blocks_of file ≡ Err c → IsFirstFramingFault file c
 first_told file schema c h e =
     let header = header_sound file schema h in
     let f = rest_fails schema file c header.whole (sym (whole_from file schema h) ∙ e) in

@@ -3,8 +3,8 @@ use Rattle.std.proofs.Common.{◌≡◌, ℕ, ◌/◌, ◌^◌, ◌<◌, ◌≤�
 use Rattle.std.specs.Int.{w32, w64, from_le_bytes}
 use Rattle.std.proofs.lemmas.Bool.{cases_lt, le-ltb, lt-ltb, ltb-false, ne_eqb}
 use Rattle.std.proofs.lemmas.List.{take-take, drop-take, take_all}
-use Rattle.adb_block.specs.Header.{word_at, long_at}
-use Rattle.adb_block.specs.Framing.{HeadFields, Step, block_head_fields, kind_of_number, long_head, next_step, step_by_order}
+use Rattle.adb_block.specs.Header.{word_at, eight_byte_number_at}
+use Rattle.adb_block.specs.Framing.{HeadFields, Step, block_head_fields, kind_of_number, fields_of_long_head, next_step, step_by_order}
 use Rattle.adb_block.specs.declared.block.BlockKind.{BlockKind}
 use Rattle.adb_block.specs.Frames.{IsHeadPrefix, head_len}
 
@@ -20,7 +20,7 @@ same_front bytes head n le begins = sym (take-take n (length head) bytes le) ∙
 same_word : (bytes head : List ℕ) → 4 ≤ length head → take (length head) bytes ≡ head → word_at 0 bytes ≡ word_at 0 head
 same_word bytes head four begins = ap (from_le_bytes w32) (same_front bytes head 4 four begins)
 
-same_long : (bytes head : List ℕ) → 16 ≤ length head → take (length head) bytes ≡ head → long_at 8 bytes ≡ long_at 8 head
+same_long : (bytes head : List ℕ) → 16 ≤ length head → take (length head) bytes ≡ head → eight_byte_number_at 8 bytes ≡ eight_byte_number_at 8 head
 same_long bytes head sixteen begins =
     ap (from_le_bytes w64) (sym (drop-take 8 8 bytes) ∙ ap (drop 8) (same_front bytes head 16 sixteen begins) ∙ drop-take 8 8 head)
 
@@ -55,7 +55,7 @@ whole_head bytes head le more begins =
     let sixteen = fits_sixteen head four le long in
     let c : ltb (length bytes) 16 ≡ false = le-ltb _ _ (omega arith) in
     let d : ltb (length head) 16 ≡ false = le-ltb _ _ sixteen in
-    (c ∙ sym d, ap (long_head (word_at 0 head)) (same_long bytes head sixteen begins))))
+    (c ∙ sym d, ap (fields_of_long_head (word_at 0 head)) (same_long bytes head sixteen begins))))
 
 -- ---- a header of which all was read that is there, or that is not whole
 

@@ -2,9 +2,9 @@
 use Rattle.std.proofs.Common.{◌≡◌, ℕ, List, [], ◌∷◌, ◌++◌, take, Some, None, Ok, Err, refl}
 use Rattle.std.specs.Prelude.{codes, slice_set}
 use Rattle.base_core.specs.declared.Cause.TheVariants.{NotAdb, Compressed, Truncated, BlockOrder}
-use Rattle.adb_block.specs.Container.{Spells}
+use Rattle.adb_block.specs.Container.{IsContainerWithBlocks}
 use Rattle.adb_block.specs.Piece.{Piece}
-use Rattle.adb_block.specs.Header.{header_of}
+use Rattle.adb_block.specs.Header.{schema_of_header}
 use Rattle.adb_block.specs.Framing.{block_head_fields, next_step}
 use Rattle.adb_block.specs.ReaderPosition.{first_block_position}
 use Rattle.adb_block.specs.Reader.{reader_after_block, next_offset}
@@ -40,90 +40,90 @@ content = record { kind = Contents; payload = 9 ∷ [] }
 
 -- ---- the header of the file
 
-schema : header_of file ≡ Ok 0x676b6370
-unfolding header_of
+schema : schema_of_header file ≡ Ok 0x676b6370
+unfolding schema_of_header
 schema = refl
 
-empty : header_of [] ≡ Err (Truncated 0)
-unfolding header_of
+empty : schema_of_header [] ≡ Err (Truncated 0)
+unfolding schema_of_header
 empty = refl
 
-three : header_of (codes "ADX") ≡ Err (Truncated 0)
-unfolding header_of
+three : schema_of_header (codes "ADX") ≡ Err (Truncated 0)
+unfolding schema_of_header
 three = refl
 
-compressed : header_of (codes "ADBd") ≡ Err Compressed
-unfolding header_of
+compressed : schema_of_header (codes "ADBd") ≡ Err Compressed
+unfolding schema_of_header
 compressed = refl
 
-compressed_otherwise : header_of (codes "ADBc") ≡ Err Compressed
-unfolding header_of
+compressed_otherwise : schema_of_header (codes "ADBc") ≡ Err Compressed
+unfolding schema_of_header
 compressed_otherwise = refl
 
-other : header_of (codes "ADBe") ≡ Err NotAdb
-unfolding header_of
+other : schema_of_header (codes "ADBe") ≡ Err NotAdb
+unfolding schema_of_header
 other = refl
 
-seven : header_of (codes "ADB.pck") ≡ Err (Truncated 0)
-unfolding header_of
+seven : schema_of_header (codes "ADB.pck") ≡ Err (Truncated 0)
+unfolding schema_of_header
 seven = refl
 
 -- ---- all blocks
 
 whole : blocks_of file ≡ Ok (adb ∷ [])
-unfolding header_of next_step block_head_fields block_stream_from_offset block_stream_from blocks_from_position blocks_of
+unfolding schema_of_header next_step block_head_fields block_stream_from_offset block_stream_from blocks_from_position blocks_of
 whole = refl
 
-whole_is_spelled : Spells file 0x676b6370 (adb ∷ [])
+whole_is_spelled : IsContainerWithBlocks file 0x676b6370 (adb ∷ [])
 whole_is_spelled = read_is_spelled file 0x676b6370 (adb ∷ []) schema whole
 
 no_padding : blocks_of (take 44 file) ≡ Ok (adb ∷ [])
-unfolding header_of next_step block_head_fields block_stream_from_offset block_stream_from blocks_from_position blocks_of
+unfolding schema_of_header next_step block_head_fields block_stream_from_offset block_stream_from blocks_from_position blocks_of
 no_padding = refl
 
 payload_cut : blocks_of (take 43 file) ≡ Err (Truncated 8)
-unfolding header_of next_step block_head_fields block_stream_from_offset block_stream_from blocks_from_position blocks_of
+unfolding schema_of_header next_step block_head_fields block_stream_from_offset block_stream_from blocks_from_position blocks_of
 payload_cut = refl
 
 head_cut : blocks_of (take 11 file) ≡ Err (Truncated 8)
-unfolding header_of next_step block_head_fields block_stream_from_offset block_stream_from blocks_from_position blocks_of
+unfolding schema_of_header next_step block_head_fields block_stream_from_offset block_stream_from blocks_from_position blocks_of
 head_cut = refl
 
 header_alone : blocks_of (take 8 file) ≡ Err (Truncated 8)
-unfolding header_of next_step block_head_fields block_stream_from_offset block_stream_from blocks_from_position blocks_of
+unfolding schema_of_header next_step block_head_fields block_stream_from_offset block_stream_from blocks_from_position blocks_of
 header_alone = refl
 
 header_cut : blocks_of (take 7 file) ≡ Err (Truncated 0)
-unfolding header_of next_step block_head_fields block_stream_from_offset block_stream_from blocks_from_position blocks_of
+unfolding schema_of_header next_step block_head_fields block_stream_from_offset block_stream_from blocks_from_position blocks_of
 header_cut = refl
 
 raw_below_head : blocks_of (slice_set file 8 3) ≡ Err (Truncated 8)
-unfolding header_of next_step block_head_fields block_stream_from_offset block_stream_from blocks_from_position blocks_of
+unfolding schema_of_header next_step block_head_fields block_stream_from_offset block_stream_from blocks_from_position blocks_of
 raw_below_head = refl
 
 payload_of_seven : blocks_of (slice_set file 8 11) ≡ Err (Truncated 8)
-unfolding header_of next_step block_head_fields block_stream_from_offset block_stream_from blocks_from_position blocks_of
+unfolding schema_of_header next_step block_head_fields block_stream_from_offset block_stream_from blocks_from_position blocks_of
 payload_of_seven = refl
 
 signature_first : blocks_of (slice_set file 11 64) ≡ Err (BlockOrder 8)
-unfolding header_of next_step block_head_fields block_stream_from_offset block_stream_from blocks_from_position blocks_of
+unfolding schema_of_header next_step block_head_fields block_stream_from_offset block_stream_from blocks_from_position blocks_of
 signature_first = refl
 
 with_signature : blocks_of (file ++ signature) ≡ Ok (adb ∷ signed ∷ [])
-unfolding header_of next_step block_head_fields block_stream_from_offset block_stream_from blocks_from_position blocks_of
+unfolding schema_of_header next_step block_head_fields block_stream_from_offset block_stream_from blocks_from_position blocks_of
 with_signature = refl
 
 with_contents : blocks_of (file ++ (signature ++ contents)) ≡ Ok (adb ∷ signed ∷ content ∷ [])
-unfolding header_of next_step block_head_fields block_stream_from_offset block_stream_from blocks_from_position blocks_of
+unfolding schema_of_header next_step block_head_fields block_stream_from_offset block_stream_from blocks_from_position blocks_of
 with_contents = refl
 
 -- the contents' padding precedes the signature
 signature_late : blocks_of (file ++ (contents ++ ((0 ∷ 0 ∷ 0 ∷ []) ++ signature))) ≡ Err (BlockOrder 56)
-unfolding header_of next_step block_head_fields block_stream_from_offset block_stream_from blocks_from_position blocks_of
+unfolding schema_of_header next_step block_head_fields block_stream_from_offset block_stream_from blocks_from_position blocks_of
 signature_late = refl
 
 second_adb : blocks_of (file ++ (signature ++ body)) ≡ Err (BlockOrder 56)
-unfolding header_of next_step block_head_fields block_stream_from_offset block_stream_from blocks_from_position blocks_of
+unfolding schema_of_header next_step block_head_fields block_stream_from_offset block_stream_from blocks_from_position blocks_of
 second_adb = refl
 
 -- what was read before the failed test
@@ -136,20 +136,20 @@ second_adb_reading = refl
 abbrev long : ℕ → List ℕ → List ℕ
 long kind size = codes "ADB.pckg" ++ ((kind ∷ 0 ∷ 0 ∷ 192 ∷ 7 ∷ 7 ∷ 7 ∷ 7 ∷ []) ++ (size ++ payload))
 
-long_head : blocks_of (long 0 (48 ∷ 0 ∷ 0 ∷ 0 ∷ 0 ∷ 0 ∷ 0 ∷ 0 ∷ [])) ≡ Ok (adb ∷ [])
-unfolding header_of next_step block_head_fields block_stream_from_offset block_stream_from blocks_from_position blocks_of
-long_head = refl
+fields_of_long_head : blocks_of (long 0 (48 ∷ 0 ∷ 0 ∷ 0 ∷ 0 ∷ 0 ∷ 0 ∷ 0 ∷ [])) ≡ Ok (adb ∷ [])
+unfolding schema_of_header next_step block_head_fields block_stream_from_offset block_stream_from blocks_from_position blocks_of
+fields_of_long_head = refl
 
 long_raw_below_head : blocks_of (long 0 (15 ∷ 0 ∷ 0 ∷ 0 ∷ 0 ∷ 0 ∷ 0 ∷ 0 ∷ [])) ≡ Err (Truncated 8)
-unfolding header_of next_step block_head_fields block_stream_from_offset block_stream_from blocks_from_position blocks_of
+unfolding schema_of_header next_step block_head_fields block_stream_from_offset block_stream_from blocks_from_position blocks_of
 long_raw_below_head = refl
 
 long_raw_most : blocks_of (long 0 (255 ∷ 255 ∷ 255 ∷ 255 ∷ 255 ∷ 255 ∷ 255 ∷ 255 ∷ [])) ≡ Err (Truncated 8)
-unfolding header_of next_step block_head_fields block_stream_from_offset block_stream_from blocks_from_position blocks_of
+unfolding schema_of_header next_step block_head_fields block_stream_from_offset block_stream_from blocks_from_position blocks_of
 long_raw_most = refl
 
 long_type_three : blocks_of (long 3 (48 ∷ 0 ∷ 0 ∷ 0 ∷ 0 ∷ 0 ∷ 0 ∷ 0 ∷ [])) ≡ Err (BlockOrder 8)
-unfolding header_of next_step block_head_fields block_stream_from_offset block_stream_from blocks_from_position blocks_of
+unfolding schema_of_header next_step block_head_fields block_stream_from_offset block_stream_from blocks_from_position blocks_of
 long_type_three = refl
 
 -- ---- the offset of the next block

@@ -5,8 +5,8 @@ use Rattle.std.proofs.lemmas.Bool.{cases_lt, ltb-false, eqb-true, or_parts}
 use Rattle.std.proofs.lemmas.List.{take-append-drop, length-take, length-drop, take-take, drop-drop, drop-take, drop_all, nil_from_length}
 use Rattle.adb_block.specs.Container.{IsHead, IsPadding, IsBlock, MayFollow, HasBlockBefore}
 use Rattle.adb_block.specs.Piece.{Piece, kind_number, may_be_next_kind, least_payload_len, padding_of}
-use Rattle.adb_block.specs.Header.{word_at, long_at}
-use Rattle.adb_block.specs.Framing.{HeadFields, short_head, long_head, block_head_fields, kind_of_number, ended, block, step_by_size, step_by_order, step_by_head, step_at_end, next_step}
+use Rattle.adb_block.specs.Header.{word_at, eight_byte_number_at}
+use Rattle.adb_block.specs.Framing.{HeadFields, fields_of_short_head, fields_of_long_head, block_head_fields, kind_of_number, ended, block, step_by_size, step_by_order, step_by_head, step_at_end, next_step}
 use Rattle.adb_block.specs.declared.block.BlockKind.{BlockKind}
 use Rattle.adb_block.specs.declared.block.BlockKind.TheVariants.{Adb, Signature, Contents}
 use Rattle.adb_block.proofs.Choices.{chosen}
@@ -27,7 +27,7 @@ back_to n h le = omega arith
 small_rest : (word : ℕ) → 4 ≤ word % 2 ^ 30 → 4 + (word % 2 ^ 30 - 4) < 2 ^ 30
 small_rest word le = omega arith
 
-short_stands : (bytes : List ℕ) → 4 ≤ length bytes → Stands bytes (short_head (word_at 0 bytes))
+short_stands : (bytes : List ℕ) → 4 ≤ length bytes → Stands bytes (fields_of_short_head (word_at 0 bytes))
 short_stands bytes four =
     let word = word_at 0 bytes in
     record {
@@ -39,7 +39,7 @@ short_stands bytes four =
       });
     }
 
-long_stands : (bytes : List ℕ) → 16 ≤ length bytes → word_at 0 bytes / 2 ^ 30 ≡ 3 → Stands bytes (long_head (word_at 0 bytes) (long_at 8 bytes))
+long_stands : (bytes : List ℕ) → 16 ≤ length bytes → word_at 0 bytes / 2 ^ 30 ≡ 3 → Stands bytes (fields_of_long_head (word_at 0 bytes) (eight_byte_number_at 8 bytes))
 long_stands bytes sixteen three =
     let front : take 4 (take 16 bytes) ≡ take 4 bytes = take-take 4 16 bytes (lit≤ tt) in
     let back : drop 8 (take 16 bytes) ≡ take 8 (drop 8 bytes) = drop-take 8 8 bytes in
@@ -48,7 +48,7 @@ long_stands bytes sixteen three =
       says = λ k kind enough. inr (record {
         size = omega (arith, length-take 16 bytes);
         word = ap (from_le_bytes w32) front ∙ whole_word (word_at 0 bytes) 3 (kind_number k) three kind;
-        raw = ap (from_le_bytes w64) back ∙ back_to (long_at 8 bytes) 16 enough;
+        raw = ap (from_le_bytes w64) back ∙ back_to (eight_byte_number_at 8 bytes) 16 enough;
       });
     }
 
@@ -62,12 +62,12 @@ head_sound bytes h e =
           | inl z ↦ absurd (let w = z.1 in cc)
           | inr z ↦
               let is = z.1 in
-              let same : long_head (word_at 0 bytes) (long_at 8 bytes) ≡ h = cc in
+              let same : fields_of_long_head (word_at 0 bytes) (eight_byte_number_at 8 bytes) ≡ h = cc in
               subst (Stands bytes) same (long_stands bytes (ltb-false _ _ z.0) (eqb-true _ _ y.0))
         ]
         | inr y ↦
             let is = y.1 in
-            let same : short_head (word_at 0 bytes) ≡ h = cc in
+            let same : fields_of_short_head (word_at 0 bytes) ≡ h = cc in
             subst (Stands bytes) same (short_stands bytes (ltb-false _ _ x.0))
       ]
     ]

@@ -7,9 +7,9 @@ use Rattle.std.proofs.lemmas.List.{take_at, drop_at, take-append-drop, drop-drop
 use Rattle.std.proofs.lemmas.Slice.Eq.{bytes_eq-Decides}
 use Rattle.base_core.specs.declared.Cause.{Cause}
 use Rattle.base_core.specs.declared.Cause.TheVariants.{NotAdb, Compressed, Truncated}
-use Rattle.adb_block.specs.Container.{Spells, SpellsBlocks}
+use Rattle.adb_block.specs.Container.{IsContainerWithBlocks, SpellsBlocks}
 use Rattle.adb_block.specs.Piece.{Piece}
-use Rattle.adb_block.specs.Header.{word_at, is_compressed, header_of}
+use Rattle.adb_block.specs.Header.{word_at, is_compressed_file_mark, schema_of_header}
 use Rattle.adb_block.specs.ReaderPosition.{first_block_position}
 use Rattle.adb_block.specs.Reading.{block_stream_from}
 use Rattle.adb_block.specs.AllBlocks.{blocks_from_position, blocks_after_header, blocks_of}
@@ -24,11 +24,11 @@ pub record HasHeader (file : List ℕ) (schema : ℕ) : Type 0 where
   pub whole : 8 ≤ length file
   pub is_schema : word_at 4 file ≡ schema
 
-pub header_sound : (file : List ℕ) (schema : ℕ) → header_of file ≡ Ok schema → HasHeader file schema
-unfolding header_of
+pub header_sound : (file : List ℕ) (schema : ℕ) → schema_of_header file ≡ Ok schema → HasHeader file schema
+unfolding schema_of_header
 header_sound file schema e =
     let a = passed (ltb (length file) 4) (Truncated 0) _ schema e in
-    let b = passed (is_compressed (take 4 file)) Compressed _ schema a.1 in
+    let b = passed (is_compressed_file_mark (take 4 file)) Compressed _ schema a.1 in
     let c = passed (not (bytes_eq (take 4 file) (codes "ADB."))) NotAdb _ schema b.1 in
     let d = passed (ltb (length file) 8) (Truncated 0) _ schema c.1 in
     let is = d.1 in
@@ -38,8 +38,8 @@ header_sound file schema e =
       is_schema = cc;
     }
 
-header_by : (file : List ℕ) (schema : ℕ) → HasHeader file schema → header_of file ≡ Ok schema
-unfolding header_of
+header_by : (file : List ℕ) (schema : ℕ) → HasHeader file schema → schema_of_header file ≡ Ok schema
+unfolding schema_of_header
 header_by file schema h =
     let whole = h.whole in
     let four : ltb (length file) 4 ≡ false = le-ltb _ _ (omega arith) in
@@ -56,7 +56,7 @@ blocks_by : (file : List ℕ) (r : Result ℕ Cause) (schema : ℕ) (bs : List P
 blocks_by file (Ok found) schema bs e is = let same : found ≡ schema = cc in rw (← same) is
 blocks_by file (Err c) schema bs e is = absurd cc
 
-pub read_is_spelled : (file : List ℕ) (schema : ℕ) (bs : List Piece) → header_of file ≡ Ok schema → blocks_of file ≡ Ok bs → Spells file schema bs
+pub read_is_spelled : (file : List ℕ) (schema : ℕ) (bs : List Piece) → schema_of_header file ≡ Ok schema → blocks_of file ≡ Ok bs → IsContainerWithBlocks file schema bs
 unfolding blocks_of blocks_from_position block_stream_from
 read_is_spelled file schema bs e is =
     let h = header_sound file schema e in
@@ -67,7 +67,7 @@ read_is_spelled file schema bs e is =
       parts = parts file ∙ ap (λ x. x ++ (take 4 (drop 4 file) ++ drop 8 file)) h.front;
       four = omega (arith, length-take 4 (drop 4 file), length-drop 4 file);
       is_schema = h.is_schema;
-      blocks = pieces_sound (suc (length (drop 8 file))) None 8 (drop 8 file) bs (blocks_by file (header_of file) schema bs e is);
+      blocks = pieces_sound (suc (length (drop 8 file))) None 8 (drop 8 file) bs (blocks_by file (schema_of_header file) schema bs e is);
     }
 
 text_header : (word body : List ℕ) (schema : ℕ) → length word ≡ 4 → from_le_bytes w32 word ≡ schema → HasHeader (codes "ADB." ++ (word ++ body)) schema
@@ -80,17 +80,17 @@ text_header word body schema four is = record {
 text_body : (word body : List ℕ) → length word ≡ 4 → drop 8 (codes "ADB." ++ (word ++ body)) ≡ body
 text_body word body four = drop_at word body 4 four
 
-pub spelled_is_read : (file : List ℕ) (schema : ℕ) (bs : List Piece) → Spells file schema bs → (header_of file ≡ Ok schema) × (blocks_of file ≡ Ok bs)
+pub spelled_is_read : (file : List ℕ) (schema : ℕ) (bs : List Piece) → IsContainerWithBlocks file schema bs → (schema_of_header file ≡ Ok schema) × (blocks_of file ≡ Ok bs)
 unfolding blocks_of blocks_from_position block_stream_from
 spelled_is_read file schema bs s =
     let text : List ℕ = codes "ADB." ++ (s.word ++ s.body) in
-    let header : header_of file ≡ Ok schema = ap header_of s.parts ∙ header_by text schema (text_header s.word s.body schema s.four s.is_schema) in
+    let header : schema_of_header file ≡ Ok schema = ap schema_of_header s.parts ∙ header_by text schema (text_header s.word s.body schema s.four s.is_schema) in
     let body : drop 8 file ≡ s.body = ap (drop 8) s.parts ∙ text_body s.word s.body s.four in
     let spelled : SpellsBlocks None (drop 8 file) bs = rw body s.blocks in
     let read = pieces_again bs (suc (length (drop 8 file))) None 8 (drop 8 file) spelled (omega arith) in
     (header, ap (blocks_after_header file) header ∙ read)
 
-pub one_reading : (file : List ℕ) (schema other : ℕ) (bs others : List Piece) → Spells file schema bs → Spells file other others → (schema ≡ other) × (bs ≡ others)
+pub one_reading : (file : List ℕ) (schema other : ℕ) (bs others : List Piece) → IsContainerWithBlocks file schema bs → IsContainerWithBlocks file other others → (schema ≡ other) × (bs ≡ others)
 one_reading file schema other bs others s t =
     let a = spelled_is_read file schema bs s in
     let b = spelled_is_read file other others t in
@@ -100,10 +100,10 @@ one_reading file schema other bs others s t =
 
 -- ---- the reader of the header
 
-pub whole_from : (file : List ℕ) (schema : ℕ) → header_of file ≡ Ok schema → blocks_of file ≡ blocks_from_position (first_block_position schema file)
+pub whole_from : (file : List ℕ) (schema : ℕ) → schema_of_header file ≡ Ok schema → blocks_of file ≡ blocks_from_position (first_block_position schema file)
 unfolding blocks_of
 whole_from file schema e = ap (blocks_after_header file) e
 
-pub whole_failed : (file : List ℕ) (c : Cause) → header_of file ≡ Err c → blocks_of file ≡ Err c
+pub whole_failed : (file : List ℕ) (c : Cause) → schema_of_header file ≡ Err c → blocks_of file ≡ Err c
 unfolding blocks_of
 whole_failed file c e = ap (blocks_after_header file) e

@@ -1,9 +1,9 @@
 -- All blocks from a position on, or the first failed test. Serves the contract of `Blocks` and the laws
--- over *Spells*, as the README of this crate says; the rules are in `docs/formats.md`, "Container".
+-- over *IsContainerWithBlocks*, as the README of this crate says; the rules are in `docs/formats.md`, "Container".
 use Rattle.std.specs.Prelude.{ℕ, List, [], ◌∷◌, Result, Ok, Err}
 use Rattle.base_core.specs.declared.Cause.{Cause}
 use Rattle.adb_block.specs.Piece.{Piece}
-use Rattle.adb_block.specs.Header.{header_of}
+use Rattle.adb_block.specs.Header.{schema_of_header}
 use Rattle.adb_block.specs.ReaderPosition.{ReaderPosition, first_block_position}
 use Rattle.adb_block.specs.Reading.{Reading, done, fault, more, block_stream_from}
 
@@ -29,4 +29,4 @@ blocks_after_header file (Err c) = Err c
 
 -- all blocks of a file, or the first failed test of its header or of its blocks
 unfoldable pub blocks_of : List ℕ → Result (List Piece) Cause
-blocks_of file = blocks_after_header file (header_of file)
+blocks_of file = blocks_after_header file (schema_of_header file)

@@ -70,7 +70,7 @@ SpellsBlocks last bytes (b ∷ bs) =
 
 -- a file is a container of this schema with these blocks: `ADB.`, the four bytes of the schema, and
 -- the blocks
-pub record Spells (file : List ℕ) (schema : ℕ) (pieces : List Piece) : Type 0 where
+pub record IsContainerWithBlocks (file : List ℕ) (schema : ℕ) (pieces : List Piece) : Type 0 where
   -- the four bytes of the schema
   pub word : List ℕ
   -- the bytes of the blocks
@@ -86,7 +86,7 @@ pub record Spells (file : List ℕ) (schema : ℕ) (pieces : List Piece) : Type 
 
 -- these blocks may be written in this order after a block of the kind `last`, and each payload's size,
 -- with the 16 bytes of the longest header, fits in 64 bits
-abbrev pub CanBeWrittenAfter : Option BlockKind → List Piece → Type 0
-CanBeWrittenAfter last [] = HasBlockBefore last
-CanBeWrittenAfter last (b ∷ bs) =
-    MayFollow last b × (length b.payload + 16 < 2 ^ 64) × CanBeWrittenAfter (Some b.kind) bs
+abbrev pub CanBlocksBeWrittenAfter : Option BlockKind → List Piece → Type 0
+CanBlocksBeWrittenAfter last [] = HasBlockBefore last
+CanBlocksBeWrittenAfter last (b ∷ bs) =
+    MayFollow last b × (length b.payload + 16 < 2 ^ 64) × CanBlocksBeWrittenAfter (Some b.kind) bs

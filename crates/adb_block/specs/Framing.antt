@@ -5,7 +5,7 @@ use Rattle.std.specs.Prelude.{ℕ, zero, suc, ◌+◌, ◌-◌, ◌/◌, ◌%◌
 use Rattle.base_core.specs.declared.Cause.{Cause}
 use Rattle.base_core.specs.declared.Cause.TheVariants.{Truncated, BlockOrder}
 use Rattle.adb_block.specs.Piece.{Piece, may_be_next_kind, least_payload_len, padding_of}
-use Rattle.adb_block.specs.Header.{word_at, long_at}
+use Rattle.adb_block.specs.Header.{word_at, eight_byte_number_at}
 use Rattle.adb_block.specs.declared.block.BlockKind.{BlockKind}
 use Rattle.adb_block.specs.declared.block.BlockKind.TheVariants.{Adb, Signature, Contents}
 
@@ -20,13 +20,13 @@ pub record HeadFields : Type 0 where
   pub raw : ℕ
 
 -- the fields of a header of four bytes: two bits of kind, 30 of size
-abbrev pub short_head : ℕ → HeadFields
-short_head word = record { kind = word / 2 ^ 30; len = 4; raw = word % 2 ^ 30 }
+abbrev pub fields_of_short_head : ℕ → HeadFields
+fields_of_short_head word = record { kind = word / 2 ^ 30; len = 4; raw = word % 2 ^ 30 }
 
 -- the fields of a header of 16 bytes: the kind in the low 30 bits of its first number, and a size of 64
 -- bits
-abbrev pub long_head : ℕ → ℕ → HeadFields
-long_head word raw = record { kind = word % 2 ^ 30; len = 16; raw = raw }
+abbrev pub fields_of_long_head : ℕ → ℕ → HeadFields
+fields_of_long_head word raw = record { kind = word % 2 ^ 30; len = 16; raw = raw }
 
 -- the header at the front of the bytes, or None if it is not complete. The number 3 in the top two
 -- bits of its first four bytes marks a header of 16 bytes
@@ -35,8 +35,8 @@ block_head_fields bytes =
     if nat_lt (length bytes) 4 then None
     else if word_at 0 bytes / 2 ^ 30 == 3 then
     (if nat_lt (length bytes) 16 then None
-    else Some (long_head (word_at 0 bytes) (long_at 8 bytes)))
-    else Some (short_head (word_at 0 bytes))
+    else Some (fields_of_long_head (word_at 0 bytes) (eight_byte_number_at 8 bytes)))
+    else Some (fields_of_short_head (word_at 0 bytes))
 
 -- the kind with this number, or None; the numbers are 0, 1 and 2
 abbrev pub kind_of_number : ℕ → Option BlockKind

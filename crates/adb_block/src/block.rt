@@ -12,7 +12,7 @@ ghost use Rattle.adb_block.specs.Piece.{may_be_next_kind, least_payload_len, pad
 ghost use Rattle.adb_block.specs.Framing.{HeadFields, block_head_fields, kind_of_number, step_by_order, next_step};
 ghost use Rattle.adb_block.specs.Frames.{IsHeadPrefix, IsFrameOrEndOfStep, IsFrameOfStep, IsReadBlock, fields_of, head_len, raw_size};
 ghost use Rattle.adb_block.specs.Written.{head_bytes};
-ghost use Rattle.adb_block.specs.Header.{word_at, long_at};
+ghost use Rattle.adb_block.specs.Header.{word_at, eight_byte_number_at};
 
 use base_core::Cause;
 use std::marker::Model;
@@ -185,7 +185,7 @@ fn read_head(bytes: &[u8]) -> Option<BlockHead>
     Some(BlockHead {
         kind: word & 0x3fff_ffff,
         len: 16,
-        raw: long_at(bytes, 8),
+        raw: eight_byte_number_at(bytes, 8),
     })
 }
 
@@ -345,9 +345,9 @@ pub(crate) fn word_at(bytes: &[u8], at: usize) -> u32
 }
 
 /// The number in the eight bytes at an offset, the least significant first.
-pub(crate) fn long_at(bytes: &[u8], at: usize) -> u64
+pub(crate) fn eight_byte_number_at(bytes: &[u8], at: usize) -> u64
     requires { at + 8 ≤ length bytes.now }
-    ensures { result ≡ long_at at bytes.now }
+    ensures { result ≡ eight_byte_number_at at bytes.now }
 {
     let long = &bytes[at..at + 8];
     u64::from_le_bytes([

@@ -3,13 +3,13 @@
 //! the tests in the order of its table.
 
 ghost use Rattle.std.specs.Prelude.{◌≡◌, ◌↔◌, [], drop, IfOk, IfErr, IfSome, IfNone, IsNone, OnErr, ◌<◌, ◌^◌, ℕ, List};
-ghost use Rattle.adb_block.specs.Header.{header_of};
+ghost use Rattle.adb_block.specs.Header.{schema_of_header};
 ghost use Rattle.adb_block.specs.ReaderPosition.{first_block_position};
 ghost use Rattle.adb_block.specs.Reader.{next_offset};
 ghost use Rattle.adb_block.specs.Reading.{block_stream_from};
 ghost use Rattle.adb_block.specs.AllBlocks.{blocks_of, blocks_from_position};
 ghost use Rattle.base_core.specs.declared.Cause.{Cause};
-ghost use Rattle.adb_block.specs.Container.{Spells, CanBeWrittenAfter};
+ghost use Rattle.adb_block.specs.Container.{IsContainerWithBlocks, CanBlocksBeWrittenAfter};
 ghost use Rattle.adb_block.specs.FirstFraming.{IsFirstFramingFault};
 ghost use Rattle.adb_block.specs.Piece.{Piece};
 ghost use Rattle.adb_block.specs.Written.{container};
@@ -53,10 +53,10 @@ impl<'a> Blocks<'a> {
     /// are truncated at 0.
     #[tactic(auto, unfolding(crate::specs::AllBlocks::blocks_of))]
     pub fn new(bytes: &'a [u8]) -> Result<Blocks<'a>, Cause>
-        ensures ok { IfOk result (λ blocks. header_of bytes.entry.now ≡ Ok blocks.schema) }
+        ensures ok { IfOk result (λ blocks. schema_of_header bytes.entry.now ≡ Ok blocks.schema) }
         ensures start { IfOk result (λ blocks. blocks
             ≡ first_block_position blocks.schema bytes.entry.now) }
-        ensures cause { IfErr result (λ cause. header_of bytes.entry.now ≡ Err cause) }
+        ensures cause { IfErr result (λ cause. schema_of_header bytes.entry.now ≡ Err cause) }
         // For a caller's loop over all blocks: its start.
         ensures rest { AreBlocksOrHeaderFault (blocks_of bytes.entry.now) result }
     {
@@ -144,9 +144,9 @@ fn left_from(bytes: &[u8], at: usize) -> &[u8]
 
 /// The schema in a file's header, which is `ADB.` and four bytes of schema, or the first failed
 /// test of the header.
-#[tactic(auto, unfolding(crate::specs::Header::header_of))]
+#[tactic(auto, unfolding(crate::specs::Header::schema_of_header))]
 pub(crate) fn read_header(file: &[u8]) -> Result<u32, Cause>
-    ensures { result ≡ header_of file.now }
+    ensures { result ≡ schema_of_header file.now }
 {
     if file.len() < 4 {
         return Err(Cause::Truncated { at: 0 });
@@ -168,14 +168,16 @@ pub(crate) fn read_header(file: &[u8]) -> Result<u32, Cause>
 /// last block may be absent.
 pub fn what_is_read_is_spelled()
     ensures { (file : List ℕ) (schema : ℕ) (pieces : List Piece)
-        → header_of file ≡ Ok schema → blocks_of file ≡ Ok pieces → Spells file schema pieces }
+        → schema_of_header file ≡ Ok schema → blocks_of file ≡ Ok pieces
+        → IsContainerWithBlocks file schema pieces }
 {}
 
 /// A file that is spelled by a schema and blocks is read to its end, as this schema and these
 /// blocks.
 pub fn what_is_spelled_is_read()
     ensures { (file : List ℕ) (schema : ℕ) (pieces : List Piece)
-        → Spells file schema pieces → (header_of file ≡ Ok schema) × (blocks_of file ≡ Ok pieces) }
+        → IsContainerWithBlocks file schema pieces → (schema_of_header file ≡ Ok schema)
+        × (blocks_of file ≡ Ok pieces) }
 {}
 
 /// The fault of the framing that is reported is the first. The blocks before it pass all tests. The
@@ -183,19 +185,19 @@ pub fn what_is_spelled_is_read()
 /// are good, but its size is too small or exceeds the file.
 pub fn the_first_fault_of_framing_is_reported()
     ensures { (file : List ℕ) (schema : ℕ) (c : Cause)
-        → header_of file ≡ Ok schema → blocks_of file ≡ Err c → IsFirstFramingFault file c }
+        → schema_of_header file ≡ Ok schema → blocks_of file ≡ Err c → IsFirstFramingFault file c }
 {}
 
 /// A file is a container of at most one schema and one list of blocks.
 pub fn a_container_has_one_reading()
     ensures { (file : List ℕ) (schema other : ℕ) (pieces others : List Piece)
-        → Spells file schema pieces → Spells file other others
+        → IsContainerWithBlocks file schema pieces → IsContainerWithBlocks file other others
         → (schema ≡ other) × (pieces ≡ others) }
 {}
 
 /// The container of blocks in an allowed order is spelled by its schema and these blocks.
 pub fn what_is_written_is_spelled()
     ensures { (schema : ℕ) (pieces : List Piece)
-        → schema < 2 ^ 32 → CanBeWrittenAfter None pieces
-        → Spells (container schema pieces) schema pieces }
+        → schema < 2 ^ 32 → CanBlocksBeWrittenAfter None pieces
+        → IsContainerWithBlocks (container schema pieces) schema pieces }
 {}

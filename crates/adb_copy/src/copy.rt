@@ -40,6 +40,7 @@ pub fn write_info(
     requires sound { is_sound (payload_of adb) (Kinds.Obj Tables.PkgInfo) info ≡ true }
     // The remembered texts are blobs of the draft.
     requires known { AreRememberedBlobsOfDraft (payload_of adb) draft.old known.old }
+    // On Ok, the draft gets the information with this id and size.
     ensures info { OnOk result (draft.new ≡ draft_with (info_with_id_and_size
         (value_at (payload_of adb.entry) (Kinds.Obj Tables.PkgInfo) info) id.now len) draft.old) }
     // The remembered texts are blobs of the new draft.
@@ -86,6 +87,7 @@ fn write_info_texts(
     requires sound { is_sound (payload_of adb) (Kinds.Obj Tables.PkgInfo) info ≡ true }
     // The remembered texts are blobs of the draft.
     requires known { AreRememberedBlobsOfDraft (payload_of adb) draft.old known.old }
+    // On Ok, the draft gets these fields.
     ensures texts { OnOk result (draft.new ≡ draft_with_all (plains_of_texts (info_texts
         (value_at (payload_of adb.entry) (Kinds.Obj Tables.PkgInfo) info) id.now)) draft.old) }
     // The remembered texts are blobs of the new draft.
@@ -136,6 +138,7 @@ pub fn write_text_list<'a>(
     requires sound { are_all_sound (payload_of adb) Kinds.Text (array_entries texts) ≡ true }
     // The remembered texts are blobs of the draft.
     requires known { AreRememberedBlobsOfDraft (payload_of adb) draft.old known.old }
+    // On Ok, the draft gets the array.
     ensures texts { OnOk result (draft.new ≡ draft_with (without_zeros
         (array_at (payload_of adb.entry) Kinds.Text (array_entries texts.entry))) draft.old) }
     // The remembered texts are blobs of the new draft.
@@ -160,9 +163,11 @@ fn write_deps(
 ) -> Result<(), AllocError>
     // The word has a plain value of its kind.
     requires sound { is_sound (payload_of adb) (Kinds.Obj Tables.PkgInfo) info ≡ true }
+    // The field is an array of dependencies.
     requires kind { kind_at Tables.PkgInfo field ≡ Some (Kinds.ObjArr Tables.Dep) }
     // The remembered texts are blobs of the draft.
     requires known { AreRememberedBlobsOfDraft (payload_of adb) draft.old known.old }
+    // On Ok, the draft gets the array, in which each integer 0 is NULL.
     ensures deps { OnOk result (draft.new ≡ draft_with (without_zeros (entry_in
         (value_at (payload_of adb.entry) (Kinds.Obj Tables.PkgInfo) info) field)) draft.old) }
     // The remembered texts are blobs of the new draft.
@@ -185,6 +190,7 @@ fn write_dep_list<'a>(
         ≡ true }
     // The remembered texts are blobs of the draft.
     requires known { AreRememberedBlobsOfDraft (payload_of adb) draft.old known.old }
+    // On Ok, the draft gets the array, in which each integer 0 is NULL.
     ensures deps { OnOk result (draft.new ≡ draft_with (without_zeros (array_at
         (payload_of adb.entry) (Kinds.Obj Tables.Dep) (array_entries deps.entry))) draft.old) }
     // The remembered texts are blobs of the new draft.
@@ -210,6 +216,7 @@ fn write_dep(
     requires sound { is_sound (payload_of adb) (Kinds.Obj Tables.Dep) dep ≡ true }
     // The remembered texts are blobs of the draft.
     requires known { AreRememberedBlobsOfDraft (payload_of adb) draft.old known.old }
+    // On Ok, the draft gets the dependency, in which each integer 0 is NULL.
     ensures dep { OnOk result (draft.new ≡ draft_with (without_zeros
         (value_at (payload_of adb.entry) (Kinds.Obj Tables.Dep) dep)) draft.old) }
     // The remembered texts are blobs of the new draft.

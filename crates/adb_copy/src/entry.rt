@@ -34,6 +34,7 @@ pub fn write_acl(
     requires sound { is_sound (payload_of adb) (Kinds.Obj Tables.Acl) acl ≡ true }
     // The remembered texts are blobs of the draft.
     requires known { AreRememberedBlobsOfDraft (payload_of adb) draft.old known.old }
+    // On Ok, the draft gets the access list, in which each integer 0 is NULL.
     ensures acl { OnOk result (draft.new ≡ draft_with (without_zeros
         (value_at (payload_of adb.entry) (Kinds.Obj Tables.Acl) acl)) draft.old) }
     // The remembered texts are blobs of the new draft.
@@ -66,6 +67,7 @@ pub fn write_file(
     requires sound { is_sound (payload_of adb) (Kinds.Obj Tables.File) file ≡ true }
     // The remembered texts are blobs of the draft.
     requires known { AreRememberedBlobsOfDraft (payload_of adb) draft.old known.old }
+    // On Ok, the draft gets the file, in which each integer 0 is NULL.
     ensures file { OnOk result (draft.new ≡ draft_with (without_zeros
         (value_at (payload_of adb.entry) (Kinds.Obj Tables.File) file)) draft.old) }
     // The remembered texts are blobs of the new draft.
@@ -100,6 +102,7 @@ pub fn write_scripts(
     requires sound { is_sound (payload_of adb) (Kinds.Obj Tables.Scripts) scripts ≡ true }
     // The remembered texts are blobs of the draft.
     requires known { AreRememberedBlobsOfDraft (payload_of adb) draft.old known.old }
+    // On Ok, the draft gets the scripts.
     ensures scripts { OnOk result (draft.new ≡ draft_with (without_zeros
         (value_at (payload_of adb.entry) (Kinds.Obj Tables.Scripts) scripts)) draft.old) }
     // The remembered texts are blobs of the new draft.

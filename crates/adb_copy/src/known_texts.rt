@@ -60,6 +60,7 @@ impl KnownTexts {
         requires sound { is_sound (payload_of adb) Kinds.Text word ≡ true }
         // The remembered texts are blobs of the draft.
         requires known { AreRememberedBlobsOfDraft (payload_of adb) draft.old self.old }
+        // On Ok, the draft gets the text, or NULL if it is empty.
         ensures text { OnOk result (draft.new ≡ draft_with
             (blob_or_null (text_in (value_at (payload_of adb.entry) Kinds.Text word))) draft.old) }
         // The remembered texts are blobs of the new draft.
@@ -87,9 +88,11 @@ impl KnownTexts {
     ) -> Result<(), AllocError>
         // The word has a plain value of its kind.
         requires sound { is_sound (payload_of adb) (Kinds.Obj which) object ≡ true }
+        // The field is a text.
         requires kind { kind_at which field ≡ Some Kinds.Text }
         // The remembered texts are blobs of the draft.
         requires known { AreRememberedBlobsOfDraft (payload_of adb) draft.old self.old }
+        // On Ok, the draft gets the text of the field, or NULL if it is empty.
         ensures text { OnOk result (draft.new ≡ draft_with (blob_or_null (text_in (entry_in
             (value_at (payload_of adb.entry) (Kinds.Obj which) object) field))) draft.old) }
         // The remembered texts are blobs of the new draft.
@@ -102,6 +105,7 @@ impl KnownTexts {
     /// The word in the draft of the text of a word, if it is known: by this word, or by another one
     /// with an equal text.
     fn known_word(&self, adb: Adb<'_>, word: Val) -> Option<u32>
+        // Each remembered range of the payload has its period.
         requires { All (HasPeriod (payload_of adb)) self.now.overlaps.ranges.items }
         ensures { IfSome result (IsRememberedTextWord (payload_of adb.entry) self.now.words word) }
     {
@@ -116,10 +120,13 @@ impl KnownTexts {
 
     /// The word in the draft of an equal text, if its fingerprint finds one.
     fn word_of_equal(&mut self, adb: Adb<'_>, word: Val) -> Result<Option<u32>, AllocError>
+        // Each remembered range of the payload has its period.
         requires { All (HasPeriod (payload_of adb)) self.old.overlaps.ranges.items }
         ensures words { self.new.words ≡ self.old.words }
+        // Each remembered range of the payload has its period.
         ensures ranges { OnOk result
             (All (HasPeriod (payload_of adb.entry)) self.new.overlaps.ranges.items) }
+        // A known word is that of an equal text in the draft.
         ensures known { IfOk result (λ known. IfSome known
             (IsRememberedTextWord (payload_of adb.entry) self.old.words word)) }
     {
@@ -146,6 +153,7 @@ impl KnownTexts {
         requires sound { is_sound (payload_of adb) Kinds.Text word ≡ true }
         // The remembered texts are blobs of the draft.
         requires known { AreRememberedBlobsOfDraft (payload_of adb) draft.old self.old }
+        // On Ok, the draft gets the text, or NULL if it is empty.
         ensures text { OnOk result (draft.new ≡ draft_with
             (blob_or_null (text_in (value_at (payload_of adb.entry) Kinds.Text word))) draft.old) }
         // The remembered texts are blobs of the new draft.
@@ -167,6 +175,7 @@ impl KnownTexts {
         requires sound { is_sound (payload_of adb) Kinds.Text word ≡ true }
         // The remembered texts are blobs of the draft.
         requires known { AreRememberedBlobsOfDraft (payload_of adb) draft.old self.old }
+        // On Ok, the draft gets the text, or NULL if it is empty.
         ensures text { OnOk result (draft.new ≡ draft_with
             (blob_or_null (text_in (value_at (payload_of adb.entry) Kinds.Text word))) draft.old) }
         // The remembered texts are blobs of the new draft.

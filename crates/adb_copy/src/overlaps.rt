@@ -112,6 +112,7 @@ impl Overlaps {
     /// The word of a remembered text that equals the text of `word`, if a range proves that they
     /// are equal.
     pub(crate) fn equal_word(&self, adb: Adb<'_>, word: Val) -> Option<u32>
+        // Each remembered range of the payload has its period.
         requires { All (HasPeriod (payload_of adb)) self.now.ranges.items }
         ensures { IfSome result (λ kept. text_in (value_at (payload_of adb.entry) Kinds.Text kept)
             ≡ text_in (value_at (payload_of adb.entry) Kinds.Text word)) }
@@ -133,7 +134,9 @@ impl Overlaps {
         known: Val,
         word: Val,
     ) -> Result<bool, AllocError>
+        // Each remembered range of the payload has its period.
         requires { All (HasPeriod (payload_of adb)) self.old.ranges.items }
+        // Each remembered range of the payload has its period.
         ensures ranges { OnOk result
             (All (HasPeriod (payload_of adb.entry)) self.new.ranges.items) }
         ensures equal { IfOk result (λ same. OnTrue same
@@ -183,11 +186,16 @@ impl Overlaps {
         first: TextPlace,
         second: TextPlace,
     ) -> Result<Option<PeriodicRange>, AllocError>
+        // The first text is within the payload,
         requires first { first.from + first.len ≤ length (payload_of adb) }
+        // and so is the second.
         requires second { second.from + second.len ≤ length (payload_of adb) }
+        // Each remembered range of the payload has its period.
         requires ranges { All (HasPeriod (payload_of adb)) self.old.ranges.items }
+        // Each remembered range of the payload has its period.
         ensures ranges { OnOk result
             (All (HasPeriod (payload_of adb.entry)) self.new.ranges.items) }
+        // The range that is returned, if any, has its period.
         ensures range { IfOk result
             (λ range. IfSome range (HasPeriod (payload_of adb.entry))) }
     {
@@ -209,7 +217,9 @@ impl Overlaps {
     /// Remembers a text that was not known, by its word in the payload and its word in a draft. The
     /// latter is NULL if the draft passed a limit; then nothing is remembered.
     pub(crate) fn keep(&mut self, adb: Adb<'_>, word: Val, known: Val) -> Result<(), AllocError>
+        // Each remembered range of the payload has its period.
         requires { All (HasPeriod (payload_of adb)) self.old.ranges.items }
+        // Each remembered range of the payload still has its period.
         ensures { OnOk result (All (HasPeriod (payload_of adb.entry)) self.new.ranges.items) }
     {
         let Some(text) = text_place(adb, word) else {
@@ -235,8 +245,11 @@ impl Overlaps {
         text: TextPlace,
         distance: usize,
     ) -> Result<(), AllocError>
+        // The text is within the payload.
         requires within { text.from + text.len ≤ length (payload_of adb) }
+        // Each remembered range of the payload has its period.
         requires ranges { All (HasPeriod (payload_of adb)) self.old.ranges.items }
+        // Each remembered range of the payload still has its period.
         ensures { OnOk result (All (HasPeriod (payload_of adb.entry)) self.new.ranges.items) }
     {
         if self.is_some_periods(text, distance) {
@@ -305,8 +318,10 @@ fn repeat_place(first: TextPlace, second: TextPlace) -> (usize, usize, usize) {
 
 /// The place of a word's text in the payload; None if it has no bytes at an offset.
 pub(crate) fn text_place(adb: Adb<'_>, word: Val) -> Option<TextPlace>
+    // The place of the text has the text of the word.
     ensures text { IfSome result (λ text. text_in (value_at (payload_of adb.entry) Kinds.Text word)
         ≡ take text.len (drop text.from (payload_of adb.entry))) }
+    // This place is within the payload.
     ensures within { IfSome result (λ text. text.from + text.len ≤ length (payload_of adb.entry)) }
 {
     match adb.blob_range(word) {
@@ -327,6 +342,7 @@ fn periodic_range(
     period: usize,
     reach: usize,
 ) -> Option<PeriodicRange>
+    // The text is within the payload.
     requires { text.from + text.len ≤ length bytes.now }
     ensures { IfSome result (HasPeriod bytes.now) }
 {
@@ -343,7 +359,9 @@ fn periodic_range(
 
 /// The offset of the first byte before a text that continues its period, up to a limit.
 fn first_in_period(bytes: &[u8], text: TextPlace, period: usize, reach: usize) -> usize
+    // The text is within the payload.
     requires within { text.from + text.len ≤ length bytes.now }
+    // The period is not longer than the text.
     requires period { period ≤ text.len }
     ensures { result ≤ text.from }
 {
@@ -356,6 +374,7 @@ fn first_in_period(bytes: &[u8], text: TextPlace, period: usize, reach: usize) -
 /// This many bytes are compared at a time (`step`).
 fn first_by_steps(bytes: &[u8], start: usize, least: usize, period: usize, step: usize) -> usize
     requires within { start + period ≤ length bytes.now }
+    // A step of 0 bytes would never end.
     requires some { 0 < step }
     ensures { result ≤ start }
 {
@@ -371,9 +390,12 @@ fn first_by_steps(bytes: &[u8], start: usize, least: usize, period: usize, step:
 
 /// The end of the bytes after a text that continue its period, up to a limit.
 fn end_of_period(bytes: &[u8], text: TextPlace, period: usize, reach: usize) -> usize
+    // The text is within the payload.
     requires within { text.from + text.len ≤ length bytes.now }
+    // The period is not longer than the text.
     requires period { period ≤ text.len }
     ensures behind { text.from + text.len ≤ result }
+    // The result is at most the length.
     ensures within { result ≤ length bytes.now }
 {
     let start = text.from + text.len;
@@ -388,8 +410,10 @@ fn end_by_steps(bytes: &[u8], start: usize, most: usize, period: usize, step: us
     requires period { period ≤ start }
     requires start { start ≤ length bytes.now }
     requires most { most ≤ length bytes.now }
+    // A step of 0 bytes would never end.
     requires some { 0 < step }
     ensures behind { start ≤ result }
+    // The result is at most the length.
     ensures within { result ≤ length bytes.now }
 {
     let mut end = start;

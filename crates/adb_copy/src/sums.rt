@@ -122,6 +122,7 @@ impl Sums {
 
     /// The fingerprint of a text, if the payload is summed.
     pub(crate) fn fingerprint_of(&self, payload: &[u8], text: TextPlace) -> Option<u64>
+        // The text is within the payload.
         requires { text.from + text.len ≤ length payload.now }
     {
         let front = self.sum_before(payload, text.from)?;
@@ -135,6 +136,7 @@ impl Sums {
 
     /// The sum of the bytes in front of an offset, if the payload is summed.
     fn sum_before(&self, payload: &[u8], offset: usize) -> Option<Pair>
+        // The offset is within the payload.
         requires { offset ≤ length payload.now }
     {
         let block = offset / BLOCK;

@@ -15,7 +15,7 @@ use Rattle.adb_view.specs.declared.tables.Which.{Which}
 use Rattle.adb_view.specs.declared.tables.Kind.{Kind}
 use Rattle.adb_view.specs.declared.tables.Kind.TheVariants.{Int, Text, Hash, Obj, TextArr, ObjArr}
 use Rattle.adb_view.specs.Shapes.{object_shape}
-use Rattle.adb_dump.specs.Dump.{Line, block_lines, with_dash, array_lines, fields_lines, indent, named_lines, entry_lines_or_null_line, bare_or_quoted_text, field_lines_unless_null}
+use Rattle.adb_dump.specs.Dump.{Line, block_lines, lines_with_dash_before_first, array_lines, fields_lines, indent, named_lines, entry_lines_or_null_line, bare_or_quoted_text, field_lines_unless_null}
 use Rattle.adb_dump.specs.Words.{is_null, are_null, fields_at}
 use Rattle.adb_dump.proofs.Nulls.{obj_null}
 use Rattle.adb_dump.proofs.WordReads.{hash_plain, int_plain, text_plain}
@@ -91,8 +91,8 @@ pub record HasLine (ls : List Line) : Type 0 where
   pub others : List Line
   pub is : ls ≡ first ∷ others
 
-dashed_line : (ls : List Line) (rest : List Line) → HasLine ls → HasLine (with_dash ls ++ rest)
-dashed_line ls rest h = record { first = codes "- " ++ h.first; others = indent h.others ++ rest; is = ap (λ (x : List Line). with_dash x ++ rest) h.is }
+dashed_line : (ls : List Line) (rest : List Line) → HasLine ls → HasLine (lines_with_dash_before_first ls ++ rest)
+dashed_line ls rest h = record { first = codes "- " ++ h.first; others = indent h.others ++ rest; is = ap (λ (x : List Line). lines_with_dash_before_first x ++ rest) h.is }
 
 pub or_null_line : (v : Plain) (ls : List Line) → (is_null v ≡ false → HasLine ls) → HasLine (entry_lines_or_null_line v ls)
 or_null_line null ls h = record { first = codes "null"; others = []; is = refl }

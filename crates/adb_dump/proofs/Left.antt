@@ -8,7 +8,7 @@ use Rattle.adb_view.specs.Schema.{field_name_text, shape_of, shapes_of}
 use Rattle.adb_view.specs.Values.{is_sound, value_at}
 use Rattle.adb_view.specs.declared.tables.Kind.{Kind}
 use Rattle.adb_view.specs.declared.tables.Field.{Field}
-use Rattle.adb_dump.specs.Dump.{Line, block_lines, with_dash, array_lines, fields_lines, named_lines, entry_lines_or_null_line, field_lines_unless_null}
+use Rattle.adb_dump.specs.Dump.{Line, block_lines, lines_with_dash_before_first, array_lines, fields_lines, named_lines, entry_lines_or_null_line, field_lines_unless_null}
 use Rattle.adb_dump.specs.Words.{is_null, are_null, fields_sound, fields_at}
 
 abbrev pub entries_left : List ℕ → Kind → List ℕ → ℕ → List Line
@@ -45,7 +45,7 @@ entry_step p k words i lt h =
     rw e (first_entry p k (get_or words i 0) (drop (i + 1) words) (rw e at h))
 
 pub entries_more : (p : List ℕ) (k : Kind) (words : List ℕ) (i : ℕ) → i < length words → are_all_sound p k (drop i words) ≡ true
-    → entries_left p k words i ≡ with_dash (entry_lines_or_null_line (value_at p k (get_or words i 0)) (block_lines (shape_of k) (value_at p k (get_or words i 0)))) ++ entries_left p k words (i + 1)
+    → entries_left p k words i ≡ lines_with_dash_before_first (entry_lines_or_null_line (value_at p k (get_or words i 0)) (block_lines (shape_of k) (value_at p k (get_or words i 0)))) ++ entries_left p k words (i + 1)
 entries_more p k words i lt h = ap (array_lines (block_lines (shape_of k))) (entry_step p k words i lt h).value
 
 pub entries_done : (p : List ℕ) (k : Kind) (words : List ℕ) (i : ℕ) → length words ≤ i → entries_left p k words i ≡ []

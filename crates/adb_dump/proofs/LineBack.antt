@@ -12,20 +12,20 @@ use Rattle.hex.specs.Hex.{encode_with, encode_lower, lower_digits}
 use Rattle.base_core.proofs.AtName.{own_name}
 use Rattle.adb_view.specs.Plain.{Plain, int, blob}
 use Rattle.adb_dump.specs.Dump.{is_printable, begins_with_byte, needs_no_quotes, quoted_form_of_byte, bare_or_quoted_text, int_line, text_line, hash_line}
-use Rattle.adb_dump.specs.ReadBack.{hex_digit_value_unchecked, quoted_read, bytes_of_hex_digits, blob_unless_empty, int_read, text_read, hash_read, if_line_prints_value}
+use Rattle.adb_dump.specs.ReadBack.{hex_digit_value_unchecked, quoted_read, bytes_of_hex_digits, blob_unless_empty, int_read, text_read, hash_read, value_if_printed_as_line}
 
 abbrev pub AreBytes : List ℕ → Type 0
 AreBytes b = AllByRecursion (λ c. c < 256) b
 
-pub if_line_prints_value-same : (form : Plain → List ℕ) (v : Plain) → if_line_prints_value form (form v) (Some v) ≡ Ok v
-if_line_prints_value-same form v = rw own_name refl
+pub value_if_printed_as_line-same : (form : Plain → List ℕ) (v : Plain) → value_if_printed_as_line form (form v) (Some v) ≡ Ok v
+value_if_printed_as_line-same form v = rw own_name refl
 
 -- ---- numbers
 
-pub int_back : (n : ℕ) → n < 2 ^ 64 → if_line_prints_value int_line (decimal n) (int_read (decimal n)) ≡ Ok (int n)
+pub int_back : (n : ℕ) → n < 2 ^ 64 → value_if_printed_as_line int_line (decimal n) (int_read (decimal n)) ≡ Ok (int n)
 int_back n lt =
     let t : ltb n (2 ^ 64) ≡ true = lt-ltb _ _ lt in
-    ap (λ (k : ℕ). if_line_prints_value int_line (decimal n) (cond (ltb k (2 ^ 64)) (Some (int k)) None)) (decimal_is_IsNumeral n lt).1 ∙ rw t (if_line_prints_value-same int_line (int n))
+    ap (λ (k : ℕ). value_if_printed_as_line int_line (decimal n) (cond (ltb k (2 ^ 64)) (Some (int k)) None)) (decimal_is_IsNumeral n lt).1 ∙ rw t (value_if_printed_as_line-same int_line (int n))
 
 -- ---- hexadecimal digits
 
@@ -74,8 +74,8 @@ made_blob-is : (b : List ℕ) → b ≢ [] → blob_unless_empty b ≡ Some (blo
 made_blob-is [] ne = absurd (ne refl)
 made_blob-is (c ∷ cs) ne = refl
 
-pub hash_back : (b : List ℕ) → AreBytes b → b ≢ [] → if_line_prints_value hash_line (encode_lower b) (hash_read (encode_lower b)) ≡ Ok (blob b)
-hash_back b fits ne = ap (λ (x : List ℕ). if_line_prints_value hash_line (encode_lower b) (blob_unless_empty x)) (bytes_of_hex_digits-pairs b fits) ∙ ap (if_line_prints_value hash_line (encode_lower b)) (made_blob-is b ne) ∙ if_line_prints_value-same hash_line (blob b)
+pub hash_back : (b : List ℕ) → AreBytes b → b ≢ [] → value_if_printed_as_line hash_line (encode_lower b) (hash_read (encode_lower b)) ≡ Ok (blob b)
+hash_back b fits ne = ap (λ (x : List ℕ). value_if_printed_as_line hash_line (encode_lower b) (blob_unless_empty x)) (bytes_of_hex_digits-pairs b fits) ∙ ap (value_if_printed_as_line hash_line (encode_lower b)) (made_blob-is b ne) ∙ value_if_printed_as_line-same hash_line (blob b)
 
 -- ---- texts
 
@@ -122,8 +122,8 @@ unquoted-all (c ∷ cs) (suc n) fits lt =
     let regroup : flat_map quoted_form_of_byte (c ∷ cs) ++ 34 ∷ [] ≡ quoted_form_of_byte c ++ (flat_map quoted_form_of_byte cs ++ 34 ∷ []) = ap (λ (x : List ℕ). x ++ 34 ∷ []) (flat_map-cons quoted_form_of_byte c cs) ∙ append_assoc (quoted_form_of_byte c) (flat_map quoted_form_of_byte cs) (34 ∷ []) in
     ap (quoted_read (suc n)) regroup ∙ unquoted-escaped n c (flat_map quoted_form_of_byte cs ++ 34 ∷ []) fits.0 ∙ ap (option_map (λ b. c ∷ b)) (unquoted-all cs n fits.1 (omega arith))
 
-pub text_back : (b : List ℕ) → AreBytes b → b ≢ [] → if_line_prints_value text_line (bare_or_quoted_text b) (text_read (bare_or_quoted_text b)) ≡ Ok (blob b)
-text_back b fits ne = ap (if_line_prints_value text_line (bare_or_quoted_text b)) (go (needs_no_quotes b) refl) ∙ if_line_prints_value-same text_line (blob b)
+pub text_back : (b : List ℕ) → AreBytes b → b ≢ [] → value_if_printed_as_line text_line (bare_or_quoted_text b) (text_read (bare_or_quoted_text b)) ≡ Ok (blob b)
+text_back b fits ne = ap (value_if_printed_as_line text_line (bare_or_quoted_text b)) (go (needs_no_quotes b) refl) ∙ value_if_printed_as_line-same text_line (blob b)
   where
     go : (t : Bool) → needs_no_quotes b ≡ t → text_read (cond t b (34 ∷ (flat_map quoted_form_of_byte b ++ 34 ∷ []))) ≡ Some (blob b)
     go true e =

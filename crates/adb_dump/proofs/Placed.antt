@@ -2,7 +2,7 @@
 use Rattle.std.proofs.Common.{◌≡◌, ℕ, zero, suc, Bool, true, false, List, [], ◌∷◌, ◌++◌, refl, sym, ap, ◌∙◌, append_assoc}
 use Rattle.std.specs.Prelude.{codes}
 use Rattle.std.proofs.lemmas.List.Concat.{flat_map-cons}
-use Rattle.adb_dump.specs.Dump.{Line, indent, with_dash, named_block, named_line, dump_text_of_lines}
+use Rattle.adb_dump.specs.Dump.{Line, indent, lines_with_dash_before_first, name_line_above_indented_lines, named_line, dump_text_of_lines}
 use Rattle.adb_dump.specs.Margin.{margin, margin_unless_begun, indented_lines_text}
 
 -- all lines but the first are at the margin
@@ -28,7 +28,7 @@ laid-indent d (l ∷ ls) =
     margin-more d (l ++ (codes "\n" ++ indented_lines_text d false (indent ls))) ∙ ap (λ (t : List ℕ). codes "  " ++ (margin d ++ (l ++ (codes "\n" ++ t)))) (laid-indent d ls)
 
 -- what is after a dash stands one deeper
-pub laid_dashed : (d : ℕ) (b : Bool) (l : Line) (ls rest : List Line) → indented_lines_text d b (with_dash (l ∷ ls) ++ rest) ≡ (margin_unless_begun d b ++ codes "- ") ++ (indented_lines_text (suc d) true (l ∷ ls) ++ indented_lines_text d false rest)
+pub laid_dashed : (d : ℕ) (b : Bool) (l : Line) (ls rest : List Line) → indented_lines_text d b (lines_with_dash_before_first (l ∷ ls) ++ rest) ≡ (margin_unless_begun d b ++ codes "- ") ++ (indented_lines_text (suc d) true (l ∷ ls) ++ indented_lines_text d false rest)
 laid_dashed d b l ls rest =
     ap (λ (t : List ℕ). margin_unless_begun d b ++ (codes "- " ++ (l ++ (codes "\n" ++ t)))) (laid-append d (indent ls) rest ∙ ap (λ (t : List ℕ). t ++ indented_lines_text d false rest) (laid-indent d ls))
     ∙ sym (append_assoc (margin_unless_begun d b) (codes "- ") (indented_lines_text (suc d) true (l ∷ ls) ++ indented_lines_text d false rest) ∙ ap (λ (t : List ℕ). margin_unless_begun d b ++ (codes "- " ++ t)) (append_assoc l (codes "\n" ++ indented_lines_text (suc d) false ls) (indented_lines_text d false rest)))
@@ -43,7 +43,7 @@ laid_on_line d b name l =
     ∙ sym (append_assoc ((margin_unless_begun d b ++ name) ++ codes ":") (codes " ") (l ++ codes "\n") ∙ append_assoc (margin_unless_begun d b ++ name) (codes ":") (codes " " ++ (l ++ codes "\n")))
 
 -- others are below it
-pub laid_below : (d : ℕ) (b : Bool) (name : Line) (ls : List Line) → indented_lines_text d b (named_block name ls) ≡ (((margin_unless_begun d b ++ name) ++ codes ":") ++ codes "\n") ++ indented_lines_text (suc d) false ls
+pub laid_below : (d : ℕ) (b : Bool) (name : Line) (ls : List Line) → indented_lines_text d b (name_line_above_indented_lines name ls) ≡ (((margin_unless_begun d b ++ name) ++ codes ":") ++ codes "\n") ++ indented_lines_text (suc d) false ls
 laid_below d b name ls =
     ap (λ (t : List ℕ). margin_unless_begun d b ++ ((name ++ codes ":") ++ (codes "\n" ++ t))) (laid-indent d ls)
     ∙ regroup (margin_unless_begun d b) name (codes ":") (codes "\n" ++ indented_lines_text (suc d) false ls)

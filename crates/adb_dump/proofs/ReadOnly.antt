@@ -7,10 +7,10 @@ use Rattle.std.proofs.lemmas.List.{length-append}
 use Rattle.adb_view.specs.Plain.{Plain, null, int, blob, arr, obj, Plains, none, more, prepend_plain_unless_last_null, without_last_nulls, Shape, number, text, hash, array, object, Fields, no_fields, field, IsNormal, AreNormal}
 use Rattle.adb_view.specs.Shaped.{Each, HasShape, HaveShapes}
 use Rattle.adb_view.proofs.FoundShapes.{shape_null}
-use Rattle.adb_dump.specs.Dump.{Line, begins_with_byte, int_line, text_line, hash_line, indent, with_dash, entry_lines_or_null_line, array_lines, named_line, named_block, field_lines_unless_null, block_lines, named_lines, fields_lines}
+use Rattle.adb_dump.specs.Dump.{Line, begins_with_byte, int_line, text_line, hash_line, indent, lines_with_dash_before_first, entry_lines_or_null_line, array_lines, named_line, name_line_above_indented_lines, field_lines_unless_null, block_lines, named_lines, fields_lines}
 use Rattle.base_core.specs.Lists.{and_then}
 use Rattle.base_core.proofs.AtName.{is_name}
-use Rattle.adb_dump.specs.ReadBack.{ResultOrBadLine, mapped_or_bad_line_shifted_by, strip_prefix, end_block_or_add_line, block_and_lines_after, quoted_read, bytes_of_hex_digits, blob_unless_empty, int_read, text_read, hash_read, if_line_prints_value, single_line_value, entry_read, entries_from_dash_line, entries_read, array_unless_empty, object_unless_empty, fields_read_with_value_on_line, fields_read_with_value_below, fields_read_by_name_match, block_read, named_read, fields_read}
+use Rattle.adb_dump.specs.ReadBack.{ResultOrBadLine, mapped_or_bad_line_shifted_by, strip_prefix, end_block_or_add_line, block_and_lines_after, quoted_read, bytes_of_hex_digits, blob_unless_empty, int_read, text_read, hash_read, value_if_printed_as_line, single_line_value, entry_read, entries_from_dash_line, entries_read, array_unless_empty, object_unless_empty, fields_read_with_value_on_line, fields_read_with_value_below, fields_read_by_name_match, block_read, named_read, fields_read}
 use Rattle.adb_dump.proofs.Booleans.{chosen}
 
 bind_ok : {A B : Type 0} (r : ResultOrBadLine A) (f : A → ResultOrBadLine B) (y : B) → and_then r f ≡ Ok y → (x : A) × (r ≡ Ok x) × (f x ≡ Ok y)
@@ -21,7 +21,7 @@ behind_ok : {A B : Type 0} (n : ℕ) (f : A → B) (r : ResultOrBadLine A) (y : 
 behind_ok n f (Ok x) y e = (x, refl, cc)
 behind_ok n f (Err k) y e = absurd cc
 
-pub if_form_ok : (form : Plain → Line) (l : Line) (o : Option Plain) (v : Plain) → if_line_prints_value form l o ≡ Ok v → (o ≡ Some v) × (form v ≡ l)
+pub if_form_ok : (form : Plain → Line) (l : Line) (o : Option Plain) (v : Plain) → value_if_printed_as_line form l o ≡ Ok v → (o ≡ Some v) × (form v ≡ l)
 if_form_ok form l None v e = absurd cc
 if_form_ok form l (Some u) v e =
     elim (chosen (bytes_eq (form u) l) _ _ _ e) [
@@ -103,7 +103,7 @@ dash_only f r Q h n l ls (Some inner) vs i g e =
     let first = h inner (block_and_lines_after ls).0 v one in
     let rest = g us others in
     let line = strip_prefix_some (45 ∷ 32 ∷ []) l inner i in
-    let lines : array_lines f (more v us) ≡ l ∷ ls = ap (λ (x : List Line). with_dash x ++ array_lines f us) first.0 ∙ ap (λ (x : List Line). ((45 ∷ 32 ∷ inner) ∷ indent (block_and_lines_after ls).0) ++ x) rest.0 ∙ cons_same (45 ∷ 32 ∷ inner) l (indent (block_and_lines_after ls).0 ++ (block_and_lines_after ls).1) ls (sym line) (sym (split_block_parts ls)) in
+    let lines : array_lines f (more v us) ≡ l ∷ ls = ap (λ (x : List Line). lines_with_dash_before_first x ++ array_lines f us) first.0 ∙ ap (λ (x : List Line). ((45 ∷ 32 ∷ inner) ∷ indent (block_and_lines_after ls).0) ++ x) rest.0 ∙ cons_same (45 ∷ 32 ∷ inner) l (indent (block_and_lines_after ls).0 ++ (block_and_lines_after ls).1) ls (sym line) (sym (split_block_parts ls)) in
     subst (λ (x : Plains). (array_lines f x ≡ l ∷ ls) × Each Q x) is (lines, (first.1, rest.1))
   where
     cons_same : (x y : Line) (xs ys : List Line) → x ≡ y → xs ≡ ys → x ∷ xs ≡ y ∷ ys
@@ -166,9 +166,9 @@ unfolding IsNormal
 each_split s none h = (tt, tt)
 each_split s (more v vs) h = let r = each_split s vs h.1 in ((h.0.0, r.0), (h.0.1, r.1))
 
-one_only : (form : Plain → Line) (read : Line → Option Plain) (s : Shape) → ((l : Line) (v : Plain) → read l ≡ Some v → Fits1 s v) → (ls : List Line) (v : Plain) → single_line_value (λ l. if_line_prints_value form l (read l)) ls ≡ Ok v → (form v ∷ [] ≡ ls) × Fits1 s v
+one_only : (form : Plain → Line) (read : Line → Option Plain) (s : Shape) → ((l : Line) (v : Plain) → read l ≡ Some v → Fits1 s v) → (ls : List Line) (v : Plain) → single_line_value (λ l. value_if_printed_as_line form l (read l)) ls ≡ Ok v → (form v ∷ [] ≡ ls) × Fits1 s v
 one_only form read s h ls v e =
-    let (l, is, ok) = only_line_ok (λ l. if_line_prints_value form l (read l)) ls v e in
+    let (l, is, ok) = only_line_ok (λ l. value_if_printed_as_line form l (read l)) ls v e in
     let (some, line) = if_form_ok form l (read l) v ok in
     (ap (λ (x : Line). x ∷ []) line ∙ sym is, h l v some)
 
@@ -215,10 +215,10 @@ record NamedOnly (s : Shape) (fs : Fields) (name : List ℕ) (rest : Line) (ls :
   lines : named_lines s name v ++ others ≡ (name ++ 58 ∷ rest) ∷ ls
 
 line_only : (s : Shape) (fs : Fields) (name : List ℕ) (form : Plain → Line) (read : Line → Option Plain) → ((l : Line) (v : Plain) → read l ≡ Some v → Fits1 s v) → ((v : Plain) → named_lines s name v ≡ named_line name (form v)) → (rest : Line) (ls : List Line) (vs : Plains) (o : Option Line)
-    → strip_prefix (32 ∷ []) rest ≡ o → fields_read_with_value_on_line (λ l. if_line_prints_value form l (read l)) (fields_read fs) ls o ≡ Ok vs → NamedOnly s fs name rest ls vs
+    → strip_prefix (32 ∷ []) rest ≡ o → fields_read_with_value_on_line (λ l. value_if_printed_as_line form l (read l)) (fields_read fs) ls o ≡ Ok vs → NamedOnly s fs name rest ls vs
 line_only s fs name form read h k rest ls vs None i e = absurd cc
 line_only s fs name form read h k rest ls vs (Some l) i e =
-    let (v, one, a) = bind_ok (if_line_prints_value form l (read l)) (λ v. mapped_or_bad_line_shifted_by 1 (more v) (fields_read fs ls)) vs e in
+    let (v, one, a) = bind_ok (value_if_printed_as_line form l (read l)) (λ v. mapped_or_bad_line_shifted_by 1 (more v) (fields_read fs ls)) vs e in
     let (us, others, is) = behind_ok 1 (more v) (fields_read fs ls) vs a in
     let (some, line) = if_form_ok form l (read l) v one in
     let word = strip_prefix_some (32 ∷ []) rest l i in
@@ -232,7 +232,7 @@ line_only s fs name form read h k rest ls vs (Some l) i e =
       lines = ap (λ (x : List Line). x ++ ls) (k v) ∙ ap (λ (x : Line). (name ++ (58 ∷ 32 ∷ x)) ∷ ls) line ∙ ap (λ (x : Line). (name ++ 58 ∷ x) ∷ ls) (sym word);
     }
 
-below_only : (s : Shape) (fs : Fields) (name : List ℕ) → BlockOnly s → ((v : Plain) → named_lines s name v ≡ named_block name (block_lines s v)) → (rest : Line) (ls : List Line) (vs : Plains)
+below_only : (s : Shape) (fs : Fields) (name : List ℕ) → BlockOnly s → ((v : Plain) → named_lines s name v ≡ name_line_above_indented_lines name (block_lines s v)) → (rest : Line) (ls : List Line) (vs : Plains)
     → fields_read_with_value_below (block_read s) (fields_read fs) (block_and_lines_after ls) rest ≡ Ok vs → NamedOnly s fs name rest ls vs
 below_only s fs name h k (c ∷ cs) ls vs e = absurd cc
 below_only s fs name h k [] ls vs e =

@@ -11,8 +11,8 @@ use Rattle.std.proofs.lemmas.Str.Parse.{digit_at}
 use Rattle.hex.specs.Hex.{encode_with, encode_lower}
 use Rattle.adb_view.specs.Plain.{Plain, null, int, blob, arr, obj, Plains, none, more, Shape, number, text, hash, array, object, Fields, no_fields, field, IsNormal, AreNormal}
 use Rattle.adb_view.specs.Values.{entries_in}
-use Rattle.adb_dump.specs.Dump.{Line, is_printable, needs_no_quotes, quoted_form_of_byte, bare_or_quoted_text, int_line, text_line, hash_line, indent, with_dash, entry_lines_or_null_line, array_lines, named_line, named_block, field_lines_unless_null, block_lines, named_lines, fields_lines, dump_text_of_lines}
-use Rattle.adb_dump.specs.ReadBack.{split_lines, add_char}
+use Rattle.adb_dump.specs.Dump.{Line, is_printable, needs_no_quotes, quoted_form_of_byte, bare_or_quoted_text, int_line, text_line, hash_line, indent, lines_with_dash_before_first, entry_lines_or_null_line, array_lines, named_line, name_line_above_indented_lines, field_lines_unless_null, block_lines, named_lines, fields_lines, dump_text_of_lines}
+use Rattle.adb_dump.specs.ReadBack.{lines_of_text_if_all_ended, add_char}
 use Rattle.adb_dump.proofs.LineBack.{digit_not_end}
 use Rattle.adb_dump.proofs.Booleans.{chosen}
 use Rattle.adb_dump.proofs.ValueBack.{no_end, no_colon, names_of, is_name, is_named, are_named}
@@ -21,18 +21,18 @@ abbrev pub are_lines : List Line → Bool
 are_lines ls = list_all no_end ls
 
 -- a line without a line end, and its end
-lines_of-line : (l : Line) (rest : List ℕ) (ls : List Line) → no_end l ≡ true → split_lines rest ≡ Some ls → split_lines (l ++ 10 ∷ rest) ≡ Some (l ∷ ls)
+lines_of-line : (l : Line) (rest : List ℕ) (ls : List Line) → no_end l ≡ true → lines_of_text_if_all_ended rest ≡ Some ls → lines_of_text_if_all_ended (l ++ 10 ∷ rest) ≡ Some (l ∷ ls)
 lines_of-line [] rest ls h e = rw e refl
 lines_of-line (c ∷ cs) rest ls h e =
     let a = and_parts (not (eqb c 10)) (no_end cs) h in
     let t : eqb c 10 ≡ false = not-true (eqb c 10) a.0 in
     rw (t, lines_of-line cs rest ls a.1 e) refl
 
-pub lines_of-text : (ls : List Line) → are_lines ls ≡ true → split_lines (dump_text_of_lines ls) ≡ Some ls
+pub lines_of-text : (ls : List Line) → are_lines ls ≡ true → lines_of_text_if_all_ended (dump_text_of_lines ls) ≡ Some ls
 lines_of-text [] h = refl
 lines_of-text (l ∷ ls) h =
     let a = and_parts (no_end l) (are_lines ls) h in
-    ap split_lines (flat_map-cons (λ (x : Line). x ++ 10 ∷ []) l ls ∙ append_assoc l (10 ∷ []) (dump_text_of_lines ls)) ∙ lines_of-line l (dump_text_of_lines ls) ls a.0 (lines_of-text ls a.1)
+    ap lines_of_text_if_all_ended (flat_map-cons (λ (x : Line). x ++ 10 ∷ []) l ls ∙ append_assoc l (10 ∷ []) (dump_text_of_lines ls)) ∙ lines_of-line l (dump_text_of_lines ls) ls a.0 (lines_of-text ls a.1)
 
 -- ---- no line of a dump has a line end
 
@@ -49,7 +49,7 @@ indent_lines : (ls : List Line) → are_lines ls ≡ true → are_lines (indent 
 indent_lines [] h = refl
 indent_lines (l ∷ ls) h = let a = and_parts (no_end l) (are_lines ls) h in and_from _ _ a.0 (indent_lines ls a.1)
 
-dashed_lines : (ls : List Line) → are_lines ls ≡ true → are_lines (with_dash ls) ≡ true
+dashed_lines : (ls : List Line) → are_lines ls ≡ true → are_lines (lines_with_dash_before_first ls) ≡ true
 dashed_lines [] h = refl
 dashed_lines (l ∷ ls) h = let a = and_parts (no_end l) (are_lines ls) h in and_from _ _ a.0 (indent_lines ls a.1)
 
@@ -132,7 +132,7 @@ absent_lines (obj vs) ls h = h
 entries_lines : (f : Plain → List Line) → ((v : Plain) → IsNormal v → are_lines (f v) ≡ true) → (vs : Plains) → AreNormal vs → are_lines (array_lines f vs) ≡ true
 unfolding IsNormal
 entries_lines f h none n = refl
-entries_lines f h (more v vs) n = append_lines (with_dash (entry_lines_or_null_line v (f v))) (array_lines f vs) (dashed_lines (entry_lines_or_null_line v (f v)) (or_null_lines v (f v) (h v n.0))) (entries_lines f h vs n.1)
+entries_lines f h (more v vs) n = append_lines (lines_with_dash_before_first (entry_lines_or_null_line v (f v))) (array_lines f vs) (dashed_lines (entry_lines_or_null_line v (f v)) (or_null_lines v (f v) (h v n.0))) (entries_lines f h vs n.1)
 
 items_normal : (v : Plain) → IsNormal v → AreNormal (entries_in v)
 unfolding IsNormal
@@ -152,7 +152,7 @@ name_end (c ∷ cs) h = (and_parts (no_colon (c ∷ cs)) (no_end (c ∷ cs)) (an
 on_line_end : (name l : List ℕ) → is_name name ≡ true → no_end l ≡ true → are_lines (named_line name l) ≡ true
 on_line_end name l n h = one_line (name ++ (58 ∷ 32 ∷ l)) (append_chars name (58 ∷ 32 ∷ l) (name_end name n) h)
 
-below_end : (name : List ℕ) (ls : List Line) → is_name name ≡ true → are_lines ls ≡ true → are_lines (named_block name ls) ≡ true
+below_end : (name : List ℕ) (ls : List Line) → is_name name ≡ true → are_lines ls ≡ true → are_lines (name_line_above_indented_lines name ls) ≡ true
 below_end name ls n h = and_from _ _ (append_chars name (58 ∷ []) (name_end name n) refl) (indent_lines ls h)
 
 named_end : (name : List ℕ) (s : Shape) (v : Plain) → is_name name ≡ true → IsNormal v → are_lines (block_lines s v) ≡ true → are_lines (named_lines s name v) ≡ true
@@ -198,15 +198,15 @@ mapped_some (Some rest) ls e = (rest, refl, cc)
 pub line_first : (l : Line) (ls : List Line) → dump_text_of_lines (l ∷ ls) ≡ l ++ 10 ∷ dump_text_of_lines ls
 line_first l ls = flat_map-cons (λ (x : Line). x ++ codes "\n") l ls ∙ append_assoc l (10 ∷ []) (dump_text_of_lines ls)
 
-pub dump_text_of_lines-lines : (t : List ℕ) (ls : List Line) → split_lines t ≡ Some ls → dump_text_of_lines ls ≡ t
+pub dump_text_of_lines-lines : (t : List ℕ) (ls : List Line) → lines_of_text_if_all_ended t ≡ Some ls → dump_text_of_lines ls ≡ t
 dump_text_of_lines-lines [] ls e = let same : [] ≡ ls = cc in rw (sym same) refl
 dump_text_of_lines-lines (c ∷ cs) ls e =
     elim (chosen (eqb c 10) _ _ _ e) [
       | inl x ↦
-          let (rest, some, is) = mapped_some (split_lines cs) ls x.1 in
+          let (rest, some, is) = mapped_some (lines_of_text_if_all_ended cs) ls x.1 in
           let end : c ≡ 10 = eqb-true _ _ x.0 in
           rw (is, end) (line_first [] rest ∙ ap (λ (t : List ℕ). 10 ∷ t) (dump_text_of_lines-lines cs rest some))
       | inr x ↦
-          let (l, rest, some, is) = add_some c (split_lines cs) ls x.1 in
+          let (l, rest, some, is) = add_some c (lines_of_text_if_all_ended cs) ls x.1 in
           rw is (line_first (c ∷ l) rest ∙ ap (λ (t : List ℕ). c ∷ t) (sym (line_first l rest) ∙ dump_text_of_lines-lines cs (l ∷ rest) some))
     ]

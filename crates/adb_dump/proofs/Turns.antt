@@ -9,7 +9,7 @@ use Rattle.adb_view.specs.declared.tables.Which.{Which}
 use Rattle.adb_view.specs.declared.tables.Kind.{Kind}
 use Rattle.adb_view.specs.declared.tables.Kind.TheVariants.{Int, Text, Hash, Obj, TextArr, ObjArr}
 use Rattle.adb_view.specs.declared.tables.Field.{Field}
-use Rattle.adb_dump.specs.Dump.{Line, block_lines, fields_lines, with_dash, named_lines, entry_lines_or_null_line, bare_or_quoted_text, field_lines_unless_null}
+use Rattle.adb_dump.specs.Dump.{Line, block_lines, fields_lines, lines_with_dash_before_first, named_lines, entry_lines_or_null_line, bare_or_quoted_text, field_lines_unless_null}
 use Rattle.adb_dump.specs.Margin.{indented_lines_text, margin_unless_begun}
 use Rattle.adb_dump.specs.Words.{are_null, fields_at, is_null, fields_sound, has_one_line}
 use Rattle.adb_dump.proofs.BlockLines.{HasLine, block_line, or_null_line, named_line, object_lines, text_lines}
@@ -25,7 +25,7 @@ entry_here p k words i lt h = (entry_step p k words i lt h).here
 pub entries_later : (p : List ℕ) (k : Kind) (words : List ℕ) (i : ℕ) → i < length words → are_all_sound p k (drop i words) ≡ true → are_all_sound p k (drop (i + 1) words) ≡ true
 entries_later p k words i lt h = (entry_step p k words i lt h).later
 
-dashed_laid : (d : ℕ) (b : Bool) (ls rest : List Line) → HasLine ls → indented_lines_text d b (with_dash ls ++ rest) ≡ (margin_unless_begun d b ++ codes "- ") ++ (indented_lines_text (d + 1) true ls ++ indented_lines_text d false rest)
+dashed_laid : (d : ℕ) (b : Bool) (ls rest : List Line) → HasLine ls → indented_lines_text d b (lines_with_dash_before_first ls ++ rest) ≡ (margin_unless_begun d b ++ codes "- ") ++ (indented_lines_text (d + 1) true ls ++ indented_lines_text d false rest)
 dashed_laid d b ls rest h =
     let e : d + 1 ≡ suc d = omega arith in
     rw (e, h.is) (laid_dashed d b h.first h.others rest)

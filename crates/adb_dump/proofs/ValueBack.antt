@@ -7,7 +7,7 @@ use Rattle.std.proofs.lemmas.List.{length-append}
 use Rattle.adb_view.specs.Plain.{Plain, null, int, blob, arr, obj, Plains, none, more, without_last_nulls, Shape, number, text, hash, array, object, Fields, no_fields, field, IsNormal, AreNormal}
 use Rattle.adb_view.specs.Shaped.{Each, HasShape, HaveShapes}
 use Rattle.adb_view.proofs.Normal.{trimmed-more}
-use Rattle.adb_dump.specs.Dump.{Line, int_line, text_line, hash_line, bare_or_quoted_text, indent, with_dash, entry_lines_or_null_line, array_lines, block_lines, named_lines, fields_lines}
+use Rattle.adb_dump.specs.Dump.{Line, int_line, text_line, hash_line, bare_or_quoted_text, indent, lines_with_dash_before_first, entry_lines_or_null_line, array_lines, block_lines, named_lines, fields_lines}
 use Rattle.base_core.specs.Lists.{and_then}
 use Rattle.base_core.proofs.AtName.{own_name, other_name as differs}
 use Rattle.adb_dump.specs.ReadBack.{ResultOrBadLine, mapped_or_bad_line_shifted_by, strip_prefix, block_and_lines_after, entry_read, entries_read, array_unless_empty, object_unless_empty, fields_read_with_value_below, block_read, named_read, fields_read}
@@ -76,11 +76,11 @@ entries_back f r zero none h le = refl
 entries_back f r (suc n) none h le = refl
 entries_back f r zero (more v vs) h le =
     let e = h.0 in
-    let lines : array_lines f (more v vs) ≡ (45 ∷ 32 ∷ e.first) ∷ (indent e.others ++ array_lines f vs) = ap (λ (ls : List Line). with_dash ls ++ array_lines f vs) e.lines in
+    let lines : array_lines f (more v vs) ≡ (45 ∷ 32 ∷ e.first) ∷ (indent e.others ++ array_lines f vs) = ap (λ (ls : List Line). lines_with_dash_before_first ls ++ array_lines f vs) e.lines in
     absurd (omega (arith, ap length lines))
 entries_back f r (suc n) (more v vs) h le =
     let e = h.0 in
-    let lines : array_lines f (more v vs) ≡ (45 ∷ 32 ∷ e.first) ∷ (indent e.others ++ array_lines f vs) = ap (λ (ls : List Line). with_dash ls ++ array_lines f vs) e.lines in
+    let lines : array_lines f (more v vs) ≡ (45 ∷ 32 ∷ e.first) ∷ (indent e.others ++ array_lines f vs) = ap (λ (ls : List Line). lines_with_dash_before_first ls ++ array_lines f vs) e.lines in
     let split : block_and_lines_after (indent e.others ++ array_lines f vs) ≡ (e.others, array_lines f vs) = block_and_lines_after-indent e.others (array_lines f vs) (entries-fresh f r vs h.1) in
     let more_back : entries_read r n (array_lines f vs) ≡ Ok vs = entries_back f r n vs h.1 (omega (arith, ap length lines, length-append (indent e.others) (array_lines f vs))) in
     ap (entries_read r (suc n)) lines ∙ rw (split, e.back, more_back) refl
@@ -315,7 +315,7 @@ array_back s (more v vs) ne h =
     record {
       first = 45 ∷ 32 ∷ e.first;
       others = indent e.others ++ array_lines (block_lines s) vs;
-      lines = ap (λ (ls : List Line). with_dash ls ++ array_lines (block_lines s) vs) e.lines;
+      lines = ap (λ (ls : List Line). lines_with_dash_before_first ls ++ array_lines (block_lines s) vs) e.lines;
       not_null = refl;
       back = ap (λ (r : ResultOrBadLine Plains). and_then r array_unless_empty) (entries_back (block_lines s) (block_read s) (length (array_lines (block_lines s) (more v vs))) (more v vs) h (omega arith));
     }

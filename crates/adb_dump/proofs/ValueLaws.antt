@@ -12,7 +12,7 @@ use Rattle.adb_view.specs.declared.tables.Kind.TheVariants.{Obj}
 use Rattle.adb_view.specs.Shapes.{object_shape}
 use Rattle.adb_dump.specs.Dump.{Line, block_lines, dump_lines, dump_text, schema_line, value_lines}
 use Rattle.base_core.specs.Lists.{and_then}
-use Rattle.adb_dump.specs.ReadBack.{block_read, split_lines, value_read}
+use Rattle.adb_dump.specs.ReadBack.{block_read, lines_of_text_if_all_ended, value_read}
 use Rattle.adb_dump.specs.Values.{IsOfBytes, IsNormalValueOfTable}
 use Rattle.adb_dump.proofs.BlockLines.{no_lines, object_block}
 use Rattle.adb_dump.proofs.ValueBack.{no_end, is_named, block_back}
@@ -71,7 +71,7 @@ schema_end Index = refl
 schema_end Idb = refl
 schema_end Intent = refl
 
-pub text_split : (which : Which) (v : Plain) → IsNormal v → split_lines (dump_text which v) ≡ Some (dump_lines which v)
+pub text_split : (which : Which) (v : Plain) → IsNormal v → lines_of_text_if_all_ended (dump_text which v) ≡ Some (dump_lines which v)
 text_split which v a = lines_of-text (dump_lines which v) (and_from _ _ (schema_end which) (block_end (shape_of (Obj which)) (table_named which) v a))
 
 same_lines : (x y : Line) (xs ys : List Line) → option_map (λ (ls : List Line). ls) (Some (x ∷ xs)) ≡ option_map (λ (ls : List Line). ls) (Some (y ∷ ys)) → xs ≡ ys
@@ -82,7 +82,7 @@ same_value x y e = cc
 
 pub one_text_one_value : (which : Which) (v u : Plain) → IsNormalValueOfTable which v → IsOfBytes v → IsNormalValueOfTable which u → IsOfBytes u → dump_text which v ≡ dump_text which u → v ≡ u
 one_text_one_value which v u is b is' b' e =
-    let lines : split_lines (dump_text which v) ≡ split_lines (dump_text which u) = ap split_lines e in
+    let lines : lines_of_text_if_all_ended (dump_text which v) ≡ lines_of_text_if_all_ended (dump_text which u) = ap lines_of_text_if_all_ended e in
     let whole = sym (text_split which v is.0) ∙ lines ∙ text_split which u is'.0 in
     let values : value_lines which v ≡ value_lines which u = same_lines _ _ (value_lines which v) (value_lines which u) whole in
     same_value v u (sym (read_back which v is b) ∙ ap (value_read which) values ∙ read_back which u is' b')

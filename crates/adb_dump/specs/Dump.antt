@@ -80,9 +80,9 @@ abbrev pub indent : List Line → List Line
 indent ls = map (λ (l : Line). codes "  " ++ l) ls
 
 -- the lines of an entry of an array: the first after a dash, the others as deep as the first
-abbrev pub with_dash : List Line → List Line
-with_dash [] = []
-with_dash (l ∷ ls) = (codes "- " ++ l) ∷ indent ls
+abbrev pub lines_with_dash_before_first : List Line → List Line
+lines_with_dash_before_first [] = []
+lines_with_dash_before_first (l ∷ ls) = (codes "- " ++ l) ∷ indent ls
 
 -- the lines of an entry of an array: Null has the line `null`, so that the positions of entries are
 -- unchanged
@@ -93,7 +93,8 @@ entry_lines_or_null_line v ls = ls
 -- the lines of an array: each entry after a dash
 abbrev pub array_lines : (Plain → List Line) → Plains → List Line
 array_lines f none = []
-array_lines f (more v vs) = with_dash (entry_lines_or_null_line v (f v)) ++ array_lines f vs
+array_lines f (more v vs) =
+    lines_with_dash_before_first (entry_lines_or_null_line v (f v)) ++ array_lines f vs
 
 -- the line of a field whose value has one line: the value after the field's name
 abbrev pub named_line : List ℕ → Line → List Line
@@ -101,8 +102,8 @@ named_line name l = (name ++ (codes ": " ++ l)) ∷ []
 
 -- the lines of a field whose value may have several lines: the field's name alone, and the value's
 -- lines one level deeper
-abbrev pub named_block : List ℕ → List Line → List Line
-named_block name ls = (name ++ codes ":") ∷ indent ls
+abbrev pub name_line_above_indented_lines : List ℕ → List Line → List Line
+name_line_above_indented_lines name ls = (name ++ codes ":") ∷ indent ls
 
 -- the lines of a field; none if its value is Null
 abbrev pub field_lines_unless_null : Plain → List Line → List Line
@@ -123,8 +124,10 @@ unfoldable mutual
   named_lines number name v = named_line name (int_line v)
   named_lines text name v = named_line name (text_line v)
   named_lines hash name v = named_line name (hash_line v)
-  named_lines (array s) name v = named_block name (array_lines (block_lines s) (entries_in v))
-  named_lines (object schema fs) name v = named_block name (fields_lines fs (entries_in v))
+  named_lines (array s) name v =
+      name_line_above_indented_lines name (array_lines (block_lines s) (entries_in v))
+  named_lines (object schema fs) name v =
+      name_line_above_indented_lines name (fields_lines fs (entries_in v))
 
   -- the lines of an object's fields that are not Null, in their order
   pub fields_lines : Fields → Plains → List Line

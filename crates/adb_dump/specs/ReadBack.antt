@@ -94,7 +94,7 @@ abbrev pub blob_unless_empty : List ℕ → Option Plain
 blob_unless_empty [] = None
 blob_unless_empty (c ∷ cs) = Some (blob (c ∷ cs))
 
--- the value of a number below 2^64 in decimal digits; *if_line_prints_value* tests that the line has nothing else
+-- the value of a number below 2^64 in decimal digits; *value_if_printed_as_line* tests that the line has nothing else
 abbrev pub int_read : Line → Option Plain
 int_read l = if nat_lt (digits_value 10 l) (2 ^ 64) then Some (int (digits_value 10 l)) else None
 
@@ -110,9 +110,9 @@ hash_read l = blob_unless_empty (bytes_of_hex_digits l)
 
 -- the value that was read from a line, if it is printed as exactly this line (`form`); else the line
 -- is bad
-abbrev pub if_line_prints_value : (Plain → Line) → Line → Option Plain → ResultOrBadLine Plain
-if_line_prints_value form l None = Err 0
-if_line_prints_value form l (Some v) = if bytes_eq (form v) l then Ok v else Err 0
+abbrev pub value_if_printed_as_line : (Plain → Line) → Line → Option Plain → ResultOrBadLine Plain
+value_if_printed_as_line form l None = Err 0
+value_if_printed_as_line form l (Some v) = if bytes_eq (form v) l then Ok v else Err 0
 
 -- A value on one line. A second line is bad, and is reported as line 1 (lines count from 0).
 abbrev pub single_line_value : (Line → ResultOrBadLine Plain) → List Line → ResultOrBadLine Plain
@@ -184,9 +184,9 @@ fields_read_by_name_match other this (Some rest) = this rest
 unfoldable mutual
   -- the value of a shape with exactly these lines
   pub block_read : Shape → List Line → ResultOrBadLine Plain
-  block_read number ls = single_line_value (λ l. if_line_prints_value int_line l (int_read l)) ls
-  block_read text ls = single_line_value (λ l. if_line_prints_value text_line l (text_read l)) ls
-  block_read hash ls = single_line_value (λ l. if_line_prints_value hash_line l (hash_read l)) ls
+  block_read number ls = single_line_value (λ l. value_if_printed_as_line int_line l (int_read l)) ls
+  block_read text ls = single_line_value (λ l. value_if_printed_as_line text_line l (text_read l)) ls
+  block_read hash ls = single_line_value (λ l. value_if_printed_as_line hash_line l (hash_read l)) ls
   block_read (array s) ls = and_then (entries_read (block_read s) (length ls) ls) array_unless_empty
   block_read (object schema fs) ls = and_then (fields_read fs ls) object_unless_empty
 
@@ -196,13 +196,13 @@ unfoldable mutual
   pub named_read :
       Shape → (List Line → ResultOrBadLine Plains) → List Line → Line → ResultOrBadLine Plains
   named_read number g ls l =
-      fields_read_with_value_on_line (λ l. if_line_prints_value int_line l (int_read l)) g ls
+      fields_read_with_value_on_line (λ l. value_if_printed_as_line int_line l (int_read l)) g ls
       (strip_prefix (codes " ") l)
   named_read text g ls l =
-      fields_read_with_value_on_line (λ l. if_line_prints_value text_line l (text_read l)) g ls
+      fields_read_with_value_on_line (λ l. value_if_printed_as_line text_line l (text_read l)) g ls
       (strip_prefix (codes " ") l)
   named_read hash g ls l =
-      fields_read_with_value_on_line (λ l. if_line_prints_value hash_line l (hash_read l)) g ls
+      fields_read_with_value_on_line (λ l. value_if_printed_as_line hash_line l (hash_read l)) g ls
       (strip_prefix (codes " ") l)
   named_read (array s) g ls l = fields_read_with_value_below
       (λ ls. and_then (entries_read (block_read s) (length ls) ls) array_unless_empty) g
@@ -235,7 +235,8 @@ add_char c (Some []) = None
 add_char c (Some (l ∷ ls)) = Some ((c ∷ l) ∷ ls)
 
 -- the lines of a text; None if its last line has no line end
-abbrev pub split_lines : List ℕ → Option (List Line)
-split_lines [] = Some []
-split_lines (c ∷ cs) =
-    if c == 0x0a then option_map (λ ls. [] ∷ ls) (split_lines cs) else add_char c (split_lines cs)
+abbrev pub lines_of_text_if_all_ended : List ℕ → Option (List Line)
+lines_of_text_if_all_ended [] = Some []
+lines_of_text_if_all_ended (c ∷ cs) =
+    if c == 0x0a then option_map (λ ls. [] ∷ ls) (lines_of_text_if_all_ended cs) else add_char c
+    (lines_of_text_if_all_ended cs)

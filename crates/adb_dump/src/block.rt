@@ -151,6 +151,7 @@ fn write_block<O: BlobOut>(
 ) -> Result<(), AllocError>
     // The word has a plain value of its kind.
     requires sound { is_sound (payload_of adb) kind word ≡ true }
+    // The value is not Null.
     requires some { is_null (value_at (payload_of adb) kind word) ≡ false }
     // No value is so deep that its lines exceed the greatest depth.
     requires deep { start.depth + rank kind ≤ DEPTH_LIMIT }
@@ -275,8 +276,10 @@ pub(crate) fn write_fields<O: BlobOut>(
     requires sound { fields_sound (payload_of adb) fields.now (array_entries words) ≡ true }
     // No value is so deep that its lines exceed the greatest depth.
     requires deep { start.depth + rank_of_all fields.now < DEPTH_LIMIT }
+    // On Ok, the result says whether all these values are Null.
     ensures null { IfOk result (λ null. null
         ≡ are_null (fields_at (payload_of adb.entry) fields.now (array_entries words.entry))) }
+    // On Ok, exactly the lines of the value are written.
     ensures put { IfOk result (λ _. Puts (O.holds (payload_of adb.entry)) out.old out.new
         (indented_lines_text start.depth start.begun
         (fields_lines (shapes_of fields.now)
@@ -313,8 +316,10 @@ fn write_field<O: BlobOut>(
     requires sound { is_sound (payload_of adb) field.kind word ≡ true }
     // No value is so deep that its lines exceed the greatest depth.
     requires deep { start.depth + rank field.kind < DEPTH_LIMIT }
+    // On Ok, the result says whether the value is Null.
     ensures null { IfOk result (λ null. null
         ≡ is_null (value_at (payload_of adb.entry) field.kind word)) }
+    // On Ok, exactly the lines of the value are written.
     ensures put { IfOk result (λ _. Puts (O.holds (payload_of adb.entry)) out.old out.new
         (indented_lines_text start.depth start.begun
         (field_lines_unless_null (value_at (payload_of adb.entry) field.kind word)
@@ -325,6 +330,7 @@ fn write_field<O: BlobOut>(
         return write_text_field(out, adb, field.name, word, start);
     }
     if is_null(adb, field.kind, word) {
+        // A value that is Null has no lines.
         return Ok(true);
     }
     write_named(out, adb, field, word, start)?;
@@ -343,8 +349,10 @@ fn write_text_field<O: BlobOut>(
 ) -> Result<bool, AllocError>
     // The word has a plain value: a text, or Null.
     requires { is_sound (payload_of adb) Kinds.Text word ≡ true }
+    // On Ok, the result says whether the value is Null.
     ensures null { IfOk result (λ null. null
         ≡ is_null (value_at (payload_of adb.entry) Kinds.Text word)) }
+    // On Ok, exactly the lines of the value are written.
     ensures put { IfOk result (λ _. Puts (O.holds (payload_of adb.entry)) out.old out.new
         (indented_lines_text start.depth start.begun
         (field_lines_unless_null (value_at (payload_of adb.entry) Kinds.Text word)
@@ -353,6 +361,7 @@ fn write_text_field<O: BlobOut>(
 {
     let text = text_word(adb, word);
     if text.is_empty() {
+        // An empty text is Null, and has no line.
         return Ok(true);
     }
     let LineStart { depth, .. } = start;
@@ -374,6 +383,7 @@ fn write_named<O: BlobOut>(
 ) -> Result<(), AllocError>
     // The word has a plain value of its kind.
     requires sound { is_sound (payload_of adb) field.kind word ≡ true }
+    // The value is not Null.
     requires some { is_null (value_at (payload_of adb) field.kind word) ≡ false }
     // No value is so deep that its lines exceed the greatest depth.
     requires deep { start.depth + rank field.kind < DEPTH_LIMIT }

@@ -8,7 +8,7 @@ ghost use Rattle.adb_view.specs.Schema.{shape_of};
 ghost use Rattle.adb_view.specs.declared.tables.Which.{Which};
 ghost use Rattle.adb_view.specs.declared.tables.Kind.TheVariants as Kinds;
 ghost use Rattle.adb_dump.specs.Dump.{Line, dump_lines, dump_text, dump_text_of_lines, value_lines};
-ghost use Rattle.adb_dump.specs.ReadBack.{split_lines, value_read};
+ghost use Rattle.adb_dump.specs.ReadBack.{lines_of_text_if_all_ended, value_read};
 ghost use Rattle.adb_dump.specs.Values.{IsOfBytes, IsNormalValueOfTable};
 
 use adb_view::{values_are_normal, values_have_their_shape};
@@ -35,9 +35,11 @@ pub fn only_lines_of_values_are_read()
 /// The text of a normal value is split into exactly its lines, and the lines that a text is split
 /// into make up that text.
 pub fn texts_are_split_into_their_lines()
+    // A text of a normal value is split into its lines.
     ensures split { (which : Which) (v : Plain) → IsNormal v
-        → split_lines (dump_text which v) ≡ Some (dump_lines which v) }
-    ensures joined { (text : List ℕ) (ls : List Line) → split_lines text ≡ Some ls
+        → lines_of_text_if_all_ended (dump_text which v) ≡ Some (dump_lines which v) }
+    // The lines into which a text is split make up the text.
+    ensures joined { (text : List ℕ) (ls : List Line) → lines_of_text_if_all_ended text ≡ Some ls
         → dump_text_of_lines ls ≡ text }
 {}
 

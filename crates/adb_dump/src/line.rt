@@ -49,6 +49,7 @@ pub(crate) fn write_text_line<O: BlobOut>(
     word: Val,
     text: &[u8],
 ) -> Result<(), AllocError>
+    // These bytes are the text of the word.
     requires { text.now ≡ text_in (value_at (payload_of adb) Kinds.Text word) }
     ensures { OnOk result (Puts (O.holds (payload_of adb.entry)) out.old out.new
         (indented_lines_text start.depth start.begun (bare_or_quoted_text text.now ∷ []))) }

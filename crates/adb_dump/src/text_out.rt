@@ -43,6 +43,7 @@ pub(crate) trait Out {
 pub(crate) trait BlobOut: Out {
     /// Appends the text of a word in its form in a line.
     fn put_text(&mut self, adb: Adb<'_>, word: Val, text: &[u8]) -> Result<(), AllocError>
+        // These bytes are the text of the word.
         requires { text.now ≡ text_in (value_at (payload_of adb) Kinds.Text word) }
         ensures { OnOk result (Puts (Self.holds (payload_of adb.entry)) self.old self.new
             (bare_or_quoted_text text.now)) };
@@ -204,6 +205,7 @@ impl Count {
     /// A count of no bytes.
     pub(crate) fn new(alloc: Global) -> Count
         ensures none { result.len.bytes ≡ 0 }
+        // No length is remembered yet, so that each remembered one is right.
         ensures lens { (payload : List ℕ) → AreLineLengths payload result.lens }
     {
         Count {
@@ -217,6 +219,7 @@ impl Count {
     /// Counts this many more bytes. After a certain count an allocation of that size is tried and
     /// freed: if it fails, the count need not continue. It is tried again at twice the count.
     fn add(&mut self, bytes: usize) -> Result<(), AllocError>
+        // On Ok, the count of bytes has risen by these.
         ensures len { OnOk result (self.new.len.bytes ≡ self.old.len.bytes + bytes) }
         ensures lens { self.new.lens ≡ self.old.lens }
     {
@@ -231,6 +234,7 @@ impl Count {
     /// The length of a word's text in a line. The length is remembered, for each place with the
     /// word.
     fn line_len(&mut self, word: Val, text: &[u8]) -> Result<usize, AllocError>
+        // On Ok, the result is the length of the text's form, if all remembered lengths are right.
         ensures len { IfOk result (λ len. (payload : List ℕ)
             → text.now ≡ text_in (value_at payload Kinds.Text word)
             → AreLineLengths payload self.old.lens → len ≡ length (bare_or_quoted_text text.now)) }

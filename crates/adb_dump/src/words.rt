@@ -18,9 +18,12 @@ use adb_view::{Adb, Arr, Val, entry_word};
 /// The words of an object's entries, those past its fields too; NULL has none.
 #[tactic(auto, using(crate::proofs::WordReads::object_value_is, crate::proofs::WordReads::object_sound, adb_fields::proofs::FieldReads::object_runs, adb_fields::proofs::FieldReads::read_ok))]
 pub(crate) fn field_words<'a>(adb: Adb<'a>, which: Which, word: Val) -> Arr<'a>
+    // The word has a plain value of its kind.
     requires { is_sound (payload_of adb) (Kinds.Obj which) word ≡ true }
+    // Each of the words of the object has a plain value of its field's kind.
     ensures sound { fields_sound (payload_of adb.entry) (table which) (array_entries result)
         ≡ true }
+    // The object's value consists of the values of these words.
     ensures value { value_at (payload_of adb.entry) (Kinds.Obj which) word
         ≡ trimmed_object_or_null (fields_at (payload_of adb.entry) (table which)
         (array_entries result)) }
@@ -38,6 +41,7 @@ pub(crate) fn field_words<'a>(adb: Adb<'a>, which: Which, word: Val) -> Arr<'a>
 #[tactic(auto, using(adb_view::proofs::WalkSteps::table_rank, crate::proofs::Nulls::text_null, crate::proofs::Nulls::hash_null, crate::proofs::Nulls::arr_null, crate::proofs::Nulls::obj_null))]
 #[inline(always)]
 pub(crate) fn is_null(adb: Adb<'_>, kind: Kind, word: Val) -> bool
+    // The word has a plain value of its kind.
     requires { is_sound (payload_of adb) kind word ≡ true }
     ensures { result ≡ is_null (value_at (payload_of adb.entry) kind word) }
 {
@@ -55,6 +59,7 @@ pub(crate) fn is_null(adb: Adb<'_>, kind: Kind, word: Val) -> bool
 #[cycle(null)]
 #[tactic(auto, using(adb_view::proofs::WalkSteps::field_rank, crate::proofs::Left::field_here, crate::proofs::Left::fields_later, crate::proofs::Left::null_next, crate::proofs::Left::null_stop, crate::proofs::Left::null_done, crate::proofs::Left::null_over))]
 fn are_null(adb: Adb<'_>, fields: &[Field], words: Arr<'_>) -> bool
+    // Each word of the object has a plain value of its field's kind.
     requires { fields_sound (payload_of adb) fields.now (array_entries words) ≡ true }
     ensures { result
         ≡ are_null (fields_at (payload_of adb.entry) fields.now (array_entries words.entry)) }
@@ -74,6 +79,7 @@ fn are_null(adb: Adb<'_>, fields: &[Field], words: Arr<'_>) -> bool
 /// Whether a word is Null as an integer: only NULL is.
 #[tactic(auto, using(crate::proofs::Nulls::null_test, crate::proofs::Nulls::int_is_null))]
 fn is_null_int(adb: Adb<'_>, word: Val) -> bool
+    // The word has a plain value of its kind.
     requires { is_sound (payload_of adb) Kinds.Int word ≡ true }
     ensures { result ≡ is_null (value_at (payload_of adb.entry) Kinds.Int word) }
 {

@@ -11,8 +11,8 @@ use Rattle.adb_fields.specs.FirstPair.{IsPairOfEqualNames}
 use Rattle.adb_fields.specs.FirstPair.{IsIn}
 use Rattle.adb_view.specs.declared.tables.Which.TheVariants as Tables
 use Rattle.adb_view.specs.FieldIndexes.{DIR_NAME, FILE_NAME}
-use Rattle.adb_fields.specs.Repeated.{field_number, numbered_from, first_repeat, repeated_pair_in_one_list, repeated_cause, name_of, folders_in, files_in, repeated_within_package_fault}
-use Rattle.adb_fields.specs.FirstPair.{IsPairInOne}
+use Rattle.adb_fields.specs.Repeated.{field_number, numbered_from, least_pair_of_repeated_name, repeated_pair_in_one_list, repeated_cause, name_of, folders_in, files_in, repeated_within_package_fault}
+use Rattle.adb_fields.specs.FirstPair.{IsRepeatedPairInOneList}
 use Rattle.std.specs.Option.{option_or}
 use Rattle.adb_fields.specs.NamedTexts.{plains_at}
 use Rattle.adb_view.specs.declared.tables.Kind.{Kind}
@@ -50,9 +50,9 @@ no_first p kind g ws i first all sound past so =
 
 -- ---- one list for each value, and several
 
-pub one_each : (f : Plain → List (List ℕ)) (values : List Plain) → least_pair (map (λ v. first_repeat (f v)) values) ≡ repeated_pair_in_one_list (map f values)
+pub one_each : (f : Plain → List (List ℕ)) (values : List Plain) → least_pair (map (λ v. least_pair_of_repeated_name (f v)) values) ≡ repeated_pair_in_one_list (map f values)
 one_each f [] = refl
-one_each f (v ∷ vs) = ap (lesser_pair (first_repeat (f v))) (one_each f vs)
+one_each f (v ∷ vs) = ap (lesser_pair (least_pair_of_repeated_name (f v))) (one_each f vs)
 
 least_pair-append : (xs ys : List (Option Pair)) → least_pair (xs ++ ys) ≡ lesser_pair (least_pair xs) (least_pair ys)
 least_pair-append [] ys = refl
@@ -60,15 +60,15 @@ least_pair-append (x ∷ xs) ys = ap (lesser_pair x) (least_pair-append xs ys) �
 
 repeated_pair_in_one_list-append : (xs ys : List (List (List ℕ))) → repeated_pair_in_one_list (xs ++ ys) ≡ lesser_pair (repeated_pair_in_one_list xs) (repeated_pair_in_one_list ys)
 repeated_pair_in_one_list-append [] ys = refl
-repeated_pair_in_one_list-append (x ∷ xs) ys = ap (lesser_pair (first_repeat x)) (repeated_pair_in_one_list-append xs ys) ∙ sym (lesser_pair-assoc (first_repeat x) (repeated_pair_in_one_list xs) (repeated_pair_in_one_list ys))
+repeated_pair_in_one_list-append (x ∷ xs) ys = ap (lesser_pair (least_pair_of_repeated_name x)) (repeated_pair_in_one_list-append xs ys) ∙ sym (lesser_pair-assoc (least_pair_of_repeated_name x) (repeated_pair_in_one_list xs) (repeated_pair_in_one_list ys))
 
 pub several_each : (f : Plain → List (List (List ℕ))) (values : List Plain) → least_pair (map (λ v. repeated_pair_in_one_list (f v)) values) ≡ repeated_pair_in_one_list (flat_map f values)
 several_each f [] = refl
 several_each f (v ∷ vs) = ap (lesser_pair (repeated_pair_in_one_list (f v))) (several_each f vs) ∙ sym (repeated_pair_in_one_list-append (f v) (flat_map f vs))
 
 -- of one list alone
-pub alone : (names : List (List ℕ)) → first_repeat names ≡ repeated_pair_in_one_list (names ∷ [])
-alone names = sym (lesser_pair-none (first_repeat names))
+pub alone : (names : List (List ℕ)) → least_pair_of_repeated_name names ≡ repeated_pair_in_one_list (names ∷ [])
+alone names = sym (lesser_pair-none (least_pair_of_repeated_name names))
 
 pub alone_several : (lists : List (List (List ℕ))) → repeated_pair_in_one_list lists ≡ repeated_pair_in_one_list (lists ++ [])
 alone_several lists = ap repeated_pair_in_one_list (sym (append-nil lists))
@@ -88,21 +88,21 @@ texts_after a b one two m e l h =
 
 -- ---- kind after kind
 
-pub one_package : (pkg : Plain) → option_or (repeated_cause (field_number Tables.Dir DIR_NAME) (first_repeat (map name_of (folders_in pkg)))) (repeated_cause (field_number Tables.File FILE_NAME) (repeated_pair_in_one_list (map (λ folder. map name_of (files_in folder)) (folders_in pkg)))) ≡ repeated_within_package_fault (pkg ∷ [])
+pub one_package : (pkg : Plain) → option_or (repeated_cause (field_number Tables.Dir DIR_NAME) (least_pair_of_repeated_name (map name_of (folders_in pkg)))) (repeated_cause (field_number Tables.File FILE_NAME) (repeated_pair_in_one_list (map (λ folder. map name_of (files_in folder)) (folders_in pkg)))) ≡ repeated_within_package_fault (pkg ∷ [])
 one_package pkg = λ i. option_or (repeated_cause (field_number Tables.Dir DIR_NAME) (alone (map name_of (folders_in pkg)) i)) (repeated_cause (field_number Tables.File FILE_NAME) (alone_several (map (λ folder. map name_of (files_in folder)) (folders_in pkg)) i))
 
 -- ---- what is reported of several lists is the first pair of all
 
-from-here : (names : List (List ℕ)) (others : List (List (List ℕ))) (p : Pair) → Either (IsPairOfEqualNames (numbered_from 1 names)) (IsPairInOne others) p → IsPairInOne (names ∷ others) p
+from-here : (names : List (List ℕ)) (others : List (List (List ℕ))) (p : Pair) → Either (IsPairOfEqualNames (numbered_from 1 names)) (IsRepeatedPairInOneList others) p → IsRepeatedPairInOneList (names ∷ others) p
 from-here names others p (inl k) = record { names = names; names_in = inl refl; is_pair = k }
 from-here names others p (inr k) = record { names = k.names; names_in = inr k.names_in; is_pair = k.is_pair }
 
-here-by : (names : List (List ℕ)) (others : List (List (List ℕ))) (p : Pair) (found : List (List ℕ)) → IsIn found (names ∷ others) → IsPairOfEqualNames (numbered_from 1 found) p → Either (IsPairOfEqualNames (numbered_from 1 names)) (IsPairInOne others) p
+here-by : (names : List (List ℕ)) (others : List (List (List ℕ))) (p : Pair) (found : List (List ℕ)) → IsIn found (names ∷ others) → IsPairOfEqualNames (numbered_from 1 found) p → Either (IsPairOfEqualNames (numbered_from 1 names)) (IsRepeatedPairInOneList others) p
 here-by names others p found (inl e) k = let P : List (List ℕ) → Type 0 = λ l. IsPairOfEqualNames (numbered_from 1 l) p in inl (subst P e k)
 here-by names others p found (inr h) k = inr (record { names = found; names_in = h; is_pair = k })
 
-pub repeated_pair_in_one_list-first : (lists : List (List (List ℕ))) → IsLeastPairIfAny (IsPairInOne lists) (repeated_pair_in_one_list lists)
+pub repeated_pair_in_one_list-first : (lists : List (List (List ℕ))) → IsLeastPairIfAny (IsRepeatedPairInOneList lists) (repeated_pair_in_one_list lists)
 repeated_pair_in_one_list-first [] = λ p k. k.names_in
 repeated_pair_in_one_list-first (names ∷ others) =
-    alike (Either (IsPairOfEqualNames (numbered_from 1 names)) (IsPairInOne others)) (IsPairInOne (names ∷ others)) (repeated_pair_in_one_list (names ∷ others)) (from-here names others) (λ p k. here-by names others p k.names k.names_in k.is_pair)
-    (lesser_pair-first (IsPairOfEqualNames (numbered_from 1 names)) (IsPairInOne others) (first_repeat names) (repeated_pair_in_one_list others) (least_pair_of_equal_names-first (numbered_from 1 names)) (repeated_pair_in_one_list-first others))
+    alike (Either (IsPairOfEqualNames (numbered_from 1 names)) (IsRepeatedPairInOneList others)) (IsRepeatedPairInOneList (names ∷ others)) (repeated_pair_in_one_list (names ∷ others)) (from-here names others) (λ p k. here-by names others p k.names k.names_in k.is_pair)
+    (lesser_pair-first (IsPairOfEqualNames (numbered_from 1 names)) (IsRepeatedPairInOneList others) (least_pair_of_repeated_name names) (repeated_pair_in_one_list others) (least_pair_of_equal_names-first (numbered_from 1 names)) (repeated_pair_in_one_list-first others))

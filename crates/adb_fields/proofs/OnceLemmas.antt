@@ -11,7 +11,7 @@ use Rattle.adb_fields.specs.FirstPair.{IsLeastPairIfAny}
 use Rattle.adb_fields.specs.FirstPair.{IsPairOfEqualNames}
 use Rattle.adb_fields.specs.FirstPair.{IsIn}
 use Rattle.adb_view.specs.FieldIndexes.{DIR_NAME, FILE_NAME, IDB_PACKAGES, INTENT_WRITES}
-use Rattle.adb_fields.specs.Repeated.{field_number, numbered_from, names_all_at_position, names_with_list_positions, first_repeat, repeated_pair_in_one_list, repeated_pair_in_two_lists, entries_at, folder_twice, file_twice, package_twice, path_of_two_packages, repeated_intent_name, repeated_cause, repeated_within_package_fault, repeated_between_packages_fault, repeated_fault}
+use Rattle.adb_fields.specs.Repeated.{field_number, numbered_from, names_all_at_position, names_with_list_positions, least_pair_of_repeated_name, repeated_pair_in_one_list, repeated_pair_in_two_lists, entries_at, repeated_folder_name_in_package, repeated_file_name_in_folder, repeated_package_name, pair_of_packages_listing_one_path, repeated_intent_name, repeated_cause, repeated_within_package_fault, repeated_between_packages_fault, repeated_fault}
 use Rattle.adb_fields.specs.Once.{AreDistinctNames, EachHasDistinctNames, IsInOneOf, ShareNoName, HaveNoRepeatInside, HaveNoRepeatBetween, HasNoRepeatedName}
 use Rattle.adb_fields.proofs.Members.{in-front, in-behind, in-either, in-map, from-map}
 use Rattle.adb_fields.proofs.FirstPair.{least_pair_of_equal_names-first}
@@ -96,11 +96,11 @@ is_none_by : (IsOne : Pair → Type 0) (o : Option Pair) → IsLeastPairIfAny Is
 is_none_by IsOne None first h = refl
 is_none_by IsOne (Some p) first h = absurd (h p first.is_one)
 
-pub twice_none : (names : List (List ℕ)) → first_repeat names ≡ None → AreDistinctNames names
-twice_none names e = distinct 1 names (none_of (IsPairOfEqualNames (numbered_from 1 names)) (first_repeat names) (least_pair_of_equal_names-first (numbered_from 1 names)) e)
+pub twice_none : (names : List (List ℕ)) → least_pair_of_repeated_name names ≡ None → AreDistinctNames names
+twice_none names e = distinct 1 names (none_of (IsPairOfEqualNames (numbered_from 1 names)) (least_pair_of_repeated_name names) (least_pair_of_equal_names-first (numbered_from 1 names)) e)
 
-pub none_twice : (names : List (List ℕ)) → AreDistinctNames names → first_repeat names ≡ None
-none_twice names d = is_none_by (IsPairOfEqualNames (numbered_from 1 names)) (first_repeat names) (least_pair_of_equal_names-first (numbered_from 1 names)) (no_pair 1 names d)
+pub none_twice : (names : List (List ℕ)) → AreDistinctNames names → least_pair_of_repeated_name names ≡ None
+none_twice names d = is_none_by (IsPairOfEqualNames (numbered_from 1 names)) (least_pair_of_repeated_name names) (least_pair_of_equal_names-first (numbered_from 1 names)) (no_pair 1 names d)
 
 -- ---- several lists, each for itself
 
@@ -120,11 +120,11 @@ none_earlier (Some p) b e f = absurd (cc)
 each_none : (lists : List (List (List ℕ))) → repeated_pair_in_one_list lists ≡ None → EachHasDistinctNames lists
 each_none [] e = tt
 each_none (names ∷ lists) e =
-    let (one, others) = earlier_none (first_repeat names) (repeated_pair_in_one_list lists) e in (twice_none names one, each_none lists others)
+    let (one, others) = earlier_none (least_pair_of_repeated_name names) (repeated_pair_in_one_list lists) e in (twice_none names one, each_none lists others)
 
 none_each : (lists : List (List (List ℕ))) → EachHasDistinctNames lists → repeated_pair_in_one_list lists ≡ None
 none_each [] d = refl
-none_each (names ∷ lists) d = none_earlier (first_repeat names) (repeated_pair_in_one_list lists) (none_twice names d.0) (none_each lists d.1)
+none_each (names ∷ lists) d = none_earlier (least_pair_of_repeated_name names) (repeated_pair_in_one_list lists) (none_twice names d.0) (none_each lists d.1)
 
 -- ---- between several lists
 
@@ -223,21 +223,21 @@ none_at n (Some p) e = absurd (cc)
 
 inside_once : (packages : List Plain) → repeated_within_package_fault packages ≡ None → HaveNoRepeatInside packages
 inside_once packages e =
-    let (a, b) = both_none (repeated_cause (field_number Dir DIR_NAME) (folder_twice packages)) (repeated_cause (field_number File FILE_NAME) (file_twice packages)) e in
-    record { folders = each_none _ (at_none (field_number Dir DIR_NAME) (folder_twice packages) a); files = each_none _ (at_none (field_number File FILE_NAME) (file_twice packages) b) }
+    let (a, b) = both_none (repeated_cause (field_number Dir DIR_NAME) (repeated_folder_name_in_package packages)) (repeated_cause (field_number File FILE_NAME) (repeated_file_name_in_folder packages)) e in
+    record { folders = each_none _ (at_none (field_number Dir DIR_NAME) (repeated_folder_name_in_package packages) a); files = each_none _ (at_none (field_number File FILE_NAME) (repeated_file_name_in_folder packages) b) }
 
 once_inside : (packages : List Plain) → HaveNoRepeatInside packages → repeated_within_package_fault packages ≡ None
 once_inside packages d =
-    none_both (repeated_cause (field_number Dir DIR_NAME) (folder_twice packages)) (repeated_cause (field_number File FILE_NAME) (file_twice packages)) (none_at (field_number Dir DIR_NAME) (folder_twice packages) (none_each _ d.folders)) (none_at (field_number File FILE_NAME) (file_twice packages) (none_each _ d.files))
+    none_both (repeated_cause (field_number Dir DIR_NAME) (repeated_folder_name_in_package packages)) (repeated_cause (field_number File FILE_NAME) (repeated_file_name_in_folder packages)) (none_at (field_number Dir DIR_NAME) (repeated_folder_name_in_package packages) (none_each _ d.folders)) (none_at (field_number File FILE_NAME) (repeated_file_name_in_folder packages) (none_each _ d.files))
 
 between_once : (packages : List Plain) → repeated_between_packages_fault packages ≡ None → HaveNoRepeatBetween packages
 between_once packages e =
-    let (a, b) = both_none (repeated_cause (field_number Idb IDB_PACKAGES) (package_twice packages)) (repeated_cause (field_number File FILE_NAME) (path_of_two_packages packages)) e in
-    record { packages_once = twice_none _ (at_none (field_number Idb IDB_PACKAGES) (package_twice packages) a); paths_once = two_none _ (at_none (field_number File FILE_NAME) (path_of_two_packages packages) b) }
+    let (a, b) = both_none (repeated_cause (field_number Idb IDB_PACKAGES) (repeated_package_name packages)) (repeated_cause (field_number File FILE_NAME) (pair_of_packages_listing_one_path packages)) e in
+    record { packages_once = twice_none _ (at_none (field_number Idb IDB_PACKAGES) (repeated_package_name packages) a); paths_once = two_none _ (at_none (field_number File FILE_NAME) (pair_of_packages_listing_one_path packages) b) }
 
 once_between : (packages : List Plain) → HaveNoRepeatBetween packages → repeated_between_packages_fault packages ≡ None
 once_between packages d =
-    none_both (repeated_cause (field_number Idb IDB_PACKAGES) (package_twice packages)) (repeated_cause (field_number File FILE_NAME) (path_of_two_packages packages)) (none_at (field_number Idb IDB_PACKAGES) (package_twice packages) (none_twice _ d.packages_once)) (none_at (field_number File FILE_NAME) (path_of_two_packages packages) (none_two _ d.paths_once))
+    none_both (repeated_cause (field_number Idb IDB_PACKAGES) (repeated_package_name packages)) (repeated_cause (field_number File FILE_NAME) (pair_of_packages_listing_one_path packages)) (none_at (field_number Idb IDB_PACKAGES) (repeated_package_name packages) (none_twice _ d.packages_once)) (none_at (field_number File FILE_NAME) (pair_of_packages_listing_one_path packages) (none_two _ d.paths_once))
 
 database_once : (packages : List Plain) → option_or (repeated_within_package_fault packages) (repeated_between_packages_fault packages) ≡ None → HaveNoRepeatInside packages × HaveNoRepeatBetween packages
 database_once packages e = let (a, b) = both_none (repeated_within_package_fault packages) (repeated_between_packages_fault packages) e in (inside_once packages a, between_once packages b)

@@ -41,7 +41,7 @@ IsLeastPairIfAny IsOne None = (q : Pair) → ¬ IsOne q
 IsLeastPairIfAny IsOne (Some p) = IsLeastPair IsOne p
 
 -- one of several lists has one name at both positions of the pair
-pub record IsPairInOne (lists : List (List (List ℕ))) (p : Pair) : Type 0 where
+pub record IsRepeatedPairInOneList (lists : List (List (List ℕ))) (p : Pair) : Type 0 where
   -- the list that has the name twice
   pub names : List (List ℕ)
   -- it is one of the lists

@@ -24,13 +24,13 @@ numbered_from n (name ∷ names) = record { name = name; position = n } ∷ numb
 
 -- the pair of positions at which a list has one name twice: of all such pairs the one that is
 -- reported. None if each name occurs once
-abbrev pub first_repeat : List (List ℕ) → Option Pair
-first_repeat names = least_pair_of_equal_names (numbered_from 1 names)
+abbrev pub least_pair_of_repeated_name : List (List ℕ) → Option Pair
+least_pair_of_repeated_name names = least_pair_of_equal_names (numbered_from 1 names)
 
 -- the pair of positions at which one of several lists has one name twice: of the pairs of all lists
 -- the one that is reported
 abbrev pub repeated_pair_in_one_list : List (List (List ℕ)) → Option Pair
-repeated_pair_in_one_list lists = least_pair (map first_repeat lists)
+repeated_pair_in_one_list lists = least_pair (map least_pair_of_repeated_name lists)
 
 -- these names, all of them at position n
 abbrev pub names_all_at_position : ℕ → List (List ℕ) → List NameWithPosition
@@ -89,26 +89,28 @@ paths_of_package_files pkg = flat_map paths_of_folder_files (folders_in pkg)
 -- ---- the pairs of each kind of names
 
 -- the pair of positions in `paths` at which one of these packages lists a folder twice
-abbrev pub folder_twice : List Plain → Option Pair
-folder_twice packages = repeated_pair_in_one_list (map (λ pkg. map name_of (folders_in pkg)) packages)
+abbrev pub repeated_folder_name_in_package : List Plain → Option Pair
+repeated_folder_name_in_package packages =
+    repeated_pair_in_one_list (map (λ pkg. map name_of (folders_in pkg)) packages)
 
 -- the pair of positions in `files` at which a folder of one of these packages lists a file twice
-abbrev pub file_twice : List Plain → Option Pair
-file_twice packages = repeated_pair_in_one_list
+abbrev pub repeated_file_name_in_folder : List Plain → Option Pair
+repeated_file_name_in_folder packages = repeated_pair_in_one_list
     (flat_map (λ pkg. map (λ folder. map name_of (files_in folder)) (folders_in pkg)) packages)
 
 -- the pair of positions at which two packages of a database have the same name
-abbrev pub package_twice : List Plain → Option Pair
-package_twice packages = first_repeat (map package_name packages)
+abbrev pub repeated_package_name : List Plain → Option Pair
+repeated_package_name packages = least_pair_of_repeated_name (map package_name packages)
 
 -- the pair of positions of two packages that list the same path
-abbrev pub path_of_two_packages : List Plain → Option Pair
-path_of_two_packages packages = repeated_pair_in_two_lists (map paths_of_package_files packages)
+abbrev pub pair_of_packages_listing_one_path : List Plain → Option Pair
+pair_of_packages_listing_one_path packages =
+    repeated_pair_in_two_lists (map paths_of_package_files packages)
 
 -- the pair of positions at which a journal entry has one name twice, in its removals followed by its
 -- writes
 abbrev pub repeated_intent_name : Plain → Option Pair
-repeated_intent_name intent = first_repeat
+repeated_intent_name intent = least_pair_of_repeated_name
     (map text_in (entries_at INTENT_REMOVALS intent) ++ map text_in (entries_at INTENT_WRITES intent))
 
 -- ---- the fault of a container
@@ -125,14 +127,14 @@ repeated_cause number pair = option_map (λ p. Repeated number p.first p.second)
 -- twice
 abbrev pub repeated_within_package_fault : List Plain → Option Cause
 repeated_within_package_fault packages =
-    option_or (repeated_cause (field_number Dir DIR_NAME) (folder_twice packages))
-    (repeated_cause (field_number File FILE_NAME) (file_twice packages))
+    option_or (repeated_cause (field_number Dir DIR_NAME) (repeated_folder_name_in_package packages))
+    (repeated_cause (field_number File FILE_NAME) (repeated_file_name_in_folder packages))
 
 -- the cause if two of these packages have the same name, or else if two list the same path
 abbrev pub repeated_between_packages_fault : List Plain → Option Cause
 repeated_between_packages_fault packages =
-    option_or (repeated_cause (field_number Idb IDB_PACKAGES) (package_twice packages))
-    (repeated_cause (field_number File FILE_NAME) (path_of_two_packages packages))
+    option_or (repeated_cause (field_number Idb IDB_PACKAGES) (repeated_package_name packages))
+    (repeated_cause (field_number File FILE_NAME) (pair_of_packages_listing_one_path packages))
 
 -- the cause of a repeated name in a container with this table at its root. The kinds of names are
 -- searched in this order, and the first kind with a repeated name is reported

@@ -60,7 +60,9 @@ impl FilePath<'_> {
 
 /// The order of the first `len` bytes of two texts.
 fn compared_fronts(one: &[u8], other: &[u8], len: usize) -> Ordering
+    // The length is within the first text,
     requires one { len ≤ length one.now }
+    // and within the second.
     requires other { len ≤ length other.now }
     ensures { result ≡ slice_cmp nat_cmp (take len one.now) (take len other.now) }
 {

@@ -8,9 +8,9 @@ ghost use Rattle.adb_view.specs.Adb.{payload_of};
 ghost use Rattle.adb_view.specs.Entries.{array_entries};
 ghost use Rattle.adb_view.specs.Values.{is_sound, kind_at};
 ghost use Rattle.adb_fields.specs.Fields.{are_all_sound};
-ghost use Rattle.adb_fields.specs.KnownLists.{AreRepeatedPairsOfWords, repeated_name_pair_at};
+ghost use Rattle.adb_fields.specs.KnownLists.{AreFirstRepeatsOfWords, repeated_name_pair_at};
 ghost use Rattle.adb_fields.specs.NamedTexts.{plains_at};
-ghost use Rattle.adb_fields.specs.Repeated.{NAME_INDEX, first_repeat, name_of};
+ghost use Rattle.adb_fields.specs.Repeated.{NAME_INDEX, least_pair_of_repeated_name, name_of};
 ghost use Rattle.adb_view.specs.declared.tables.Kind.TheVariants as Kinds;
 
 use crate::name_lists::object_names;
@@ -35,7 +35,7 @@ pub(crate) struct KnownLists<'a> {
     /// By the word of a list: its first pair, or None if no name occurs twice in it.
     pairs: BTreeMap<u32, Option<Pair>>,
     ghost named: { kind_at which NAME_INDEX ≡ Some Kinds.Text },
-    ghost exact: { AreRepeatedPairsOfWords (payload_of adb) which pairs },
+    ghost exact: { AreFirstRepeatsOfWords (payload_of adb) which pairs },
 }
 
 impl<'a> KnownLists<'a> {
@@ -44,6 +44,7 @@ impl<'a> KnownLists<'a> {
     /// The lists of a payload before any was searched. The first field of the table must be a text,
     /// which is the name.
     pub(crate) fn new(alloc: Global, adb: Adb<'a>, which: Which) -> KnownLists<'a>
+        // The first field of the table is a text, the name.
         requires { kind_at which NAME_INDEX ≡ Some Kinds.Text }
         ensures { AreRememberedListsOf adb.entry which result }
     {
@@ -56,14 +57,18 @@ impl<'a> KnownLists<'a> {
 
     /// The pair of positions at which two objects of a list have one name. Only a long list
     /// allocates memory, once.
-    pub(crate) fn first_repeat(
+    pub(crate) fn least_pair_of_repeated_name(
         &mut self,
         alloc: Global,
         list: Val,
     ) -> Result<Option<Pair>, AllocError>
+        // The word has a plain value of its kind.
         requires { is_sound (payload_of self.old.adb) (Kinds.ObjArr self.old.which) list ≡ true }
+        // On Ok, the result is the first pair of positions with one name in the list, if there is
+        // one.
         ensures value { IfOk result (λ pair. pair
             ≡ repeated_name_pair_at (payload_of self.old.adb) self.old.which list) }
+        // The remembered lists are still those of objects of this table in this payload.
         ensures lists { AreRememberedListsOf self.old.adb self.old.which self.new }
     {
         let objects = objects_word(self.adb, self.which, list);
@@ -95,11 +100,14 @@ fn name_twice_in_list(
     which: Which,
     objects: Arr<'_>,
 ) -> Result<Option<Pair>, AllocError>
+    // Each word has a plain value of its kind.
     requires sound { are_all_sound (payload_of adb) (Kinds.Obj which) (array_entries objects)
         ≡ true }
+    // The first field of the table is a text, the name.
     requires kind { kind_at which NAME_INDEX ≡ Some Kinds.Text }
     ensures { IfOk result (λ pair. pair
-        ≡ first_repeat (map name_of (plains_at (payload_of adb.entry) (Kinds.Obj which)
+        ≡ least_pair_of_repeated_name (map name_of (plains_at (payload_of adb.entry)
+        (Kinds.Obj which)
         (array_entries objects.entry)))) }
 {
     let mut names = object_names(alloc, adb, which, objects)?;

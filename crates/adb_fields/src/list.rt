@@ -27,15 +27,20 @@ pub trait View<'a>: Kinded {
 
     /// The view of a word that is sound for the kind.
     fn of(adb: Adb<'a>, word: Val) -> Self
+        // The word has a plain value of the entries' kind.
         requires { is_sound (payload_of adb) Self.kind word ≡ true }
         ensures { shows result ≡ value_at (payload_of adb.entry) Self.kind word };
 }
 
 /// The entries of an array, shown as views.
 pub struct List<'a, V: Kinded> {
+    /// The payload that contains the list.
     adb: Adb<'a>,
+    /// The words (32-bit references) of the entries.
     entries: Arr<'a>,
+    /// The type of the entries, of which no value is stored.
     of: PhantomData<V>,
+    // Each word has a plain value of the entries' kind.
     ghost sound: { are_all_sound (payload_of adb) V.kind (array_entries entries) ≡ true },
 }
 
@@ -44,6 +49,7 @@ impl<'a, V: View<'a>> List<'a, V> {
 
     /// The list of the entries with these words.
     pub fn of(adb: Adb<'a>, entries: Arr<'a>) -> List<'a, V>
+        // Each word has a plain value of its kind.
         requires { are_all_sound (payload_of adb) V.kind (array_entries entries) ≡ true }
         ensures { list_value result
             ≡ array_at (payload_of adb.entry) V.kind (array_entries entries.entry) }
@@ -58,6 +64,7 @@ impl<'a, V: View<'a>> List<'a, V> {
     /// How many entries there are.
     #[tactic(auto, using(crate::proofs::FieldReads::entry_count))]
     pub fn len(&self) -> usize
+        // The result is the number of entries.
         ensures value { result ≡ count_of (entries_in (list_value self.now)) }
         ensures small { result < 2 ^ 32 }
     {
@@ -67,7 +74,9 @@ impl<'a, V: View<'a>> List<'a, V> {
     /// The entry at this position, counted from 1.
     #[tactic(auto, using(crate::proofs::FieldReads::entry_count, crate::proofs::FieldReads::entry_sound, crate::proofs::FieldReads::entry_value))]
     pub fn get(&self, i: usize) -> V
+        // The entries are counted from 1.
         requires from { 1 ≤ i }
+        // The number is at most that of the last entry.
         requires to { i ≤ count_of (entries_in (list_value self.now)) }
         ensures { V.shows result ≡ entry_in (list_value self.now) (i - 1) }
     {

@@ -28,10 +28,13 @@ const NAME_INDEX: usize = DIR_NAME;
 
 /// Adds a name after the others, at the next position.
 fn add<'a>(names: &mut Vec<PathWithPosition<'a>>, name: &'a [u8]) -> Result<(), AllocError>
+    // The next position fits into 32 bits.
     requires { vec_len names.old + 1 < 2 ^ 32 }
+    // On Ok, the name is added with the next position.
     ensures added { IfOk result (λ _. map joined_name_with_position names.new.items
         ≡ map joined_name_with_position names.old.items
         ++ (name_with_position name.now (vec_len names.old + 1) ∷ [])) }
+    // On Ok, there is one more name.
     ensures len { IfOk result (λ _. vec_len names.new ≡ vec_len names.old + 1) }
 {
     let position = names.len() as u32 + 1;
@@ -48,8 +51,10 @@ pub(crate) fn object_names<'a>(
     which: Which,
     objects: Arr<'a>,
 ) -> Result<Vec<PathWithPosition<'a>>, AllocError>
+    // Each word has a plain value of its kind.
     requires sound { are_all_sound (payload_of adb) (Kinds.Obj which) (array_entries objects)
         ≡ true }
+    // The first field of the table is a text, the name.
     requires kind { kind_at which NAME_INDEX ≡ Some Kinds.Text }
     ensures { IfOk result (λ names. map joined_name_with_position names.items
         ≡ numbered_from 1
@@ -73,6 +78,7 @@ pub(crate) fn package_names<'a>(
     adb: Adb<'a>,
     packages: Arr<'a>,
 ) -> Result<Vec<PathWithPosition<'a>>, AllocError>
+    // Each word has a plain value of its kind.
     requires { are_all_sound (payload_of adb) (Kinds.Obj Tables.Package) (array_entries packages)
         ≡ true }
     ensures { IfOk result (λ names. map joined_name_with_position names.items
@@ -89,6 +95,7 @@ pub(crate) fn package_names<'a>(
 
 /// The name in a package's information.
 fn package_name<'a>(adb: Adb<'a>, pkg: Val) -> &'a [u8]
+    // The word has a plain value of its kind.
     requires { is_sound (payload_of adb) (Kinds.Obj Tables.Package) pkg ≡ true }
     ensures { result.now
         ≡ package_name (value_at (payload_of adb.entry) (Kinds.Obj Tables.Package) pkg) }
@@ -104,12 +111,16 @@ pub(crate) fn add_texts<'a>(
     adb: Adb<'a>,
     texts: Arr<'a>,
 ) -> Result<(), AllocError>
+    // Each word has a plain value of its kind.
     requires sound { are_all_sound (payload_of adb) Kinds.Text (array_entries texts) ≡ true }
+    // The positions of all these texts fit into 32 bits.
     requires few { vec_len names.old + length (array_entries texts) < 2 ^ 32 }
+    // On Ok, the texts are added with the next positions.
     ensures added { IfOk result (λ _. map joined_name_with_position names.new.items
         ≡ map joined_name_with_position names.old.items
         ++ numbered_from (vec_len names.old + 1)
         (map text_in (plains_at (payload_of adb.entry) Kinds.Text (array_entries texts.entry)))) }
+    // On Ok, there are so many more names.
     ensures len { IfOk result (λ _. vec_len names.new
         ≡ vec_len names.old + length (array_entries texts.entry)) }
 {
@@ -143,6 +154,7 @@ fn add_paths_under<'a>(
     folder: Val,
     position: u32,
 ) -> Result<(), AllocError>
+    // The word has a plain value of its kind.
     requires { is_sound (payload_of adb) (Kinds.Obj Tables.Dir) folder ≡ true }
     ensures { IfOk result (λ _. map joined_name_with_position paths.new.items
         ≡ map joined_name_with_position paths.old.items
@@ -166,6 +178,7 @@ fn add_paths<'a>(
     pkg: Val,
     position: u32,
 ) -> Result<(), AllocError>
+    // The word has a plain value of its kind.
     requires { is_sound (payload_of adb) (Kinds.Obj Tables.Package) pkg ≡ true }
     ensures { IfOk result (λ _. map joined_name_with_position paths.new.items
         ≡ map joined_name_with_position paths.old.items
@@ -186,6 +199,7 @@ pub(crate) fn all_paths<'a>(
     adb: Adb<'a>,
     packages: Arr<'a>,
 ) -> Result<Vec<PathWithPosition<'a>>, AllocError>
+    // Each word has a plain value of its kind.
     requires { are_all_sound (payload_of adb) (Kinds.Obj Tables.Package) (array_entries packages)
         ≡ true }
     ensures { IfOk result (λ paths. map joined_name_with_position paths.items

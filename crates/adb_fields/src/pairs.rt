@@ -9,8 +9,8 @@ ghost use Rattle.adb_fields.specs.Pairs.{least_pair_of_equal_names, pair_if_same
 ghost use Rattle.adb_fields.specs.FirstPair.{IsLeastPairIfAny};
 ghost use Rattle.adb_fields.specs.FirstPair.{IsPairOfEqualNames};
 ghost use Rattle.adb_fields.specs.NamedTexts.{joined_name_with_position, name_with_position_cmp, neighbours};
-ghost use Rattle.adb_fields.specs.Repeated.{names_with_list_positions, repeated_pair_in_two_lists, first_repeat, numbered_from, repeated_pair_in_one_list};
-ghost use Rattle.adb_fields.specs.FirstPair.{IsPairInOne};
+ghost use Rattle.adb_fields.specs.Repeated.{names_with_list_positions, repeated_pair_in_two_lists, least_pair_of_repeated_name, numbered_from, repeated_pair_in_one_list};
+ghost use Rattle.adb_fields.specs.FirstPair.{IsRepeatedPairInOneList};
 
 use crate::file_path::FilePath;
 use std::cmp::Ordering;
@@ -111,13 +111,14 @@ fn compared(one: &PathWithPosition<'_>, other: &PathWithPosition<'_>) -> Orderin
 /// A law: of the repeated names of one list the first pair is reported.
 pub fn the_first_pair_of_a_list_is_reported()
     ensures { (names : List (List ℕ))
-        → IsLeastPairIfAny (IsPairOfEqualNames (numbered_from 1 names)) (first_repeat names) }
+        → IsLeastPairIfAny (IsPairOfEqualNames (numbered_from 1 names))
+        (least_pair_of_repeated_name names) }
 {}
 
 /// A law: of the names of several lists, each for itself, the first pair is reported.
 pub fn the_first_pair_in_one_of_several_lists_is_reported()
     ensures { (lists : List (List (List ℕ)))
-        → IsLeastPairIfAny (IsPairInOne lists) (repeated_pair_in_one_list lists) }
+        → IsLeastPairIfAny (IsRepeatedPairInOneList lists) (repeated_pair_in_one_list lists) }
 {}
 
 /// A law: of the names that two of several lists have, the first pair of the lists' positions is

@@ -18,6 +18,7 @@ use adb_view::{Adb, Arr, Val, Which, entry_word};
 /// The words of a sound object's fields, those past its table's too.
 #[tactic(auto, using(crate::proofs::FieldReads::object_runs))]
 pub fn object_words<'a>(adb: Adb<'a>, which: Which, object: Val) -> Arr<'a>
+    // The word has a plain value of its kind.
     requires { is_sound (payload_of adb) (Kinds.Obj which) object ≡ true }
     ensures { AreFieldsOf (payload_of adb.entry) which object (array_entries result) }
 {
@@ -41,6 +42,7 @@ pub fn word_or_null(words: Arr<'_>, i: usize) -> Val
 /// The word of the field with this index in a sound object; NULL if the object ends before it. The
 /// index must be that of a field of the table, or nothing is promised.
 pub fn field_word(adb: Adb<'_>, which: Which, object: Val, i: usize) -> Val
+    // The word has a plain value of its kind.
     requires { is_sound (payload_of adb) (Kinds.Obj which) object ≡ true }
     ensures { IsFieldOf (payload_of adb.entry) which object i result }
 {
@@ -50,6 +52,7 @@ pub fn field_word(adb: Adb<'_>, which: Which, object: Val, i: usize) -> Val
 /// The integer of a sound word.
 #[tactic(auto, using(crate::proofs::FieldReads::int_read_of, crate::proofs::FieldReads::int_reads, crate::proofs::FieldReads::read_ok))]
 pub fn int_word(adb: Adb<'_>, word: Val) -> u64
+    // The word has a plain value of its kind.
     requires { is_sound (payload_of adb) Kinds.Int word ≡ true }
     ensures { result ≡ int_in (value_at (payload_of adb.entry) Kinds.Int word) }
 {
@@ -62,6 +65,7 @@ pub fn int_word(adb: Adb<'_>, word: Val) -> u64
 /// The bytes of a sound word that is a text.
 #[tactic(auto, using(crate::proofs::FieldReads::text_read_of, crate::proofs::FieldReads::text_reads, crate::proofs::FieldReads::read_ok))]
 pub fn text_word<'a>(adb: Adb<'a>, word: Val) -> &'a [u8]
+    // The word has a plain value of its kind.
     requires { is_sound (payload_of adb) Kinds.Text word ≡ true }
     ensures { result.now ≡ text_in (value_at (payload_of adb.entry) Kinds.Text word) }
 {
@@ -74,6 +78,7 @@ pub fn text_word<'a>(adb: Adb<'a>, word: Val) -> &'a [u8]
 /// The bytes of a sound word that is a hash.
 #[tactic(auto, using(crate::proofs::FieldReads::hash_read_of, crate::proofs::FieldReads::hash_reads, crate::proofs::FieldReads::read_ok))]
 pub fn hash_word<'a>(adb: Adb<'a>, word: Val) -> &'a [u8]
+    // The word has a plain value of its kind.
     requires { is_sound (payload_of adb) Kinds.Hash word ≡ true }
     ensures { result.now ≡ text_in (value_at (payload_of adb.entry) Kinds.Hash word) }
 {
@@ -86,8 +91,11 @@ pub fn hash_word<'a>(adb: Adb<'a>, word: Val) -> &'a [u8]
 /// The words of the entries of a sound array of texts.
 #[tactic(auto, using(crate::proofs::FieldReads::texts_sound, crate::proofs::FieldReads::texts_value, crate::proofs::FieldReads::texts_run, crate::proofs::FieldReads::read_ok))]
 pub fn texts_word<'a>(adb: Adb<'a>, word: Val) -> Arr<'a>
+    // The word has a plain value of its kind.
     requires { is_sound (payload_of adb) Kinds.TextArr word ≡ true }
+    // Each word of the result has a plain value of its kind.
     ensures sound { are_all_sound (payload_of adb.entry) Kinds.Text (array_entries result) ≡ true }
+    // The values of these words are the entries of the field.
     ensures value { array_at (payload_of adb.entry) Kinds.Text (array_entries result)
         ≡ value_at (payload_of adb.entry) Kinds.TextArr word }
 {
@@ -100,9 +108,12 @@ pub fn texts_word<'a>(adb: Adb<'a>, word: Val) -> Arr<'a>
 /// The words of the entries of a sound array of objects of a table.
 #[tactic(auto, using(crate::proofs::FieldReads::objects_sound, crate::proofs::FieldReads::objects_value, crate::proofs::FieldReads::objects_run, crate::proofs::FieldReads::read_ok))]
 pub fn objects_word<'a>(adb: Adb<'a>, which: Which, word: Val) -> Arr<'a>
+    // The word has a plain value of its kind.
     requires { is_sound (payload_of adb) (Kinds.ObjArr which) word ≡ true }
+    // Each word of the result has a plain value of its kind.
     ensures sound { are_all_sound (payload_of adb.entry) (Kinds.Obj which) (array_entries result)
         ≡ true }
+    // The values of these words are the entries of the field.
     ensures value { array_at (payload_of adb.entry) (Kinds.Obj which) (array_entries result)
         ≡ value_at (payload_of adb.entry) (Kinds.ObjArr which) word }
 {
@@ -114,7 +125,9 @@ pub fn objects_word<'a>(adb: Adb<'a>, which: Which, word: Val) -> Arr<'a>
 
 /// The integer in a field of an object; 0 if the field is Null.
 pub fn int_field(adb: Adb<'_>, which: Which, object: Val, i: usize) -> u64
+    // The word has a plain value of its kind.
     requires sound { is_sound (payload_of adb) (Kinds.Obj which) object ≡ true }
+    // Field `i` of the table is an integer.
     requires kind { kind_at which i ≡ Some Kinds.Int }
     ensures { result
         ≡ int_in (entry_in (value_at (payload_of adb.entry) (Kinds.Obj which) object) i) }
@@ -124,7 +137,9 @@ pub fn int_field(adb: Adb<'_>, which: Which, object: Val, i: usize) -> u64
 
 /// The bytes of a text in a field of an object; none if the field is Null.
 pub fn text_field<'a>(adb: Adb<'a>, which: Which, object: Val, i: usize) -> &'a [u8]
+    // The word has a plain value of its kind.
     requires sound { is_sound (payload_of adb) (Kinds.Obj which) object ≡ true }
+    // Field `i` of the table is a text.
     requires kind { kind_at which i ≡ Some Kinds.Text }
     ensures { result.now
         ≡ text_in (entry_in (value_at (payload_of adb.entry) (Kinds.Obj which) object) i) }
@@ -134,7 +149,9 @@ pub fn text_field<'a>(adb: Adb<'a>, which: Which, object: Val, i: usize) -> &'a 
 
 /// The bytes of a hash in a field of an object; none if the field is Null.
 pub fn hash_field<'a>(adb: Adb<'a>, which: Which, object: Val, i: usize) -> &'a [u8]
+    // The word has a plain value of its kind.
     requires sound { is_sound (payload_of adb) (Kinds.Obj which) object ≡ true }
+    // Field `i` of the table is a hash.
     requires kind { kind_at which i ≡ Some Kinds.Hash }
     ensures { result.now
         ≡ text_in (entry_in (value_at (payload_of adb.entry) (Kinds.Obj which) object) i) }
@@ -144,9 +161,13 @@ pub fn hash_field<'a>(adb: Adb<'a>, which: Which, object: Val, i: usize) -> &'a 
 
 /// The words of the entries of a field that is an array of texts.
 pub fn texts_field<'a>(adb: Adb<'a>, which: Which, object: Val, i: usize) -> Arr<'a>
+    // The word has a plain value of its kind.
     requires sound { is_sound (payload_of adb) (Kinds.Obj which) object ≡ true }
+    // Field `i` of the table is an array of texts.
     requires kind { kind_at which i ≡ Some Kinds.TextArr }
+    // Each word of the result has a plain value of its kind.
     ensures sound { are_all_sound (payload_of adb.entry) Kinds.Text (array_entries result) ≡ true }
+    // The values of these words are the entries of the field.
     ensures value { array_at (payload_of adb.entry) Kinds.Text (array_entries result)
         ≡ entry_in (value_at (payload_of adb.entry) (Kinds.Obj which) object) i }
 {
@@ -155,10 +176,14 @@ pub fn texts_field<'a>(adb: Adb<'a>, which: Which, object: Val, i: usize) -> Arr
 
 /// The words of the entries of a field that is an array of objects of the table `inner`.
 pub fn objects_field<'a>(adb: Adb<'a>, which: Which, object: Val, i: usize, inner: Which) -> Arr<'a>
+    // The word has a plain value of its kind.
     requires sound { is_sound (payload_of adb) (Kinds.Obj which) object ≡ true }
+    // Field `i` of the table is an array of objects of the table `inner`.
     requires kind { kind_at which i ≡ Some (Kinds.ObjArr inner) }
+    // Each word of the result has a plain value of its kind.
     ensures sound { are_all_sound (payload_of adb.entry) (Kinds.Obj inner) (array_entries result)
         ≡ true }
+    // The values of these words are the entries of the field.
     ensures value { array_at (payload_of adb.entry) (Kinds.Obj inner) (array_entries result)
         ≡ entry_in (value_at (payload_of adb.entry) (Kinds.Obj which) object) i }
 {

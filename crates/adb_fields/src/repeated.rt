@@ -10,7 +10,7 @@ ghost use Rattle.adb_fields.specs.Fields.{are_all_sound};
 ghost use Rattle.adb_fields.specs.ListsOf.{AreRememberedListsOf};
 ghost use Rattle.adb_view.specs.ShapedPayload.{shaped_value, table_of};
 ghost use Rattle.adb_view.specs.FieldIndexes.{INTENT_REMOVALS, INTENT_WRITES};
-ghost use Rattle.adb_fields.specs.Repeated.{repeated_between_packages_fault, field_number, file_twice, files_in, first_repeat, folder_twice, folders_in, repeated_within_package_fault, name_of, repeated_intent_name, package_twice, path_of_two_packages, repeated_cause, repeated_fault, repeated_pair_in_one_list};
+ghost use Rattle.adb_fields.specs.Repeated.{repeated_between_packages_fault, field_number, repeated_file_name_in_folder, files_in, least_pair_of_repeated_name, repeated_folder_name_in_package, folders_in, repeated_within_package_fault, name_of, repeated_intent_name, repeated_package_name, pair_of_packages_listing_one_path, repeated_cause, repeated_fault, repeated_pair_in_one_list};
 ghost use Rattle.adb_fields.specs.Once.{HasNoRepeatedName};
 ghost use Rattle.adb_view.specs.Plain.{Plain};
 ghost use Rattle.adb_view.specs.declared.tables.Which.{Which};
@@ -92,6 +92,7 @@ fn repeated_cause(number: u16, pair: Option<Pair>) -> Option<Cause>
 
 /// The cause for repeated names in a package.
 fn in_package(alloc: Global, adb: Adb<'_>, pkg: Val) -> Result<Option<Cause>, AllocError>
+    // The word has a plain value of its kind.
     requires { is_sound (payload_of adb) (Kinds.Obj Tables.Package) pkg ≡ true }
     ensures { IfOk result (λ cause. cause
         ≡ repeated_within_package_fault (value_at (payload_of adb.entry)
@@ -113,6 +114,7 @@ fn in_package(alloc: Global, adb: Adb<'_>, pkg: Val) -> Result<Option<Cause>, Al
 
 /// The cause for repeated names in one of a database's packages, or in two of them.
 fn in_database(alloc: Global, adb: Adb<'_>, packages: Arr<'_>) -> Result<Option<Cause>, AllocError>
+    // Each word has a plain value of its kind.
     requires { are_all_sound (payload_of adb) (Kinds.Obj Tables.Package) (array_entries packages)
         ≡ true }
     ensures { IfOk result (λ cause. cause
@@ -135,15 +137,22 @@ fn inside_packages(
     adb: Adb<'_>,
     packages: Arr<'_>,
 ) -> Result<Option<Cause>, AllocError>
+    // Each word has a plain value of its kind.
     requires { are_all_sound (payload_of adb) (Kinds.Obj Tables.Package) (array_entries packages)
         ≡ true }
     ensures { IfOk result (λ cause. cause
         ≡ repeated_within_package_fault (plains_at (payload_of adb.entry) (Kinds.Obj Tables.Package)
         (array_entries packages.entry))) }
 {
-    match repeated_cause(field_numbers::DIR_NAME, folder_twice(alloc, adb, packages)?) {
+    match repeated_cause(
+        field_numbers::DIR_NAME,
+        repeated_folder_name_in_package(alloc, adb, packages)?,
+    ) {
         Some(cause) => Ok(Some(cause)),
-        None => Ok(repeated_cause(field_numbers::FILE_NAME, file_twice(alloc, adb, packages)?)),
+        None => Ok(repeated_cause(
+            field_numbers::FILE_NAME,
+            repeated_file_name_in_folder(alloc, adb, packages)?,
+        )),
     }
 }
 
@@ -153,6 +162,7 @@ fn between_packages(
     adb: Adb<'_>,
     packages: Arr<'_>,
 ) -> Result<Option<Cause>, AllocError>
+    // Each word has a plain value of its kind.
     requires { are_all_sound (payload_of adb) (Kinds.Obj Tables.Package) (array_entries packages)
         ≡ true }
     ensures { IfOk result (λ cause. cause
@@ -179,7 +189,9 @@ fn between_packages(
 /// The cause for repeated names in a journal entry: its removals followed by its writes, of which
 /// the tests of the shape allow fewer than 2^32.
 fn in_intent(alloc: Global, adb: Adb<'_>, intent: Val) -> Result<Option<Cause>, AllocError>
+    // The word has a plain value of its kind.
     requires sound { is_sound (payload_of adb) (Kinds.Obj Tables.Intent) intent ≡ true }
+    // The intent has fewer than 2^32 removals and writes together.
     requires few { count_of (entries_in
         (entry_in (value_at (payload_of adb) (Kinds.Obj Tables.Intent) intent) INTENT_REMOVALS)) +
         count_of (entries_in
@@ -207,14 +219,18 @@ fn folder_twice_in_package(
     lists: &mut KnownLists<'_>,
     pkg: Val,
 ) -> Result<Option<Pair>, AllocError>
+    // The word has a plain value of its kind.
     requires sound { is_sound (payload_of adb) (Kinds.Obj Tables.Package) pkg ≡ true }
+    // The remembered lists are those of objects of this table in this payload.
     requires lists { AreRememberedListsOf adb Tables.Dir lists.old }
+    // On Ok, the result is the first pair of positions of folders with one name, if there is one.
     ensures pair { IfOk result (λ pair. pair
-        ≡ first_repeat (map name_of (folders_in
+        ≡ least_pair_of_repeated_name (map name_of (folders_in
         (value_at (payload_of adb.entry) (Kinds.Obj Tables.Package) pkg)))) }
+    // The remembered lists are still those of objects of this table in this payload.
     ensures lists { AreRememberedListsOf adb.entry Tables.Dir lists.new }
 {
-    lists.first_repeat(alloc, field_word(adb, Which::Package, pkg, PACKAGE_PATHS))
+    lists.least_pair_of_repeated_name(alloc, field_word(adb, Which::Package, pkg, PACKAGE_PATHS))
 }
 
 /// The first pair of positions at which one of a package's folders lists one file twice.
@@ -225,11 +241,16 @@ fn file_twice_in_package(
     lists: &mut KnownLists<'_>,
     pkg: Val,
 ) -> Result<Option<Pair>, AllocError>
+    // The word has a plain value of its kind.
     requires sound { is_sound (payload_of adb) (Kinds.Obj Tables.Package) pkg ≡ true }
+    // The remembered lists are those of objects of this table in this payload.
     requires lists { AreRememberedListsOf adb Tables.File lists.old }
+    // On Ok, the result is the first pair of positions of files with one name in one folder, if
+    // there is one.
     ensures pair { IfOk result (λ pair. pair
         ≡ repeated_pair_in_one_list (map (λ folder. map name_of (files_in folder))
         (folders_in (value_at (payload_of adb.entry) (Kinds.Obj Tables.Package) pkg)))) }
+    // The remembered lists are still those of objects of this table in this payload.
     ensures lists { AreRememberedListsOf adb.entry Tables.File lists.new }
 {
     let folders = objects_field(adb, Which::Package, pkg, PACKAGE_PATHS, Which::Dir);
@@ -248,23 +269,33 @@ fn file_twice_in_folder(
     lists: &mut KnownLists<'_>,
     folder: Val,
 ) -> Result<Option<Pair>, AllocError>
+    // The word has a plain value of its kind.
     requires sound { is_sound (payload_of adb) (Kinds.Obj Tables.Dir) folder ≡ true }
+    // The remembered lists are those of objects of this table in this payload.
     requires lists { AreRememberedListsOf adb Tables.File lists.old }
+    // On Ok, the result is the first pair of positions of files with one name, if there is one.
     ensures pair { IfOk result (λ pair. pair
-        ≡ first_repeat (map name_of (files_in
+        ≡ least_pair_of_repeated_name (map name_of (files_in
         (value_at (payload_of adb.entry) (Kinds.Obj Tables.Dir) folder)))) }
+    // The remembered lists are still those of objects of this table in this payload.
     ensures lists { AreRememberedListsOf adb.entry Tables.File lists.new }
 {
-    lists.first_repeat(alloc, field_word(adb, Which::Dir, folder, DIR_FILES))
+    lists.least_pair_of_repeated_name(alloc, field_word(adb, Which::Dir, folder, DIR_FILES))
 }
 
 /// The first pair of positions at which one of the packages lists one folder twice.
 #[tactic(auto, using(crate::proofs::FieldReads::entry_sound))]
-fn folder_twice(alloc: Global, adb: Adb<'_>, packages: Arr<'_>) -> Result<Option<Pair>, AllocError>
+fn repeated_folder_name_in_package(
+    alloc: Global,
+    adb: Adb<'_>,
+    packages: Arr<'_>,
+) -> Result<Option<Pair>, AllocError>
+    // Each word has a plain value of its kind.
     requires { are_all_sound (payload_of adb) (Kinds.Obj Tables.Package) (array_entries packages)
         ≡ true }
     ensures { IfOk result (λ pair. pair
-        ≡ folder_twice (plains_at (payload_of adb.entry) (Kinds.Obj Tables.Package)
+        ≡ repeated_folder_name_in_package (plains_at (payload_of adb.entry)
+        (Kinds.Obj Tables.Package)
         (array_entries packages.entry))) }
 {
     let mut lists = KnownLists::new(alloc, adb, Which::Dir);
@@ -278,11 +309,16 @@ fn folder_twice(alloc: Global, adb: Adb<'_>, packages: Arr<'_>) -> Result<Option
 
 /// The first pair of positions at which a folder of one of the packages lists one file twice.
 #[tactic(auto, using(crate::proofs::FieldReads::entry_sound))]
-fn file_twice(alloc: Global, adb: Adb<'_>, packages: Arr<'_>) -> Result<Option<Pair>, AllocError>
+fn repeated_file_name_in_folder(
+    alloc: Global,
+    adb: Adb<'_>,
+    packages: Arr<'_>,
+) -> Result<Option<Pair>, AllocError>
+    // Each word has a plain value of its kind.
     requires { are_all_sound (payload_of adb) (Kinds.Obj Tables.Package) (array_entries packages)
         ≡ true }
     ensures { IfOk result (λ pair. pair
-        ≡ file_twice (plains_at (payload_of adb.entry) (Kinds.Obj Tables.Package)
+        ≡ repeated_file_name_in_folder (plains_at (payload_of adb.entry) (Kinds.Obj Tables.Package)
         (array_entries packages.entry))) }
 {
     let mut lists = KnownLists::new(alloc, adb, Which::File);

@@ -6,7 +6,7 @@ use Rattle.base_core.proofs.Causes.{first_none, second_none}
 use Rattle.adb_block.specs.declared.block.BlockKind.{BlockKind}
 use Rattle.adb_block.specs.Framing.{HeadFields, Step, ended, failed, block, step_by_size, step_by_order, step_by_head, next_step, block_head_fields, kind_of_number}
 use Rattle.adb_block.specs.Piece.{Piece, may_be_next_kind, least_payload_len}
-use Rattle.adb_block.specs.Header.{header_of}
+use Rattle.adb_block.specs.Header.{schema_of_header}
 use Rattle.adb_block.specs.ReaderPosition.{first_block_position}
 use Rattle.adb_block.specs.Reading.{Reading, done, fault, more as further, block_stream_after_step, block_stream_from_offset, block_stream_from}
 use Rattle.adb_view.specs.Head.{payload_head_fault, root_word_of_payload}
@@ -20,8 +20,8 @@ use Rattle.adb_view.specs.declared.tables.Which.{Which}
 use Rattle.adb_view.specs.declared.tables.Kind.TheVariants as Kinds
 use Rattle.adb_fields.specs.Once.{HasNoRepeatedName}
 use Rattle.adb_fields.specs.Repeated.{repeated_fault}
-use Rattle.adb_schema.specs.Texts.{text_fault}
-use Rattle.adb_schema.specs.SoundValues.{KeepsRules}
+use Rattle.adb_schema.specs.Texts.{text_or_number_fault}
+use Rattle.adb_schema.specs.SoundValues.{ObeysFieldRulesOfTable}
 use Rattle.adb_schema.specs.Soundness.{blocks_fault, file_fault_after_header, container_fault_except_contents, first_block_payload, payload_after_header, payload_fault, payload_in, further_blocks_fault_unless_package, root_value, schema_fault}
 use Rattle.adb_schema.specs.SoundContainers.{IsSoundValue}
 
@@ -79,7 +79,7 @@ file_payload rest which file (Ok schema) h =
 
 pub sound_payload : (which : Which) (file : List ℕ) → container_fault_except_contents which file ≡ None → payload_fault which (payload_in file) ≡ None
 unfolding container_fault_except_contents payload_in
-sound_payload which file h = file_payload (λ v r. further_blocks_fault_unless_package which r) which file (header_of file) h
+sound_payload which file h = file_payload (λ v r. further_blocks_fault_unless_package which r) which file (schema_of_header file) h
 
 -- ---- its value
 
@@ -87,7 +87,7 @@ sound_payload which file h = file_payload (λ v r. further_blocks_fault_unless_p
 pub record Laws : Type 1 where
   pub visited : (p : List ℕ) (s : Shape) (w : ℕ) → (shape_fault p s w ≡ None) ↔ ((is_some (plain_of p s w) ≡ true) × (length (visits p s w) ≤ MOST_VALUES))
   pub shaped : (p : List ℕ) (s : Shape) (w : ℕ) → IfSome (plain_of p s w) (HasShape s)
-  pub kept : (which : Which) (v : Plain) → (text_fault which v ≡ None) ↔ KeepsRules which v
+  pub kept : (which : Which) (v : Plain) → (text_or_number_fault which v ≡ None) ↔ ObeysFieldRulesOfTable which v
   pub once : (which : Which) (v : Plain) → (repeated_fault which v ≡ None) ↔ HasNoRepeatedName which v
 
 found : (P : Plain → Type 0) (o : Option Plain) → is_some o ≡ true → IfSome o P → P (unwrap_or o null)
@@ -108,8 +108,8 @@ sound_value laws which p h =
     let texts = second_none (shape_fault p (shape_of (Kinds.Obj which)) (root_word_of_payload p)) _ (second_none (payload_head_fault p) _ h) in
     record {
       shape = value_has (HasShape (shape_of (Kinds.Obj which))) p which (is_found laws which p h) (laws.shaped p (shape_of (Kinds.Obj which)) (root_word_of_payload p));
-      rules = (laws.kept which (root_value which p)).0 (first_none (text_fault which (root_value which p)) (repeated_fault which (root_value which p)) texts);
-      once = (laws.once which (root_value which p)).0 (second_none (text_fault which (root_value which p)) (repeated_fault which (root_value which p)) texts);
+      rules = (laws.kept which (root_value which p)).0 (first_none (text_or_number_fault which (root_value which p)) (repeated_fault which (root_value which p)) texts);
+      once = (laws.once which (root_value which p)).0 (second_none (text_or_number_fault which (root_value which p)) (repeated_fault which (root_value which p)) texts);
     }
 
 pub normal_value : Laws → (which : Which) (p : List ℕ) → payload_fault which p ≡ None → IfSome (plain_of p (shape_of (Kinds.Obj which)) (root_word_of_payload p)) IsNormal → IsNormal (root_value which p)
@@ -117,8 +117,8 @@ normal_value laws which p h n = value_has IsNormal p which (is_found laws which 
 
 -- ---- of a payload that was checked
 
-pub is_kept : ((which : Which) (v : Plain) → (text_fault which v ≡ None) ↔ KeepsRules which v) → (which : Which) (v : Plain) → is_none (text_fault which v) ≡ true → KeepsRules which v
-is_kept law which v h = (law which v).0 (is_none_of (text_fault which v) h)
+pub is_kept : ((which : Which) (v : Plain) → (text_or_number_fault which v ≡ None) ↔ ObeysFieldRulesOfTable which v) → (which : Which) (v : Plain) → is_none (text_or_number_fault which v) ≡ true → ObeysFieldRulesOfTable which v
+is_kept law which v h = (law which v).0 (is_none_of (text_or_number_fault which v) h)
   where
     is_none_of : (o : Option Cause) → is_none o ≡ true → o ≡ None
     is_none_of None h = refl

@@ -12,11 +12,11 @@ use Rattle.adb_view.specs.Schema.{shape_of, shapes_of, table}
 use Rattle.adb_view.specs.declared.tables.Which.{Which}
 use Rattle.adb_view.specs.declared.tables.Which.TheVariants as Tables
 use Rattle.adb_view.specs.declared.tables.Kind.TheVariants.{Obj, ObjArr, TextArr}
-use Rattle.adb_schema.specs.Texts.{Surroundings, Leaf, leaves_of_all_values, leaves, field_leaves, first_bad_leaf, text_fault, is_allowed_text_of_field, surroundings_of_root, surroundings_of_fields, can_root_table_list_path}
+use Rattle.adb_schema.specs.Texts.{Surroundings, Leaf, leaves_of_all_values, leaves, field_leaves, first_bad_leaf, text_or_number_fault, is_allowed_text_of_field, surroundings_of_root, surroundings_of_fields, can_root_table_list_path}
 use Rattle.dep_core.specs.Value.{is_match_number}
 use Rattle.adb_fields.specs.Paths.{path_of}
-use Rattle.adb_schema.specs.Rules.{is_file_name_in_folder}
-use Rattle.adb_schema.specs.SoundValues.{IsSoundDependency, IsSoundInformation, IsSoundFileOf, IsSoundFolder, IsSoundPackage, IsSoundIndex, IsSoundIntent, IsNameAllowedInIntent, KeepsRules}
+use Rattle.adb_schema.specs.Rules.{is_valid_file_name_in_folder}
+use Rattle.adb_schema.specs.SoundValues.{IsSoundDependency, IsSoundInformation, IsSoundFileInFolder, IsSoundFolder, IsSoundPackage, IsSoundIndex, IsSoundIntent, IsNameAllowedInIntent, ObeysFieldRulesOfTable}
 use Rattle.adb_schema.proofs.TextSteps.{first_bad_leaf-append, behind, behind-zero, nth-behind, behind-behind}
 
 abbrev pub Good : List Leaf → Type 0
@@ -172,12 +172,12 @@ scripts_good : (k : ℕ) (a : Surroundings) (v : Plain) → Good (leaves (shape_
 unfolding leaves shape_of is_allowed_text_of_field
 scripts_good k a v = fields_good (shapes_of (table Tables.Scripts)) 601 (surroundings_of_fields 6 a v) (entries_in v) (refl, (refl, (refl, (refl, (refl, (refl, (refl, tt)))))))
 
-file_of : (k : ℕ) (a : Surroundings) (v : Plain) → Good (leaves (shape_of (Obj Tables.File)) k a v) → IsSoundFileOf a.root a.folder v
+file_of : (k : ℕ) (a : Surroundings) (v : Plain) → Good (leaves (shape_of (Obj Tables.File)) k a v) → IsSoundFileInFolder a.root a.folder v
 unfolding leaves shape_of is_allowed_text_of_field
 file_of k a v g =
     let b : Surroundings = surroundings_of_fields 4 a v in
     let h = good_fields (shapes_of (table Tables.File)) 401 b (entries_in v) g in
-    let (name, listed) = and_parts (is_file_name_in_folder a.folder (text_in (entry_in v 0))) (can_root_table_list_path a.root (path_of a.folder (text_in (entry_in v 0)))) (text_kept 401 b (entry_in v 0) h.0) in
+    let (name, listed) = and_parts (is_valid_file_name_in_folder a.folder (text_in (entry_in v 0))) (can_root_table_list_path a.root (path_of a.folder (text_in (entry_in v 0)))) (text_kept 401 b (entry_in v 0) h.0) in
     record {
       name = name;
       listed = listed;
@@ -185,11 +185,11 @@ file_of k a v g =
       target = text_kept 406 b (entry_in v 5) h.1.1.1.1.1.0;
     }
 
-of_file : (k : ℕ) (a : Surroundings) (v : Plain) → IsSoundFileOf a.root a.folder v → Good (leaves (shape_of (Obj Tables.File)) k a v)
+of_file : (k : ℕ) (a : Surroundings) (v : Plain) → IsSoundFileInFolder a.root a.folder v → Good (leaves (shape_of (Obj Tables.File)) k a v)
 unfolding leaves shape_of is_allowed_text_of_field
 of_file k a v d =
     let b : Surroundings = surroundings_of_fields 4 a v in
-    let named = and_from (is_file_name_in_folder a.folder (text_in (entry_in v 0))) (can_root_table_list_path a.root (path_of a.folder (text_in (entry_in v 0)))) d.name d.listed in
+    let named = and_from (is_valid_file_name_in_folder a.folder (text_in (entry_in v 0))) (can_root_table_list_path a.root (path_of a.folder (text_in (entry_in v 0)))) d.name d.listed in
     fields_good (shapes_of (table Tables.File)) 401 b (entries_in v)
     (kept_text 401 b (entry_in v 0) named, (rights_good 402 b (entry_in v 1), (refl, (refl, (kept_hash 405 b (entry_in v 4) d.hash, (kept_text 406 b (entry_in v 5) d.target, (refl, tt)))))))
 
@@ -200,7 +200,7 @@ folder_of k a v g =
     let h = good_fields (shapes_of (table Tables.Dir)) 501 b (entries_in v) g in
     record {
       name = text_kept 501 b (entry_in v 0) h.0;
-      files = each_good (IsSoundFileOf b.root b.folder) (leaves (shape_of (Obj Tables.File)) 503 b) (file_of 503 b) (entries_in (entry_in v 2)) h.1.1.0;
+      files = each_good (IsSoundFileInFolder b.root b.folder) (leaves (shape_of (Obj Tables.File)) 503 b) (file_of 503 b) (entries_in (entry_in v 2)) h.1.1.0;
     }
 
 of_folder : (k : ℕ) (a : Surroundings) (v : Plain) → IsSoundFolder a.root v → Good (leaves (shape_of (Obj Tables.Dir)) k a v)
@@ -208,7 +208,7 @@ unfolding leaves shape_of is_allowed_text_of_field
 of_folder k a v d =
     let b : Surroundings = surroundings_of_fields 5 a v in
     fields_good (shapes_of (table Tables.Dir)) 501 b (entries_in v)
-    (kept_text 501 b (entry_in v 0) d.name, (rights_good 502 b (entry_in v 1), (good_each (IsSoundFileOf b.root b.folder) (leaves (shape_of (Obj Tables.File)) 503 b) (of_file 503 b) (entries_in (entry_in v 2)) d.files, tt)))
+    (kept_text 501 b (entry_in v 0) d.name, (rights_good 502 b (entry_in v 1), (good_each (IsSoundFileInFolder b.root b.folder) (leaves (shape_of (Obj Tables.File)) 503 b) (of_file 503 b) (entries_in (entry_in v 2)) d.files, tt)))
 
 package_of : (k : ℕ) (a : Surroundings) (v : Plain) → Good (leaves (shape_of (Obj Tables.Package)) k a v) → IsSoundPackage a.root v
 unfolding leaves shape_of is_allowed_text_of_field
@@ -275,7 +275,7 @@ of_intent v d =
     fields_good (shapes_of (table Tables.Intent)) 1001 b (entries_in v)
     (good_each IsNameAllowedInIntent (leaves text 1001 b) (kept_text 1001 b) (entries_in (entry_in v 0)) d.removals, (good_each IsNameAllowedInIntent (leaves text 1002 b) (kept_text 1002 b) (entries_in (entry_in v 1)) d.writes, tt))
 
-pub rules_kept : (which : Which) (v : Plain) → (text_fault which v ≡ None) ↔ KeepsRules which v
+pub rules_kept : (which : Which) (v : Plain) → (text_or_number_fault which v ≡ None) ↔ ObeysFieldRulesOfTable which v
 rules_kept Tables.Dep v = (dependency_of 0 (surroundings_of_root Tables.Dep) v, of_dependency 0 (surroundings_of_root Tables.Dep) v)
 rules_kept Tables.Acl v = (λ g. tt, λ d. rights_good 0 (surroundings_of_root Tables.Acl) v)
 rules_kept Tables.PkgInfo v = (information_of 0 (surroundings_of_root Tables.PkgInfo) v, of_information 0 (surroundings_of_root Tables.PkgInfo) v)

@@ -35,8 +35,8 @@ is_one_part name = is_name name && not (list_any (λ b. b == 47) name)
 
 -- whether bytes name a file of this folder: one part of a path, and the path of the folder and the
 -- file has at most 1,024 bytes
-abbrev pub is_file_name_in_folder : List ℕ → List ℕ → Bool
-is_file_name_in_folder folder name = is_one_part name && nat_le (length (path_of folder name)) 1024
+abbrev pub is_valid_file_name_in_folder : List ℕ → List ℕ → Bool
+is_valid_file_name_in_folder folder name = is_one_part name && nat_le (length (path_of folder name)) 1024
 
 -- whether a change may remove or write the path: it is a name, and not the journal, the staging area,
 -- or a name below one of them
@@ -59,6 +59,6 @@ is_link_target_or_none (b ∷ rest) = is_link_target (b ∷ rest)
 
 -- whether bytes are a pattern by which an index names its packages' files: empty, or the only known
 -- pattern
-abbrev pub is_pkgname_spec : List ℕ → Bool
-is_pkgname_spec [] = true
-is_pkgname_spec (b ∷ rest) = bytes_eq (b ∷ rest) (codes "${name}-${version}.apk")
+abbrev pub is_supported_pkgname_spec : List ℕ → Bool
+is_supported_pkgname_spec [] = true
+is_supported_pkgname_spec (b ∷ rest) = bytes_eq (b ∷ rest) (codes "${name}-${version}.apk")

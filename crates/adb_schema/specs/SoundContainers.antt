@@ -8,7 +8,7 @@ use Rattle.adb_view.specs.Schema.{shape_of}
 use Rattle.adb_view.specs.declared.tables.Which.{Which}
 use Rattle.adb_view.specs.declared.tables.Kind.TheVariants.{Obj}
 use Rattle.adb_fields.specs.Once.{HasNoRepeatedName}
-use Rattle.adb_schema.specs.SoundValues.{KeepsRules}
+use Rattle.adb_schema.specs.SoundValues.{ObeysFieldRulesOfTable}
 use Rattle.adb_schema.specs.Soundness.{container_fault_except_contents}
 
 -- the value may be that of a sound container with this table at its root: by its shape, its rules, and
@@ -17,7 +17,7 @@ pub record IsSoundValue (which : Which) (v : Plain) : Type 0 where
   -- it has the shape of the table
   pub shape : HasShape (shape_of (Obj which)) v
   -- each text and number obeys the rule of its field
-  pub rules : KeepsRules which v
+  pub rules : ObeysFieldRulesOfTable which v
   -- no name repeats
   pub once : HasNoRepeatedName which v
 

@@ -12,7 +12,7 @@ use Rattle.adb_view.specs.Values.{entries_in, entry_in, int_in, text_in}
 use Rattle.adb_view.specs.declared.tables.Which.{Which}
 use Rattle.adb_view.specs.declared.tables.Which.TheVariants.{Dep, Acl, PkgInfo, File, Dir, Scripts, Package, Index, Idb, Intent}
 use Rattle.adb_fields.specs.Paths.{path_of}
-use Rattle.adb_schema.specs.Rules.{is_name_allowed_in_intent, is_digest_length, is_digest_length_or_none, is_file_name_in_folder, is_folder_name, is_pkgname_spec, is_link_target_or_none}
+use Rattle.adb_schema.specs.Rules.{is_name_allowed_in_intent, is_digest_length, is_digest_length_or_none, is_valid_file_name_in_folder, is_folder_name, is_supported_pkgname_spec, is_link_target_or_none}
 use Rattle.adb_schema.specs.Texts.{is_package_hash_length, is_file_with_contents, can_root_table_list_path, needs_file_hash}
 
 -- a dependency in a tested container: a name, a version or none, and a match number with an operator
@@ -35,16 +35,20 @@ pub record IsSoundInformation (root : Which) (v : Plain) : Type 0 where
   pub hash : is_package_hash_length root (length (text_in (entry_in v INFO_HASHES))) ≡ true
   -- the rules of fields 315 to 319: lists of dependencies
   pub depends : Each IsSoundDependency (entries_in (entry_in v INFO_DEPENDS))
+  -- field 316
   pub provides : Each IsSoundDependency (entries_in (entry_in v INFO_PROVIDES))
+  -- field 317
   pub replaces : Each IsSoundDependency (entries_in (entry_in v INFO_REPLACES))
+  -- field 318
   pub install_if : Each IsSoundDependency (entries_in (entry_in v INFO_INSTALL_IF))
+  -- field 319
   pub recommends : Each IsSoundDependency (entries_in (entry_in v INFO_RECOMMENDS))
 
 -- a file of the folder with this name obeys its rules; if it has contents, it has their hash, which may
 -- be missing in a database
-pub record IsSoundFileOf (root : Which) (folder : List ℕ) (v : Plain) : Type 0 where
+pub record IsSoundFileInFolder (root : Which) (folder : List ℕ) (v : Plain) : Type 0 where
   -- the rule of field 401
-  pub name : is_file_name_in_folder folder (text_in (entry_in v FILE_NAME)) ≡ true
+  pub name : is_valid_file_name_in_folder folder (text_in (entry_in v FILE_NAME)) ≡ true
   -- the rule of field 401 for a database
   pub listed : can_root_table_list_path root (path_of folder (text_in (entry_in v FILE_NAME))) ≡ true
   -- the rule of field 405
@@ -59,7 +63,7 @@ pub record IsSoundFolder (root : Which) (v : Plain) : Type 0 where
   -- the rule of field 501
   pub name : is_folder_name (text_in (entry_in v DIR_NAME)) ≡ true
   -- each file obeys the rules of fields 401 to 406
-  pub files : Each (IsSoundFileOf root (text_in (entry_in v DIR_NAME)))
+  pub files : Each (IsSoundFileInFolder root (text_in (entry_in v DIR_NAME)))
       (entries_in (entry_in v DIR_FILES))
 
 -- a package obeys its rules: its information and its folders do
@@ -75,7 +79,7 @@ pub record IsSoundIndex (v : Plain) : Type 0 where
   -- the rule of field 802: its entries obey the rules of table 3
   pub packages : Each (IsSoundInformation Index) (entries_in (entry_in v INDEX_PACKAGES))
   -- the rule of field 803
-  pub pattern : is_pkgname_spec (text_in (entry_in v INDEX_PKGNAME_SPEC)) ≡ true
+  pub pattern : is_supported_pkgname_spec (text_in (entry_in v INDEX_PKGNAME_SPEC)) ≡ true
 
 -- the text is a name that a change may remove or write
 abbrev pub IsNameAllowedInIntent : Plain → Type 0
@@ -89,14 +93,14 @@ pub record IsSoundIntent (v : Plain) : Type 0 where
   pub writes : Each IsNameAllowedInIntent (entries_in (entry_in v INTENT_WRITES))
 
 -- the value of a payload with this table at its root obeys the rules of its fields
-abbrev pub KeepsRules : Which → Plain → Type 0
-KeepsRules Dep v = IsSoundDependency v
-KeepsRules Acl v = Unit {0}
-KeepsRules PkgInfo v = IsSoundInformation PkgInfo v
-KeepsRules File v = IsSoundFileOf File [] v
-KeepsRules Dir v = IsSoundFolder Dir v
-KeepsRules Scripts v = Unit {0}
-KeepsRules Package v = IsSoundPackage Package v
-KeepsRules Index v = IsSoundIndex v
-KeepsRules Idb v = Each (IsSoundPackage Idb) (entries_in (entry_in v IDB_PACKAGES))
-KeepsRules Intent v = IsSoundIntent v
+abbrev pub ObeysFieldRulesOfTable : Which → Plain → Type 0
+ObeysFieldRulesOfTable Dep v = IsSoundDependency v
+ObeysFieldRulesOfTable Acl v = Unit {0}
+ObeysFieldRulesOfTable PkgInfo v = IsSoundInformation PkgInfo v
+ObeysFieldRulesOfTable File v = IsSoundFileInFolder File [] v
+ObeysFieldRulesOfTable Dir v = IsSoundFolder Dir v
+ObeysFieldRulesOfTable Scripts v = Unit {0}
+ObeysFieldRulesOfTable Package v = IsSoundPackage Package v
+ObeysFieldRulesOfTable Index v = IsSoundIndex v
+ObeysFieldRulesOfTable Idb v = Each (IsSoundPackage Idb) (entries_in (entry_in v IDB_PACKAGES))
+ObeysFieldRulesOfTable Intent v = IsSoundIntent v

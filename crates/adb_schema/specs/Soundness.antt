@@ -6,7 +6,7 @@ use Rattle.std.specs.Option.{option_or}
 use Rattle.std.specs.Int.{w32, from_le_bytes}
 use Rattle.base_core.specs.declared.cause.Cause.{Cause}
 use Rattle.base_core.specs.declared.cause.Cause.TheVariants.{Truncated, WrongSchema, DataOrder}
-use Rattle.adb_block.specs.Header.{header_of}
+use Rattle.adb_block.specs.Header.{schema_of_header}
 use Rattle.adb_block.specs.ReaderPosition.{first_block_position}
 use Rattle.adb_block.specs.Reading.{Reading, done, fault, more, block_stream_from}
 use Rattle.adb_block.specs.declared.block.BlockKind.{BlockKind}
@@ -16,7 +16,7 @@ use Rattle.adb_view.specs.Plain.{Plain}
 use Rattle.adb_view.specs.Schema.{shape_of}
 use Rattle.adb_view.specs.Walk.{shape_fault}
 use Rattle.adb_view.specs.Values.{value_at}
-use Rattle.adb_schema.specs.Texts.{text_fault}
+use Rattle.adb_schema.specs.Texts.{text_or_number_fault}
 use Rattle.adb_fields.specs.Repeated.{repeated_fault}
 use Rattle.adb_view.specs.declared.tables.Which.{Which}
 use Rattle.adb_view.specs.declared.tables.Which.TheVariants.{Package, Index, Idb, Intent}
@@ -43,7 +43,7 @@ abbrev pub payload_fault : Which → List ℕ → Option Cause
 payload_fault which payload =
     option_or (payload_head_fault payload)
     (option_or (shape_fault payload (shape_of (Obj which)) (root_word_of_payload payload))
-    (option_or (text_fault which (root_value which payload))
+    (option_or (text_or_number_fault which (root_value which payload))
     (repeated_fault which (root_value which payload))))
 
 -- ---- the blocks after the first
@@ -64,9 +64,9 @@ unexpected_contents_cause payload at = if nat_lt (length payload) 8 then Truncat
 
 -- why a block is not allowed after the first in a container without files, if it has contents; a block
 -- of another kind is allowed
-abbrev pub further_block_fault : BlockKind → List ℕ → ℕ → Option Cause
-further_block_fault Contents payload at = Some (unexpected_contents_cause payload at)
-further_block_fault kind payload at = None
+abbrev pub unexpected_contents_block_fault : BlockKind → List ℕ → ℕ → Option Cause
+unexpected_contents_block_fault Contents payload at = Some (unexpected_contents_cause payload at)
+unexpected_contents_block_fault kind payload at = None
 
 -- the first fault of the blocks after the first, in a container without files: of their framing, or
 -- that one has contents
@@ -74,7 +74,7 @@ unfoldable pub further_blocks_fault : Reading → Option Cause
 further_blocks_fault done = None
 further_blocks_fault (fault c) = Some c
 further_blocks_fault (more b at r) =
-    option_or (further_block_fault b.kind b.payload at) (further_blocks_fault r)
+    option_or (unexpected_contents_block_fault b.kind b.payload at) (further_blocks_fault r)
 
 -- the first fault of the blocks after the first; none for a package, whose further blocks `pkg_core`
 -- tests against the list of files
@@ -113,7 +113,7 @@ file_fault_after_header rest which file (Ok schema) = option_or (schema_fault wh
 
 -- the first fault of a file, if `rest` tests the blocks after the first
 abbrev pub file_fault_with_rest_test : (Plain → Reading → Option Cause) → Which → List ℕ → Option Cause
-file_fault_with_rest_test rest which file = file_fault_after_header rest which file (header_of file)
+file_fault_with_rest_test rest which file = file_fault_after_header rest which file (schema_of_header file)
 
 -- the first failed test of a file as a container of this table; for a package, without the contents
 -- after its first block
@@ -137,4 +137,4 @@ payload_after_header file (Err c) = []
 
 -- the payload of the first block of a file; empty if it has none
 unfoldable pub payload_in : List ℕ → List ℕ
-payload_in file = payload_after_header file (header_of file)
+payload_in file = payload_after_header file (schema_of_header file)

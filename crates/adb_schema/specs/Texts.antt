@@ -12,7 +12,7 @@ use Rattle.adb_view.specs.Plain.{Plain, null, Plains, none, more, Shape, number,
 use Rattle.adb_schema.specs.Reserved.{is_reserved}
 use Rattle.adb_fields.specs.Paths.{path_of}
 use Rattle.adb_fields.specs.Repeated.{field_number}
-use Rattle.adb_schema.specs.Rules.{is_name_allowed_in_intent, is_digest_length, is_digest_length_or_none, is_file_name_in_folder, is_folder_name, is_id_length, is_pkgname_spec, is_link_target_or_none}
+use Rattle.adb_schema.specs.Rules.{is_name_allowed_in_intent, is_digest_length, is_digest_length_or_none, is_valid_file_name_in_folder, is_folder_name, is_id_length, is_supported_pkgname_spec, is_link_target_or_none}
 use Rattle.adb_view.specs.FieldIndexes.{DEP_MATCH, DEP_NAME, DEP_VERSION, DIR_NAME, FILE_HASHES, FILE_NAME, FILE_SIZE, FILE_TARGET, INDEX_PKGNAME_SPEC, INFO_HASHES, INFO_NAME, INFO_VERSION, INTENT_REMOVALS, INTENT_WRITES}
 use Rattle.adb_view.specs.Schema.{shape_of, table_number}
 use Rattle.adb_view.specs.Values.{entries_in, entry_in, int_in, text_in}
@@ -47,7 +47,7 @@ can_root_table_list_path root path = true
 -- whether a file in these surroundings may have this name: in their folder, and in a container with
 -- their root
 abbrev pub is_allowed_file_name : Surroundings → List ℕ → Bool
-is_allowed_file_name around name = is_file_name_in_folder around.folder name
+is_allowed_file_name around name = is_valid_file_name_in_folder around.folder name
     && can_root_table_list_path around.root (path_of around.folder name)
 
 -- whether a file needs a hash: one with contents does, except in a database, which may be imported from
@@ -82,7 +82,7 @@ is_allowed_text_of_field place around bytes =
     else if place == field_number File FILE_HASHES then is_file_hash_length around (length bytes)
     else if place == field_number File FILE_TARGET then is_link_target_or_none bytes
     else if place == field_number Dir DIR_NAME then is_folder_name bytes
-    else if place == field_number Index INDEX_PKGNAME_SPEC then is_pkgname_spec bytes
+    else if place == field_number Index INDEX_PKGNAME_SPEC then is_supported_pkgname_spec bytes
     else if place == field_number Intent INTENT_REMOVALS then is_name_allowed_in_intent bytes
     else if place == field_number Intent INTENT_WRITES then is_name_allowed_in_intent bytes
     else true
@@ -160,5 +160,5 @@ first_bad_leaf (leaf ∷ others) = if keeps_rule leaf then first_bad_leaf others
     else Some (BadText (field_number_of_leaf leaf))
 
 -- the cause of the first text or number of a container that breaks its rule
-abbrev pub text_fault : Which → Plain → Option Cause
-text_fault which v = first_bad_leaf (leaves_of which v)
+abbrev pub text_or_number_fault : Which → Plain → Option Cause
+text_or_number_fault which v = first_bad_leaf (leaves_of which v)

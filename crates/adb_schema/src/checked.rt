@@ -8,7 +8,7 @@ ghost use Rattle.adb_view.specs.Values.{is_sound, value_at};
 ghost use Rattle.adb_view.specs.ShapedPayload.{shaped_value, table_of};
 ghost use Rattle.adb_view.specs.declared.tables.Kind.TheVariants as Kinds;
 ghost use Rattle.adb_view.specs.declared.tables.Which.TheVariants as Tables;
-ghost use Rattle.adb_schema.specs.Texts.{text_fault};
+ghost use Rattle.adb_schema.specs.Texts.{text_or_number_fault};
 
 use crate::package::PackageView;
 use crate::package_info::PkgInfo;
@@ -25,13 +25,15 @@ use std::alloc::Global;
 /// A payload of the shape of a table in which each text obeys the rule of its field.
 #[derive(Clone, Copy)]
 pub struct Checked<'a> {
+    /// The payload whose shape was tested.
     shaped: Shaped<'a>,
-    ghost texts: { is_none (text_fault (table_of shaped) (shaped_value shaped)) ≡ true },
+    // Each text and number obeys the rule of its field.
+    ghost texts: { is_none (text_or_number_fault (table_of shaped) (shaped_value shaped)) ≡ true },
 }
 
 impl<'a> Checked<'a> {
     ghost use Rattle.adb_view.specs.ShapedPayload.{adb_of};
-    ghost use Rattle.adb_schema.specs.SoundValues.{KeepsRules};
+    ghost use Rattle.adb_schema.specs.SoundValues.{ObeysFieldRulesOfTable};
     ghost use Rattle.adb_schema.specs.Checked.{table_of_checked, checked_value};
     ghost use Rattle.adb_schema.specs.ReadFaults.{IsReadFault};
     ghost use Rattle.adb_schema.specs.Views.{package_value, index_value, idb_value, intent_value};
@@ -44,12 +46,18 @@ impl<'a> Checked<'a> {
     /// `Bad` with the cause `BadText` and the number of the first field that breaks its rule, depth
     /// first and field by field. A missing field counts as Null. Or `Memory`.
     pub fn new(alloc: Global, shaped: Shaped<'a>) -> Result<Checked<'a>, ReadFault>
+        // The error is the first failed test, or out of memory.
         ensures bad { IfErr result (λ fault.
-            IsReadFault fault (text_fault (table_of shaped.entry) (shaped_value shaped.entry))) }
+            IsReadFault fault (text_or_number_fault (table_of shaped.entry)
+            (shaped_value shaped.entry))) }
+        // On Ok, none of these tests failed.
         ensures sound { IfOk result (λ _.
-            text_fault (table_of shaped.entry) (shaped_value shaped.entry) ≡ None) }
+            text_or_number_fault (table_of shaped.entry) (shaped_value shaped.entry) ≡ None) }
+        // The table at the root is unchanged.
         ensures which { IfOk result (λ checked. table_of_checked checked ≡ table_of shaped.entry) }
+        // The value is that of the walked payload.
         ensures value { IfOk result (λ checked. checked_value checked ≡ shaped_value shaped.entry) }
+        // The payload is the walked one.
         ensures payload { IfOk result (λ checked. adb_of checked.shaped ≡ adb_of shaped.entry) }
     {
         match check_texts(alloc, shaped)? {
@@ -68,13 +76,14 @@ impl<'a> Checked<'a> {
     /// Each text and number of a checked payload obeys the rule of its field: a name is a
     /// package's, a version a version.
     pub fn values_keep_their_rules(&self)
-        ensures { KeepsRules (table_of_checked self.now) (checked_value self.now) }
+        ensures { ObeysFieldRulesOfTable (table_of_checked self.now) (checked_value self.now) }
     {
         no_text_is_bad_where_each_keeps_its_rule();
     }
 
     /// The package in the payload.
     pub fn package(&self) -> PackageView<'a>
+        // The table at the root is that of a package.
         requires { table_of_checked self.now ≡ Tables.Package }
         ensures { package_value result ≡ checked_value self.now }
     {
@@ -84,6 +93,7 @@ impl<'a> Checked<'a> {
 
     /// The index in the payload.
     pub fn index(&self) -> IndexView<'a>
+        // The table at the root is that of an index.
         requires { table_of_checked self.now ≡ Tables.Index }
         ensures { index_value result ≡ checked_value self.now }
     {
@@ -93,6 +103,7 @@ impl<'a> Checked<'a> {
 
     /// The installed database in the payload.
     pub fn idb(&self) -> IdbView<'a>
+        // The table at the root is that of a database.
         requires { table_of_checked self.now ≡ Tables.Idb }
         ensures { idb_value result ≡ checked_value self.now }
     {
@@ -102,6 +113,7 @@ impl<'a> Checked<'a> {
 
     /// The journal entry in the payload.
     pub fn intent(&self) -> IntentView<'a>
+        // The table at the root is that of an intent (journal entry).
         requires { table_of_checked self.now ≡ Tables.Intent }
         ensures { intent_value result ≡ checked_value self.now }
     {
@@ -113,24 +125,29 @@ impl<'a> Checked<'a> {
 /// A view of an index of packages (table 8), each of whose texts obeys the rule of its field.
 #[derive(Clone, Copy)]
 pub struct IndexView<'a> {
+    /// The payload that contains the index.
     adb: Adb<'a>,
+    /// The word (32-bit reference) of the index in the payload.
     word: u32,
+    // The word has a plain value, an index.
     ghost sound: { is_sound (payload_of adb) (Kinds.Obj Tables.Index) word ≡ true },
-    ghost texts: { is_none (text_fault Tables.Index
+    ghost texts: { is_none (text_or_number_fault Tables.Index
         (value_at (payload_of adb) (Kinds.Obj Tables.Index) word)) ≡ true },
 }
 
 impl<'a> IndexView<'a> {
     ghost use Rattle.adb_view.specs.FieldIndexes.{INDEX_DESCRIPTION, INDEX_PACKAGES, INDEX_PKGNAME_SPEC};
     ghost use Rattle.adb_view.specs.Values.{entry_in, text_in};
-    ghost use Rattle.adb_schema.specs.SoundValues.{KeepsRules};
+    ghost use Rattle.adb_schema.specs.SoundValues.{ObeysFieldRulesOfTable};
     ghost use Rattle.adb_schema.specs.Views.{index_value};
     ghost use Rattle.adb_fields.specs.ListValue.{list_value};
 
     /// The view of a word that is an index whose texts obey their rules.
     pub fn of(adb: Adb<'a>, word: Val) -> IndexView<'a>
+        // The word has a plain value of its kind.
         requires sound { is_sound (payload_of adb) (Kinds.Obj Tables.Index) word ≡ true }
-        requires texts { is_none (text_fault Tables.Index
+        // Each text and number of the index obeys the rule of its field.
+        requires texts { is_none (text_or_number_fault Tables.Index
             (value_at (payload_of adb) (Kinds.Obj Tables.Index) word)) ≡ true }
         ensures { index_value result
             ≡ value_at (payload_of adb.entry) (Kinds.Obj Tables.Index) word }
@@ -144,7 +161,7 @@ impl<'a> IndexView<'a> {
     /// Each text and number of the index obeys the rule of its field: a name is a package's, a
     /// version a version.
     pub fn values_keep_their_rules(&self)
-        ensures { KeepsRules Tables.Index (index_value self.now) }
+        ensures { ObeysFieldRulesOfTable Tables.Index (index_value self.now) }
     {
         no_text_is_bad_where_each_keeps_its_rule();
     }
@@ -159,6 +176,7 @@ impl<'a> IndexView<'a> {
     /// The word of the index in the payload.
     pub fn word(&self) -> Val
         ensures is { result ≡ self.now.word }
+        // The word has a plain value of its kind.
         ensures sound { is_sound (payload_of self.now.adb) (Kinds.Obj Tables.Index) result
             ≡ true }
     {
@@ -207,8 +225,11 @@ impl<'a> IndexView<'a> {
 /// A view of an installed database (table 9).
 #[derive(Clone, Copy)]
 pub struct IdbView<'a> {
+    /// The payload that contains the database.
     adb: Adb<'a>,
+    /// The word (32-bit reference) of the database in the payload.
     word: Val,
+    // The word has a plain value, a database.
     ghost sound: { is_sound (payload_of adb) (Kinds.Obj Tables.Idb) word ≡ true },
 }
 
@@ -247,9 +268,12 @@ impl<'a> IdbView<'a> {
 
     /// The package at a place, counted from 0, which is read from the payload of the database.
     pub fn package_at(&self, i: usize) -> PackageView<'a>
+        // The index is one of the database's packages.
         requires { i < count_of (entries_in (entry_in (idb_value self.now) IDB_PACKAGES)) }
+        // The value is that of entry `i` of the database's packages.
         ensures value { package_value result
             ≡ entry_in (entry_in (idb_value self.now) IDB_PACKAGES) i }
+        // The payload of the result is the one from which it was read.
         ensures lent { payload_of result.adb ≡ payload_of self.now.adb }
     {
         let entries = objects_field(
@@ -266,8 +290,11 @@ impl<'a> IdbView<'a> {
 /// A view of a journal entry (table 10), which names what a change will remove and write.
 #[derive(Clone, Copy)]
 pub struct IntentView<'a> {
+    /// The payload that contains the intent (journal entry).
     adb: Adb<'a>,
+    /// The word (32-bit reference) of the intent in the payload.
     word: Val,
+    // The word has a plain value, an intent.
     ghost sound: { is_sound (payload_of adb) (Kinds.Obj Tables.Intent) word ≡ true },
 }
 

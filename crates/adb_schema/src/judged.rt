@@ -72,7 +72,9 @@ pub struct Judged<'a> {
     /// The bytes of the payload, and leaps by which judging a version skips bytes that an earlier
     /// version has passed.
     versions: OverlappingVersions<'a>,
+    // Each remembered text obeys the rule with which it is remembered.
     ghost kept: { All (KeepsTextRule (payload_of adb)) good.keys },
+    // The versions are judged in this payload.
     ghost same: { versions ≡ payload_of adb },
 }
 
@@ -98,8 +100,11 @@ impl<'a> Judged<'a> {
     /// Whether the text of a word obeys a rule. Only long texts need memory, each once for each
     /// rule that it obeys. The payload is unchanged, so the verdicts on its words stay true.
     pub fn keeps(&mut self, rule: TextRule, word: Val, text: &[u8]) -> Result<bool, AllocError>
+        // These bytes are the text of the word.
         requires { text.now ≡ text_at (payload_of self.old.adb) word }
+        // On Ok, the result says whether the text obeys the rule.
         ensures value { IfOk result (λ kept. kept ≡ keeps_text_rule rule text.now) }
+        // The payload is unchanged.
         ensures payload { self.new.adb ≡ self.old.adb }
     {
         if text.len() <= LONGEST_SHORT_TEXT {
@@ -130,8 +135,11 @@ impl<'a> Judged<'a> {
         word: Val,
         text: &[u8],
     ) -> Result<bool, AllocError>
+        // These bytes are the text of the word.
         requires { text.now ≡ text_at (payload_of self.old.adb) word }
+        // On Ok, the result says whether the text obeys the rule.
         ensures value { IfOk result (λ kept. kept ≡ keeps_text_rule rule text.now) }
+        // The payload is unchanged.
         ensures payload { self.new.adb ≡ self.old.adb }
     {
         match rule {
@@ -143,8 +151,11 @@ impl<'a> Judged<'a> {
 
     /// Whether the text of a word is empty or a version.
     fn is_version_or_empty(&mut self, word: Val, text: &[u8]) -> Result<bool, AllocError>
+        // These bytes are the text of the word.
         requires { text.now ≡ text_at (payload_of self.old.adb) word }
+        // On Ok, the result says whether the text is a valid version or empty.
         ensures value { IfOk result (λ is. is ≡ is_version_or_empty text.now) }
+        // The payload is unchanged.
         ensures payload { self.new.adb ≡ self.old.adb }
     {
         if text.is_empty() {
@@ -155,8 +166,11 @@ impl<'a> Judged<'a> {
 
     /// Whether the text of a word is a version.
     fn is_version(&mut self, word: Val, text: &[u8]) -> Result<bool, AllocError>
+        // These bytes are the text of the word.
         requires { text.now ≡ text_at (payload_of self.old.adb) word }
+        // On Ok, the result says whether the text is a valid version.
         ensures value { IfOk result (λ is. is ≡ is_version text.now) }
+        // The payload is unchanged.
         ensures payload { self.new.adb ≡ self.old.adb }
     {
         match self.adb.blob_range(word) {

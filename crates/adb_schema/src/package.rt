@@ -23,8 +23,11 @@ use adb_view::{Adb, Val, Which};
 /// A view of an access list (table 2): the owner, group and mode of a file or a folder.
 #[derive(Clone, Copy)]
 pub struct AclView<'a> {
+    /// The payload that contains the access list.
     adb: Adb<'a>,
+    /// The word (32-bit reference) of the access list in the payload.
     word: Val,
+    // The word has a plain value, an access list.
     ghost sound: { is_sound (payload_of adb) (Kinds.Obj Tables.Acl) word ≡ true },
 }
 
@@ -82,8 +85,11 @@ impl<'a> AclView<'a> {
 /// A view of a file of a folder (table 4).
 #[derive(Clone, Copy)]
 pub struct FileInfo<'a> {
+    /// The payload that contains the file's entry.
     adb: Adb<'a>,
+    /// The word (32-bit reference) of the entry in the payload.
     word: Val,
+    // The word has a plain value, the entry of a file.
     ghost sound: { is_sound (payload_of adb) (Kinds.Obj Tables.File) word ≡ true },
 }
 
@@ -163,8 +169,11 @@ impl<'a> FileInfo<'a> {
 /// A view of a folder of a package (table 5).
 #[derive(Clone, Copy)]
 pub struct DirInfo<'a> {
+    /// The payload that contains the folder.
     adb: Adb<'a>,
+    /// The word (32-bit reference) of the folder in the payload.
     word: Val,
+    // The word has a plain value, a folder.
     ghost sound: { is_sound (payload_of adb) (Kinds.Obj Tables.Dir) word ≡ true },
 }
 
@@ -217,8 +226,11 @@ impl<'a> DirInfo<'a> {
 /// `docs/commands.md`, "`add` and `del`", defines which scripts of a change would run.
 #[derive(Clone, Copy)]
 pub struct ScriptsView<'a> {
+    /// The payload that contains the scripts.
     adb: Adb<'a>,
+    /// The word (32-bit reference) of the scripts in the payload.
     word: Val,
+    // The word has a plain value, the scripts of a package.
     ghost sound: { is_sound (payload_of adb) (Kinds.Obj Tables.Scripts) word ≡ true },
 }
 
@@ -293,8 +305,11 @@ impl<'a> ScriptsView<'a> {
 /// A view of a package (table 7).
 #[derive(Clone, Copy)]
 pub struct PackageView<'a> {
+    /// The payload that contains the package.
     adb: Adb<'a>,
+    /// The word (32-bit reference) of the package in the payload.
     word: Val,
+    // The word has a plain value, a package.
     ghost sound: { is_sound (payload_of adb) (Kinds.Obj Tables.Package) word ≡ true },
 }
 
@@ -319,9 +334,12 @@ impl<'a> PackageView<'a> {
 
     /// The view of a word that is sound as a package, read from this payload.
     pub(crate) fn at(adb: Adb<'a>, word: Val) -> PackageView<'a>
+        // The word has a plain value of its kind.
         requires { is_sound (payload_of adb) (Kinds.Obj Tables.Package) word ≡ true }
+        // The value of the package is that of the word.
         ensures value { package_value result
             ≡ value_at (payload_of adb.entry) (Kinds.Obj Tables.Package) word }
+        // The payload of the result is the one from which it was read.
         ensures lent { payload_of result.adb ≡ payload_of adb.entry }
     {
         PackageView { adb, word }
@@ -337,6 +355,7 @@ impl<'a> PackageView<'a> {
     /// The word of the package in the payload.
     pub fn word(&self) -> Val
         ensures is { result ≡ self.now.word }
+        // The word has a plain value of its kind.
         ensures sound { is_sound (payload_of self.now.adb) (Kinds.Obj Tables.Package) result
             ≡ true }
     {

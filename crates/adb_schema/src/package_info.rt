@@ -22,8 +22,11 @@ use adb_view::{Adb, Val, Which};
 /// A view of a dependency (table 1).
 #[derive(Clone, Copy)]
 pub struct DepView<'a> {
+    /// The payload that contains the dependency.
     adb: Adb<'a>,
+    /// The word (32-bit reference) of the dependency in the payload.
     word: Val,
+    // The word has a plain value, a dependency.
     ghost sound: { is_sound (payload_of adb) (Kinds.Obj Tables.Dep) word ≡ true },
 }
 
@@ -71,8 +74,11 @@ impl<'a> DepView<'a> {
 /// A view of the information of a package (table 3).
 #[derive(Clone, Copy)]
 pub struct PkgInfo<'a> {
+    /// The payload that contains the information.
     adb: Adb<'a>,
+    /// The word (32-bit reference) of the information in the payload.
     word: u32,
+    // The word has a plain value, the information of a package.
     ghost sound: { is_sound (payload_of adb) (Kinds.Obj Tables.PkgInfo) word ≡ true },
 }
 
@@ -108,6 +114,7 @@ impl<'a> PkgInfo<'a> {
     /// The word of the information in the payload.
     pub fn word(&self) -> Val
         ensures is { result ≡ self.now.word }
+        // The word has a plain value of its kind.
         ensures sound { is_sound (payload_of self.now.adb) (Kinds.Obj Tables.PkgInfo) result
             ≡ true }
     {

@@ -14,7 +14,7 @@ ghost use Rattle.adb_schema.specs.Checked.{checked_value, table_of_checked};
 ghost use Rattle.adb_view.specs.Plain.{IsNormal};
 ghost use Rattle.adb_view.specs.declared.tables.Which.{Which};
 ghost use Rattle.adb_schema.specs.SoundContainers.{IsSoundValue};
-ghost use Rattle.adb_schema.specs.Soundness.{further_block_fault, contents_positions, container_fault_except_contents, further_blocks_fault, payload_fault, is_schema_wanted, payload_in, further_blocks_fault_unless_package, root_value, schema_word, unexpected_contents_cause};
+ghost use Rattle.adb_schema.specs.Soundness.{unexpected_contents_block_fault, contents_positions, container_fault_except_contents, further_blocks_fault, payload_fault, is_schema_wanted, payload_in, further_blocks_fault_unless_package, root_value, schema_word, unexpected_contents_cause};
 ghost use Rattle.adb_schema.specs.ReadFaults.{first_block_fault};
 ghost use Rattle.adb_schema.specs.ReadFaults.{IsAfterFirstBlock};
 ghost use Rattle.adb_schema.specs.ReadFaults.{IsReadFault};
@@ -121,13 +121,18 @@ pub fn repeated(alloc: Global, checked: &Checked<'_>) -> Result<Option<Cause>, A
 /// that is no root.
 #[tactic(auto, unfolding(crate::specs::Soundness::container_fault_except_contents, crate::specs::Soundness::payload_in))]
 pub fn read_adb<'a>(alloc: Global, bytes: &'a [u8], which: Which) -> Result<Checked<'a>, ReadFault>
+    // The error is the first failed test, or out of memory.
     ensures bad { IfErr result (λ fault. IsReadFault fault
         (container_fault_except_contents which bytes.entry.now)) }
+    // On Ok, none of these tests failed.
     ensures sound { IfOk result (λ _. container_fault_except_contents which bytes.entry.now
         ≡ None) }
+    // The values have the wanted table at their root.
     ensures table { IfOk result (λ checked. table_of_checked checked ≡ which) }
+    // The payload is that of the container's first block.
     ensures payload { IfOk result (λ checked. payload_of (adb_of checked.shaped)
         ≡ payload_in bytes.entry.now) }
+    // The value is that of the payload's root.
     ensures value { IfOk result (λ checked. checked_value checked
         ≡ root_value which (payload_in bytes.entry.now)) }
 {
@@ -157,10 +162,14 @@ fn read_first<'a>(
     blocks: &mut Blocks<'a>,
     which: Which,
 ) -> Result<Checked<'a>, ReadFault>
+    // No block was read before.
     requires { blocks.old.last ≡ None }
+    // The error is the first failed test, or out of memory.
     ensures bad { IfErr result
         (λ fault. IsReadFault fault (first_block_fault which (block_stream_from blocks.old))) }
+    // The values have the wanted table at their root.
     ensures table { IfOk result (λ checked. table_of_checked checked ≡ which) }
+    // The blocks that are left are those after the first one.
     ensures behind { IfOk result
         (λ checked. IsAfterFirstBlock which (payload_of (adb_of checked.shaped)) (block_stream_from
         blocks.old)
@@ -178,10 +187,14 @@ fn check_payload<'a>(
     payload: &'a [u8],
     which: Which,
 ) -> Result<Checked<'a>, ReadFault>
+    // The error is the first failed test, or out of memory.
     ensures bad { IfErr result
         (λ fault. IsReadFault fault (payload_fault which payload.entry.now)) }
+    // On Ok, none of these tests failed.
     ensures sound { IfOk result (λ _. payload_fault which payload.entry.now ≡ None) }
+    // The values have the wanted table at their root.
     ensures table { IfOk result (λ checked. table_of_checked checked ≡ which) }
+    // The payload is the given one.
     ensures payload { IfOk result (λ checked. payload_of (adb_of checked.shaped)
         ≡ payload.entry.now) }
 {
@@ -215,15 +228,16 @@ fn check_further(blocks: &mut Blocks<'_>) -> Result<(), Cause>
         let Some(block) = blocks.next()? else {
             return Ok(());
         };
-        if let Some(cause) = further_block_fault(&block) {
+        if let Some(cause) = unexpected_contents_block_fault(&block) {
             return Err(cause);
         }
     }
 }
 
 /// Why a block is not allowed after the first, if it is not.
-fn further_block_fault(block: &Block<'_>) -> Option<Cause>
-    ensures { result ≡ further_block_fault block.now.kind block.now.payload.now block.now.at }
+fn unexpected_contents_block_fault(block: &Block<'_>) -> Option<Cause>
+    ensures { result
+        ≡ unexpected_contents_block_fault block.now.kind block.now.payload.now block.now.at }
 {
     match block.kind {
         BlockKind::Contents => Some(unexpected_contents_cause(block.payload, block.at)),
@@ -248,6 +262,7 @@ fn unexpected_contents_cause(payload: &[u8], at: u64) -> Cause
 /// The two numbers at the front of contents (apk-v3(5)): the positions of the folder and of its
 /// file, which count from 1.
 pub fn contents_positions(payload: &[u8]) -> (u32, u32)
+    // The payload has at least the 8 bytes of the two positions.
     requires { 8 ≤ length payload.now }
     ensures { result ≡ contents_positions payload.now }
 {
@@ -269,8 +284,10 @@ pub fn schema_words_are_as_listed()
 /// text and number obeys the rule of its field and no name repeats. If it is read from bytes, it is
 /// normal. The body calls the laws that the proof needs.
 pub fn sound_containers_hold_sound_values()
+    // The root of a sound container has a sound value.
     ensures value { (which : Which) (file : List ℕ)
         → IsSoundContainer which file → IsSoundValue which (root_value which (payload_in file)) }
+    // If the payload consists of bytes, this value is normal.
     ensures normal { (which : Which) (file : List ℕ)
         → IsSoundContainer which file → All (λ b. b < 256) (payload_in file)
         → IsNormal (root_value which (payload_in file)) }

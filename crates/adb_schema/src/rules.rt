@@ -7,7 +7,7 @@ ghost use Rattle.std.specs.Str.{is_utf8};
 ghost use Rattle.version_core.specs.Order.{is_version};
 ghost use Rattle.dep_core.specs.Value.{is_match_number, is_version_or_empty};
 ghost use Rattle.adb_fields.specs.Paths.{path_of};
-ghost use Rattle.adb_schema.specs.Rules.{is_digest_length, is_digest_length_or_none, is_folder_name, is_id_length, is_link_target, is_pkgname_spec, is_one_part, is_link_target_or_none};
+ghost use Rattle.adb_schema.specs.Rules.{is_digest_length, is_digest_length_or_none, is_folder_name, is_id_length, is_link_target, is_supported_pkgname_spec, is_one_part, is_link_target_or_none};
 ghost use Rattle.adb_schema.specs.Reserved.{is_at_or_below, is_intent_or_stage_name, is_reserved};
 
 use base_core::is_name;
@@ -129,8 +129,8 @@ fn is_text(bytes: &[u8]) -> bool
 }
 
 /// Whether the bytes are the pattern of an index: empty, or `${name}-${version}.apk`.
-pub(crate) fn is_pkgname_spec(pattern: &[u8]) -> bool
-    ensures { result ≡ is_pkgname_spec pattern.now }
+pub(crate) fn is_supported_pkgname_spec(pattern: &[u8]) -> bool
+    ensures { result ≡ is_supported_pkgname_spec pattern.now }
 {
     pattern.is_empty() || pattern == NAME_PATTERN
 }

@@ -14,8 +14,8 @@ ghost use Rattle.adb_schema.specs.TextRules.{text_at};
 ghost use Rattle.adb_schema.specs.TextWalk.{IsSameWordAsPrevious, AllowsEachText, AllowsEachValueOfKind, bad_text_at};
 ghost use Rattle.adb_view.specs.ShapedPayload.{shaped_value, table_of};
 ghost use Rattle.adb_view.specs.Shaped.{Each};
-ghost use Rattle.adb_schema.specs.SoundValues.{IsNameAllowedInIntent, IsSoundDependency, IsSoundFileOf, IsSoundFolder, IsSoundInformation, IsSoundPackage, KeepsRules};
-ghost use Rattle.adb_schema.specs.Texts.{surroundings_of_root, surroundings_of_fields, is_file_hash_length, is_allowed_file_name, is_package_hash_length, is_file_with_contents, can_root_table_list_path, needs_file_hash, is_allowed_number_of_field, is_allowed_text_of_field, leaves_of_all_values, field_leaves, first_bad_leaf, leaves, number_leaf, text_leaf, leaves_of, text_fault};
+ghost use Rattle.adb_schema.specs.SoundValues.{IsNameAllowedInIntent, IsSoundDependency, IsSoundFileInFolder, IsSoundFolder, IsSoundInformation, IsSoundPackage, ObeysFieldRulesOfTable};
+ghost use Rattle.adb_schema.specs.Texts.{surroundings_of_root, surroundings_of_fields, is_file_hash_length, is_allowed_file_name, is_package_hash_length, is_file_with_contents, can_root_table_list_path, needs_file_hash, is_allowed_number_of_field, is_allowed_text_of_field, leaves_of_all_values, field_leaves, first_bad_leaf, leaves, number_leaf, text_leaf, leaves_of, text_or_number_fault};
 ghost use Rattle.adb_schema.specs.FirstBad.{IsFirstBadLeafIfAny};
 ghost use Rattle.adb_view.specs.Entries.{array_entries};
 ghost use Rattle.adb_fields.specs.Fields.{are_all_sound, values_at};
@@ -103,6 +103,7 @@ impl<'a> Surroundings<'a> {
 
     /// The surroundings of an object's fields, from those of the object.
     pub(crate) fn inside(&self, adb: Adb<'a>, which: Which, object: Val) -> Surroundings<'a>
+        // The word has a plain value of its kind.
         requires { is_sound (payload_of adb) (Kinds.Obj which) object ≡ true }
         ensures { surroundings_of result
             ≡ surroundings_of_fields (table_number which) (surroundings_of self.now)
@@ -167,6 +168,7 @@ impl<'a> Surroundings<'a> {
 
 /// Whether a file has contents: no target, and a size above 0.
 fn has_contents(adb: Adb<'_>, file: Val) -> bool
+    // The word has a plain value of its kind.
     requires { is_sound (payload_of adb) (Kinds.Obj Tables.File) file ≡ true }
     ensures { result
         ≡ is_file_with_contents (value_at (payload_of adb.entry) (Kinds.Obj Tables.File) file) }
@@ -198,6 +200,7 @@ fn keeps_rule_of_field(
 ) -> Result<bool, AllocError>
     // `text` is the text of the word.
     requires { text.now ≡ text_at (payload_of judged.old.adb) word }
+    // On Ok, the result says whether the text obeys the rule of the field.
     ensures value { IfOk result (λ kept.
         kept ≡ is_allowed_text_of_field field_number (surroundings_of around.now) text.now) }
     // The payload is unchanged.
@@ -213,7 +216,7 @@ fn keeps_rule_of_field(
         field_numbers::FILE_HASHES => Ok(around.takes_file_hash(text.len())),
         field_numbers::FILE_TARGET => judged.keeps(TextRule::Target, word, text),
         field_numbers::DIR_NAME => judged.keeps(TextRule::FolderName, word, text),
-        field_numbers::INDEX_PKGNAME_SPEC => Ok(is_pkgname_spec(text)),
+        field_numbers::INDEX_PKGNAME_SPEC => Ok(is_supported_pkgname_spec(text)),
         field_numbers::INTENT_REMOVALS | field_numbers::INTENT_WRITES => {
             keeps_change_name(judged, word, text)
         }
@@ -230,6 +233,7 @@ fn keeps_file_name(
 ) -> Result<bool, AllocError>
     // `text` is the text of the word.
     requires { text.now ≡ text_at (payload_of judged.old.adb) word }
+    // On Ok, the result says whether the text is an allowed file name in this folder.
     ensures value { IfOk result (λ kept.
         kept ≡ is_allowed_file_name (surroundings_of around.now) text.now) }
     // The payload is unchanged.
@@ -246,6 +250,7 @@ fn keeps_file_name(
 fn keeps_change_name(judged: &mut Judged<'_>, word: Val, text: &[u8]) -> Result<bool, AllocError>
     // `text` is the text of the word.
     requires { text.now ≡ text_at (payload_of judged.old.adb) word }
+    // On Ok, the result says whether the text is a name that an intent may have.
     ensures value { IfOk result (λ kept. kept ≡ is_name_allowed_in_intent text.now) }
     // The payload is unchanged.
     ensures payload { judged.new.adb ≡ judged.old.adb }
@@ -262,7 +267,7 @@ fn keeps_change_name(judged: &mut Judged<'_>, word: Val, text: &[u8]) -> Result<
 /// than 64 bytes is judged once, however many places share it.
 pub fn check_texts(alloc: Global, shaped: Shaped<'_>) -> Result<Option<Cause>, AllocError>
     ensures { IfOk result (λ cause. cause
-        ≡ text_fault (table_of shaped.entry) (shaped_value shaped.entry)) }
+        ≡ text_or_number_fault (table_of shaped.entry) (shaped_value shaped.entry)) }
 {
     let adb = shaped.adb();
     let which = shaped.which();
@@ -351,6 +356,7 @@ fn check_entries<'a>(
 
 /// Whether an entry is the same word as the one before it.
 fn is_same_as_before(entries: Arr<'_>, i: usize) -> bool
+    // The index is that of an entry.
     requires { i < length (array_entries entries) }
     ensures { OnTrue result (IsSameWordAsPrevious (array_entries entries.entry) i) }
 {
@@ -487,35 +493,41 @@ fn check_text(
 /// field, depth first and field by field. There is none if and only if each obeys its rule.
 pub fn the_first_bad_text_is_reported()
     ensures { (which : Which) (value : Plain)
-        → IsFirstBadLeafIfAny (leaves_of which value) (text_fault which value) }
+        → IsFirstBadLeafIfAny (leaves_of which value) (text_or_number_fault which value) }
 {}
 
-/// A law: no text or number of a value is bad if and only if each obeys the rule of its field,
-/// table by table.
+/// A law: the text walk reports no fault in a value if and only if each text and number in the
+/// value obeys the rule of its field. *ObeysFieldRulesOfTable* states the rules for each table.
 pub fn no_text_is_bad_where_each_keeps_its_rule()
-    ensures { (which : Which) (value : Plain) → (text_fault which value ≡ None)
-        ↔ KeepsRules which value }
+    ensures { (which : Which) (value : Plain) → (text_or_number_fault which value ≡ None)
+        ↔ ObeysFieldRulesOfTable which value }
 {}
 
 /// A law: each entry of a list obeys the rule that all entries of the list obey, for each kind of
 /// entries. Entries count from 0; `root` is the table of the container, and `folder` the name of
 /// the file's folder.
 pub fn entries_keep_the_rule_of_their_list()
+    // For a list of dependencies.
     ensures dependency { (list : Plain) (i : ℕ)
         → Each IsSoundDependency (entries_in list) → i < count_of (entries_in list)
         → IsSoundDependency (entry_in list i) }
+    // For a list of packages' information.
     ensures information { (root : Which) (list : Plain) (i : ℕ)
         → Each (IsSoundInformation root) (entries_in list) → i < count_of (entries_in list)
         → IsSoundInformation root (entry_in list i) }
+    // For a list of the files of a folder.
     ensures file { (root : Which) (folder : List ℕ) (list : Plain) (i : ℕ)
-        → Each (IsSoundFileOf root folder) (entries_in list) → i < count_of (entries_in list)
-        → IsSoundFileOf root folder (entry_in list i) }
+        → Each (IsSoundFileInFolder root folder) (entries_in list) → i < count_of (entries_in list)
+        → IsSoundFileInFolder root folder (entry_in list i) }
+    // For a list of folders.
     ensures folder { (root : Which) (list : Plain) (i : ℕ)
         → Each (IsSoundFolder root) (entries_in list) → i < count_of (entries_in list)
         → IsSoundFolder root (entry_in list i) }
+    // For a list of packages.
     ensures package { (root : Which) (list : Plain) (i : ℕ)
         → Each (IsSoundPackage root) (entries_in list) → i < count_of (entries_in list)
         → IsSoundPackage root (entry_in list i) }
+    // For a list of names in an intent (journal entry).
     ensures change_name { (list : Plain) (i : ℕ)
         → Each IsNameAllowedInIntent (entries_in list) → i < count_of (entries_in list)
         → IsNameAllowedInIntent (entry_in list i) }

@@ -7,7 +7,7 @@ use Rattle.base_core.specs.declared.cause.Cause.{Cause}
 use Rattle.adb_block.specs.Piece.{Piece}
 use Rattle.adb_block.specs.Reading.{Reading, done, fault, more}
 use Rattle.adb_block.specs.AllBlocks.{with_block, blocks_of_stream}
-use Rattle.adb_block.specs.Container.{CanBeWrittenAfter}
+use Rattle.adb_block.specs.Container.{CanBlocksBeWrittenAfter}
 use Rattle.adb_block.specs.declared.block.BlockKind.TheVariants as Kinds
 use Rattle.pkg_core.specs.adb_schema.Soundness.{contents_positions}
 use Rattle.pkg_core.specs.Contents.{ExpectedFile, Contents, contents_bytes, contents_block_fault, contents_fault, fault_of_files_read, contents_fault_for_expected_file, files_read_from_blocks, has_positions_of, files_unless_fault, with_contents_of_next}
@@ -81,10 +81,10 @@ blocks_good (e ∷ es) (c ∷ cs) r p small all =
     (ap (λ (o : Option Cause). fault_of_files_read (files_unless_fault o (with_contents_of_next (contents_payload c) (λ left. files_read_from_blocks left first.later) (e ∷ es)))) good ∙ blocks_good es cs first.later first.others small.2 all.1)
 
 -- and they may follow the value
-more_contents : (cs : List Contents) → AreShort cs → CanBeWrittenAfter (Some Kinds.Contents) (map contents_piece cs)
+more_contents : (cs : List Contents) → AreShort cs → CanBlocksBeWrittenAfter (Some Kinds.Contents) (map contents_piece cs)
 more_contents [] short = tt
 more_contents (c ∷ cs) short = (record { order = refl; long = omega arith }, omega (arith, short.0), more_contents cs short.1)
 
-pub contents_stand : (cs : List Contents) → AreShort cs → CanBeWrittenAfter (Some Kinds.Adb) (map contents_piece cs)
+pub contents_stand : (cs : List Contents) → AreShort cs → CanBlocksBeWrittenAfter (Some Kinds.Adb) (map contents_piece cs)
 contents_stand [] short = tt
 contents_stand (c ∷ cs) short = (record { order = refl; long = omega arith }, omega (arith, short.0), more_contents cs short.1)

@@ -9,10 +9,10 @@ use Rattle.adb_block.specs.Written.{block_bytes, head_bytes, long_head_bytes, sh
 use Rattle.adb_block.specs.declared.block.BlockKind.{BlockKind}
 use Rattle.adb_view.specs.Plain.{Plain}
 use Rattle.adb_write.specs.Canonical.{canonical}
-use Rattle.adb_write.specs.File.{adb_piece}
+use Rattle.adb_write.specs.File.{adb_block_of_payload}
 use Rattle.pkg_core.specs.Contents.{Contents}
 use Rattle.adb_sound.specs.Contents.{contents_size}
-use Rattle.adb_sound.specs.Container.{contents_payload, contents_piece, container_of}
+use Rattle.adb_sound.specs.Container.{contents_payload, contents_piece, container_of_value_and_contents}
 
 -- each block's size fits in its header
 abbrev pub AreShort : List Contents → Type 0
@@ -54,15 +54,15 @@ short_held (c ∷ cs) h =
     let long = contents_long c in
     (omega arith, short_held cs (omega arith))
 
-laid_long : (schema : ℕ) (v : Plain) (cs : List Contents) → 12 + length (laid_blocks cs) ≤ length (container_of schema v cs)
+laid_long : (schema : ℕ) (v : Plain) (cs : List Contents) → 12 + length (laid_blocks cs) ≤ length (container_of_value_and_contents schema v cs)
 laid_long schema v cs =
-    let blocks : List ℕ = flat_map block_bytes (adb_piece (canonical v) ∷ map contents_piece cs) in
-    let split = ap length (flat_map-cons block_bytes (adb_piece (canonical v)) (map contents_piece cs)) in
-    let parts = length-append (block_bytes (adb_piece (canonical v))) (laid_blocks cs) in
-    omega (arith, length-append (codes "ADB.") (to_le_bytes w32 schema ++ blocks), length-append (to_le_bytes w32 schema) blocks, split, parts, block_long (adb_piece (canonical v)))
+    let blocks : List ℕ = flat_map block_bytes (adb_block_of_payload (canonical v) ∷ map contents_piece cs) in
+    let split = ap length (flat_map-cons block_bytes (adb_block_of_payload (canonical v)) (map contents_piece cs)) in
+    let parts = length-append (block_bytes (adb_block_of_payload (canonical v))) (laid_blocks cs) in
+    omega (arith, length-append (codes "ADB.") (to_le_bytes w32 schema ++ blocks), length-append (to_le_bytes w32 schema) blocks, split, parts, block_long (adb_block_of_payload (canonical v)))
 
-pub laid_short : (schema : ℕ) (v : Plain) (cs : List Contents) → length (container_of schema v cs) < 2 ^ 64 → AreShort cs
+pub laid_short : (schema : ℕ) (v : Plain) (cs : List Contents) → length (container_of_value_and_contents schema v cs) < 2 ^ 64 → AreShort cs
 laid_short schema v cs h = short_held cs (omega (arith, laid_long schema v cs))
 
-pub laid_total : (schema : ℕ) (v : Plain) (cs : List Contents) → length (container_of schema v cs) < 2 ^ 64 → contents_size cs < 2 ^ 64
+pub laid_total : (schema : ℕ) (v : Plain) (cs : List Contents) → length (container_of_value_and_contents schema v cs) < 2 ^ 64 → contents_size cs < 2 ^ 64
 laid_total schema v cs h = omega (arith, laid_long schema v cs, total_held cs)

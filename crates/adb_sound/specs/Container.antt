@@ -8,7 +8,7 @@ use Rattle.adb_block.specs.Written.{container}
 use Rattle.adb_block.specs.declared.block.BlockKind.TheVariants as Kinds
 use Rattle.adb_view.specs.Plain.{Plain}
 use Rattle.adb_write.specs.Canonical.{canonical}
-use Rattle.adb_write.specs.File.{adb_piece}
+use Rattle.adb_write.specs.File.{adb_block_of_payload}
 use Rattle.pkg_core.specs.Contents.{Contents}
 use Rattle.pkg_core.specs.Whole.{PackageWithContents}
 
@@ -22,10 +22,10 @@ abbrev pub contents_piece : Contents → Piece
 contents_piece c = record { kind = Kinds.Contents; payload = contents_payload c }
 
 -- the container of a schema and a value: the value's payload, and after it a block for each contents
-abbrev pub container_of : ℕ → Plain → List Contents → List ℕ
-container_of schema v contents =
-    container schema (adb_piece (canonical v) ∷ map contents_piece contents)
+abbrev pub container_of_value_and_contents : ℕ → Plain → List Contents → List ℕ
+container_of_value_and_contents schema v contents =
+    container schema (adb_block_of_payload (canonical v) ∷ map contents_piece contents)
 
 -- a package in its container: its value, and the contents of its files
-abbrev pub packed_from_parts : Plain → List Contents → PackageWithContents
-packed_from_parts v contents = record { value = v; contents = contents }
+abbrev pub package_with_contents_from_parts : Plain → List Contents → PackageWithContents
+package_with_contents_from_parts v contents = record { value = v; contents = contents }

@@ -4,25 +4,25 @@ use Rattle.std.specs.Prelude.{◌≡◌, ◌≤◌, None}
 use Rattle.adb_view.specs.Plain.{Plain, IsNormal}
 use Rattle.adb_view.specs.Shaped.{HasShape}
 use Rattle.adb_view.specs.Schema.{shape_of}
-use Rattle.pkg_core.specs.adb_schema.Texts.{text_fault}
+use Rattle.pkg_core.specs.adb_schema.Texts.{text_or_number_fault}
 use Rattle.pkg_core.specs.adb_fields.Repeated.{repeated_fault}
 use Rattle.adb_view.specs.declared.tables.Which.{Which}
 use Rattle.adb_view.specs.declared.tables.Kind.TheVariants.{Obj}
-use Rattle.adb_write.specs.Size.{size_of, value_count}
+use Rattle.adb_write.specs.Size.{payload_size_of, value_count}
 use Rattle.adb_write.specs.Canonical.{MOST_BYTES, MOST_VALUES}
 
 -- a value that may be at the root of a container with this table: it has the table's shape and is
 -- within the limits, each text and number obeys the rule of its field, and no name repeats
-pub record IsRootOf (which : Which) (v : Plain) : Type 0 where
+pub record IsValidRootValueOfTable (which : Which) (v : Plain) : Type 0 where
   -- integers below 2^64, no empty blob or list, no Null at an object's end
   pub normal : IsNormal v
   -- it has the shape of the table
   pub shaped : HasShape (shape_of (Obj which)) v
   -- its payload is within the limit of bytes
-  pub fits : size_of v ≤ MOST_BYTES
+  pub fits : payload_size_of v ≤ MOST_BYTES
   -- its values are within their limit
   pub few : value_count v ≤ MOST_VALUES
   -- each text and number obeys its rule
-  pub texts : text_fault which v ≡ None
+  pub texts : text_or_number_fault which v ≡ None
   -- no name repeats
   pub once : repeated_fault which v ≡ None

@@ -14,9 +14,9 @@ ghost use Rattle.pkg_core.specs.adb_schema.Soundness.{payload_in, root_value, sc
 ghost use Rattle.pkg_core.specs.adb_schema.declared.read.TheConstants.{PACKAGE_WORD};
 ghost use Rattle.adb_view.specs.declared.tables.Which.{Which};
 ghost use Rattle.adb_view.specs.declared.tables.Which.TheVariants as Tables;
-ghost use Rattle.adb_sound.specs.Container.{contents_piece, container_of, packed_from_parts};
+ghost use Rattle.adb_sound.specs.Container.{contents_piece, container_of_value_and_contents, package_with_contents_from_parts};
 ghost use Rattle.adb_sound.specs.Contents.{contents_size};
-ghost use Rattle.adb_sound.specs.Root.{IsRootOf};
+ghost use Rattle.adb_sound.specs.Root.{IsValidRootValueOfTable};
 ghost use Rattle.adb_view.specs.Plain.{Plain};
 ghost use Rattle.adb_write.specs.Canonical.{canonical};
 ghost use Rattle.adb_write.specs.File.{file_of};
@@ -34,7 +34,7 @@ use adb_write::{a_canonical_payload_is_read_back, a_canonical_payload_is_visited
 /// index, a database or a journal entry.
 pub fn a_container_of_a_good_value_is_sound()
     ensures { (which : Which) (schema : ℕ) (v : Plain)
-        → schema_word which ≡ Some schema → which ≢ Tables.Package → IsRootOf which v
+        → schema_word which ≡ Some schema → which ≢ Tables.Package → IsValidRootValueOfTable which v
         → container_fault (file_of schema (canonical v)) ≡ None }
 {
     what_is_written_is_spelled();
@@ -48,9 +48,10 @@ pub fn a_container_of_a_good_value_is_sound()
 /// order and no others, is sound if it has fewer than 2^64 bytes.
 pub fn a_package_of_a_good_value_and_its_contents_is_sound()
     ensures { (v : Plain) (contents : List Contents)
-        → IsRootOf Tables.Package v → AreContentsOf (expected_files_of_package v) contents
-        → length (container_of PACKAGE_WORD v contents) < 2 ^ 64
-        → container_fault (container_of PACKAGE_WORD v contents) ≡ None }
+        → IsValidRootValueOfTable Tables.Package v
+        → AreContentsOf (expected_files_of_package v) contents
+        → length (container_of_value_and_contents PACKAGE_WORD v contents) < 2 ^ 64
+        → container_fault (container_of_value_and_contents PACKAGE_WORD v contents) ≡ None }
 {
     what_is_written_is_spelled();
     what_is_spelled_is_read();
@@ -65,20 +66,22 @@ pub fn contents_are_in_their_container()
     ensures blocks { (contents : List Contents)
         → contents_size contents ≤ length (flat_map block_bytes (map contents_piece contents)) }
     ensures container { (schema : ℕ) (v : Plain) (contents : List Contents)
-        → length (container_of schema v contents) < 2 ^ 64 → contents_size contents < 2 ^ 64 }
+        → length (container_of_value_and_contents schema v contents) < 2 ^ 64
+        → contents_size contents < 2 ^ 64 }
 {}
 
 /// A law: a container is read back as what it was made from: its value, and for a package the
 /// contents of its files in order.
 pub fn what_a_container_is_made_of_is_read_back()
     ensures value { (which : Which) (schema : ℕ) (v : Plain)
-        → schema_word which ≡ Some schema → IsRootOf which v
+        → schema_word which ≡ Some schema → IsValidRootValueOfTable which v
         → root_value which (payload_in (file_of schema (canonical v))) ≡ v }
     ensures contents { (v : Plain) (contents : List Contents)
-        → IsRootOf Tables.Package v → AreContentsOf (expected_files_of_package v) contents
-        → length (container_of PACKAGE_WORD v contents) < 2 ^ 64
-        → package_with_contents (container_of PACKAGE_WORD v contents)
-        ≡ packed_from_parts v contents }
+        → IsValidRootValueOfTable Tables.Package v
+        → AreContentsOf (expected_files_of_package v) contents
+        → length (container_of_value_and_contents PACKAGE_WORD v contents) < 2 ^ 64
+        → package_with_contents (container_of_value_and_contents PACKAGE_WORD v contents)
+        ≡ package_with_contents_from_parts v contents }
 {
     what_is_written_is_spelled();
     what_is_spelled_is_read();

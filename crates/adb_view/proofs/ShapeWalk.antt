@@ -17,7 +17,7 @@ use Rattle.adb_view.specs.CountedWalk.{walk_each_word}
 use Rattle.adb_view.specs.CountedWalk.{walk_visit}
 use Rattle.adb_view.specs.CountedWalk.{ok_unless}
 use Rattle.base_core.specs.Lists.{and_then}
-use Rattle.adb_view.specs.FirstFault.{IsFirstFault}
+use Rattle.adb_view.specs.FirstFault.{IsFirstFaultOfVisits}
 use Rattle.std.specs.List.{list_all}
 use Rattle.base_core.specs.declared.cause.Cause.{Cause}
 use Rattle.base_core.proofs.Causes.{both_none, none_of}
@@ -131,7 +131,7 @@ first_is p n (v ∷ vs) c e =
         rw zero-add (subst (λ (x : Visit). visit_fault p n x ≡ None) same here)
     earlier p n v vs i here more (suc j) u lt g = more j u (omega arith) g
 
-pub shape_fault-first : (p : List ℕ) (s : Shape) (w : ℕ) (c : Cause) → shape_fault p s w ≡ Some c → IsFirstFault p (visits p s w) c
+pub shape_fault-first : (p : List ℕ) (s : Shape) (w : ℕ) (c : Cause) → shape_fault p s w ≡ Some c → IsFirstFaultOfVisits p (visits p s w) c
 shape_fault-first p s w c e =
     let r = first_is p 1 (visits p s w) c e in
     record { i = r.i; v = r.v; at = r.at; fault = r.fault; before = r.before }
@@ -205,7 +205,7 @@ first_back p n (u ∷ us) c (suc i) v at fault before =
     let later = first_back p (n + 1) us c i v at (subst (λ (k : ℕ). visit_fault p k v ≡ Some c) (moved i) fault) (λ j x lt g. subst (λ (k : ℕ). visit_fault p k x ≡ None) (moved j) (before (suc j) x (omega arith) g)) in
     rw here later
 
-pub reported : (p : List ℕ) (s : Shape) (w : ℕ) (c : Cause) → (shape_fault p s w ≡ Some c) ↔ IsFirstFault p (visits p s w) c
+pub reported : (p : List ℕ) (s : Shape) (w : ℕ) (c : Cause) → (shape_fault p s w ≡ Some c) ↔ IsFirstFaultOfVisits p (visits p s w) c
 reported p s w c = (shape_fault-first p s w c, λ first. first_back p 1 (visits p s w) c first.i first.v first.at first.fault first.before)
 
 visit_counted : (p : List ℕ) (n : ℕ) (v : Visit) → visit_fault p n v ≡ None → n ≤ MOST_VALUES

@@ -5,7 +5,7 @@ use Rattle.std.specs.List.{list_all}
 use Rattle.adb_view.specs.Bytes.{words}
 use Rattle.adb_view.specs.Head.{payload_head_fault, root_word_of_payload}
 use Rattle.adb_view.specs.Readers.{int_of, blob_of, run_entries_of_word, ARRAY, OBJECT}
-use Rattle.adb_view.specs.Plain.{Plain, null, int, blob, arr, obj, none, more, Shape, number, text, array, object, no_fields, field, plain_of, value_of}
+use Rattle.adb_view.specs.Plain.{Plain, null, int, blob, arr, obj, none, more, Shape, number, text, array, object, no_fields, field, plain_of, root_value_with_shape}
 use Rattle.adb_view.specs.Visits.{visits, is_sound_visit}
 use Rattle.base_core.specs.declared.cause.Cause.TheVariants.{Outside, WrongKind, Truncated, CompatVersion}
 
@@ -29,7 +29,7 @@ texts_first-head = refl
 texts_first-root : root_word_of_payload texts_first ≡ 0xe0000018
 texts_first-root = refl
 
-texts_first-value : value_of texts_first package_shape ≡ Some a_package
+texts_first-value : root_value_with_shape texts_first package_shape ≡ Some a_package
 unfolding plain_of run_entries_of_word blob_of int_of words
 texts_first-value = refl
 
@@ -41,7 +41,7 @@ texts_first-sound = refl
 abbrev texts_last : List ℕ
 texts_last = 0 ∷ 0 ∷ 0 ∷ 0 ∷ 8 ∷ 0 ∷ 0 ∷ 224 ∷ 2 ∷ 0 ∷ 0 ∷ 0 ∷ 16 ∷ 0 ∷ 0 ∷ 224 ∷ 3 ∷ 0 ∷ 0 ∷ 0 ∷ 28 ∷ 0 ∷ 0 ∷ 128 ∷ 30 ∷ 0 ∷ 0 ∷ 128 ∷ 1 ∷ 97 ∷ 1 ∷ 49 ∷ []
 
-texts_last-value : value_of texts_last package_shape ≡ Some a_package
+texts_last-value : root_value_with_shape texts_last package_shape ≡ Some a_package
 unfolding plain_of run_entries_of_word blob_of int_of words
 texts_last-value = refl
 
@@ -61,7 +61,7 @@ one_byte_short-int : int_of one_byte_short 0x8000001e ≡ Err (WrongKind 0x80000
 unfolding int_of
 one_byte_short-int = refl
 
-one_byte_short-value : value_of one_byte_short package_shape ≡ None
+one_byte_short-value : root_value_with_shape one_byte_short package_shape ≡ None
 unfolding plain_of run_entries_of_word blob_of int_of words
 one_byte_short-value = refl
 
@@ -69,7 +69,7 @@ one_byte_short-value = refl
 abbrev one_write : List ℕ
 one_write = 0 ∷ 0 ∷ 0 ∷ 0 ∷ 20 ∷ 0 ∷ 0 ∷ 224 ∷ 1 ∷ 97 ∷ 0 ∷ 0 ∷ 2 ∷ 0 ∷ 0 ∷ 0 ∷ 8 ∷ 0 ∷ 0 ∷ 128 ∷ 3 ∷ 0 ∷ 0 ∷ 0 ∷ 0 ∷ 0 ∷ 0 ∷ 0 ∷ 12 ∷ 0 ∷ 0 ∷ 208 ∷ []
 
-one_write-value : value_of one_write intent_shape ≡ Some (obj (more null (more (arr (more (blob (codes "a")) none)) none)))
+one_write-value : root_value_with_shape one_write intent_shape ≡ Some (obj (more null (more (arr (more (blob (codes "a")) none)) none)))
 unfolding plain_of run_entries_of_word blob_of int_of words
 one_write-value = refl
 
@@ -81,7 +81,7 @@ nulls_within-array : plain_of nulls_within (array text) 0xd0000008 ≡ Some (arr
 unfolding plain_of run_entries_of_word blob_of int_of words
 nulls_within-array = refl
 
-nulls_within-value : value_of nulls_within intent_shape ≡ Some (obj (more (arr (more null (more null none))) none))
+nulls_within-value : root_value_with_shape nulls_within intent_shape ≡ Some (obj (more (arr (more null (more null none))) none))
 unfolding plain_of run_entries_of_word blob_of int_of words
 nulls_within-value = refl
 
@@ -97,11 +97,11 @@ empty_text-entries : run_entries_of_word OBJECT empty_text 0xe000000c ≡ Ok (0x
 unfolding run_entries_of_word words
 empty_text-entries = refl
 
-empty_text-value : value_of empty_text (object 1 (field (codes "name") text (field (codes "version") text no_fields))) ≡ Some null
+empty_text-value : root_value_with_shape empty_text (object 1 (field (codes "name") text (field (codes "version") text no_fields))) ≡ Some null
 unfolding plain_of run_entries_of_word blob_of int_of words
 empty_text-value = refl
 
-empty_text-number : value_of empty_text (object 1 (field (codes "name") text (field (codes "version") text (field (codes "match") number no_fields)))) ≡ Some (obj (more null (more null (more (int 12) none))))
+empty_text-number : root_value_with_shape empty_text (object 1 (field (codes "name") text (field (codes "version") text (field (codes "match") number no_fields)))) ≡ Some (obj (more null (more null (more (int 12) none))))
 unfolding plain_of run_entries_of_word blob_of int_of words
 empty_text-number = refl
 

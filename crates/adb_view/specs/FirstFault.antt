@@ -7,7 +7,7 @@ use Rattle.base_core.specs.declared.cause.Cause.{Cause}
 
 -- the visit with the index i (one less than its number, which counts from 1) has this fault, and no
 -- visit before it has one
-pub record IsFirstFault (p : List ℕ) (vs : List Visit) (c : Cause) : Type 0 where
+pub record IsFirstFaultOfVisits (p : List ℕ) (vs : List Visit) (c : Cause) : Type 0 where
   -- the index of the visit
   pub i : ℕ
   -- the visit

@@ -122,8 +122,8 @@ unfoldable mutual
   plains_of p (field name s fs) (w ∷ ws) = plains_if_first_and_rest (plain_of p s w) (plains_of p fs ws)
 
 -- the plain value of a payload, whose root has this shape
-abbrev pub value_of : List ℕ → Shape → Option Plain
-value_of p s = plain_of p s (root_word_of_payload p)
+abbrev pub root_value_with_shape : List ℕ → Shape → Option Plain
+root_value_with_shape p s = plain_of p s (root_word_of_payload p)
 
 -- ---- normal values
 

@@ -26,6 +26,7 @@ const HEAD: usize = 8;
 pub struct Adb<'a> {
     /// The whole payload, its head with it.
     payload: &'a [u8],
+    // A payload has at least the 8 bytes of its head.
     ghost whole: { 8 ≤ length payload.now },
 }
 
@@ -40,7 +41,9 @@ impl<'a> Adb<'a> {
     /// `Truncated` at 0 if there are fewer than 8 bytes, else `CompatVersion` if the first is not
     /// 0.
     pub fn new(payload: &'a [u8]) -> Result<Adb<'a>, Cause>
+        // An error is the fault of the payload's head.
         ensures exact { result_err result ≡ payload_head_fault payload.now }
+        // The opened payload has the given bytes.
         ensures lent { IfOk result (λ adb. payload_of adb ≡ payload.now) }
     {
         if payload.len() < HEAD {
@@ -108,9 +111,11 @@ impl<'a> Adb<'a> {
     /// `WrongKind` if it is no blob, else `Outside` if its bytes leave the payload.
     #[tactic(auto, unfolding(crate::specs::Readers::blob_of))]
     pub fn blob_range(&self, v: Val) -> Result<(usize, usize), Cause>
+        // On Ok, these are the bytes of the blob; an error is that of the definition.
         ensures found { Gives (λ found. slice_range (payload_of self.now) found.0 found.1) result
             (blob_of (payload_of self.now) v) }
         ensures order { IfOk result (λ found. found.0 ≤ found.1) }
+        // The end of the blob is within the payload.
         ensures within { IfOk result (λ found. found.1 ≤ length (payload_of self.now)) }
     {
         if v.is_null() {
@@ -206,9 +211,12 @@ impl<'a> Adb<'a> {
 /// A word has a plain value if and only if each word that the walk visits can be read by the reader
 /// of its shape. The same holds for the entries of an object.
 pub fn value_is_found_where_visits_are_sound()
+    // A word has a plain value exactly if each word that the walk visits is sound.
     ensures word { (payload : List ℕ) (shape : Shape) (word : ℕ)
         → is_some (plain_of payload shape word)
         ≡ list_all (is_sound_visit payload) (visits payload shape word) }
+    // The entries of an object have plain values exactly if each word that the walk visits is
+    // sound.
     ensures fields { (payload : List ℕ) (fields : Fields) (words : List ℕ)
         → is_some (plains_of payload fields words)
         ≡ list_all (is_sound_visit payload) (field_visits payload fields words) }
@@ -224,8 +232,10 @@ pub fn values_are_normal()
 /// Each plain value that is read has the shape by which it was read, and so have those of an
 /// object's entries.
 pub fn values_have_their_shape()
+    // The value of a word has the shape by which it was read.
     ensures word { (payload : List ℕ) (shape : Shape) (word : ℕ)
         → IfSome (plain_of payload shape word) (HasShape shape) }
+    // The values of an object's entries have the shapes of its fields.
     ensures fields { (payload : List ℕ) (fields : Fields) (words : List ℕ)
         → IfSome (plains_of payload fields words) (HaveShapes fields) }
 {}

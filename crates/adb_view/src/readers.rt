@@ -44,10 +44,13 @@ pub(crate) fn is_sound_leaf(adb: Adb<'_>, kind: Kind, word: Val) -> bool
 /// The integer of a word, or why it is none.
 #[tactic(auto, using(crate::proofs::ReaderFaults::int_fault, crate::proofs::ReaderFaults::read_ok))]
 pub(crate) fn read_int(adb: Adb<'_>, word: Val) -> Result<u64, VisitFault>
+    // On Ok, this is the integer to which the word refers.
     ensures ok { IfOk result (λ n. int_of (payload_of adb.entry) word ≡ Ok n) }
+    // An error is that of reading the word as an integer.
     ensures err { IfErr result (λ fault. int_of (payload_of adb.entry) word
         ≡ Err (cause_of_fault fault)) }
 {
+    // First without a cause, which is large to move; only a failure is read again for its cause.
     if let Some(n) = adb.int_if_read(word) {
         return Ok(n);
     }
@@ -60,7 +63,9 @@ pub(crate) fn read_int(adb: Adb<'_>, word: Val) -> Result<u64, VisitFault>
 /// The bytes of a word that is a blob, or why it is none.
 #[tactic(auto, using(crate::proofs::ReaderFaults::blob_fault, crate::proofs::ReaderFaults::read_ok))]
 pub(crate) fn read_blob<'a>(adb: Adb<'a>, word: Val) -> Result<&'a [u8], VisitFault>
+    // On Ok, these are the bytes of the blob to which the word refers.
     ensures ok { IfOk result (λ bytes. blob_of (payload_of adb.entry) word ≡ Ok bytes.now) }
+    // An error is that of reading the word as a blob.
     ensures err { IfErr result (λ fault. blob_of (payload_of adb.entry) word
         ≡ Err (cause_of_fault fault)) }
 {
@@ -76,8 +81,10 @@ pub(crate) fn read_blob<'a>(adb: Adb<'a>, word: Val) -> Result<&'a [u8], VisitFa
 /// The entries of a word that is an array, or why it is none.
 #[tactic(auto, using(crate::proofs::ReaderFaults::run_fault, crate::proofs::ReaderFaults::read_ok))]
 pub(crate) fn read_array<'a>(adb: Adb<'a>, word: Val) -> Result<Arr<'a>, VisitFault>
+    // On Ok, these are the words of the array's entries.
     ensures ok { IfOk result (λ words. run_entries_of_word ARRAY (payload_of adb.entry) word
         ≡ Ok (array_entries words)) }
+    // An error is that of reading the word as an array.
     ensures err { IfErr result (λ fault. run_entries_of_word ARRAY (payload_of adb.entry) word
         ≡ Err (cause_of_fault fault)) }
 {
@@ -93,8 +100,10 @@ pub(crate) fn read_array<'a>(adb: Adb<'a>, word: Val) -> Result<Arr<'a>, VisitFa
 /// The entries of a word that is an object, those past its fields too, or why it is none.
 #[tactic(auto, using(crate::proofs::ReaderFaults::run_fault, crate::proofs::ReaderFaults::read_ok))]
 pub(crate) fn read_object<'a>(adb: Adb<'a>, word: Val) -> Result<Arr<'a>, VisitFault>
+    // On Ok, these are the words of the object's entries.
     ensures ok { IfOk result (λ words. run_entries_of_word OBJECT (payload_of adb.entry) word
         ≡ Ok (array_entries words)) }
+    // An error is that of reading the word as an object.
     ensures err { IfErr result (λ fault. run_entries_of_word OBJECT (payload_of adb.entry) word
         ≡ Err (cause_of_fault fault)) }
 {

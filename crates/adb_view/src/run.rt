@@ -14,6 +14,7 @@ use base_core::Cause;
 pub struct Arr<'a> {
     /// The words of the entries, four bytes each.
     bytes: &'a [u8],
+    // The number of the words fits into 32 bits.
     ghost counted: { length bytes.now < 4 * (2 ^ 32 - 1) },
 }
 
@@ -73,7 +74,9 @@ impl<'a> Arr<'a> {
 
     /// The entry at this position, which counts from 1.
     pub fn get(&self, i: usize) -> Val
+        // The entries are counted from 1.
         requires from { 1 ≤ i }
+        // The number is at most that of the last entry.
         requires to { i ≤ length (array_entries self.now) }
         ensures { result ≡ entry_at (array_entries self.now) i }
     {
@@ -101,7 +104,9 @@ impl<'a, const N: usize> Obj<'a, N> {
 
     /// The entry of the field with this number, which counts from 1; NULL past the last entry.
     pub fn field(&self, i: usize) -> Val
+        // The entries are counted from 1.
         requires from { 1 ≤ i }
+        // The number is at most `N`.
         requires to { i ≤ N }
         ensures { result ≡ entry_at (object_entries self.now) i }
     {

@@ -15,7 +15,9 @@ use crate::tables::Which;
 /// be read.
 #[derive(Clone, Copy)]
 pub struct Shaped<'a> {
+    /// The payload that was walked.
     adb: Adb<'a>,
+    /// The table of the payload's root.
     which: Which,
     ghost sound: { is_sound (payload_of adb) (Kinds.Obj which) (root_word_of_payload
         (payload_of adb)) ≡ true },
@@ -28,9 +30,11 @@ impl<'a> Shaped<'a> {
 
     /// The payload that was walked as an object of this table, without a fault.
     pub(crate) fn of(adb: Adb<'a>, which: Which) -> Shaped<'a>
+        // The root of the payload has a plain value of its kind.
         requires sound { is_sound (payload_of adb) (Kinds.Obj which) (root_word_of_payload
             (payload_of adb))
             ≡ true }
+        // The walk from the root finds no fault.
         requires few { is_none (shape_fault (payload_of adb) (shape_of (Kinds.Obj which))
             (root_word_of_payload (payload_of adb))) ≡ true }
         ensures walked { adb_of result ≡ adb.entry }

@@ -21,6 +21,7 @@ pub(crate) enum VisitFault {
 impl VisitFault {
     /// The fault of a visit whose word a reader refused with this cause.
     pub(crate) fn of_reader(cause: Cause) -> VisitFault
+        // The cause is one that a reader of a word can report.
         requires { is_reader_fault cause ≡ true }
         ensures { cause_of_fault result ≡ cause }
     {

@@ -17,7 +17,7 @@ ghost use Rattle.adb_view.specs.CountedWalk.{fields_walk};
 ghost use Rattle.adb_view.specs.CountedWalk.{walk};
 ghost use Rattle.adb_view.specs.CountedWalk.{walk_each_word};
 ghost use Rattle.adb_view.specs.Leaves.{leading_leaves};
-ghost use Rattle.adb_view.specs.FirstFault.{IsFirstFault};
+ghost use Rattle.adb_view.specs.FirstFault.{IsFirstFaultOfVisits};
 ghost use Rattle.adb_view.specs.VisitFault.{with_cause};
 ghost use Rattle.adb_view.specs.ShapedPayload.{adb_of, table_of};
 ghost use Rattle.adb_view.specs.Values.{is_sound, value_at};
@@ -44,6 +44,7 @@ pub fn object_entries<'a>(adb: Adb<'a>, object: Val) -> Result<Arr<'a>, Cause>
 
 /// The word of an entry, by its index, which counts from 0.
 pub fn entry_word(entries: Arr<'_>, i: usize) -> Val
+    // The index is that of an entry.
     requires { i < length (array_entries entries) }
     ensures { result ≡ slice_index (array_entries entries.entry) i }
 {
@@ -65,10 +66,13 @@ const MOST_VALUES: u32 = 4_194_304;
 /// The first fault: `TooLarge` at the visit 4,194,305, `WrongKind` or `Outside` with the word.
 #[tactic(auto, using(crate::proofs::ShapeWalk::walk_refused, crate::proofs::ShapeWalk::walk_passed, crate::proofs::ShapeWalk::walk_few))]
 pub fn shape(adb: Adb<'_>, which: Which) -> Result<Shaped<'_>, Cause>
+    // The error, if any, is the first fault that the walk finds.
     ensures exact { result_err result
         ≡ shape_fault (payload_of adb.entry) (shape_of (Kinds.Obj which))
         (root_word_of_payload (payload_of adb.entry)) }
+    // The result has the payload that was walked.
     ensures walked { IfOk result (λ shaped. adb_of shaped ≡ adb.entry) }
+    // The result has the table by which it was walked.
     ensures table { IfOk result (λ shaped. table_of shaped ≡ which) }
 {
     // A law that the proof needs; it has no effect at run time.
@@ -286,6 +290,7 @@ pub fn walk_fields(
 ) -> Result<u32, Cause>
     // The visits so far are within their limit.
     requires { before ≤ MOST_VALUES }
+    // The result is that of the walk over the entries that have a field.
     ensures exact { result
         ≡ fields_walk (payload_of adb.entry) (shapes_of fields.now) before
         (array_entries entries.entry) }
@@ -301,12 +306,15 @@ pub fn walk_fields(
 /// The result of the walk of an object's entries by any list of fields is the fault of the first
 /// faulty visit. Without one it is the number of visits, and each of the entries has a plain value.
 pub fn a_walk_of_fields_reports_the_first_faulty_visit()
+    // An error is the fault of the first faulty visit.
     ensures fault { (payload : List ℕ) (fields : Fields) (before : ℕ) (words : List ℕ)
         → result_err (fields_walk payload fields before words)
         ≡ first_fault_of_numbered_visits payload (before + 1) (field_visits payload fields words) }
+    // On Ok, the count has risen by the number of visits.
     ensures count { (payload : List ℕ) (fields : Fields) (before count : ℕ) (words : List ℕ)
         → fields_walk payload fields before words ≡ Ok count → count
         ≡ before + length (field_visits payload fields words) }
+    // On Ok, each entry has a plain value.
     ensures value { (payload : List ℕ) (fields : Fields) (before count : ℕ) (words : List ℕ)
         → fields_walk payload fields before words ≡ Ok count
         → is_some (plains_of payload fields words) ≡ true }
@@ -319,7 +327,7 @@ pub fn a_walk_of_fields_reports_the_first_faulty_visit()
 pub fn the_first_faulty_visit_is_reported()
     ensures { (payload : List ℕ) (shape : Shape) (word : ℕ) (cause : Cause)
         → (shape_fault payload shape word ≡ Some cause)
-        ↔ IsFirstFault payload (visits payload shape word) cause }
+        ↔ IsFirstFaultOfVisits payload (visits payload shape word) cause }
 {}
 
 /// Nothing is reported exactly if there is a plain value, and the visits are not too many.

@@ -42,6 +42,7 @@ pub(crate) mod kind {
 /// the start of the word's payload (apk-v3(5)).
 #[derive(Clone, Copy, Debug, PartialEq, Eq)]
 pub struct Val {
+    /// The 32 bits: a tag, and a number or an offset in the payload.
     word: u32,
 }
 
@@ -124,7 +125,9 @@ pub(crate) fn range(bytes: &[u8], at: usize, len: usize) -> Option<&[u8]>
 
 /// The little-endian number at `at`, or `None` if it passes the end.
 pub(crate) fn number(bytes: &[u8], at: usize, width: Width) -> Option<u64>
+    // The result is the number at the offset, or None if it is not within the bytes.
     ensures value { result ≡ number_at (width_of width) bytes.now at }
+    // The number fits into so many bytes.
     ensures fits { IfSome result (λ n. n < 2 ^ (8 * byte_len (width_of width))) }
 {
     let x = range(bytes, at, width.bytes())?;
@@ -139,10 +142,13 @@ pub(crate) fn number(bytes: &[u8], at: usize, width: Width) -> Option<u64>
 /// The start and the end of a blob's bytes whose length, of this width, is at `at`; None if they
 /// pass the end. An offset has 28 bits.
 pub(crate) fn counted_range(bytes: &[u8], at: usize, width: Width) -> Option<(usize, usize)>
+    // The offset fits into the 28 bits of a word.
     requires { at < 2 ^ 28 }
+    // The range has the bytes after the length at the offset, if they are all there.
     ensures found { Finds (λ found. slice_range bytes.now found.0 found.1) result
         (length_prefixed_bytes_at (width_of width) bytes.now at) }
     ensures order { IfSome result (λ found. found.0 ≤ found.1) }
+    // The end of the range is within the bytes.
     ensures within { IfSome result (λ found. found.1 ≤ length bytes.now) }
 {
     let len = number(bytes, at, width)?;
@@ -157,9 +163,12 @@ pub(crate) fn counted_range(bytes: &[u8], at: usize, width: Width) -> Option<(us
 /// The entries of the run at `at`: the words after its first, which counts all of its words, itself
 /// included. None if that count is 0, or the words pass the end.
 pub(crate) fn run(bytes: &[u8], at: usize) -> Option<&[u8]>
+    // The offset fits into the 28 bits of a word.
     requires { at < 2 ^ 28 }
+    // The result has the words of the run at the offset, if there is one.
     ensures found { Finds (λ found. words (length found.now / 4) found.now) result
         (run_entries_at bytes.now at) }
+    // The number of the words fits into 32 bits.
     ensures counted { IfSome result (λ found. length found.now < 4 * (2 ^ 32 - 1)) }
 {
     let count = number(bytes, at, Width::Four)?.checked_sub(1)?;
@@ -168,6 +177,7 @@ pub(crate) fn run(bytes: &[u8], at: usize) -> Option<&[u8]>
 
 /// The word with this index, which counts from 0.
 pub(crate) fn word_at(bytes: &[u8], i: usize) -> u32
+    // The index is that of a word in the bytes.
     requires { i < length bytes.now / 4 }
     ensures { result ≡ slice_index (words (length bytes.now / 4) bytes.now) i }
 {

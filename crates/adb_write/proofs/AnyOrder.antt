@@ -4,7 +4,7 @@ use Rattle.std.proofs.Common.{◌≡◌, ℕ, ◌^◌, ◌<◌, ◌≤◌, Bool,
 use Rattle.std.specs.Prelude.{◌||◌, Some, Ok, Result, Err}
 use Rattle.std.specs.List.{AllByRecursion}
 use Rattle.std.proofs.lemmas.Bool.{ltb-false, ne_eqb}
-use Rattle.adb_view.specs.Plain.{Plain, null, int, blob, arr, obj, Plains, none, more, without_last_nulls, prepend_plain_unless_last_null, blob_or_null, array_or_null, object_or_null, trimmed_object_or_null, Shape, IsNormal, plain_of, value_of}
+use Rattle.adb_view.specs.Plain.{Plain, null, int, blob, arr, obj, Plains, none, more, without_last_nulls, prepend_plain_unless_last_null, blob_or_null, array_or_null, object_or_null, trimmed_object_or_null, Shape, IsNormal, plain_of, root_value_with_shape}
 use Rattle.adb_view.specs.Readers.{ARRAY, OBJECT}
 use Rattle.adb_write.specs.Canonical.{Cell, in_place, apart, int_cell, blob_cell, run_cell, prepend_unless_last_null, words_without_last_nulls, Layout, end_offset, put_item, put_cell, put_run, PayloadCounts, layout_counts, exceeds_a_limit, payload_with_root, MOST_BYTES, MOST_VALUES}
 use Rattle.adb_view.specs.Shaped.{HasShape}
@@ -147,15 +147,15 @@ obj_stands vs xs w h e =
 
 -- ---- the payload at the end
 
-pub finished_read : (s : Shape) (v : Plain) (root : ℕ) (w : Writing) (payload : List ℕ) → finish_result root w ≡ Ok payload → Denotes w v root → IsNormal v → HasShape s v → value_of payload s ≡ Some v
+pub finished_read : (s : Shape) (v : Plain) (root : ℕ) (w : Writing) (payload : List ℕ) → finish_result root w ≡ Ok payload → Denotes w v root → IsNormal v → HasShape s v → root_value_with_shape payload s ≡ Some v
 finished_read s v root w payload f h n t = go (is_past_limit w) refl f
   where
-    go : (b : Bool) → is_past_limit w ≡ b → cond {A = Result (List ℕ) PayloadCounts} b (Err (writing_counts w)) (Ok (payload_with_root root (layout_of w))) ≡ Ok payload → value_of payload s ≡ Some v
+    go : (b : Bool) → is_past_limit w ≡ b → cond {A = Result (List ℕ) PayloadCounts} b (Err (writing_counts w)) (Ok (payload_with_root root (layout_of w))) ≡ Ok payload → root_value_with_shape payload s ≡ Some v
     go true o e = absurd cc
     go false o e =
         let i = h o in
         let same : payload_with_root root (layout_of w) ≡ payload = cc in
-        subst (λ (p : List ℕ). value_of p s ≡ Some v) same (ap (plain_of (payload_with_root root (layout_of w)) s) (root_again root (layout_of w) i.small) ∙ plain_of-Holds (payload_with_root root (layout_of w)) s v root n t (i.holds root))
+        subst (λ (p : List ℕ). root_value_with_shape p s ≡ Some v) same (ap (plain_of (payload_with_root root (layout_of w)) s) (root_again root (layout_of w) i.small) ∙ plain_of-Holds (payload_with_root root (layout_of w)) s v root n t (i.holds root))
 
 pub word_read : (s : Shape) (v : Plain) (word : ℕ) (w : Writing) → Denotes w v word → is_past_limit w ≡ false → IsNormal v → HasShape s v → (root : ℕ) → plain_of (payload_with_root root (layout_of w)) s word ≡ Some v
 word_read s v word w h e n t root = let i = h e in plain_of-Holds (payload_with_root root (layout_of w)) s v word n t (i.holds root)

@@ -7,7 +7,7 @@ use Rattle.std.proofs.Math.Bool.{or-true}
 use Rattle.adb_view.specs.Plain.{Plain, null, int, blob, arr, obj, Plains, none, more, IsNormal, AreNormal, count_of}
 use Rattle.adb_view.specs.Readers.{ARRAY, OBJECT}
 use Rattle.adb_write.specs.Canonical.{Item, WrittenItem, Cell, in_place, apart, int_cell, blob_cell, run_cell, words_without_last_nulls, Layout, empty_layout, end_offset, is_equal_item, put_item_unless_written, put_cell, write, write_all, payload_with_root, PayloadCounts, layout_counts, exceeds_a_limit, counts_after_values, trace_all, overflow_of, canonical, or_overflow, payload_or_overflow, MOST_BYTES, MOST_VALUES}
-use Rattle.adb_write.specs.Size.{size_of, entries_of, entries_of_all, value_count}
+use Rattle.adb_write.specs.Size.{payload_size_of, entries_of, entries_of_all, value_count}
 use Rattle.adb_write.specs.Writing.{empty_writing, calls}
 use Rattle.adb_write.proofs.RoundTrip.{Grows-here, stored-grows, put_run-grows, write_all-grows, write_all-made, words_stay}
 use Rattle.adb_write.proofs.Limits.{Ends, calls-end, start_fine}
@@ -153,18 +153,18 @@ overflow_final v = go (calls-end v empty_layout start_fine)
     go (inl a) = let w = a.3 in ap is_some a.0 ∙ sym w.fine
     go (inr b) = ap is_some b.1 ∙ sym (trace_over v empty_layout b.0 b.1)
 
-pub overflow_exact : (v : Plain) → IsNormal v → is_some (overflow_of v) ≡ exceeds_a_limit (size_of v, value_count v)
+pub overflow_exact : (v : Plain) → IsNormal v → is_some (overflow_of v) ≡ exceeds_a_limit (payload_size_of v, value_count v)
 overflow_exact v n = overflow_final v ∙ same
   where
-    size : end_offset (write v empty_layout).1 ≡ size_of v
+    size : end_offset (write v empty_layout).1 ≡ payload_size_of v
     size = omega arith
 
-    same : exceeds_a_limit (layout_counts (write v empty_layout).1) ≡ exceeds_a_limit (size_of v, value_count v)
+    same : exceeds_a_limit (layout_counts (write v empty_layout).1) ≡ exceeds_a_limit (payload_size_of v, value_count v)
     same = elim (cases_lt MOST_BYTES (end_offset (write v empty_layout).1)) [
       | inl a ↦
           let s = size in
           let t : ltb MOST_BYTES (end_offset (write v empty_layout).1) ≡ true = lt-ltb _ _ a in
-          let u : ltb MOST_BYTES (size_of v) ≡ true = lt-ltb _ _ (omega arith) in
+          let u : ltb MOST_BYTES (payload_size_of v) ≡ true = lt-ltb _ _ (omega arith) in
           rw (t, u) refl
       | inr a ↦
           let values : (write v empty_layout).1.values ≡ value_count v = write_values v empty_layout n a in
@@ -173,13 +173,13 @@ overflow_exact v n = overflow_final v ∙ same
 
 -- ---- up to both limits
 
-pub fits_written : (v : Plain) → IsNormal v → size_of v < 2 ^ 28 → value_count v ≤ 2 ^ 22 → payload_or_overflow v ≡ Ok (canonical v)
+pub fits_written : (v : Plain) → IsNormal v → payload_size_of v < 2 ^ 28 → value_count v ≤ 2 ^ 22 → payload_or_overflow v ≡ Ok (canonical v)
 unfolding payload_or_overflow
 fits_written v n size values = ap (or_overflow (canonical v)) (nothing (overflow_of v) (overflow_exact v n ∙ fine))
   where
-    fine : exceeds_a_limit (size_of v, value_count v) ≡ false
+    fine : exceeds_a_limit (payload_size_of v, value_count v) ≡ false
     fine =
-        let t : ltb MOST_BYTES (size_of v) ≡ false = le-ltb _ _ (omega arith) in
+        let t : ltb MOST_BYTES (payload_size_of v) ≡ false = le-ltb _ _ (omega arith) in
         let u : ltb MOST_VALUES (value_count v) ≡ false = le-ltb _ _ (omega arith) in
         rw (t, u) refl
 
@@ -187,6 +187,6 @@ fits_written v n size values = ap (or_overflow (canonical v)) (nothing (overflow
     nothing None e = refl
     nothing (Some c) e = absurd cc
 
-pub larger_refused : (v : Plain) → IsNormal v → (2 ^ 28 ≤ size_of v) ⊎ (2 ^ 22 < value_count v) → is_some (overflow_of v) ≡ true
-larger_refused v n (inl size) = overflow_exact v n ∙ (let t : ltb MOST_BYTES (size_of v) ≡ true = lt-ltb _ _ (omega arith) in rw t refl)
-larger_refused v n (inr values) = overflow_exact v n ∙ (let t : ltb MOST_VALUES (value_count v) ≡ true = lt-ltb _ _ (omega arith) in rw t (or-true (ltb MOST_BYTES (size_of v))))
+pub larger_refused : (v : Plain) → IsNormal v → (2 ^ 28 ≤ payload_size_of v) ⊎ (2 ^ 22 < value_count v) → is_some (overflow_of v) ≡ true
+larger_refused v n (inl size) = overflow_exact v n ∙ (let t : ltb MOST_BYTES (payload_size_of v) ≡ true = lt-ltb _ _ (omega arith) in rw t refl)
+larger_refused v n (inr values) = overflow_exact v n ∙ (let t : ltb MOST_VALUES (value_count v) ≡ true = lt-ltb _ _ (omega arith) in rw t (or-true (ltb MOST_BYTES (payload_size_of v))))

@@ -6,7 +6,7 @@ use Rattle.std.specs.Int.{Width, w8, w16, w32, w64, byte_len, from_le_bytes, to_
 use Rattle.std.proofs.lemmas.Bool.{cases_lt, leb-true, le-leb, lt-ltb, le-ltb, ne_eqb}
 use Rattle.std.proofs.lemmas.List.{append-nil, take_at, drop_at, length-append, length-drop, length-replicate, take-append-le, drop-append-le}
 use Rattle.adb_view.specs.Bytes.{bytes_at_with_len, number_at, words}
-use Rattle.adb_view.specs.Plain.{IsNormal, AreNormal, Plain, null, int, blob, arr, obj, Plains, none, more, without_last_nulls, blob_or_null, array_or_null, object_or_null, trimmed_object_or_null, Shape, number, text, hash, array, object, Fields, no_fields, field, null_plain_if_null_word, option_of_ok_value, plains_of_all_words, plain_of, plains_of, value_of}
+use Rattle.adb_view.specs.Plain.{IsNormal, AreNormal, Plain, null, int, blob, arr, obj, Plains, none, more, without_last_nulls, blob_or_null, array_or_null, object_or_null, trimmed_object_or_null, Shape, number, text, hash, array, object, Fields, no_fields, field, null_plain_if_null_word, option_of_ok_value, plains_of_all_words, plain_of, plains_of, root_value_with_shape}
 use Rattle.adb_view.specs.Head.{root_word_of_payload}
 use Rattle.adb_view.specs.Readers.{kind_of_word, low_28_bits, or_outside_cause, length_prefixed_bytes_at, run_entries_for_count, run_entries_at, int_of, blob_of, run_entries_of_word, ARRAY, OBJECT}
 use Rattle.adb_write.specs.Canonical.{padding_to_alignment, Item, WrittenItem, Cell, in_place, apart, int_cell, blob_cell, run_cell, run_bytes, prepend_unless_last_null, words_without_last_nulls, Layout, empty_layout, end_offset, is_equal_item, word_of_written_item, put_new_item, put_item_unless_written, put_item, put_cell, put_run, write, write_all, payload_with_root, canonical, MOST_BYTES}
@@ -490,8 +490,8 @@ root_again root out lt =
     let four : drop 4 (payload_with_root root out) ≡ to_le_bytes w32 root ++ out.body = drop_at (0 ∷ 0 ∷ 0 ∷ 0 ∷ []) (to_le_bytes w32 root ++ out.body) 4 refl in
     ap (λ (x : List ℕ). from_le_bytes w32 (take 4 x)) four ∙ ap (from_le_bytes w32) (take_at (to_le_bytes w32 root) out.body 4 (wide32.len root)) ∙ wide32.again root lt
 
-pub value_of-canonical : (s : Shape) (v : Plain) → IsNormal v → HasShape s v → length (canonical v) ≤ MOST_BYTES → value_of (canonical v) s ≡ Some v
-value_of-canonical s v n h fits =
+pub root_value_with_shape-canonical : (s : Shape) (v : Plain) → IsNormal v → HasShape s v → length (canonical v) ≤ MOST_BYTES → root_value_with_shape (canonical v) s ≡ Some v
+root_value_with_shape-canonical s v n h fits =
     let r = write v empty_layout in
     let made = write-made v empty_layout n (omega arith) in
     ap (plain_of (canonical v) s) (root_again r.0 r.1 made.small) ∙ plain_of-Holds (canonical v) s v r.0 n h (made.holds r.0)

@@ -6,7 +6,7 @@ use Rattle.adb_view.specs.Readers.{run_entries_of_word, ARRAY, OBJECT}
 use Rattle.adb_view.specs.Head.{root_word_of_payload}
 use Rattle.adb_view.specs.Visits.{Visit, visits, field_visits, visits_of_all_words, or_empty}
 use Rattle.adb_write.specs.Canonical.{empty_layout, write, canonical, MOST_BYTES}
-use Rattle.adb_write.specs.Size.{size_of, entries_of, entries_of_all, value_count}
+use Rattle.adb_write.specs.Size.{payload_size_of, entries_of, entries_of_all, value_count}
 use Rattle.base_core.specs.declared.cause.Cause.{Cause}
 use Rattle.adb_view.specs.Shaped.{Each, HasShape, HaveShapes}
 use Rattle.adb_write.specs.Denotes.{Holds, HoldAll}
@@ -69,7 +69,7 @@ mutual
   fields_visited p (field name t fs) (more v vs) (w ∷ ws) s a =
       omega (arith, length-append (visits p t w) (field_visits p fs ws), visited p t v w s.0 a.0, fields_visited p fs vs ws s.1 a.1)
 
-pub canonical_visited : (s : Shape) (v : Plain) → IsNormal v → HasShape s v → size_of v ≤ MOST_BYTES → length (visits (canonical v) s (root_word_of_payload (canonical v))) ≡ value_count v
+pub canonical_visited : (s : Shape) (v : Plain) → IsNormal v → HasShape s v → payload_size_of v ≤ MOST_BYTES → length (visits (canonical v) s (root_word_of_payload (canonical v))) ≡ value_count v
 canonical_visited s v n h fits =
     let r = write v empty_layout in
     let made = write-made v empty_layout n (omega arith) in

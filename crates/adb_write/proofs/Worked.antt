@@ -4,7 +4,7 @@ use Rattle.std.specs.Prelude.{codes}
 use Rattle.adb_view.specs.Plain.{Plain, null, int, blob, arr, obj, none, more}
 use Rattle.adb_block.specs.Written.{head_bytes}
 use Rattle.adb_write.specs.Canonical.{canonical, write}
-use Rattle.adb_write.specs.Size.{size_of, value_count, entries_of}
+use Rattle.adb_write.specs.Size.{payload_size_of, value_count, entries_of}
 use Rattle.adb_write.specs.File.{file_of}
 
 -- a package with the name `a` and the version `1`
@@ -18,7 +18,7 @@ package_written : canonical a_package ≡ package_payload
 unfolding write
 package_written = refl
 
-package_size : size_of a_package ≡ 32
+package_size : payload_size_of a_package ≡ 32
 unfolding write
 package_size = refl
 

@@ -6,9 +6,9 @@ use Rattle.adb_block.specs.Written.{container}
 use Rattle.adb_block.specs.declared.block.BlockKind.TheVariants.{Adb}
 
 -- the block of a container with a payload
-abbrev pub adb_piece : List ℕ → Piece
-adb_piece payload = record { kind = Adb; payload = payload }
+abbrev pub adb_block_of_payload : List ℕ → Piece
+adb_block_of_payload payload = record { kind = Adb; payload = payload }
 
 -- the container of this schema with one block, the payload, and no signatures
 abbrev pub file_of : ℕ → List ℕ → List ℕ
-file_of schema payload = container schema (adb_piece payload ∷ [])
+file_of schema payload = container schema (adb_block_of_payload payload ∷ [])

@@ -5,8 +5,8 @@ use Rattle.adb_view.specs.Plain.{Plain, null, int, blob, arr, obj, Plains, none,
 use Rattle.adb_write.specs.Canonical.{Layout, canonical}
 
 -- how many bytes the payload of a value has
-abbrev pub size_of : Plain → ℕ
-size_of v = length (canonical v)
+abbrev pub payload_size_of : Plain → ℕ
+payload_size_of v = length (canonical v)
 
 -- how many entries the lists of a value have, its own and those below it
 unfoldable mutual

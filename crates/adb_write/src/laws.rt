@@ -2,13 +2,13 @@
 //! of an empty function. The rules are in `docs/formats.md`, "Canonical layout"; the README of this
 //! crate lists the laws.
 ghost use Rattle.std.specs.Prelude.{◌≡◌, ◌≤◌, ◌<◌, ◌^◌, ◌⊎◌, ℕ, List, [], ◌∷◌, ◌++◌, false, true, length, Some, Ok, is_some};
-ghost use Rattle.adb_view.specs.Plain.{Plain, null, int, Plains, none, more, blob_or_null, array_or_null, trimmed_object_or_null, Shape, IsNormal, plain_of, value_of};
+ghost use Rattle.adb_view.specs.Plain.{Plain, null, int, Plains, none, more, blob_or_null, array_or_null, trimmed_object_or_null, Shape, IsNormal, plain_of, root_value_with_shape};
 ghost use Rattle.adb_view.specs.Head.{root_word_of_payload};
 ghost use Rattle.adb_view.specs.Visits.{visits};
-ghost use Rattle.adb_block.specs.Container.{Spells};
-ghost use Rattle.adb_write.specs.File.{adb_piece, file_of};
+ghost use Rattle.adb_block.specs.Container.{IsContainerWithBlocks};
+ghost use Rattle.adb_write.specs.File.{adb_block_of_payload, file_of};
 ghost use Rattle.adb_write.specs.Canonical.{Layout, empty_layout, end_offset, write, canonical, exceeds_a_limit, overflow_of, payload_or_overflow, payload_with_root, MOST_BYTES};
-ghost use Rattle.adb_write.specs.Size.{size_of, entries_of, value_count, with_value_count_raised};
+ghost use Rattle.adb_write.specs.Size.{payload_size_of, entries_of, value_count, with_value_count_raised};
 ghost use Rattle.adb_write.specs.Writing.{Writing, empty_writing, is_past_limit, layout_of, int_call, blob_call, arr_call, obj_call, finish_result};
 ghost use Rattle.adb_write.specs.DepthFirst.{WritesValue, WritesValues, push};
 ghost use Rattle.adb_view.specs.Shaped.{HasShape};
@@ -19,8 +19,8 @@ use adb_block::what_is_written_is_spelled;
 /// A canonical payload is read back: its value is the one that was written.
 pub fn a_canonical_payload_is_read_back()
     ensures { (shape : Shape) (v : Plain)
-        → IsNormal v → HasShape shape v → size_of v ≤ MOST_BYTES
-        → value_of (canonical v) shape ≡ Some v }
+        → IsNormal v → HasShape shape v → payload_size_of v ≤ MOST_BYTES
+        → root_value_with_shape (canonical v) shape ≡ Some v }
 {}
 
 /// Between two of its states a writer writes a value depth first: nothing for Null, the call of its
@@ -95,23 +95,24 @@ pub fn a_word_is_read_as_its_value()
 pub fn a_finished_payload_is_read_back()
     ensures { (shape : Shape) (v : Plain) (root : ℕ) (w : Writing) (payload : List ℕ)
         → finish_result root w ≡ Ok payload → Denotes w v root → IsNormal v → HasShape shape v
-        → value_of payload shape ≡ Some v }
+        → root_value_with_shape payload shape ≡ Some v }
 {}
 
 /// A normal value overflows if and only if its canonical payload, or the number of its values,
 /// exceeds the limit of a payload.
 pub fn a_value_overflows_exactly_past_a_limit()
     ensures { (v : Plain) → IsNormal v
-        → is_some (overflow_of v) ≡ exceeds_a_limit (size_of v, value_count v) }
+        → is_some (overflow_of v) ≡ exceeds_a_limit (payload_size_of v, value_count v) }
 {}
 
 /// A normal value is written if and only if it is within both limits. Its payload has at most 2^28
 /// - 1 bytes, the largest offset of a word (apk-v3(5)). It has at most 2^22 values, as many as a
 /// reader accepts.
 pub fn a_value_is_written_up_to_both_limits()
-    ensures written { (v : Plain) → IsNormal v → size_of v < 2 ^ 28 → value_count v ≤ 2 ^ 22
+    ensures written { (v : Plain) → IsNormal v → payload_size_of v < 2 ^ 28 → value_count v ≤ 2 ^ 22
         → payload_or_overflow v ≡ Ok (canonical v) }
-    ensures refused { (v : Plain) → IsNormal v → (2 ^ 28 ≤ size_of v) ⊎ (2 ^ 22 < value_count v)
+    ensures refused { (v : Plain) → IsNormal v → (2 ^ 28 ≤ payload_size_of v)
+        ⊎ (2 ^ 22 < value_count v)
         → is_some (overflow_of v) ≡ true }
 {}
 
@@ -128,7 +129,8 @@ pub fn a_value_is_stored_once()
 /// A walk over a canonical payload visits as many words as the value has values. So a payload
 /// within the limits of the writer is never too large to be read.
 pub fn a_canonical_payload_is_visited_once()
-    ensures { (shape : Shape) (v : Plain) → IsNormal v → HasShape shape v → size_of v ≤ MOST_BYTES
+    ensures { (shape : Shape) (v : Plain) → IsNormal v → HasShape shape v
+        → payload_size_of v ≤ MOST_BYTES
         → length (visits (canonical v) shape (root_word_of_payload (canonical v))) ≡ value_count v }
 {}
 
@@ -136,7 +138,8 @@ pub fn a_canonical_payload_is_visited_once()
 pub fn a_file_is_spelled()
     ensures { (schema : ℕ) (payload : List ℕ) → schema < 2 ^ 32 → 8 ≤ length payload
         → length payload ≤ MOST_BYTES
-        → Spells (file_of schema payload) schema (adb_piece payload ∷ []) }
+        → IsContainerWithBlocks (file_of schema payload) schema
+        (adb_block_of_payload payload ∷ []) }
 {
     what_is_written_is_spelled();
 }

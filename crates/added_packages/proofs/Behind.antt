@@ -7,7 +7,7 @@ use Rattle.std.specs.List.{cons_option, filter_map, slice_get}
 use Rattle.std.specs.Ordering.{is_lt}
 use Rattle.adb_view.specs.Plain.{Plain}
 use Rattle.base_core.proofs.Rising.{IsIn, Rises, order, rises_from_pairs}
-use Rattle.change_outcome.specs.db_core.Members.{AreInOrder, Member, is_after_members, member_of_added, member_name, member_of_kept}
+use Rattle.change_outcome.specs.db_core.Members.{AreMembersInNameOrder, Member, is_after_members, member_of_added, member_name, member_of_kept}
 use Rattle.change_outcome.specs.db_core.declared.members.TheConstants.{MOST_MEMBERS}
 use Rattle.change_outcome.proofs.package_changes.Lists.{item_at, option_in_front}
 use Rattle.package_verifier.specs.Tested.{tested_id, tested_value}
@@ -34,7 +34,7 @@ names_join : (xs : List Member) (m : Member) (ys : List Member) → map member_n
 names_join [] m ys = refl
 names_join (x ∷ xs) m ys = ap (λ z. member_name x ∷ z) (names_join xs m ys)
 
-behind_front : (xs : List Member) (m : Member) (ys : List Member) → AreInOrder (xs ++ m ∷ ys) → is_after_members (member_name m) xs ≡ true
+behind_front : (xs : List Member) (m : Member) (ys : List Member) → AreMembersInNameOrder (xs ++ m ∷ ys) → is_after_members (member_name m) xs ≡ true
 behind_front xs m ys rising =
     after_all (member_name m) xs
     (before_it (map member_name xs) (member_name m) (map member_name ys) (subst Rises (names_join xs m ys) (rises_from_pairs _ rising)))
@@ -56,7 +56,7 @@ module _ (before : List Plain) where
   pub next_behind : (reads : List MemberRead) (i : ℕ) (d : MemberRead) → i < length reads → CanBeMembers before reads → (m : Member) → member_of_read_package before (get_or reads i d) ≡ Some m → is_after_members (member_name m) (members_of_read_packages before (take i reads)) ≡ true
   next_behind reads i d lt can m is =
       behind_front (members_of_read_packages before (take i reads)) m (members_of_read_packages before (drop (i + 1) reads))
-      (subst AreInOrder
+      (subst AreMembersInNameOrder
       (ap (members_of_read_packages before) (sym (whole reads i))
       ∙ (reads_join (take i reads) (drop i reads)
       ∙ ap (λ z. members_of_read_packages before (take i reads) ++ z) (ap (members_of_read_packages before) (item_at reads i d lt) ∙ ap (λ o. cons_option o (members_of_read_packages before (drop (i + 1) reads))) is)))

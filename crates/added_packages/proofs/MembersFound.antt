@@ -9,14 +9,14 @@ use Rattle.change_outcome.specs.change_inputs.Answers.{IsDiskOrMemoryFailure}
 use Rattle.change_outcome.specs.change_inputs.Inputs.{first_index_read_number}
 use Rattle.change_outcome.specs.change_inputs.declared.root.Refused.{Refused}
 use Rattle.change_outcome.specs.change_inputs.declared.root.Refused.TheVariants.{Disk, Memory, Refusal}
-use Rattle.change_outcome.specs.MembersAfter.{MemberFound, members_after, member_of_name_after, member_of_name_by_change, names_after}
+use Rattle.change_outcome.specs.MembersAfter.{MemberFound, members_after, member_of_name_after, member_of_name_by_change, members_of_names_after}
 use Rattle.change_outcome.specs.db_core.Packages.{is_package_named}
 use Rattle.change_outcome.specs.db_core.declared.members.TheConstants.{MOST_MEMBERS}
 use Rattle.dep_core.specs.Repositories.{Repository}
 use Rattle.change_outcome.specs.make_info.Reads.{Reads}
 use Rattle.change_outcome.specs.package_files.Runs.{IsExplainedBySomeReads}
 use Rattle.change_outcome.specs.package_changes.Changes.{change_of_name, is_candidate_named, names_before_and_selected}
-use Rattle.change_outcome.specs.package_changes.Placed.{PlacedName, PlacedReplacement, candidates_at, new_candidate, old_package, placed_name_of, placed_names_of, replacement_of}
+use Rattle.change_outcome.specs.package_changes.Placed.{PlacedName, PlacedReplacement, candidates_at, candidate_at_new_place, package_at_old_place, placed_name_of, placed_names_of, replacement_of}
 use Rattle.change_outcome.specs.candidate_core.Rank.{SealedPool}
 use Rattle.report_core.specs.declared.refusal.Refusal as Refusals
 use Rattle.added_packages.specs.Answered.{DenotesUnlessDisk}
@@ -30,23 +30,23 @@ use Rattle.added_packages.proofs.ReadMembers.{can_be}
 pub record PlacesLead : Type 0 where
   pub name : (p : PlacedReplacement) (name : List ℕ) → (placed_name_of p name).name ≡ name
   pub change : (p : PlacedReplacement) (name : List ℕ) → (placed_name_of p name).change ≡ change_of_name (replacement_of p) name
-  pub old : (p : PlacedReplacement) (name : List ℕ) → old_package p.before (placed_name_of p name) ≡ find (is_package_named name) p.before
-  pub new : (p : PlacedReplacement) (name : List ℕ) → new_candidate p.pool (placed_name_of p name) ≡ find (is_candidate_named name) (candidates_at p.pool p.trace)
+  pub old : (p : PlacedReplacement) (name : List ℕ) → package_at_old_place p.before (placed_name_of p name) ≡ find (is_package_named name) p.before
+  pub new : (p : PlacedReplacement) (name : List ℕ) → candidate_at_new_place p.pool (placed_name_of p name) ≡ find (is_candidate_named name) (candidates_at p.pool p.trace)
 
 module _ (law : PlacesLead) (p : PlacedReplacement) (repositories : List Repository) (no_scripts : Bool) where
   one_name : (read : Reads) (n : ℕ) (name : List ℕ) → member_of_name_after (replacement_of p) read repositories no_scripts n name ≡ member_of_name_by_read p.before p.pool repositories no_scripts (placed_name_of p name) read n
   one_name read n name =
       let e0 : name ≡ (placed_name_of p name).name = sym (law.name p name) in
       let e1 : change_of_name (replacement_of p) name ≡ (placed_name_of p name).change = sym (law.change p name) in
-      let e2 : find (is_package_named name) p.before ≡ old_package p.before (placed_name_of p name) = sym (law.old p name) in
-      let e3 : find (is_candidate_named name) (candidates_at p.pool p.trace) ≡ new_candidate p.pool (placed_name_of p name) = sym (law.new p name) in
+      let e2 : find (is_package_named name) p.before ≡ package_at_old_place p.before (placed_name_of p name) = sym (law.old p name) in
+      let e3 : find (is_candidate_named name) (candidates_at p.pool p.trace) ≡ candidate_at_new_place p.pool (placed_name_of p name) = sym (law.new p name) in
       λ i. member_of_name_by_change read repositories no_scripts n (e0 i) (e1 i) (e2 i) (e3 i)
 
-  each_name : (read : Reads) (n : ℕ) (names : List (List ℕ)) → names_after (replacement_of p) read repositories no_scripts n names ≡ names_read p.before p.pool repositories no_scripts read n (map (placed_name_of p) names)
+  each_name : (read : Reads) (n : ℕ) (names : List (List ℕ)) → members_of_names_after (replacement_of p) read repositories no_scripts n names ≡ names_read p.before p.pool repositories no_scripts read n (map (placed_name_of p) names)
   each_name read n [] = refl
   each_name read n (name ∷ names) =
       let here : member_of_name_after (replacement_of p) read repositories no_scripts n name ≡ member_of_name_by_read p.before p.pool repositories no_scripts (placed_name_of p name) read n = one_name read n name in
-      let rest : names_after (replacement_of p) read repositories no_scripts (suc n) names ≡ names_read p.before p.pool repositories no_scripts read (suc n) (map (placed_name_of p) names) = each_name read (suc n) names in
+      let rest : members_of_names_after (replacement_of p) read repositories no_scripts (suc n) names ≡ names_read p.before p.pool repositories no_scripts read (suc n) (map (placed_name_of p) names) = each_name read (suc n) names in
       λ i. and_then (here i) (λ first. and_then (rest i) (λ others. Ok (cons_option first others)))
 
   pub members_are : (read : Reads) (names : List PlacedName) → names ≡ placed_names_of p → members_after (replacement_of p) read repositories no_scripts ≡ names_read p.before p.pool repositories no_scripts read (first_index_read_number + length repositories) names

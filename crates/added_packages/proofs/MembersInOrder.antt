@@ -13,9 +13,9 @@ use Rattle.change_outcome.proofs.change_files.InOrder.{order_rises}
 use Rattle.change_outcome.specs.change_files.PlanLists.{sorted_distinct_names}
 use Rattle.change_outcome.specs.change_inputs.Chains.{and_then}
 use Rattle.change_outcome.specs.change_inputs.Inputs.{first_index_read_number}
-use Rattle.change_outcome.specs.MembersAfter.{MemberFound, added_package_by_path, added_member_found, members_after, found_members, member_of_name_after, member_of_name_by_change, member_of_removed_name, names_after, kept_member_found}
-use Rattle.change_outcome.specs.PackageFiles.{AddedPackage, first_script_of, package_file_of, added_package_or_refusal, package_in_file, scripts_of_change, unless_package_bad, unless_different, unless_script_number, unless_script_needed}
-use Rattle.change_outcome.specs.db_core.Members.{AreInOrder, Member, member_name}
+use Rattle.change_outcome.specs.MembersAfter.{MemberFound, added_package_by_path, added_member_found, members_after, found_members, member_of_name_after, member_of_name_by_change, member_of_removed_name, members_of_names_after, kept_member_found}
+use Rattle.change_outcome.specs.PackageFiles.{AddedPackage, first_script_of, package_file_path_of_candidate, added_package_or_refusal, package_in_file, scripts_of_change, unless_package_bad, package_unless_other_than_candidate, unless_script_number, unless_script_needed}
+use Rattle.change_outcome.specs.db_core.Members.{AreMembersInNameOrder, Member, member_name}
 use Rattle.change_outcome.specs.db_core.Packages.{is_package_named}
 use Rattle.dep_core.specs.Repositories.{Repository}
 use Rattle.change_outcome.specs.file_owners.Replaces.{package_version_text}
@@ -41,7 +41,7 @@ passed_tests true false d e1 e2 e3 pkg p is = absurd (cc)
 passed_tests false b d e1 e2 e3 pkg p is = absurd (cc)
 
 -- a package that comes has the candidate's name
-same_name : (c : Candidate) (pkg p : AddedPackage) → unless_different c pkg ≡ Ok p → package_name p.value ≡ c.name
+same_name : (c : Candidate) (pkg p : AddedPackage) → package_unless_other_than_candidate c pkg ≡ Ok p → package_name p.value ≡ c.name
 same_name c pkg p is =
     let passed = passed_tests _ (bytes_eq c.name (package_name pkg.value)) _ _ _ _ pkg p is in
     sym ((bytes_decides c.name (package_name pkg.value)).0 passed.0 ∙ ap (λ (q : AddedPackage). package_name q.value) passed.1)
@@ -83,10 +83,10 @@ module _ (read : Reads) (repositories : List Repository) (no_scripts : Bool) (n 
       sym (ap (λ (x : MemberFound). member_name x.member) same) ∙ old pkg refl
   named (Some change) before None m old new is = absurd (none_goes no_scripts name change before m is)
   named (Some change) before (Some c) m old new is =
-      let part = given (added_package_by_path read n c (package_file_of repositories c)) (λ pkg. unless_script_needed no_scripts name pkg.value (scripts_of_change change) (Some (added_member_found pkg))) (Some m) is in
+      let part = given (added_package_by_path read n c (package_file_path_of_candidate repositories c)) (λ pkg. unless_script_needed no_scripts name pkg.value (scripts_of_change change) (Some (added_member_found pkg))) (Some m) is in
       let same : Some (added_member_found part.0) ≡ Some m = by_scripts no_scripts name part.0.value (scripts_of_change change) (Some (added_member_found part.0)) (Some m) part.2 in
       let found : added_member_found part.0 ≡ m = cc in
-      sym (ap (λ (x : MemberFound). member_name x.member) found) ∙ (named_by_path read n c (package_file_of repositories c) part.0 part.1 ∙ new c refl)
+      sym (ap (λ (x : MemberFound). member_name x.member) found) ∙ (named_by_path read n c (package_file_path_of_candidate repositories c) part.0 part.1 ∙ new c refl)
 
   chosen : (is_again : Bool) (before : Option Plain) (selected : Option Candidate) (m : MemberFound) → member_of_name_by_change read repositories no_scripts n name (change_between is_again name before selected) before selected ≡ Ok (Some m) → (c : Candidate) × (selected ≡ Some c)
   chosen is_again None None m is = absurd (cc)
@@ -151,13 +151,13 @@ module _ (r : Replacement) (read : Reads) (repositories : List Repository) (no_s
     pub among : (q : List ℕ) → IsIn q (found_names found) → IsIn q names
     pub selected : (q : List ℕ) → IsIn q (found_names found) → IsIn q (names_of_selected r.selected)
 
-  all_named : (n : ℕ) (names : List (List ℕ)) (found : List MemberFound) → Rises names → names_after r read repositories no_scripts n names ≡ Ok found → AreNamed names found
+  all_named : (n : ℕ) (names : List (List ℕ)) (found : List MemberFound) → Rises names → members_of_names_after r read repositories no_scripts n names ≡ Ok found → AreNamed names found
   all_named n [] found rises is =
       let same : [] ≡ found = cc in
       subst (AreNamed []) same (record { rises = tt; among = λ q here. here; selected = λ q here. absurd here })
   all_named n (name ∷ names) found rises is =
-      let first = given (member_of_name_after r read repositories no_scripts n name) (λ first. and_then (names_after r read repositories no_scripts (suc n) names) (λ others. Ok (cons_option first others))) found is in
-      let others = given (names_after r read repositories no_scripts (suc n) names) (λ others. Ok (cons_option first.0 others)) found first.2 in
+      let first = given (member_of_name_after r read repositories no_scripts n name) (λ first. and_then (members_of_names_after r read repositories no_scripts (suc n) names) (λ others. Ok (cons_option first others))) found is in
+      let others = given (members_of_names_after r read repositories no_scripts (suc n) names) (λ others. Ok (cons_option first.0 others)) found first.2 in
       let same : cons_option first.0 others.0 ≡ found = cc (others.2) in
       subst (AreNamed (name ∷ names)) same (go first.0 first.1 others.0 (all_named (suc n) names others.0 rises.1 others.1))
     where
@@ -184,7 +184,7 @@ names_of_members : (found : List MemberFound) → map member_name (found_members
 names_of_members [] = refl
 names_of_members (m ∷ found) = ap (λ z. member_name m.member ∷ z) (names_of_members found)
 
-pub members_rise : (r : Replacement) (read : Reads) (repositories : List Repository) (no_scripts : Bool) (found : List MemberFound) → members_after r read repositories no_scripts ≡ Ok found → AreInOrder (found_members found)
+pub members_rise : (r : Replacement) (read : Reads) (repositories : List Repository) (no_scripts : Bool) (found : List MemberFound) → members_after r read repositories no_scripts ≡ Ok found → AreMembersInNameOrder (found_members found)
 members_rise r read repositories no_scripts found is =
     subst AreSortedDistinctNames (sym (names_of_members found)) (pairs_from_rises _ (after_named r read repositories no_scripts found is).rises)
 

@@ -5,10 +5,10 @@ use Rattle.adb_view.specs.Plain.{Plain}
 use Rattle.base_core.specs.Tree.{TreeState}
 use Rattle.change_outcome.specs.change_inputs.Chains.{and_then}
 use Rattle.change_outcome.specs.MembersAfter.{MemberFound, added_package_by_path, added_member_found, member_of_name_by_change, member_of_name_by_selected, member_of_added_name, member_of_removed_name, kept_member_found}
-use Rattle.change_outcome.specs.PackageFiles.{AddedPackage, first_script_of, package_file_of, scripts_of_change, unless_script_number, unless_script_needed}
+use Rattle.change_outcome.specs.PackageFiles.{AddedPackage, first_script_of, package_file_path_of_candidate, scripts_of_change, unless_script_number, unless_script_needed}
 use Rattle.dep_core.specs.Repositories.{Repository}
 use Rattle.change_outcome.specs.make_info.Reads.{Reads}
-use Rattle.change_outcome.specs.package_changes.Placed.{PlacedName, new_candidate, old_package}
+use Rattle.change_outcome.specs.package_changes.Placed.{PlacedName, candidate_at_new_place, package_at_old_place}
 use Rattle.change_outcome.specs.candidate_core.Candidates.{Candidate}
 use Rattle.change_outcome.specs.candidate_core.Rank.{SealedPool}
 use Rattle.report_core.specs.Reports.{Change}
@@ -36,24 +36,24 @@ found_after no_scripts name numbers (Ok pkg) = found_by_script no_scripts name n
 found_after no_scripts name numbers (Err refusal) = refl
 
 module _ (before : List Plain) (pool : SealedPool) (repositories : List Repository) (no_scripts : Bool) (n : PlacedName) where
-  pub by_none : (h : List TreeState) → n.change ≡ None → IsByRead h (member_of_name_by_read before pool repositories no_scripts n) (Ok (option_map kept_member_found (old_package before n)))
-  by_none h is = by_any_read h _ _ (λ read k. ap (λ o. member_of_name_by_change read repositories no_scripts k n.name o (old_package before n) (new_candidate pool n)) is)
+  pub by_none : (h : List TreeState) → n.change ≡ None → IsByRead h (member_of_name_by_read before pool repositories no_scripts n) (Ok (option_map kept_member_found (package_at_old_place before n)))
+  by_none h is = by_any_read h _ _ (λ read k. ap (λ o. member_of_name_by_change read repositories no_scripts k n.name o (package_at_old_place before n) (candidate_at_new_place pool n)) is)
 
-  pub goes : (change : Change) → n.change ≡ Some change → new_candidate pool n ≡ None → (read : Reads) (k : ℕ) → member_of_name_by_read before pool repositories no_scripts n read k ≡ member_of_removed_name no_scripts n.name change (old_package before n)
+  pub goes : (change : Change) → n.change ≡ Some change → candidate_at_new_place pool n ≡ None → (read : Reads) (k : ℕ) → member_of_name_by_read before pool repositories no_scripts n read k ≡ member_of_removed_name no_scripts n.name change (package_at_old_place before n)
   goes change is none read k =
-      ap (λ o. member_of_name_by_change read repositories no_scripts k n.name o (old_package before n) (new_candidate pool n)) is
-      ∙ ap (member_of_name_by_selected read repositories no_scripts k n.name change (old_package before n)) none
+      ap (λ o. member_of_name_by_change read repositories no_scripts k n.name o (package_at_old_place before n) (candidate_at_new_place pool n)) is
+      ∙ ap (member_of_name_by_selected read repositories no_scripts k n.name change (package_at_old_place before n)) none
 
-  pub comes : (change : Change) (c : Candidate) → n.change ≡ Some change → new_candidate pool n ≡ Some c → (read : Reads) (k : ℕ) → member_of_name_by_read before pool repositories no_scripts n read k ≡ as_found (added_package_read repositories no_scripts n.name change c read k)
+  pub comes : (change : Change) (c : Candidate) → n.change ≡ Some change → candidate_at_new_place pool n ≡ Some c → (read : Reads) (k : ℕ) → member_of_name_by_read before pool repositories no_scripts n read k ≡ as_found (added_package_read repositories no_scripts n.name change c read k)
   comes change c is some read k =
-      ap (λ o. member_of_name_by_change read repositories no_scripts k n.name o (old_package before n) (new_candidate pool n)) is
-      ∙ (ap (member_of_name_by_selected read repositories no_scripts k n.name change (old_package before n)) some
-      ∙ found_after no_scripts n.name (scripts_of_change change) (added_package_by_path read k c (package_file_of repositories c)))
+      ap (λ o. member_of_name_by_change read repositories no_scripts k n.name o (package_at_old_place before n) (candidate_at_new_place pool n)) is
+      ∙ (ap (member_of_name_by_selected read repositories no_scripts k n.name change (package_at_old_place before n)) some
+      ∙ found_after no_scripts n.name (scripts_of_change change) (added_package_by_path read k c (package_file_path_of_candidate repositories c)))
 
-  pub comes_refused : (change : Change) (c : Candidate) → n.change ≡ Some change → new_candidate pool n ≡ Some c → (read : Reads) (k : ℕ) (refusal : Refusals.Refusal) → added_package_read repositories no_scripts n.name change c read k ≡ Err refusal → member_of_name_by_read before pool repositories no_scripts n read k ≡ Err refusal
+  pub comes_refused : (change : Change) (c : Candidate) → n.change ≡ Some change → candidate_at_new_place pool n ≡ Some c → (read : Reads) (k : ℕ) (refusal : Refusals.Refusal) → added_package_read repositories no_scripts n.name change c read k ≡ Err refusal → member_of_name_by_read before pool repositories no_scripts n read k ≡ Err refusal
   comes_refused change c is some read k refusal refused = comes change c is some read k ∙ ap as_found refused
 
-  pub comes_found : (h : List TreeState) (change : Change) (c : Candidate) (pkg : TestedPackage) → n.change ≡ Some change → new_candidate pool n ≡ Some c
+  pub comes_found : (h : List TreeState) (change : Change) (c : Candidate) (pkg : TestedPackage) → n.change ≡ Some change → candidate_at_new_place pool n ≡ Some c
       → (b : AddedPackage) × IsByRead h (added_package_read repositories no_scripts n.name change c) (Ok b) × IsPackageRead h pkg b
       → (m : Option MemberFound) × IsByRead h (member_of_name_by_read before pool repositories no_scripts n) (Ok m) × IsNameRead h before (Some (Comes pkg)) m
   comes_found h change c pkg is some (b, by, r) = (

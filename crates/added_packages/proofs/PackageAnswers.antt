@@ -8,7 +8,7 @@ use Rattle.change_outcome.specs.change_inputs.Answers.{Agrees, IsFileFoundInTree
 use Rattle.change_outcome.specs.change_inputs.Chains.{and_then}
 use Rattle.change_outcome.specs.change_inputs.declared.root.Refused.{Refused}
 use Rattle.change_outcome.specs.MembersAfter.{added_package_by_path}
-use Rattle.change_outcome.specs.PackageFiles.{AddedPackage, package_file_of, added_package_or_refusal, package_in_file, scripts_of_change, unless_package_bad, unless_different, unless_script_number, unless_script_needed, first_script_of}
+use Rattle.change_outcome.specs.PackageFiles.{AddedPackage, package_file_path_of_candidate, added_package_or_refusal, package_in_file, scripts_of_change, unless_package_bad, package_unless_other_than_candidate, unless_script_number, unless_script_needed, first_script_of}
 use Rattle.dep_core.specs.Repositories.{Repository}
 use Rattle.change_outcome.specs.make_info.Reads.{Reads}
 use Rattle.package_verifier.specs.pkg_core.Whole.{package_fault}
@@ -52,7 +52,7 @@ module _ (h : List TreeState) (path : List ℕ) (c : Candidate) where
     pub coming : AddedPackage
     pub value : coming.value ≡ tested_value pkg
     pub id : coming.id ≡ tested_id pkg
-    pub by : IsByRead h (package_of_candidate_by_path c path) (unless_different c coming)
+    pub by : IsByRead h (package_of_candidate_by_path c path) (package_unless_other_than_candidate c coming)
     pub read : IsPackageRead h pkg coming
 
   pub sound_read : (r : PackageRead) (pkg : TestedPackage) → r ≡ Sound pkg → IsFileRead h path r → IsSoundRead pkg
@@ -73,7 +73,7 @@ module _ (h : List TreeState) (path : List ℕ) (c : Candidate) where
         };
       }
 
-  pub sound_answer : (pkg : TestedPackage) (s : IsSoundRead pkg) → unless_different c s.coming ≡ Ok s.coming → (b : AddedPackage) × IsByRead h (package_of_candidate_by_path c path) (Ok b) × IsPackageRead h pkg b
+  pub sound_answer : (pkg : TestedPackage) (s : IsSoundRead pkg) → package_unless_other_than_candidate c s.coming ≡ Ok s.coming → (b : AddedPackage) × IsByRead h (package_of_candidate_by_path c path) (Ok b) × IsPackageRead h pkg b
   sound_answer pkg s passed = (s.coming, subst (IsByRead h (package_of_candidate_by_path c path)) passed s.by, s.read)
 
 -- ---- scripts

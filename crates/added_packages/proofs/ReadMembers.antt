@@ -6,12 +6,12 @@ use Rattle.adb_view.specs.Plain.{Plain}
 use Rattle.base_core.specs.Tree.{TreeState}
 use Rattle.change_outcome.specs.MembersAfter.{MemberFound, added_member_found, found_package_contents, members_after, found_members, kept_member_found}
 use Rattle.change_outcome.specs.PackageFiles.{AddedPackage}
-use Rattle.change_outcome.specs.db_core.Members.{AreInOrder, Member, member_of_added, is_added, member_of_kept}
+use Rattle.change_outcome.specs.db_core.Members.{AreMembersInNameOrder, Member, member_of_added, is_added, member_of_kept}
 use Rattle.change_outcome.specs.db_core.declared.members.TheConstants.{MOST_MEMBERS}
 use Rattle.dep_core.specs.Repositories.{Repository}
 use Rattle.change_outcome.specs.make_info.Reads.{Reads}
 use Rattle.change_outcome.specs.package_changes.Placed.{PlacedReplacement, replacement_of}
-use Rattle.added_packages.specs.Arrivals.{AreMembersRead, HavePlacesIfKept, CanBeMembers, IsFileOfMember, IsMemberRead, IsPackageRead, HasPlaceIfKept, member_of_read_package, members_of_read_packages, package_in}
+use Rattle.added_packages.specs.Arrivals.{AreMembersRead, HavePlacesIfKept, CanBeMembers, IsTestedPackageOfMember, IsMemberRead, IsPackageRead, HasPlaceIfKept, member_of_read_package, members_of_read_packages, added_package_in_member_read}
 use Rattle.package_verifier.specs.Tested.{tested_id, tested_value}
 use Rattle.package_verifier.specs.declared.package.TestedPackage.{TestedPackage}
 use Rattle.added_packages.specs.declared.arrivals.MemberRead.{MemberRead}
@@ -65,7 +65,7 @@ module _ (h : List TreeState) (before : List Plain) where
   all_placed (r ∷ reads) [] are = absurd are
   all_placed (r ∷ reads) (m ∷ found) are = (one_placed r m are.0, all_placed reads found are.1)
 
-  pub file_found : (reads : List MemberRead) (found : List MemberFound) → AreMembersRead h before reads found → (place : ℕ) (pkg : TestedPackage) → slice_get reads place ≡ Some (Comes pkg) → IsFileOfMember h found place pkg
+  pub file_found : (reads : List MemberRead) (found : List MemberFound) → AreMembersRead h before reads found → (place : ℕ) (pkg : TestedPackage) → slice_get reads place ≡ Some (Comes pkg) → IsTestedPackageOfMember h found place pkg
   file_found [] [] are place pkg here = absurd (cc)
   file_found [] (m ∷ found) are place pkg here = absurd are
   file_found (r ∷ reads) [] are place pkg here = absurd are
@@ -73,7 +73,7 @@ module _ (h : List TreeState) (before : List Plain) where
       let same : r ≡ Comes pkg = cc in
       go (subst (λ z. IsMemberRead h before z m) same are.0)
     where
-      go : (coming : AddedPackage) × IsPackageRead h pkg coming × (m ≡ added_member_found coming) → IsFileOfMember h (m ∷ found) 0 pkg
+      go : (coming : AddedPackage) × IsPackageRead h pkg coming × (m ≡ added_member_found coming) → IsTestedPackageOfMember h (m ∷ found) 0 pkg
       go (coming, r, is) = record {
         file = r.file;
         located = r.located;
@@ -88,7 +88,7 @@ pub can_be : (h : List TreeState) (p : PlacedReplacement) (read : Reads) (reposi
     → length p.pool.candidates ≤ MOST_MEMBERS → CanBeMembers p.before reads
 can_be h p read repositories no_scripts reads found is are few = record {
   placed = all_placed h p.before reads found are;
-  in_order = subst AreInOrder (sym (all_read h p.before reads found are)) (members_rise (replacement_of p) read repositories no_scripts found is);
+  in_order = subst AreMembersInNameOrder (sym (all_read h p.before reads found are)) (members_rise (replacement_of p) read repositories no_scripts found is);
   few =
       (let many = as_many h p.before reads found are in
       let most = members_few p read repositories no_scripts found is in
@@ -97,12 +97,12 @@ can_be h p read repositories no_scripts reads found is are few = record {
 
 -- ---- the package at a place
 
-comes_here : (o : Option MemberRead) (pkg : TestedPackage) → option_and_then package_in o ≡ Some pkg → o ≡ Some (Comes pkg)
+comes_here : (o : Option MemberRead) (pkg : TestedPackage) → option_and_then added_package_in_member_read o ≡ Some pkg → o ≡ Some (Comes pkg)
 comes_here None pkg is = absurd (cc)
 comes_here (Some (Stays place)) pkg is = absurd (cc)
 comes_here (Some (Comes p)) pkg is = let same : p ≡ pkg = cc in ap (λ z. Some (Comes z)) same
 
-pub file_of_package : (h : List TreeState) (before : List Plain) (reads : List MemberRead) (found : List MemberFound) → AreMembersRead h before reads found → (place : ℕ) (pkg : TestedPackage) → option_and_then package_in (slice_get reads place) ≡ Some pkg → IsFileOfMember h found place pkg
+pub file_of_package : (h : List TreeState) (before : List Plain) (reads : List MemberRead) (found : List MemberFound) → AreMembersRead h before reads found → (place : ℕ) (pkg : TestedPackage) → option_and_then added_package_in_member_read (slice_get reads place) ≡ Some pkg → IsTestedPackageOfMember h found place pkg
 file_of_package h before reads found are place pkg here = file_found h before reads found are place pkg (comes_here (slice_get reads place) pkg here)
 
 no_stay : (o : Option Plain) (m : MemberFound) → Some m ≡ option_map kept_member_found o → is_added m.member ≡ true → ⊥
@@ -112,7 +112,7 @@ no_stay (Some pkg) m is comes =
     let stays : is_added m.member ≡ false = ap (λ (x : MemberFound). is_added x.member) same in
     true≢false (sym comes ∙ stays)
 
-pub package_comes : (h : List TreeState) (before : List Plain) (reads : List MemberRead) (found : List MemberFound) → AreMembersRead h before reads found → (place : ℕ) (m : Member) → slice_get (found_members found) place ≡ Some m → is_added m ≡ true → is_some (option_and_then package_in (slice_get reads place)) ≡ true
+pub package_comes : (h : List TreeState) (before : List Plain) (reads : List MemberRead) (found : List MemberFound) → AreMembersRead h before reads found → (place : ℕ) (m : Member) → slice_get (found_members found) place ≡ Some m → is_added m ≡ true → is_some (option_and_then added_package_in_member_read (slice_get reads place)) ≡ true
 package_comes h before [] [] are place m here comes = absurd (cc)
 package_comes h before [] (x ∷ found) are place m here comes = absurd are
 package_comes h before (r ∷ reads) [] are place m here comes = absurd are

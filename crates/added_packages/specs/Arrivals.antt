@@ -9,7 +9,7 @@ use Rattle.base_core.specs.Tree.{TreeState}
 use Rattle.change_outcome.specs.change_inputs.Answers.{IsFileFoundInTree}
 use Rattle.change_outcome.specs.MembersAfter.{MemberFound, added_member_found, found_package_contents, kept_member_found}
 use Rattle.change_outcome.specs.PackageFiles.{AddedPackage, package_in_file}
-use Rattle.change_outcome.specs.db_core.Members.{AreInOrder, Member, member_of_added, member_of_kept}
+use Rattle.change_outcome.specs.db_core.Members.{AreMembersInNameOrder, Member, member_of_added, member_of_kept}
 use Rattle.change_outcome.specs.db_core.declared.members.TheConstants.{MOST_MEMBERS}
 use Rattle.package_verifier.specs.pkg_core.Contents.{contents_in}
 use Rattle.package_verifier.specs.pkg_core.Whole.{files_read_from_package}
@@ -23,9 +23,13 @@ use Rattle.added_packages.specs.declared.arrivals.MemberRead.TheVariants.{Comes,
 -- observable, the file is the one under the name of the package's file
 pub record IsPackageRead (history : List TreeState) (pkg : TestedPackage)
     (coming : AddedPackage) : Type 0 where
+  -- the bytes of the package's file
   pub file : List ℕ
+  -- on an observable tree, the file is under the name that was read
   pub located : IsFileFoundInTree history (tested_name pkg) (Some file)
+  -- the file passed all tests, and the package was read from it
   pub tested : IsTestedOf (tested_name pkg) file pkg
+  -- the added package is the one in the file
   pub is : coming ≡ package_in_file file
 
 -- a package after the change as it was read is the one that is found: that of the database at its
@@ -63,12 +67,12 @@ members_of_read_packages before reads = filter_map (member_of_read_package befor
 
 -- ---- as members
 
--- a package that was read is placed: if it is kept, its place is one of the database
+-- if the package is kept, its place is one of the database
 abbrev pub HasPlaceIfKept : List Plain → MemberRead → Type 0
 HasPlaceIfKept before (Stays place) = place < length before
 HasPlaceIfKept before (Comes pkg) = Unit {0}
 
--- each of some packages that were read is placed
+-- each kept package of the list has a place in the database
 abbrev pub HavePlacesIfKept : List Plain → List MemberRead → Type 0
 HavePlacesIfKept before [] = Unit {0}
 HavePlacesIfKept before (r ∷ reads) = HasPlaceIfKept before r × HavePlacesIfKept before reads
@@ -76,20 +80,27 @@ HavePlacesIfKept before (r ∷ reads) = HasPlaceIfKept before r × HavePlacesIfK
 -- packages that were read can be members: each kept one has a place in the database, they are in byte
 -- order of names, and are few enough
 pub record CanBeMembers (before : List Plain) (reads : List MemberRead) : Type 0 where
+  -- each kept package has a place in the database
   pub placed : HavePlacesIfKept before reads
-  pub in_order : AreInOrder (members_of_read_packages before reads)
+  -- the packages are in byte order of names, each name once
+  pub in_order : AreMembersInNameOrder (members_of_read_packages before reads)
+  -- there are no more of them than members are allowed
   pub few : length reads ≤ MOST_MEMBERS
 
 -- what was read of an added package; none for a kept one
-abbrev pub package_in : MemberRead → Option TestedPackage
-package_in (Stays place) = None
-package_in (Comes pkg) = Some pkg
+abbrev pub added_package_in_member_read : MemberRead → Option TestedPackage
+added_package_in_member_read (Stays place) = None
+added_package_in_member_read (Comes pkg) = Some pkg
 
 -- an added package is that of a file that was tested, and its contents are those that were found for
 -- the member at a place
-pub record IsFileOfMember (history : List TreeState) (found : List MemberFound) (place : ℕ)
+pub record IsTestedPackageOfMember (history : List TreeState) (found : List MemberFound) (place : ℕ)
     (pkg : TestedPackage) : Type 0 where
+  -- the bytes of the package's file
   pub file : List ℕ
+  -- on an observable tree, the file is under the name that was read
   pub located : IsFileFoundInTree history (tested_name pkg) (Some file)
+  -- the file passed all tests, and the package was read from it
   pub tested : IsTestedOf (tested_name pkg) file pkg
+  -- the contents of the files that were found for the member are those in this file
   pub contents : found_package_contents found place ≡ contents_in (files_read_from_package file)

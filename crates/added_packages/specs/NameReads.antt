@@ -9,10 +9,10 @@ use Rattle.change_outcome.specs.change_inputs.Chains.{and_then}
 use Rattle.change_outcome.specs.change_inputs.declared.root.Refused.{Refused}
 use Rattle.change_outcome.specs.change_inputs.declared.root.Refused.TheVariants.{Disk, Memory, Refusal}
 use Rattle.change_outcome.specs.MembersAfter.{MemberFound, added_package_by_path, member_of_name_by_change, kept_member_found}
-use Rattle.change_outcome.specs.PackageFiles.{AddedPackage, package_file_of, added_package_or_refusal, scripts_of_change, unless_script_needed}
+use Rattle.change_outcome.specs.PackageFiles.{AddedPackage, package_file_path_of_candidate, added_package_or_refusal, scripts_of_change, unless_script_needed}
 use Rattle.dep_core.specs.Repositories.{Repository}
 use Rattle.change_outcome.specs.make_info.Reads.{Reads}
-use Rattle.change_outcome.specs.package_changes.Placed.{PlacedName, new_candidate, old_package}
+use Rattle.change_outcome.specs.package_changes.Placed.{PlacedName, candidate_at_new_place, package_at_old_place}
 use Rattle.change_outcome.specs.candidate_core.Candidates.{Candidate}
 use Rattle.change_outcome.specs.candidate_core.Rank.{SealedPool}
 use Rattle.report_core.specs.Reports.{Change}
@@ -30,7 +30,9 @@ FindsTreeFileOrFound (v ∷ earlier) read n found = (name : List ℕ) → read n
 -- are observable
 pub record IsByRead {B : Type 0} (history : List TreeState) (by : Reads → ℕ → B) (wanted : B) :
     Type 0 where
+  -- the bytes that are found, or none
   pub found : Option (List ℕ)
+  -- the definition has the value `wanted` for each map of reads that finds these bytes
   pub is : (read : Reads) (n : ℕ) → FindsTreeFileOrFound history read n found → by read n ≡ wanted
 
 -- a result denotes the value of a definition by a read, or is its refusal; an I/O error of the tree and
@@ -53,7 +55,7 @@ package_of_candidate_by_path c path read n = added_package_or_refusal c (read n 
 abbrev pub package_of_candidate_by_read :
     List Repository → Candidate → Reads → ℕ → Result AddedPackage Refusals.Refusal
 package_of_candidate_by_read repositories c read n =
-    added_package_by_path read n c (package_file_of repositories c)
+    added_package_by_path read n c (package_file_path_of_candidate repositories c)
 
 -- the package of a candidate, by the read of its file, or the refusal, also for a script that its
 -- change would have to run
@@ -71,7 +73,7 @@ abbrev pub member_of_name_by_read :
     → Result (Option MemberFound) Refusals.Refusal
 member_of_name_by_read before pool repositories no_scripts name read n =
     member_of_name_by_change read repositories no_scripts n name.name name.change
-    (old_package before name) (new_candidate pool name)
+    (package_at_old_place before name) (candidate_at_new_place pool name)
 
 -- a package after the change as it was read, or none, is the result for the name
 abbrev pub IsNameRead :

@@ -4,7 +4,7 @@
 //! of the packages in byte order of names, the first with a bad file or a script that has to run.
 
 ghost use Rattle.added_packages.specs.Answered.{DenotesUnlessDisk};
-ghost use Rattle.added_packages.specs.Arrivals.{AreMembersRead, CanBeMembers, arrivals_seen, HasPlaceIfKept, member_of_read_package, members_of_read_packages, IsFileOfMember, package_in};
+ghost use Rattle.added_packages.specs.Arrivals.{AreMembersRead, CanBeMembers, arrivals_seen, HasPlaceIfKept, member_of_read_package, members_of_read_packages, IsTestedPackageOfMember, added_package_in_member_read};
 ghost use Rattle.added_packages.specs.NameReads.{IsAnswerByRead, IsNameRead, IsReadOfKeptPackage, member_of_name_by_read};
 ghost use Rattle.base_core.specs.Read.{OnlyReads};
 ghost use Rattle.change_outcome.specs.change_inputs.Answers.{Agrees};
@@ -12,7 +12,7 @@ ghost use Rattle.change_outcome.specs.MembersAfter.{members_after, member_of_rem
 ghost use Rattle.change_outcome.specs.db_core.Seen.{packages_of_old_database, packages_of, members_of};
 ghost use Rattle.change_outcome.specs.db_core.declared.members.TheConstants.{MOST_MEMBERS};
 ghost use Rattle.change_outcome.specs.package_files.Runs.{IsExplainedBySomeReads};
-ghost use Rattle.change_outcome.specs.package_changes.Placed.{old_package, placed_names_of, replacement_of};
+ghost use Rattle.change_outcome.specs.package_changes.Placed.{package_at_old_place, placed_names_of, replacement_of};
 ghost use Rattle.change_outcome.specs.package_changes.Seen.{change_seen, placed_name_seen, placed_names_seen, placed_replacement_from_parts};
 ghost use Rattle.std.specs.Prelude.{◌≡◌, ◌≤◌, ◌==◌, ◌++◌, ℕ, List, None, length, IfOk, OnOk, option_copied, option_and_then, option_to_list, slice_get, ◌<◌, true, Some, ◌+◌, Bool, is_some};
 ghost use Rattle.change_outcome.specs.db_core.Members.{Member, is_after_members, member_name, is_added};
@@ -55,7 +55,7 @@ pub struct Arrivals {
 }
 
 impl Arrivals {
-    ghost use Rattle.added_packages.specs.Arrivals.{package_in};
+    ghost use Rattle.added_packages.specs.Arrivals.{added_package_in_member_read};
 
     /// How many packages there are after the change.
     pub fn len(&self) -> usize
@@ -74,7 +74,8 @@ impl Arrivals {
     /// The package of the member at a place, counted from 0, if it is added.
     pub fn package(&self, place: usize) -> Option<&TestedPackage>
         ensures { option_copied result
-            ≡ option_and_then package_in (slice_get (arrivals_seen self.now) place) }
+            ≡ option_and_then added_package_in_member_read (slice_get
+            (arrivals_seen self.now) place) }
     {
         if place >= self.members.len() {
             return None;
@@ -103,7 +104,8 @@ pub fn read_arrivals<T: Tree>(
     repositories: &Repos,
     no_scripts: bool,
 ) -> Result<Arrivals, Refused>
-    // For each selection, and names to be installed again, that these names are of.
+    // For each selection, and each list of names to be installed again, from which `names` were
+    // made: the packages read are those that the definition `members_after` finds with some reads.
     ensures found { (trace : List ℕ) (again : List (List ℕ))
         → placed_names_seen names.now
         ≡ placed_names_of (placed_replacement_from_parts db.now pool.now trace again)
@@ -137,7 +139,7 @@ pub fn read_arrivals<T: Tree>(
     Ok(Arrivals { members })
 }
 
-/// Adds a package to the others, if there is one.
+/// Appends a package to those read before, if there is one.
 fn push_member(members: &mut Vec<MemberRead>, member: Option<MemberRead>) -> Result<(), AllocError>
     ensures { OnOk result (members.new.items ≡ members.old.items ++ option_to_list member) }
 {
@@ -160,6 +162,7 @@ fn read_name<T: Tree>(
     repositories: &Repos,
     no_scripts: bool,
 ) -> Result<Option<MemberRead>, Refused>
+    // The result is that of the definition, with the file that was found.
     ensures found { IsAnswerByRead (IsNameRead (T.history tree.old) (packages_of db.now))
         (T.history tree.old) (member_of_name_by_read
         (packages_of db.now) pool.now repositories.now no_scripts
@@ -212,9 +215,11 @@ fn test_removed(
     name: &PlacedName<'_>,
     change: &Change<'_>,
 ) -> Result<(), Refused>
+    // Refused if the definition refuses the removed package; otherwise nothing is returned.
     ensures { Agrees (λ _. None) result (member_of_removed_name no_scripts (placed_name_seen
         name.now).name
-        (change_seen change.now) (old_package (packages_of db.now) (placed_name_seen name.now))) }
+        (change_seen change.now) (package_at_old_place (packages_of db.now)
+        (placed_name_seen name.now))) }
 {
     match name.old {
         Some(i) if i < db.len() => {
@@ -245,18 +250,25 @@ pub fn members_of_change<'a>(
 
 /// Adds a package that was read to the members, at the end.
 fn push_read<'a>(members: &mut Members<'a>, read: &'a MemberRead) -> Result<(), AllocError>
+    // The package is after all members so far, in byte order of names.
     requires behind { (m : Member)
         → member_of_read_package (packages_of_old_database members.old) read.now ≡ Some m
         → is_after_members (member_name m) (members_of members.old) ≡ true }
+    // A kept package has a place in the database.
     requires placed { HasPlaceIfKept (packages_of_old_database members.old) read.now }
+    // There is room for one more member.
     requires few { length (members_of members.old) < MOST_MEMBERS }
+    // The package is appended as a member, if it was kept or added.
     ensures added { OnOk result (members_of members.new ≡ members_of members.old
         ++ option_to_list (member_of_read_package
         (packages_of_old_database members.old) read.entry.now)) }
+    // The packages of the old database are unchanged.
     ensures before { packages_of_old_database members.new ≡ packages_of_old_database members.old }
 {
     match read {
+        // The package is kept: its entry in the database is lent.
         MemberRead::Stays(place) => members.stays(*place),
+        // The package is added: what was read of its file is lent.
         MemberRead::Comes(pkg) => members.push_added_in_pieces(&pkg.contents()),
     }
 }
@@ -271,16 +283,18 @@ pub fn packages_that_were_read_are_those_found()
 /// The package that was read for the member at a place is that of the file whose contents the
 /// definition finds for it, and each added member has one.
 pub fn a_package_that_was_read_is_that_of_its_file()
+    // The package at a place is that of the file of this member.
     ensures file { (history : List TreeState) (before : List Plain) (reads : List MemberRead)
         (found : List MemberFound) → AreMembersRead history before reads found
         → (place : ℕ) (pkg : TestedPackage)
-        → option_and_then package_in (slice_get reads place) ≡ Some pkg
-        → IsFileOfMember history found place pkg }
+        → option_and_then added_package_in_member_read (slice_get reads place) ≡ Some pkg
+        → IsTestedPackageOfMember history found place pkg }
+    // For each added member a package was read.
     ensures comes { (history : List TreeState) (before : List Plain) (reads : List MemberRead)
         (found : List MemberFound) → AreMembersRead history before reads found
         → (place : ℕ) (m : Member) → slice_get (found_members found) place ≡ Some m
         → is_added m ≡ true
-        → is_some (option_and_then package_in (slice_get reads place)) ≡ true }
+        → is_some (option_and_then added_package_in_member_read (slice_get reads place)) ≡ true }
 {}
 
 /// The packages after a change depend only on the reads after those of the indexes: earlier reads

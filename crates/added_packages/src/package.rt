@@ -10,7 +10,7 @@ ghost use Rattle.package_verifier.specs.Tested.{tested_id, tested_value};
 ghost use Rattle.added_packages.specs.Told.{IsRefusalReported};
 ghost use Rattle.base_core.specs.Read.{OnlyReads};
 ghost use Rattle.change_outcome.specs.change_inputs.Answers.{Agrees};
-ghost use Rattle.change_outcome.specs.PackageFiles.{AddedPackage, package_file_of, scripts_of_change, unless_different, unless_script_needed};
+ghost use Rattle.change_outcome.specs.PackageFiles.{AddedPackage, package_file_path_of_candidate, scripts_of_change, package_unless_other_than_candidate, unless_script_needed};
 ghost use Rattle.change_outcome.specs.package_changes.Changes.{candidate_version_text};
 ghost use Rattle.change_outcome.specs.package_changes.Seen.{change_seen};
 ghost use Rattle.change_outcome.specs.candidate_core.Values.{candidate_value};
@@ -45,6 +45,7 @@ pub(crate) fn read_added<T: Tree>(
     change: &Change<'_>,
     c: &Candidate<'_>,
 ) -> Result<TestedPackage, Refused>
+    // The result is that of the definition, with the file that was found.
     ensures found { IsAnswerByRead (IsPackageRead (T.history tree.old))
         (T.history tree.old) (added_package_read repositories.now no_scripts name.now
         (change_seen change.now) (candidate_value c.now)) result }
@@ -64,13 +65,14 @@ fn test_own_scripts(
     change: &Change<'_>,
     pkg: &TestedPackage,
 ) -> Result<(), Refused>
+    // Refused exactly if a script of the package would have to run and is not skipped.
     ensures { Agrees (λ _. true) result (unless_script_needed no_scripts name.now
         (tested_value pkg.now)
         (scripts_of_change (change_seen change.now)) true) }
 {
     let contents = pkg.contents();
     let view = contents.view();
-    // The last argument only names the view's lifetime.
+    // The last argument has no value: it only gives the view's type a lifetime.
     test_scripts(alloc, no_scripts, name, change, &view, PhantomData)
 }
 
@@ -81,13 +83,14 @@ fn read_candidate<T: Tree>(
     repositories: &Repos,
     c: &Candidate<'_>,
 ) -> Result<TestedPackage, Refused>
+    // The result is that of the definition, with the file that was found.
     ensures found { IsAnswerByRead (IsPackageRead (T.history tree.old))
         (T.history tree.old) (package_of_candidate_by_read repositories.now
         (candidate_value c.now)) result }
     ensures tree { OnlyReads Refused.Disk (T.history tree.old) (T.history tree.new)
         (T.counts tree.old) (T.counts tree.new) result }
 {
-    match package_file_of(alloc, repositories, c)? {
+    match package_file_path_of_candidate(alloc, repositories, c)? {
         None => Err(missing(alloc, c)),
         Some(path) => read_beside(alloc, tree, c, &path),
     }
@@ -95,13 +98,13 @@ fn read_candidate<T: Tree>(
 
 /// The name of a candidate's package file: NAME-VERSION.apk, beside the index of its repository.
 /// None if the candidate is of no repository, or that path is no name.
-fn package_file_of(
+fn package_file_path_of_candidate(
     alloc: Global,
     repositories: &Repos,
     c: &Candidate<'_>,
 ) -> Result<Option<Name>, AllocError>
     ensures { IfOk result (λ path.
-        path ≡ package_file_of repositories.now (candidate_value c.now)) }
+        path ≡ package_file_path_of_candidate repositories.now (candidate_value c.now)) }
 {
     let Some(number) = c.repo else {
         return Ok(None);
@@ -123,6 +126,7 @@ fn read_beside<T: Tree>(
     c: &Candidate<'_>,
     path: &Name,
 ) -> Result<TestedPackage, Refused>
+    // The result is that of the definition, with the file that was found.
     ensures found { IsAnswerByRead (IsPackageRead (T.history tree.old))
         (T.history tree.old) (package_of_candidate_by_path
         (candidate_value c.now) path.now) result }
@@ -148,9 +152,11 @@ fn test_as_indexed<'a>(
     pkg: &'a TestedPackage,
     _mark: PhantomData<PackageView<'a>>,
 ) -> Result<(), Refused>
+    // Refused exactly if the package differs from the candidate in id, name or version.
     ensures { (coming : AddedPackage) → coming.value ≡ tested_value pkg.now
         → coming.id ≡ tested_id pkg.now
-        → Agrees (λ _. coming) result (unless_different (candidate_value c.now) coming) }
+        → Agrees (λ _. coming) result (package_unless_other_than_candidate
+        (candidate_value c.now) coming) }
 {
     let contents = pkg.contents();
     let view = contents.view();
@@ -208,8 +214,10 @@ pub(crate) fn test_same(
     pkg: &PackageView<'_>,
     id: &[u8],
 ) -> Result<(), Refused>
+    // Refused exactly if the package differs from the candidate in id, name or version.
     ensures { (coming : AddedPackage) → coming.value ≡ package_value pkg.now → coming.id ≡ id.now
-        → Agrees (λ _. coming) result (unless_different (candidate_value c.now) coming) }
+        → Agrees (λ _. coming) result (package_unless_other_than_candidate
+        (candidate_value c.now) coming) }
 {
     let info = pkg.info();
     if !is_same_id(c.info.hashes(), id) {
@@ -226,6 +234,7 @@ pub(crate) fn test_same(
 
 /// The refusal of a candidate whose package differs in a field from its index's entry.
 fn differs(alloc: Global, c: &Candidate<'_>, field: u16, wanted: &[u8], found: &[u8]) -> Refused
+    // The error is this refusal, unless memory runs out.
     ensures { IsRefusalReported (PackageDiffers (candidate_value c.now).name
         (candidate_version_text (candidate_value c.now)) field wanted.now found.now) result }
 {
@@ -240,6 +249,7 @@ fn package_differs(
     wanted: &[u8],
     found: &[u8],
 ) -> Result<Refusal, AllocError>
+    // The refusal names the candidate, the field and both values.
     ensures { IfOk result (λ refusal. refusal ≡ PackageDiffers (candidate_value c.now).name
         (candidate_version_text (candidate_value c.now)) field wanted.now found.now) }
 {

@@ -36,6 +36,7 @@ pub(crate) fn test_scripts<'a>(
     pkg: &PackageView<'a>,
     _mark: PhantomData<PackageView<'a>>,
 ) -> Result<(), Refused>
+    // Refused exactly if a script of the package would have to run and is not skipped.
     ensures { Agrees (λ _. true) result (unless_script_needed no_scripts name.now
         (package_value pkg.now)
         (scripts_of_change (change_seen change.now)) true) }
@@ -62,6 +63,7 @@ fn script_needed(alloc: Global, name: &[u8], number: u16) -> Result<Refusal, All
 
 /// The number of the first script that a change would have to run, if there is one.
 fn first_script(change: &Change<'_>, scripts: &ScriptsView<'_>) -> Option<u16>
+    // The result is the number of the first script of the package that the change would run.
     ensures { (pkg : Plain) → scripts_value scripts.now ≡ entry_in pkg PACKAGE_SCRIPTS
         → result ≡ first_script_of pkg (scripts_of_change (change_seen change.now)) }
 {

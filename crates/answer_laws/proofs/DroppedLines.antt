@@ -25,11 +25,11 @@ use Rattle.std.proofs.Common.{◌↔◌}
 use Rattle.std.proofs.lemmas.Bool.{ne_eqb}
 use Rattle.base_core.specs.Lists.{IsIn}
 use Rattle.adb_view.specs.declared.tables.Which.TheVariants.{File, Idb}
-use Rattle.make_laws.specs.NamedFields.{entries_named}
+use Rattle.make_laws.specs.NamedFields.{entries_of_field_named}
 use Rattle.change_outcome.specs.v2_core.Database.{listed_access_value, listed_file_value, listed_hash_value, value_of_records}
 use Rattle.change_outcome.specs.v2_core.Records.{ListedFile}
 use Rattle.adb_view.specs.Plain.{blob_or_null}
-use Rattle.answer_laws.specs.TextLetters.{HasUnlistedLetter, known_line_letters}
+use Rattle.answer_laws.specs.TextLetters.{BeginsWithUnknownFieldLetter, known_line_letters}
 use Rattle.make_laws.proofs.make_core.PackageFiles.{list-plains}
 use Rattle.answer_laws.proofs.RecordFields.{in_info, of_info, package_parts}
 
@@ -150,7 +150,7 @@ marked : (mark : ℕ) (o : Option RecordLine) (b : Bool) → (mark == 58) ≡ b 
 marked mark o true t e = (eqb-true mark 58 t, e)
 marked mark o false t e = absurd cc
 
-is_other : (line : List ℕ) → record_line_of line ≡ Some other_line → HasUnlistedLetter line
+is_other : (line : List ℕ) → record_line_of line ≡ Some other_line → BeginsWithUnknownFieldLetter line
 is_other [] e = absurd cc
 is_other (letter ∷ []) e = absurd cc
 is_other (letter ∷ mark ∷ value) e =
@@ -162,10 +162,10 @@ is_other (letter ∷ mark ∷ value) e =
       unlisted = λ listed. is_kept letter value listed by;
     }
 
-other_is : (line : List ℕ) → HasUnlistedLetter line → record_line_of line ≡ Some other_line
+other_is : (line : List ℕ) → BeginsWithUnknownFieldLetter line → record_line_of line ≡ Some other_line
 other_is line o = ap record_line_of o.line_is ∙ dropped o.letter o.value o.unlisted
 
-pub dropped_exactly : (line : List ℕ) → (record_line_of line ≡ Some other_line) ↔ HasUnlistedLetter line
+pub dropped_exactly : (line : List ℕ) → (record_line_of line ≡ Some other_line) ↔ BeginsWithUnknownFieldLetter line
 dropped_exactly line = (is_other line, other_is line)
 
 -- ---- what no letter gives
@@ -191,7 +191,7 @@ pub no_size : (f : ListedFile) → (let file = listed_file_value f in
     (field_named File (codes "size") file ≡ null) × (field_named File (codes "mtime") file ≡ null) × (field_named File (codes "target") file ≡ null))
 no_size f = (nth_obj (file_parts f) 2, nth_obj (file_parts f) 3, nth_obj (file_parts f) 5)
 
-pub packages_are : (records : List Record) → entries_named Idb (codes "packages") (value_of_records records) ≡ map record_value records
+pub packages_are : (records : List Record) → entries_of_field_named Idb (codes "packages") (value_of_records records) ≡ map record_value records
 packages_are records =
     ap (λ (v : Plain). list_of (entries_in v)) (nth_obj (plains_of_list (array_of (map record_value records) ∷ [])) 0)
     ∙ ap list_of (entries_arr (plains_of_list (map record_value records)))

@@ -12,7 +12,7 @@ use Rattle.change_outcome.specs.db_core.Members.{Member, member_name}
 use Rattle.change_outcome.specs.package_files.Folders.{folder_of}
 use Rattle.report_core.specs.Reports.{report_line, report_lines, trigger_due_text}
 use Rattle.report_core.specs.declared.refusal.Refusal.TheVariants.{TriggerNeeded}
-use Rattle.answer_laws.specs.DueTriggers.{HasTriggerLines, IsTriggerDueFor, IsFirstPackageWithDueTrigger, IsTriggered}
+use Rattle.answer_laws.specs.DueTriggers.{HasTriggerLines, IsTriggerDueFor, IsFirstPackageWithDueTrigger, HasTriggerWatchingFolder}
 use Rattle.answer_laws.proofs.Tests.{any_passes, in_passing, passes_any, passing_in}
 use Rattle.answer_laws.proofs.Watched.{due_is, folders_are}
 
@@ -78,8 +78,8 @@ none_due paths m e folder due =
 none_of : (paths : List (List ℕ)) (m n : Member) → n ≡ m → NoneDue paths m → NoneDue paths n
 none_of paths m n same none folder due = none folder (record { file = due.file; triggered = moved })
   where
-    moved : IsTriggered m.pkg folder
-    moved = subst (λ (x : Member). IsTriggered x.pkg folder) same due.triggered
+    moved : HasTriggerWatchingFolder m.pkg folder
+    moved = subst (λ (x : Member). HasTriggerWatchingFolder x.pkg folder) same due.triggered
 
 pub accepted : (paths : List (List ℕ)) (members : List Member) → (unless_trigger_due false paths members ≡ Ok true) ↔ ((m : Member) → IsIn m members → NoneDue paths m)
 accepted paths [] = (λ e m at. absurd at, λ f. refl)

@@ -10,13 +10,13 @@ use Rattle.base_core.specs.declared.cause.Cause.{Cause}
 use Rattle.base_core.specs.declared.cause.Digest.{Digest}
 use Rattle.base_core.specs.declared.cause.Digest.TheVariants.{Sha1, Sha256, Sha512}
 use Rattle.adb_view.specs.Plain.{Plain}
-use Rattle.audit_core.specs.file_guard.AsListed.{do_entries_agree, file_hash, file_size, file_target, is_as_listed, is_as_listed_by, link_bytes_to}
+use Rattle.audit_core.specs.file_guard.AsListed.{do_entries_agree, file_hash, file_size, file_target, is_as_listed, is_as_listed_by_size_hash_target, link_bytes_to}
 use Rattle.audit_core.specs.file_guard.pkg_core.Contents.{digest_fault, hash_fault}
-use Rattle.answer_laws.specs.EntryFields.{GiveSameFields, HasDigest, RepresentsLink, digest_given, size_given, target_given}
+use Rattle.answer_laws.specs.EntryFields.{GiveSameSizeDigestAndTarget, HasDigest, IsTargetOfLinkBytes, digest_field_of_entry, size_field_of_entry, target_field_of_entry}
 
 -- ---- two entries
 
-pub entries_agree : (a b : Plain) → (do_entries_agree a b ≡ true) ↔ GiveSameFields a b
+pub entries_agree : (a b : Plain) → (do_entries_agree a b ≡ true) ↔ GiveSameSizeDigestAndTarget a b
 unfolding do_entries_agree
 entries_agree a b = (
   λ e.
@@ -35,8 +35,8 @@ entries_agree a b = (
 
 -- ---- a link
 
-link_by : (size : ℕ) (hash target bytes : List ℕ) → target ≢ [] → (is_as_listed_by size hash target bytes ≡ true) ↔ RepresentsLink target bytes
-unfolding is_as_listed_by
+link_by : (size : ℕ) (hash target bytes : List ℕ) → target ≢ [] → (is_as_listed_by_size_hash_target size hash target bytes ≡ true) ↔ IsTargetOfLinkBytes target bytes
+unfolding is_as_listed_by_size_hash_target
 link_by size hash [] bytes some = absurd (some refl)
 link_by size hash (x ∷ target) bytes some = rw (ne_eqb (length (x ∷ target)) 0 (λ e. omega arith)) (bytes_eq-Decides bytes (link_bytes_to (x ∷ target)))
 
@@ -95,8 +95,8 @@ digest_by hash bytes = go (length hash == 20) (length hash == 32) (length hash =
       λ h. refl,
     )
 
-hashed_by : (size : ℕ) (hash target bytes : List ℕ) → target ≡ [] → hash ≢ [] → (is_as_listed_by size hash target bytes ≡ true) ↔ HasDigest hash bytes
-unfolding is_as_listed_by
+hashed_by : (size : ℕ) (hash target bytes : List ℕ) → target ≡ [] → hash ≢ [] → (is_as_listed_by_size_hash_target size hash target bytes ≡ true) ↔ HasDigest hash bytes
+unfolding is_as_listed_by_size_hash_target
 hashed_by size [] target bytes none some = absurd (some refl)
 hashed_by size (x ∷ hash) target bytes none some = rw (none, ne_eqb (length (x ∷ hash)) 0 (λ e. omega arith)) (digest_by (x ∷ hash) bytes)
 
@@ -106,8 +106,8 @@ no_bytes : (bytes : List ℕ) → ((length bytes == 0) ≡ true) ↔ (bytes ≡ 
 no_bytes [] = (λ e. refl, λ e. refl)
 no_bytes (x ∷ bytes) = (λ e. absurd (omega (arith, eqb-true (length (x ∷ bytes)) 0 e)), λ e. absurd (cc))
 
-neither_by : (size : ℕ) (hash target bytes : List ℕ) → target ≡ [] → hash ≡ [] → (is_as_listed_by size hash target bytes ≡ true) ↔ ((size ≡ 0) × (bytes ≡ []))
-unfolding is_as_listed_by
+neither_by : (size : ℕ) (hash target bytes : List ℕ) → target ≡ [] → hash ≡ [] → (is_as_listed_by_size_hash_target size hash target bytes ≡ true) ↔ ((size ≡ 0) × (bytes ≡ []))
+unfolding is_as_listed_by_size_hash_target
 neither_by size hash target bytes none none_too = rw (none, none_too) (
   λ e.
       let both = and_parts (size == 0) (length bytes == 0) e in
@@ -117,11 +117,11 @@ neither_by size hash target bytes none none_too = rw (none, none_too) (
 
 -- ---- of an entry
 
-pub link : (entry : Plain) (bytes : List ℕ) → target_given entry ≢ [] → (is_as_listed entry bytes ≡ true) ↔ RepresentsLink (target_given entry) bytes
+pub link : (entry : Plain) (bytes : List ℕ) → target_field_of_entry entry ≢ [] → (is_as_listed entry bytes ≡ true) ↔ IsTargetOfLinkBytes (target_field_of_entry entry) bytes
 link entry bytes = link_by (file_size entry) (file_hash entry) (file_target entry) bytes
 
-pub hashed : (entry : Plain) (bytes : List ℕ) → target_given entry ≡ [] → digest_given entry ≢ [] → (is_as_listed entry bytes ≡ true) ↔ HasDigest (digest_given entry) bytes
+pub hashed : (entry : Plain) (bytes : List ℕ) → target_field_of_entry entry ≡ [] → digest_field_of_entry entry ≢ [] → (is_as_listed entry bytes ≡ true) ↔ HasDigest (digest_field_of_entry entry) bytes
 hashed entry bytes = hashed_by (file_size entry) (file_hash entry) (file_target entry) bytes
 
-pub neither : (entry : Plain) (bytes : List ℕ) → target_given entry ≡ [] → digest_given entry ≡ [] → (is_as_listed entry bytes ≡ true) ↔ ((size_given entry ≡ 0) × (bytes ≡ []))
+pub neither : (entry : Plain) (bytes : List ℕ) → target_field_of_entry entry ≡ [] → digest_field_of_entry entry ≡ [] → (is_as_listed entry bytes ≡ true) ↔ ((size_field_of_entry entry ≡ 0) × (bytes ≡ []))
 neither entry bytes = neither_by (file_size entry) (file_hash entry) (file_target entry) bytes

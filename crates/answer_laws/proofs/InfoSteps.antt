@@ -13,14 +13,14 @@ use Rattle.base_core.specs.Lists.{IsIn}
 use Rattle.base_core.specs.Sorted.{sorted_by}
 use Rattle.command_core.specs.declared.command.Flags.{Flags}
 use Rattle.command_core.specs.declared.operands.Operand.{Operand}
-use Rattle.installed_info.specs.Form.{form_of}
-use Rattle.installed_info.specs.Info.{info_refusal, names_info, operand_info, operands_info, package_info}
-use Rattle.installed_info.specs.Packages.{package_meant_by, package_named}
+use Rattle.installed_info.specs.Form.{info_form_of_flags}
+use Rattle.installed_info.specs.Info.{info_refusal, sorted_package_name_lines, operand_info, operands_info, package_info}
+use Rattle.installed_info.specs.Packages.{package_meant_by_operand_text, package_named}
 use Rattle.report_core.specs.Reports.{report_line, report_lines}
 use Rattle.report_core.specs.declared.refusal.Refusal.TheVariants.{NotInstalled}
-use Rattle.answer_laws.specs.InfoAnswers.{HasSortedNames, IsFirstAbsent}
+use Rattle.answer_laws.specs.InfoAnswers.{HasSortedPackageNameLines, IsPlaceOfFirstOperandNotFound}
 
-pub sorted_names : (packages : List Plain) → HasSortedNames packages (names_info packages)
+pub sorted_names : (packages : List Plain) → HasSortedPackageNameLines packages (sorted_package_name_lines packages)
 sorted_names packages = record {
   names = sorted_by bytes_cmp (map package_name packages);
   same = sorted_same bytes_cmp (map package_name packages);
@@ -30,14 +30,14 @@ sorted_names packages = record {
 
 -- ---- the first absent operand
 
-refused_at : (flags : Flags) (packages : List Plain) (operands : List Operand) (place : ℕ) → info_refusal (form_of flags) packages operands ≡ Some (NotInstalled place) → IsFirstAbsent flags packages operands place
+refused_at : (flags : Flags) (packages : List Plain) (operands : List Operand) (place : ℕ) → info_refusal (info_form_of_flags flags) packages operands ≡ Some (NotInstalled place) → IsPlaceOfFirstOperandNotFound flags packages operands place
 refused_at flags packages [] place e = absurd cc
-refused_at flags packages (o ∷ operands) place e = go (package_meant_by (form_of flags) packages o.text) refl e (refused_at flags packages operands place)
+refused_at flags packages (o ∷ operands) place e = go (package_meant_by_operand_text (info_form_of_flags flags) packages o.text) refl e (refused_at flags packages operands place)
   where
-    go : (asked : Option Plain) → package_meant_by (form_of flags) packages o.text ≡ asked
-        → (if is_some asked then info_refusal (form_of flags) packages operands else Some (NotInstalled o.place)) ≡ Some (NotInstalled place)
-        → (info_refusal (form_of flags) packages operands ≡ Some (NotInstalled place) → IsFirstAbsent flags packages operands place)
-        → IsFirstAbsent flags packages (o ∷ operands) place
+    go : (asked : Option Plain) → package_meant_by_operand_text (info_form_of_flags flags) packages o.text ≡ asked
+        → (if is_some asked then info_refusal (info_form_of_flags flags) packages operands else Some (NotInstalled o.place)) ≡ Some (NotInstalled place)
+        → (info_refusal (info_form_of_flags flags) packages operands ≡ Some (NotInstalled place) → IsPlaceOfFirstOperandNotFound flags packages operands place)
+        → IsPlaceOfFirstOperandNotFound flags packages (o ∷ operands) place
     go None is e more =
         let same : o.place ≡ place = cc in
         record { front = []; operand = o; rest = operands; operands_are = refl; place_is = same; absent = is; earlier = λ p at. absurd at }
@@ -50,22 +50,22 @@ refused_at flags packages (o ∷ operands) place e = go (package_meant_by (form_
           operands_are = ap (λ (os : List Operand). o ∷ os) h.operands_are;
           place_is = h.place_is;
           absent = h.absent;
-          earlier = λ p at. elim at [ inl same ↦ ap (λ (q : Operand). is_some (package_meant_by (form_of flags) packages q.text)) same ∙ ap is_some is | inr later ↦ h.earlier p later ];
+          earlier = λ p at. elim at [ inl same ↦ ap (λ (q : Operand). is_some (package_meant_by_operand_text (info_form_of_flags flags) packages q.text)) same ∙ ap is_some is | inr later ↦ h.earlier p later ];
         }
 
-at_first : (flags : Flags) (packages : List Plain) (front : List Operand) (o : Operand) (rest : List Operand) (place : ℕ) → o.place ≡ place → package_meant_by (form_of flags) packages o.text ≡ None
-    → ((p : Operand) → IsIn p front → is_some (package_meant_by (form_of flags) packages p.text) ≡ true) → info_refusal (form_of flags) packages (front ++ o ∷ rest) ≡ Some (NotInstalled place)
+at_first : (flags : Flags) (packages : List Plain) (front : List Operand) (o : Operand) (rest : List Operand) (place : ℕ) → o.place ≡ place → package_meant_by_operand_text (info_form_of_flags flags) packages o.text ≡ None
+    → ((p : Operand) → IsIn p front → is_some (package_meant_by_operand_text (info_form_of_flags flags) packages p.text) ≡ true) → info_refusal (info_form_of_flags flags) packages (front ++ o ∷ rest) ≡ Some (NotInstalled place)
 at_first flags packages [] o rest place at absent earlier =
-    ap (λ (asked : Option Plain). if is_some asked then info_refusal (form_of flags) packages rest else Some (NotInstalled o.place)) absent
+    ap (λ (asked : Option Plain). if is_some asked then info_refusal (info_form_of_flags flags) packages rest else Some (NotInstalled o.place)) absent
     ∙ ap (λ (n : ℕ). Some (NotInstalled n)) at
 at_first flags packages (p ∷ front) o rest place at absent earlier =
-    ap (λ (b : Bool). if b then info_refusal (form_of flags) packages (front ++ o ∷ rest) else Some (NotInstalled p.place)) (earlier p (inl refl))
+    ap (λ (b : Bool). if b then info_refusal (info_form_of_flags flags) packages (front ++ o ∷ rest) else Some (NotInstalled p.place)) (earlier p (inl refl))
     ∙ at_first flags packages front o rest place at absent (λ q within. earlier q (inr within))
 
-pub first_absent : (flags : Flags) (packages : List Plain) (operands : List Operand) (place : ℕ) → (info_refusal (form_of flags) packages operands ≡ Some (NotInstalled place)) ↔ IsFirstAbsent flags packages operands place
+pub first_absent : (flags : Flags) (packages : List Plain) (operands : List Operand) (place : ℕ) → (info_refusal (info_form_of_flags flags) packages operands ≡ Some (NotInstalled place)) ↔ IsPlaceOfFirstOperandNotFound flags packages operands place
 first_absent flags packages operands place = (
   refused_at flags packages operands place,
-  λ f. ap (info_refusal (form_of flags) packages) f.operands_are ∙ at_first flags packages f.front f.operand f.rest place f.place_is f.absent f.earlier,
+  λ f. ap (info_refusal (info_form_of_flags flags) packages) f.operands_are ∙ at_first flags packages f.front f.operand f.rest place f.place_is f.absent f.earlier,
 )
 
 -- ---- the installed operands
@@ -81,38 +81,38 @@ abbrev flags_with : Flags → Bool → Bool → Flags
 flags_with flags who_owns installed = record flags { who_owns = who_owns; installed = installed }
 
 operands_told : (flags : Flags) (packages : List Plain) (operands : List Operand)
-    → operands_info (form_of (flags_with flags false true)) packages operands ≡ report_lines (map text_of_operand (filter (has_package packages) operands))
+    → operands_info (info_form_of_flags (flags_with flags false true)) packages operands ≡ report_lines (map text_of_operand (filter (has_package packages) operands))
 operands_told flags packages [] = refl
 operands_told flags packages (o ∷ operands) = go (package_named packages o.text) (operands_told flags packages operands)
   where
-    go : (named : Option Plain) → operands_info (form_of (flags_with flags false true)) packages operands ≡ report_lines (map text_of_operand (filter (has_package packages) operands))
-        → option_map_or (package_info (form_of (flags_with flags false true)) o.text) named [] ++ operands_info (form_of (flags_with flags false true)) packages operands
+    go : (named : Option Plain) → operands_info (info_form_of_flags (flags_with flags false true)) packages operands ≡ report_lines (map text_of_operand (filter (has_package packages) operands))
+        → option_map_or (package_info (info_form_of_flags (flags_with flags false true)) o.text) named [] ++ operands_info (info_form_of_flags (flags_with flags false true)) packages operands
         ≡ report_lines (map text_of_operand (cond (is_some named) (o ∷ filter (has_package packages) operands) (filter (has_package packages) operands)))
     go None more = more
     go (Some pkg) more = ap (λ (t : List ℕ). report_line o.text ++ t) more
 
 pub installed_operands : (flags : Flags) (packages : List Plain) (operands : List Operand) → flags.who_owns ≡ false → flags.installed ≡ true
-    → operands_info (form_of flags) packages operands ≡ report_lines (map text_of_operand (filter (has_package packages) operands))
+    → operands_info (info_form_of_flags flags) packages operands ≡ report_lines (map text_of_operand (filter (has_package packages) operands))
 installed_operands flags packages operands no_owner asked =
-    ap (λ (b : Bool). operands_info (form_of (flags_with flags b flags.installed)) packages operands) no_owner
-    ∙ ap (λ (b : Bool). operands_info (form_of (flags_with flags false b)) packages operands) asked
+    ap (λ (b : Bool). operands_info (info_form_of_flags (flags_with flags b flags.installed)) packages operands) no_owner
+    ∙ ap (λ (b : Bool). operands_info (info_form_of_flags (flags_with flags false b)) packages operands) asked
     ∙ operands_told flags packages operands
 
 -- ---- one operand after the other
 
-pub answer_of_operand : (flags : Flags) (packages : List Plain) (front rest : List Operand) (o : Operand) (pkg : Plain) → package_meant_by (form_of flags) packages o.text ≡ Some pkg
-    → operands_info (form_of flags) packages (front ++ o ∷ rest)
-    ≡ operands_info (form_of flags) packages front ++ (package_info (form_of flags) o.text pkg ++ operands_info (form_of flags) packages rest)
+pub answer_of_operand : (flags : Flags) (packages : List Plain) (front rest : List Operand) (o : Operand) (pkg : Plain) → package_meant_by_operand_text (info_form_of_flags flags) packages o.text ≡ Some pkg
+    → operands_info (info_form_of_flags flags) packages (front ++ o ∷ rest)
+    ≡ operands_info (info_form_of_flags flags) packages front ++ (package_info (info_form_of_flags flags) o.text pkg ++ operands_info (info_form_of_flags flags) packages rest)
 answer_of_operand flags packages front rest o pkg is =
-    flat_map-append (operand_info (form_of flags) packages) front (o ∷ rest)
-    ∙ ap (λ (asked : Option Plain). operands_info (form_of flags) packages front ++ (option_map_or (package_info (form_of flags) o.text) asked [] ++ operands_info (form_of flags) packages rest)) is
+    flat_map-append (operand_info (info_form_of_flags flags) packages) front (o ∷ rest)
+    ∙ ap (λ (asked : Option Plain). operands_info (info_form_of_flags flags) packages front ++ (option_map_or (package_info (info_form_of_flags flags) o.text) asked [] ++ operands_info (info_form_of_flags flags) packages rest)) is
 
-pub no_answer : (flags : Flags) (packages : List Plain) (front rest : List Operand) (o : Operand) → package_meant_by (form_of flags) packages o.text ≡ None
-    → operands_info (form_of flags) packages (front ++ o ∷ rest)
-    ≡ operands_info (form_of flags) packages front ++ operands_info (form_of flags) packages rest
+pub no_answer : (flags : Flags) (packages : List Plain) (front rest : List Operand) (o : Operand) → package_meant_by_operand_text (info_form_of_flags flags) packages o.text ≡ None
+    → operands_info (info_form_of_flags flags) packages (front ++ o ∷ rest)
+    ≡ operands_info (info_form_of_flags flags) packages front ++ operands_info (info_form_of_flags flags) packages rest
 no_answer flags packages front rest o is =
-    flat_map-append (operand_info (form_of flags) packages) front (o ∷ rest)
-    ∙ ap (λ (asked : Option Plain). operands_info (form_of flags) packages front ++ (option_map_or (package_info (form_of flags) o.text) asked [] ++ operands_info (form_of flags) packages rest)) is
+    flat_map-append (operand_info (info_form_of_flags flags) packages) front (o ∷ rest)
+    ∙ ap (λ (asked : Option Plain). operands_info (info_form_of_flags flags) packages front ++ (option_map_or (package_info (info_form_of_flags flags) o.text) asked [] ++ operands_info (info_form_of_flags flags) packages rest)) is
 
-pub no_operands : (flags : Flags) (packages : List Plain) → operands_info (form_of flags) packages [] ≡ []
+pub no_operands : (flags : Flags) (packages : List Plain) → operands_info (info_form_of_flags flags) packages [] ≡ []
 no_operands flags packages = refl

@@ -8,7 +8,7 @@ use Rattle.adb_view.specs.Values.{entries_in}
 use Rattle.adb_view.specs.declared.tables.Which.TheVariants.{Acl, Dir, File, Package}
 use Rattle.change_outcome.specs.make_info.Values.{plains_of_list}
 use Rattle.make_laws.proofs.make_core.PackageFiles.{list-plains}
-use Rattle.make_laws.specs.NamedFields.{entries_named, field_named}
+use Rattle.make_laws.specs.NamedFields.{entries_of_field_named, field_named}
 use Rattle.change_outcome.specs.v2_core.Database.{array_of, listed_access_value, listed_file_value, listed_folder_value, listed_hash_value, record_value}
 use Rattle.change_outcome.specs.v2_core.Records.{ListedFile, ListedFolder, Record}
 use Rattle.change_outcome.specs.v2_lines.Accesses.{Access, access_in}
@@ -52,12 +52,12 @@ access_parts a = plains_of_list (int a.mode ∷ blob_or_null a.user ∷ blob_or_
 entries_are : (v : Plain) (vs : List Plain) → v ≡ array_of vs → list_of (entries_in v) ≡ vs
 entries_are v vs e = ap (λ (u : Plain). list_of (entries_in u)) e ∙ ap list_of (entries_arr (plains_of_list vs)) ∙ list-plains vs
 
-pub folders_are : (r : Record) → entries_named Package (codes "paths") (record_value r) ≡ map listed_folder_value r.folders
+pub folders_are : (r : Record) → entries_of_field_named Package (codes "paths") (record_value r) ≡ map listed_folder_value r.folders
 folders_are r = entries_are _ (map listed_folder_value r.folders) (nth_obj (package_parts r) 1)
 
 pub folder_is : (f : ListedFolder) → (field_named Dir (codes "name") (listed_folder_value f) ≡ blob_or_null f.name)
     × (field_named Dir (codes "acl") (listed_folder_value f) ≡ listed_access_value f.access)
-    × (entries_named Dir (codes "files") (listed_folder_value f) ≡ map listed_file_value f.files)
+    × (entries_of_field_named Dir (codes "files") (listed_folder_value f) ≡ map listed_file_value f.files)
 folder_is f = (nth_obj (folder_parts f) 0, nth_obj (folder_parts f) 1, entries_are _ (map listed_file_value f.files) (nth_obj (folder_parts f) 2))
 
 pub file_is : (f : ListedFile) → (field_named File (codes "name") (listed_file_value f) ≡ blob_or_null f.name)

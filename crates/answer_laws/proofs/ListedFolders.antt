@@ -9,7 +9,7 @@ use Rattle.change_outcome.specs.v2_core.Records.{ListedFile, ListedFolder, Recor
 use Rattle.change_outcome.specs.v2_lines.Accesses.{Access}
 use Rattle.change_outcome.specs.v2_lines.declared.field.InfoField.{InfoField}
 use Rattle.change_outcome.specs.v2_lines.Lines.{RecordLine, file_access_line, file_hash_line, file_line, folder_access_line, folder_line, info_line, other_line, record_line_of}
-use Rattle.answer_laws.specs.TextFiles.{file_access_in, file_hash_in, files_listed, folder_access_in, folders_listed, lines_up_to_file, lines_up_to_folder}
+use Rattle.answer_laws.specs.TextFiles.{file_access_in, file_hash_in, files_listed, folder_access_in, folders_of_record_lines, lines_up_to_file, lines_up_to_folder}
 use Rattle.answer_laws.specs.TextLetters.{record_with_lines}
 use Rattle.answer_laws.proofs.RecordFields.{accepted}
 
@@ -200,7 +200,7 @@ unfolding grown grown_files
 new_folder name lines = refl
 
 abbrev placed : List ListedFolder → ListedFolder → List RecordLine → List ListedFolder
-placed done f lines = done ++ f ∷ folders_listed lines
+placed done f lines = done ++ f ∷ folders_of_record_lines lines
 
 after_folder : (lines : List RecordLine) (done : List ListedFolder) (f : ListedFolder) (all : List ListedFolder) → folders_after (done ++ f ∷ []) lines ≡ Some all → all ≡ placed done (grown f (lines_up_to_folder lines)) lines
 unfolding folders_after
@@ -211,9 +211,9 @@ after_folder (info_line g values ∷ lines) done f all e =
     after_folder lines done f all e ∙ ap (λ (h : ListedFolder). placed done h lines) (grown_past_info g values f (lines_up_to_folder lines))
 after_folder (folder_line name ∷ lines) done f all e =
     after_folder lines (done ++ f ∷ []) (listed_folder_from_parts name None []) all e
-    ∙ ap (λ (h : ListedFolder). (done ++ f ∷ []) ++ h ∷ folders_listed lines) (new_folder name (lines_up_to_folder lines))
-    ∙ append_assoc done (f ∷ []) (folders_listed (folder_line name ∷ lines))
-    ∙ ap (λ (h : ListedFolder). done ++ h ∷ folders_listed (folder_line name ∷ lines)) (sym (as_it_is f))
+    ∙ ap (λ (h : ListedFolder). (done ++ f ∷ []) ++ h ∷ folders_of_record_lines lines) (new_folder name (lines_up_to_folder lines))
+    ∙ append_assoc done (f ∷ []) (folders_of_record_lines (folder_line name ∷ lines))
+    ∙ ap (λ (h : ListedFolder). done ++ h ∷ folders_of_record_lines (folder_line name ∷ lines)) (sym (as_it_is f))
 after_folder (folder_access_line a ∷ lines) done f all e =
     let t = last_of (folder_with_access a) done f lines all e in
     after_folder lines done t.changed all t.after
@@ -235,13 +235,13 @@ after_folder (file_hash_line hash ∷ lines) done f all e =
 after_folder (other_line ∷ lines) done f all e =
     after_folder lines done f all e ∙ ap (λ (h : ListedFolder). placed done h lines) (grown_past_other f (lines_up_to_folder lines))
 
-from_none : (lines : List RecordLine) (all : List ListedFolder) → folders_after [] lines ≡ Some all → all ≡ folders_listed lines
+from_none : (lines : List RecordLine) (all : List ListedFolder) → folders_after [] lines ≡ Some all → all ≡ folders_of_record_lines lines
 unfolding folders_after
 from_none [] all e = let same : [] ≡ all = cc in sym same
 from_none (info_line g values ∷ lines) all e = from_none lines all e
 from_none (folder_line name ∷ lines) all e =
     after_folder lines [] (listed_folder_from_parts name None []) all e
-    ∙ ap (λ (h : ListedFolder). h ∷ folders_listed lines) (new_folder name (lines_up_to_folder lines))
+    ∙ ap (λ (h : ListedFolder). h ∷ folders_of_record_lines lines) (new_folder name (lines_up_to_folder lines))
 from_none (folder_access_line a ∷ lines) all e = absurd cc
 from_none (file_line name ∷ lines) all e = absurd cc
 from_none (file_access_line a ∷ lines) all e = absurd cc
@@ -273,5 +273,5 @@ folders_of_record (line ∷ lines) (l ∷ meanings) r s are e =
         ∙ ap (option_and_then (λ next. folders_after next meanings)) a.folders
         ∙ more next e
 
-pub record_lists : (lines : List (List ℕ)) (meanings : List RecordLine) (r : Record) → map record_line_of lines ≡ map Some meanings → record_with_lines empty_record lines ≡ Some r → r.folders ≡ folders_listed meanings
+pub record_lists : (lines : List (List ℕ)) (meanings : List RecordLine) (r : Record) → map record_line_of lines ≡ map Some meanings → record_with_lines empty_record lines ≡ Some r → r.folders ≡ folders_of_record_lines meanings
 record_lists lines meanings r are e = from_none meanings r.folders (folders_of_record lines meanings empty_record r are e)

@@ -3,12 +3,12 @@ use Rattle.std.proofs.Common.{ℕ, ◌≡◌, ◌↔◌, ◌∙◌, List, [], �
 use Rattle.std.specs.List.{flat_map}
 use Rattle.std.proofs.lemmas.Grind.{flat_map-append}
 use Rattle.adb_view.specs.Plain.{Plain}
-use Rattle.audit_core.specs.Manifest.{manifest_with_lines_before, manifest_line, manifest_of, manifest_with, operand_package, package_manifest}
+use Rattle.audit_core.specs.Manifest.{manifest_with_lines_before, manifest_line, manifest_of, manifest_with_package_of_operand, package_named_by_operand, package_manifest}
 use Rattle.audit_core.specs.Records.{file_record, folder_records}
 use Rattle.audit_core.specs.adb_fields.Repeated.{files_in, folders_in, name_of}
 use Rattle.command_core.specs.declared.operands.Operand.{Operand}
 use Rattle.report_core.specs.declared.refusal.Refusal.{Refusal}
-use Rattle.answer_laws.specs.ManifestLines.{HasLinesOfOperands, line_of_file, lines_of_package, package_of_operand}
+use Rattle.answer_laws.specs.ManifestLines.{HasManifestLinesOfOperands, line_of_file, lines_of_package, package_of_operand}
 
 -- ---- the lines of a package
 
@@ -28,9 +28,9 @@ package_lines pkg = lines_of_folders (folders_in pkg)
 
 -- ---- the operands
 
-printed_next : (packages : List Plain) (o : Operand) (operands : List Operand) (text : List ℕ) → ((more : List ℕ) → manifest_of packages operands ≡ Ok more → HasLinesOfOperands packages operands more)
-    → (p : Option Plain) → operand_package packages o ≡ p → (r : Result (List ℕ) Refusal) → manifest_of packages operands ≡ r → manifest_with o p r ≡ Ok text
-    → HasLinesOfOperands packages (o ∷ operands) text
+printed_next : (packages : List Plain) (o : Operand) (operands : List Operand) (text : List ℕ) → ((more : List ℕ) → manifest_of packages operands ≡ Ok more → HasManifestLinesOfOperands packages operands more)
+    → (p : Option Plain) → package_named_by_operand packages o ≡ p → (r : Result (List ℕ) Refusal) → manifest_of packages operands ≡ r → manifest_with_package_of_operand o p r ≡ Ok text
+    → HasManifestLinesOfOperands packages (o ∷ operands) text
 printed_next packages o operands text rest None found r further e = absurd (cc (e))
 printed_next packages o operands text rest (Some pkg) found (Err refusal) further e = absurd (cc (e))
 printed_next packages o operands text rest (Some pkg) found (Ok more) further e =
@@ -44,10 +44,10 @@ printed_next packages o operands text rest (Some pkg) found (Ok more) further e 
           ∙ ap (λ (l : List ℕ). lines_of_package pkg ++ l) others.text_is;
     }
 
-printed : (packages : List Plain) (operands : List Operand) (text : List ℕ) → manifest_of packages operands ≡ Ok text → HasLinesOfOperands packages operands text
+printed : (packages : List Plain) (operands : List Operand) (text : List ℕ) → manifest_of packages operands ≡ Ok text → HasManifestLinesOfOperands packages operands text
 printed packages [] text e = let same : [] ≡ text = cc (e) in record { found = []; each = refl; text_is = sym same }
 printed packages (o ∷ operands) text e =
-    printed_next packages o operands text (λ more further. printed packages operands more further) (operand_package packages o) refl (manifest_of packages operands) refl e
+    printed_next packages o operands text (λ more further. printed packages operands more further) (package_named_by_operand packages o) refl (manifest_of packages operands) refl e
 
 of_operands : (packages : List Plain) (operands : List Operand) (found : List Plain) → map (package_of_operand packages) operands ≡ map Some found
     → manifest_of packages operands ≡ Ok (flat_map lines_of_package found)
@@ -55,13 +55,13 @@ of_operands packages [] [] each = refl
 of_operands packages [] (pkg ∷ found) each = absurd (cc (each))
 of_operands packages (o ∷ operands) [] each = absurd (cc (each))
 of_operands packages (o ∷ operands) (pkg ∷ found) each =
-    let first : operand_package packages o ≡ Some pkg = cc (each) in
+    let first : package_named_by_operand packages o ≡ Some pkg = cc (each) in
     let others : map (package_of_operand packages) operands ≡ map Some found = cc (each) in
-    ap (λ (p : Option Plain). manifest_with o p (manifest_of packages operands)) first
+    ap (λ (p : Option Plain). manifest_with_package_of_operand o p (manifest_of packages operands)) first
     ∙ ap (manifest_with_lines_before (package_manifest pkg)) (of_operands packages operands found others)
     ∙ ap (λ (l : List ℕ). Ok (l ++ flat_map lines_of_package found)) (package_lines pkg)
 
-pub manifest_told : (packages : List Plain) (operands : List Operand) (text : List ℕ) → (manifest_of packages operands ≡ Ok text) ↔ HasLinesOfOperands packages operands text
+pub manifest_told : (packages : List Plain) (operands : List Operand) (text : List ℕ) → (manifest_of packages operands ≡ Ok text) ↔ HasManifestLinesOfOperands packages operands text
 manifest_told packages operands text = (
   printed packages operands text,
   λ x. of_operands packages operands x.found x.each ∙ ap Ok (sym x.text_is),

@@ -22,7 +22,7 @@ use Rattle.dep_core.specs.Meets.{meets}
 use Rattle.change_outcome.specs.package_changes.Changes.{is_candidate_named}
 use Rattle.change_outcome.specs.package_changes.Report.{is_other_candidate_needing, names_needing_candidate, needs_candidate, still_needed_lines_of_name, still_needed_lines, was_installed}
 use Rattle.report_core.specs.Reports.{report_line, report_lines, still_needed_text}
-use Rattle.answer_laws.specs.KeptNames.{AreNamedOnce, HasKeptLines, IsNeededBySelectedName, IsProvidedBy, NeedsOther, still_needed_text_of_name}
+use Rattle.answer_laws.specs.KeptNames.{IsEachNameSelectedAtMostOnce, HasStillNeededLines, IsNeededBySelectedName, IsProvidedBy, NeedsOther, still_needed_text_of_name}
 use Rattle.answer_laws.proofs.Members.{found_name, listed, missing_name, risen}
 use Rattle.answer_laws.proofs.Tests.{any_passes, in_passing, passes_any, passing_in, text_in, text_of}
 
@@ -126,7 +126,7 @@ one_line selected name rest [] few = refl
 one_line selected name rest (c ∷ []) few = ap (λ (t : List ℕ). t ++ rest) (append-nil (report_line (still_needed_text name (names_needing_candidate selected c))))
 one_line selected name rest (c ∷ d ∷ cs) few = absurd (omega (arith, few))
 
-lines_of : (selected : List Candidate) → AreNamedOnce selected → (names : List (List ℕ))
+lines_of : (selected : List Candidate) → IsEachNameSelectedAtMostOnce selected → (names : List (List ℕ))
     → flat_map (still_needed_lines_of_name selected) names ≡ report_lines (map (still_needed_text_of_name selected) (filter (has_selected selected) names))
 lines_of selected once [] = refl
 lines_of selected once (x ∷ names) =
@@ -169,8 +169,8 @@ in_before before name at =
     let t = text_of package_name before name (risen name (map package_name before) at) in
     passes_any (is_package_named name) before t.element t.listed ((bytes_eq-Decides (package_name t.element) name).1 (sym t.is))
 
-pub kept_lines : (before : List Plain) (selected : List Candidate) (to_remove : List (List ℕ)) → AreNamedOnce selected
-    → HasKeptLines before selected to_remove (still_needed_lines before selected to_remove)
+pub kept_lines : (before : List Plain) (selected : List Candidate) (to_remove : List (List ℕ)) → IsEachNameSelectedAtMostOnce selected
+    → HasStillNeededLines before selected to_remove (still_needed_lines before selected to_remove)
 kept_lines before selected to_remove once =
     let candidates : List (List ℕ) = filter (was_installed before) (sorted_distinct_names to_remove) in
     let names : List (List ℕ) = filter (has_selected selected) candidates in

@@ -2,7 +2,7 @@
 use Rattle.std.proofs.Common.{◌≡◌, ◌∙◌, ℕ, suc, zero, ◌+◌, List, [], ◌∷◌, ◌++◌, length, Some, refl, ap, arith}
 use Rattle.std.specs.Prelude.{slice_get}
 use Rattle.report_core.specs.Reports.{Change, change_lines, change_lines_from, numbered_change, report_line, report_lines}
-use Rattle.answer_laws.specs.WhichChange.{HasNumberedLines}
+use Rattle.answer_laws.specs.WhichChange.{HasNumberedChangeLines}
 
 lines_from : ℕ → ℕ → List Change → List (List ℕ)
 lines_from number count [] = []
@@ -30,7 +30,7 @@ at_place number count (first ∷ changes) (suc i) change e =
     let sum : i + (number + 1) ≡ suc i + number = omega arith in
     at_place (number + 1) count changes i change e ∙ ap (λ n. Some (numbered_change n count change)) sum
 
-pub numbered : (changes : List Change) → HasNumberedLines changes (change_lines changes)
+pub numbered : (changes : List Change) → HasNumberedChangeLines changes (change_lines changes)
 numbered changes = record {
   lines = lines_from 1 (length changes) changes;
   text_is = as_lines 1 (length changes) changes;

@@ -10,7 +10,7 @@ use Rattle.base_core.specs.declared.cause.Cause.{Cause}
 use Rattle.installed_info.specs.candidate_core.Candidates.{Candidate}
 use Rattle.change_outcome.specs.change_inputs.Chains.{unless_cause}
 use Rattle.change_outcome.specs.change_inputs.Database.{Database, database_from_parts, payload_database, root_database}
-use Rattle.change_outcome.specs.PackageFiles.{package_file_of, path_beside_index}
+use Rattle.change_outcome.specs.PackageFiles.{package_file_path_of_candidate, path_of_name_version_beside_index}
 use Rattle.change_outcome.specs.root_names.PackagePath.{folder_prefix_of, has_slash, path_if_valid_name, package_path}
 use Rattle.dep_core.specs.Repositories.{Repository}
 use Rattle.change_outcome.specs.package_changes.Changes.{candidate_version_text}
@@ -19,7 +19,7 @@ use Rattle.report_core.specs.declared.refusal.Refusal.TheVariants.{DatabaseBad}
 use Rattle.change_outcome.specs.v2_core.Payload.{payload_of_text}
 use Rattle.change_outcome.specs.v2_core.declared.read.V2Fault.{V2Fault}
 use Rattle.change_outcome.specs.v2_core.declared.read.V2Fault.TheVariants.{Bad, Memory, TooLarge}
-use Rattle.answer_laws.specs.FoundFiles.{HasNoSlash, IsCandidateOfIndex, candidate_file_name}
+use Rattle.answer_laws.specs.FoundFiles.{HasNoSlash, IsCandidateOfIndexAtPath, candidate_file_name}
 
 -- ---- the folder of an index
 
@@ -47,27 +47,27 @@ named_path : (path : List ℕ) → is_name path ≡ true → path_if_valid_name 
 named_path path e = ap (λ (t : Bool). let o : Option (List ℕ) = if t then Some path else None in o) e
 
 -- the name of the file beside an index, given the candidate's repository
-beside : (repositories : List Repository) (c : Candidate) (path : List ℕ) → IsCandidateOfIndex repositories c path
-    → package_file_of repositories c ≡ path_if_valid_name (package_path path c.name (candidate_version_text c))
+beside : (repositories : List Repository) (c : Candidate) (path : List ℕ) → IsCandidateOfIndexAtPath repositories c path
+    → package_file_path_of_candidate repositories c ≡ path_if_valid_name (package_path path c.name (candidate_version_text c))
 beside repositories c path of =
     let at : (of.place + 1) - 1 ≡ of.place = omega arith in
     by_number of.numbered
-    ∙ ap (λ (n : ℕ). path_beside_index c.name (candidate_version_text c) (slice_get repositories n)) at
-    ∙ ap (path_beside_index c.name (candidate_version_text c)) of.listed
+    ∙ ap (λ (n : ℕ). path_of_name_version_beside_index c.name (candidate_version_text c) (slice_get repositories n)) at
+    ∙ ap (path_of_name_version_beside_index c.name (candidate_version_text c)) of.listed
     ∙ ap (λ (p : List ℕ). path_if_valid_name (package_path p c.name (candidate_version_text c))) of.path_is
   where
-    by_number : c.repository ≡ Some (of.place + 1) → package_file_of repositories c ≡ path_beside_index c.name (candidate_version_text c) (slice_get repositories ((of.place + 1) - 1))
-    by_number e = ap (λ (o : Option ℕ). package_file_of repositories (record c { repository = o })) e
+    by_number : c.repository ≡ Some (of.place + 1) → package_file_path_of_candidate repositories c ≡ path_of_name_version_beside_index c.name (candidate_version_text c) (slice_get repositories ((of.place + 1) - 1))
+    by_number e = ap (λ (o : Option ℕ). package_file_path_of_candidate repositories (record c { repository = o })) e
 
-pub below : (repositories : List Repository) (c : Candidate) (folder index : List ℕ) → HasNoSlash index → IsCandidateOfIndex repositories c (folder ++ codes "/" ++ index)
-    → is_name (folder ++ codes "/" ++ candidate_file_name c) ≡ true → package_file_of repositories c ≡ Some (folder ++ codes "/" ++ candidate_file_name c)
+pub below : (repositories : List Repository) (c : Candidate) (folder index : List ℕ) → HasNoSlash index → IsCandidateOfIndexAtPath repositories c (folder ++ codes "/" ++ index)
+    → is_name (folder ++ codes "/" ++ candidate_file_name c) ≡ true → package_file_path_of_candidate repositories c ≡ Some (folder ++ codes "/" ++ candidate_file_name c)
 below repositories c folder index none of named =
     beside repositories c (folder ++ codes "/" ++ index) of
     ∙ ap (λ (t : List ℕ). path_if_valid_name (t ++ candidate_file_name c)) (prefix_is folder index none)
     ∙ named_path (folder ++ codes "/" ++ candidate_file_name c) named
 
-pub top : (repositories : List Repository) (c : Candidate) (index : List ℕ) → HasNoSlash index → IsCandidateOfIndex repositories c index
-    → is_name (candidate_file_name c) ≡ true → package_file_of repositories c ≡ Some (candidate_file_name c)
+pub top : (repositories : List Repository) (c : Candidate) (index : List ℕ) → HasNoSlash index → IsCandidateOfIndexAtPath repositories c index
+    → is_name (candidate_file_name c) ≡ true → package_file_path_of_candidate repositories c ≡ Some (candidate_file_name c)
 top repositories c index none of named =
     beside repositories c index of
     ∙ ap (λ (t : List ℕ). path_if_valid_name (t ++ candidate_file_name c)) (no_prefix index none)

@@ -14,13 +14,13 @@ use Rattle.installed_info.specs.candidate_core.Candidates.{Candidate, is_same_ve
 use Rattle.installed_info.specs.candidate_core.Options.{IsIn}
 use Rattle.command_core.specs.declared.operands.Operand.{Operand}
 use Rattle.dep_core.specs.Repositories.{Repository}
-use Rattle.query_core.specs.Asked.{AreInOrderBy}
+use Rattle.query_core.specs.Asked.{AreStrictlyInOrderBy}
 use Rattle.query_core.specs.List.{candidate_line, is_list_candidate, list_report}
-use Rattle.query_core.specs.Order.{printed_version, query_cmp, sorted_candidates_passing, sorted_places_passing}
-use Rattle.query_core.specs.Policy.{has_name_and_version, has_own_name, is_of_repository, policy_report, repository_lines, version_policy, versions_of_name}
+use Rattle.query_core.specs.Order.{printed_version, candidate_places_cmp, sorted_candidates_passing, sorted_places_passing}
+use Rattle.query_core.specs.Policy.{has_name_and_version, has_own_name, is_of_repository, policy_report, lines_of_repositories_of_candidates, version_policy, versions_of_name}
 use Rattle.query_core.specs.Search.{is_search_candidate, search_report}
 use Rattle.report_core.specs.QueryReports.{policy_database_line, policy_heading, repository_line, search_line, version_heading}
-use Rattle.answer_laws.specs.QueryLines.{HasLinesOfAsked, HasNameAndVersion, HasPlacesOfVersion, IsInListReport, IsInSearchReport, IsVersionInRepository, IsVersionInstalled, line_at, repository_line_at}
+use Rattle.answer_laws.specs.QueryLines.{HasLineOfEachAskedCandidate, HasNameAndVersion, HasPolicyLinesOfVersion, IsInListReport, IsInSearchReport, IsVersionInRepository, IsVersionInstalled, line_at, repository_line_at}
 
 -- ---- the lines of places
 
@@ -34,9 +34,9 @@ at_places line cs [] = refl
 at_places line cs (place ∷ places) = line_next line cs places (slice_get cs place) (at_places line cs places)
 
 -- the laws of `query_core` on what is selected
-module _ (those : (test : Candidate → Bool) (cs : List Candidate) (place : ℕ) → IsIn place (sorted_places_passing test cs) → option_map_or test (slice_get cs place) false ≡ true) (each : (test : Candidate → Bool) (cs : List Candidate) (place : ℕ) → option_map_or test (slice_get cs place) false ≡ true → IsIn place (sorted_places_passing test cs)) (order : (test : Candidate → Bool) (cs : List Candidate) → AreInOrderBy (query_cmp cs) (sorted_places_passing test cs)) where
+module _ (those : (test : Candidate → Bool) (cs : List Candidate) (place : ℕ) → IsIn place (sorted_places_passing test cs) → option_map_or test (slice_get cs place) false ≡ true) (each : (test : Candidate → Bool) (cs : List Candidate) (place : ℕ) → option_map_or test (slice_get cs place) false ≡ true → IsIn place (sorted_places_passing test cs)) (order : (test : Candidate → Bool) (cs : List Candidate) → AreStrictlyInOrderBy (candidate_places_cmp cs) (sorted_places_passing test cs)) where
   lines_of : (test : Candidate → Bool) (IsAsked : Candidate → Type 0) (line : Candidate → List ℕ) (cs : List Candidate) (text : List ℕ) → ((c : Candidate) → (test c ≡ true) ↔ IsAsked c)
-      → text ≡ flat_map line (sorted_candidates_passing test cs) → HasLinesOfAsked IsAsked line cs text
+      → text ≡ flat_map line (sorted_candidates_passing test cs) → HasLineOfEachAskedCandidate IsAsked line cs text
   lines_of test IsAsked line cs text asked is = record {
     places = sorted_places_passing test cs;
     each = λ place. (λ h. there place (slice_get cs place) refl (those test cs place h), λ x. back place x);
@@ -54,14 +54,14 @@ module _ (those : (test : Candidate → Bool) (cs : List Candidate) (place : ℕ
 
   pub listed : ((patterns : List Operand) (installed_only : Bool) (c : Candidate) → (is_list_candidate patterns installed_only c ≡ true) ↔ IsInListReport patterns installed_only c)
       → (cs : List Candidate) (patterns : List Operand) (installed_only : Bool)
-      → HasLinesOfAsked (IsInListReport patterns installed_only) candidate_line cs (list_report cs patterns installed_only)
+      → HasLineOfEachAskedCandidate (IsInListReport patterns installed_only) candidate_line cs (list_report cs patterns installed_only)
   listed asked cs patterns installed_only =
       lines_of (is_list_candidate patterns installed_only) (IsInListReport patterns installed_only) candidate_line cs
       (list_report cs patterns installed_only) (asked patterns installed_only) refl
 
   pub searched : ((patterns : List Operand) (c : Candidate) → (is_search_candidate patterns c ≡ true) ↔ IsInSearchReport patterns c)
       → (cs : List Candidate) (patterns : List Operand)
-      → HasLinesOfAsked (IsInSearchReport patterns) (λ (c : Candidate). search_line c.name (printed_version c.version)) cs (search_report cs patterns)
+      → HasLineOfEachAskedCandidate (IsInSearchReport patterns) (λ (c : Candidate). search_line c.name (printed_version c.version)) cs (search_report cs patterns)
   searched asked cs patterns =
       lines_of (is_search_candidate patterns) (IsInSearchReport patterns) (λ (c : Candidate). search_line c.name (printed_version c.version)) cs
       (search_report cs patterns) (asked patterns) refl
@@ -164,8 +164,8 @@ places_of those number place (r ∷ rs) =
     (if list_any (is_of_repository number) those then place ∷ [] else []) ++ places_of those (number + 1) (suc place) rs
 
 lines_next : (those : List Candidate) (all : List Repository) (place number : ℕ) (r : Repository) (rs : List Repository) → slice_get all place ≡ Some r
-    → repository_lines those (number + 1) rs ≡ flat_map (repository_line_at all) (places_of those (number + 1) (suc place) rs)
-    → (b : Bool) → (if b then repository_line r.tag r.path else []) ++ repository_lines those (number + 1) rs
+    → lines_of_repositories_of_candidates those (number + 1) rs ≡ flat_map (repository_line_at all) (places_of those (number + 1) (suc place) rs)
+    → (b : Bool) → (if b then repository_line r.tag r.path else []) ++ lines_of_repositories_of_candidates those (number + 1) rs
     ≡ flat_map (repository_line_at all) ((if b then place ∷ [] else []) ++ places_of those (number + 1) (suc place) rs)
 lines_next those all place number r rs here rest true =
     ap (λ (l : List ℕ). repository_line r.tag r.path ++ l) rest
@@ -173,7 +173,7 @@ lines_next those all place number r rs here rest true =
 lines_next those all place number r rs here rest false = rest
 
 lines_from : (those : List Candidate) (all : List Repository) (place number : ℕ) (rs : List Repository) → ((j : ℕ) → slice_get all (place + j) ≡ slice_get rs j)
-    → repository_lines those number rs ≡ flat_map (repository_line_at all) (places_of those number place rs)
+    → lines_of_repositories_of_candidates those number rs ≡ flat_map (repository_line_at all) (places_of those number place rs)
 lines_from those all place number [] at = refl
 lines_from those all place number (r ∷ rs) at =
     let same : place ≡ place + 0 = omega arith in
@@ -227,7 +227,7 @@ has_place those number place (r ∷ rs) (suc j) q e is some any =
     (has_place those (number + 1) (suc place) rs j q (omega (arith, e)) (omega (arith, is)) some any)
     (list_any (is_of_repository number) those)
 
-rising_next : (place : ℕ) (later : List ℕ) → ((q : ℕ) → IsIn q later → nat_cmp place q ≡ Less) → AreInOrderBy nat_cmp later → (b : Bool) → AreInOrderBy nat_cmp ((if b then place ∷ [] else []) ++ later)
+rising_next : (place : ℕ) (later : List ℕ) → ((q : ℕ) → IsIn q later → nat_cmp place q ≡ Less) → AreStrictlyInOrderBy nat_cmp later → (b : Bool) → AreStrictlyInOrderBy nat_cmp ((if b then place ∷ [] else []) ++ later)
 rising_next place later before rest true = (before, rest)
 rising_next place later before rest false = rest
 
@@ -236,13 +236,13 @@ comes_before those number place rs e q h =
     let (j, is, some, any) = in_places those (number + 1) (suc place) rs q (omega (arith, e)) h in
     rw (lt-ltb place q (omega (arith, is))) refl
 
-rising : (those : List Candidate) (number place : ℕ) (rs : List Repository) → number ≡ suc place → AreInOrderBy nat_cmp (places_of those number place rs)
+rising : (those : List Candidate) (number place : ℕ) (rs : List Repository) → number ≡ suc place → AreStrictlyInOrderBy nat_cmp (places_of those number place rs)
 rising those number place [] e = tt
 rising those number place (r ∷ rs) e =
     rising_next place (places_of those (number + 1) (suc place) rs) (comes_before those number place rs e)
     (rising those (number + 1) (suc place) rs (omega (arith, e))) (list_any (is_of_repository number) those)
 
-pub places_told : (cs : List Candidate) (repositories : List Repository) (name : List ℕ) (version : Option (List ℕ)) → HasPlacesOfVersion cs repositories name version (version_policy cs repositories name version)
+pub places_told : (cs : List Candidate) (repositories : List Repository) (name : List ℕ) (version : Option (List ℕ)) → HasPolicyLinesOfVersion cs repositories name version (version_policy cs repositories name version)
 places_told cs repositories name version =
     record {
       database = if list_any (λ (c : Candidate). c.installed) (filter (has_name_and_version name version) cs) then policy_database_line else [];

@@ -24,8 +24,8 @@ use Rattle.change_outcome.specs.db_core.Members.{Member}
 use Rattle.change_outcome.specs.package_changes.Changes.{Replacement, changes_of}
 use Rattle.change_outcome.specs.package_changes.Report.{candidate_installed_size, selected_sum_line, simulated_report, still_needed_lines}
 use Rattle.report_core.specs.Reports.{change_lines, report_line, report_lines, bytes_and_package_count_text}
-use Rattle.answer_laws.specs.KeptNames.{AreNamedOnce}
-use Rattle.answer_laws.specs.ReportSections.{ChangedFile, HasConfigurationLines, HasSections, HasSimulatedSections, IsSumLine, IsSumOf, changed_path, changed_file_text, size_when_installed, kept, placed_beside, member_info}
+use Rattle.answer_laws.specs.KeptNames.{IsEachNameSelectedAtMostOnce}
+use Rattle.answer_laws.specs.ReportSections.{ChangedFile, HasConfigurationLines, HasChangeReportSections, HasSimulatedReportSections, IsBytesAndPackageCountLine, IsSumOf, changed_path, changed_file_text, installed_size_in_info, kept, placed_beside, member_info}
 use Rattle.answer_laws.proofs.DueLines.{trigger_lines_are}
 use Rattle.answer_laws.proofs.Needing.{kept_lines}
 use Rattle.answer_laws.proofs.Numbered.{numbered}
@@ -39,7 +39,7 @@ summed size (x ∷ xs) = (sum_by size xs, summed size xs, sum_by-cons size x xs)
 ended : (sum count : ℕ) → report_line (bytes_and_package_count_text sum count) ≡ codes "OK: " ++ decimal sum ++ codes " bytes in " ++ decimal count ++ codes " packages\n"
 ended sum count = append_assoc (codes "OK: " ++ decimal sum ++ codes " bytes in " ++ decimal count) (codes " packages") (codes "\n")
 
-has_sum : {X : Type 0} (size : X → ℕ) (xs : List X) → IsSumLine (map size xs) (report_line (bytes_and_package_count_text (sum_by size xs) (length xs)))
+has_sum : {X : Type 0} (size : X → ℕ) (xs : List X) → IsBytesAndPackageCountLine (map size xs) (report_line (bytes_and_package_count_text (sum_by size xs) (length xs)))
 has_sum size xs = record {
   sum = sum_by size xs;
   sum_is = summed size xs;
@@ -47,10 +47,10 @@ has_sum size xs = record {
       ∙ ap (λ (n : ℕ). codes "OK: " ++ decimal (sum_by size xs) ++ codes " bytes in " ++ decimal n ++ codes " packages\n") (sym (length-map xs size));
 }
 
-pub simulated_sum : (selected : List Candidate) → IsSumLine (map (λ (c : Candidate). size_when_installed c.info) selected) (selected_sum_line selected)
+pub simulated_sum : (selected : List Candidate) → IsBytesAndPackageCountLine (map (λ (c : Candidate). installed_size_in_info c.info) selected) (selected_sum_line selected)
 simulated_sum selected = has_sum candidate_installed_size selected
 
-pub made_sum : (members : List Member) → IsSumLine (map (λ (m : Member). size_when_installed (member_info m)) members) (member_sum_line members)
+pub made_sum : (members : List Member) → IsBytesAndPackageCountLine (map (λ (m : Member). installed_size_in_info (member_info m)) members) (member_sum_line members)
 made_sum members = has_sum member_installed_size members
 
 -- ---- configuration
@@ -123,7 +123,7 @@ configured aside kept_paths =
 
 -- ---- the sections
 
-pub simulated_sections : (r : Replacement) (to_remove : List (List ℕ)) → AreNamedOnce r.selected → HasSimulatedSections r to_remove (simulated_report r to_remove)
+pub simulated_sections : (r : Replacement) (to_remove : List (List ℕ)) → IsEachNameSelectedAtMostOnce r.selected → HasSimulatedReportSections r to_remove (simulated_report r to_remove)
 unfolding simulated_report
 simulated_sections r to_remove once = record {
   changes = change_lines (changes_of r);
@@ -135,7 +135,7 @@ simulated_sections r to_remove once = record {
   text_is = refl;
 }
 
-pub made_sections : (r : Replacement) (wishes : ChangeWishes) (change : FileChange) (files : Files) → AreNamedOnce r.selected → HasSections r wishes change files (change_report r wishes change files)
+pub made_sections : (r : Replacement) (wishes : ChangeWishes) (change : FileChange) (files : Files) → IsEachNameSelectedAtMostOnce r.selected → HasChangeReportSections r wishes change files (change_report r wishes change files)
 made_sections r wishes change files once = record {
   changes = change_lines (changes_of r);
   numbered = numbered (changes_of r);

@@ -4,7 +4,7 @@ use Rattle.std.specs.Prelude.{◌==◌, not, if◌then◌else◌}
 use Rattle.adb_view.specs.Plain.{Plain}
 use Rattle.base_core.specs.Lists.{IsIn}
 use Rattle.change_outcome.specs.PackageFiles.{first_script_of, has_script_of}
-use Rattle.answer_laws.specs.ScriptTexts.{IsFirstWithText, script_text_by_number}
+use Rattle.answer_laws.specs.ScriptTexts.{IsFirstScriptNumberWithText, script_text_by_number}
 
 pub nonempty : (text : List ℕ) → (not (length text == 0) ≡ true) ↔ (text ≢ [])
 nonempty [] = (λ e. absurd (cc), λ some. absurd (some refl))
@@ -52,7 +52,7 @@ at_head pkg n number numbers (x ∷ front) rest has is earlier =
 
 -- if the script of the head has no text, the first number is that of the rest
 in_rest : (pkg : Plain) (n number : ℕ) (numbers front rest : List ℕ) → has_script_of pkg n ≡ false → n ∷ numbers ≡ front ++ number ∷ rest → script_text_by_number pkg number ≢ [] → NoneHasText pkg front
-    → IsFirstWithText pkg numbers number
+    → IsFirstScriptNumberWithText pkg numbers number
 in_rest pkg n number numbers [] rest has is text earlier =
     let same : number ≡ n = cc in
     absurd (text (ap (script_text_by_number pkg) same ∙ empty (script_text_by_number pkg n) has))
@@ -64,8 +64,8 @@ in_rest pkg n number numbers (x ∷ front) rest has is text earlier = record {
   earlier = λ m here. earlier m (inr here);
 }
 
-first_more : (pkg : Plain) (n number : ℕ) (numbers : List ℕ) (test : Bool) → has_script_of pkg n ≡ test → (first_script_of pkg numbers ≡ Some number) ↔ IsFirstWithText pkg numbers number
-    → ((if test then Some n else first_script_of pkg numbers) ≡ Some number) ↔ IsFirstWithText pkg (n ∷ numbers) number
+first_more : (pkg : Plain) (n number : ℕ) (numbers : List ℕ) (test : Bool) → has_script_of pkg n ≡ test → (first_script_of pkg numbers ≡ Some number) ↔ IsFirstScriptNumberWithText pkg numbers number
+    → ((if test then Some n else first_script_of pkg numbers) ≡ Some number) ↔ IsFirstScriptNumberWithText pkg (n ∷ numbers) number
 first_more pkg n number numbers true has later = (
   λ e.
       let same : n ≡ number = cc in
@@ -94,6 +94,6 @@ first_more pkg n number numbers false has later = (
   λ f. later.1 (in_rest pkg n number numbers f.front f.rest has f.numbers_are f.text f.earlier),
 )
 
-pub first_taken : (pkg : Plain) (numbers : List ℕ) (number : ℕ) → (first_script_of pkg numbers ≡ Some number) ↔ IsFirstWithText pkg numbers number
+pub first_taken : (pkg : Plain) (numbers : List ℕ) (number : ℕ) → (first_script_of pkg numbers ≡ Some number) ↔ IsFirstScriptNumberWithText pkg numbers number
 first_taken pkg [] number = (λ e. absurd (cc), λ f. absurd (no_place number f.front f.rest f.numbers_are))
 first_taken pkg (n ∷ numbers) number = first_more pkg n number numbers (has_script_of pkg n) refl (first_taken pkg numbers number)

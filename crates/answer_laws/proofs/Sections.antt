@@ -9,18 +9,18 @@ use Rattle.command_core.specs.declared.command.Flags.{Flags}
 use Rattle.change_outcome.specs.db_core.Packages.{lists_path}
 use Rattle.dep_core.specs.LeadingSlash.{without_slash}
 use Rattle.installed_info.specs.file_owners.Replaces.{package_version_text}
-use Rattle.installed_info.specs.Form.{form_of}
+use Rattle.installed_info.specs.Form.{info_form_of_flags}
 use Rattle.installed_info.specs.Info.{package_info}
 use Rattle.installed_info.proofs.Listers.{listed, is_listed}
 use Rattle.report_core.specs.Reports.{owner_text, report_line, report_lines, section}
-use Rattle.answer_laws.specs.InfoAnswers.{depends_in_order, info_field, info_heading, paths_in_order, section_lines}
+use Rattle.answer_laws.specs.InfoAnswers.{depends_texts_of_package, info_field, info_heading, file_paths_in_listed_order, section_text_with_heading}
 use Rattle.base_core.specs.Lists.{IsIn}
 
 closed : (texts : List (List ℕ)) → report_lines (texts ++ ([] ∷ [])) ≡ report_lines texts ++ codes "\n"
 closed [] = refl
 closed (text ∷ texts) = ap (λ (t : List ℕ). report_line text ++ t) (closed texts) ∙ sym (append_assoc (report_line text) (report_lines texts) (codes "\n"))
 
-as_section : (heading : List ℕ) (texts : List (List ℕ)) → section heading texts ≡ section_lines heading texts
+as_section : (heading : List ℕ) (texts : List (List ℕ)) → section heading texts ≡ section_text_with_heading heading texts
 as_section heading texts =
     append_assoc (report_line heading) (report_lines texts) (codes "\n")
     ∙ sym (ap (λ (t : List ℕ). report_line heading ++ t) (closed texts))
@@ -38,29 +38,29 @@ by_flags P flags w i c d e f g h given =
     (subst (λ (b : Bool). P (flags_with flags w i c b)) (sym h) given)))
 
 pub contents : (flags : Flags) (name : List ℕ) (pkg : Plain) → flags.who_owns ≡ false → flags.installed ≡ false → flags.contents ≡ true
-    → package_info (form_of flags) name pkg ≡ section_lines (info_heading pkg (codes " contains:")) (paths_in_order pkg)
+    → package_info (info_form_of_flags flags) name pkg ≡ section_text_with_heading (info_heading pkg (codes " contains:")) (file_paths_in_listed_order pkg)
 contents flags name pkg e f g =
-    by_flags (λ (fs : Flags). package_info (form_of fs) name pkg ≡ section_lines (info_heading pkg (codes " contains:")) (paths_in_order pkg))
+    by_flags (λ (fs : Flags). package_info (info_form_of_flags fs) name pkg ≡ section_text_with_heading (info_heading pkg (codes " contains:")) (file_paths_in_listed_order pkg))
     flags false false true flags.depends e f g refl
-    (as_section (info_heading pkg (codes " contains:")) (paths_in_order pkg))
+    (as_section (info_heading pkg (codes " contains:")) (file_paths_in_listed_order pkg))
 
-pub listed_paths : (pkg : Plain) (path : List ℕ) → IsIn path (paths_in_order pkg) ↔ (lists_path path pkg ≡ true)
+pub listed_paths : (pkg : Plain) (path : List ℕ) → IsIn path (file_paths_in_listed_order pkg) ↔ (lists_path path pkg ≡ true)
 listed_paths pkg path = (is_listed path (paths_of_package_files pkg), listed path (paths_of_package_files pkg))
 
 pub depends : (flags : Flags) (name : List ℕ) (pkg : Plain) → flags.who_owns ≡ false → flags.installed ≡ false → flags.contents ≡ false → flags.depends ≡ true
-    → package_info (form_of flags) name pkg ≡ section_lines (info_heading pkg (codes " depends on:")) (depends_in_order pkg)
+    → package_info (info_form_of_flags flags) name pkg ≡ section_text_with_heading (info_heading pkg (codes " depends on:")) (depends_texts_of_package pkg)
 depends flags name pkg e f g h =
-    by_flags (λ (fs : Flags). package_info (form_of fs) name pkg ≡ section_lines (info_heading pkg (codes " depends on:")) (depends_in_order pkg))
+    by_flags (λ (fs : Flags). package_info (info_form_of_flags fs) name pkg ≡ section_text_with_heading (info_heading pkg (codes " depends on:")) (depends_texts_of_package pkg))
     flags false false false true e f g h
-    (as_section (info_heading pkg (codes " depends on:")) (depends_in_order pkg))
+    (as_section (info_heading pkg (codes " depends on:")) (depends_texts_of_package pkg))
 
 pub description : (flags : Flags) (name : List ℕ) (pkg : Plain) → flags.who_owns ≡ false → flags.installed ≡ false → flags.contents ≡ false → flags.depends ≡ false
-    → package_info (form_of flags) name pkg ≡ section_lines (info_heading pkg (codes " description:")) (text_in (info_field (codes "description") pkg) ∷ [])
+    → package_info (info_form_of_flags flags) name pkg ≡ section_text_with_heading (info_heading pkg (codes " description:")) (text_in (info_field (codes "description") pkg) ∷ [])
 description flags name pkg e f g h =
-    by_flags (λ (fs : Flags). package_info (form_of fs) name pkg ≡ section_lines (info_heading pkg (codes " description:")) (text_in (info_field (codes "description") pkg) ∷ []))
+    by_flags (λ (fs : Flags). package_info (info_form_of_flags fs) name pkg ≡ section_text_with_heading (info_heading pkg (codes " description:")) (text_in (info_field (codes "description") pkg) ∷ []))
     flags false false false false e f g h
     (as_section (info_heading pkg (codes " description:")) (text_in (info_field (codes "description") pkg) ∷ []))
 
 pub owner : (flags : Flags) (path : List ℕ) (pkg : Plain) → flags.who_owns ≡ true
-    → package_info (form_of flags) path pkg ≡ report_line (owner_text (without_slash path) (package_name pkg) (package_version_text pkg))
-owner flags path pkg e = ap (λ (b : Bool). package_info (form_of (flags_with flags b flags.installed flags.contents flags.depends)) path pkg) e
+    → package_info (info_form_of_flags flags) path pkg ≡ report_line (owner_text (without_slash path) (package_name pkg) (package_version_text pkg))
+owner flags path pkg e = ap (λ (b : Bool). package_info (info_form_of_flags (flags_with flags b flags.installed flags.contents flags.depends)) path pkg) e

@@ -7,7 +7,7 @@ use Rattle.base_core.specs.Listed.{AreSortedDistinctNames}
 use Rattle.base_core.specs.Lists.{IsIn}
 use Rattle.base_core.specs.Name.{path_parts_of}
 use Rattle.change_outcome.specs.PackageFiles.{has_script_of}
-use Rattle.change_outcome.specs.Triggers.{is_folder_matched, patterns_of}
+use Rattle.change_outcome.specs.Triggers.{is_folder_matched_by_pattern, trigger_patterns_of_package}
 use Rattle.change_outcome.specs.db_core.Members.{Member, member_name}
 use Rattle.dep_core.specs.LeadingSlash.{without_slash}
 use Rattle.change_outcome.specs.package_files.Folders.{folder_of}
@@ -18,27 +18,36 @@ use Rattle.change_outcome.specs.star_patterns.Fills.{MatchesByFillingStars}
 -- A pattern, without one leading `/`, has as many parts as a folder, and the stars of each part can be
 -- replaced by bytes so that it reads as the folder's part at the same place.
 pub record MatchesFolderByParts (pattern folder : List ℕ) : Type 0 where
+  -- pattern and folder have as many parts
   pub count : length (path_parts_of (without_slash pattern)) ≡ length (path_parts_of folder)
+  -- each part of the pattern matches the part of the folder at the same place
   pub each : (i : ℕ) (p part : List ℕ) → slice_get (path_parts_of (without_slash pattern)) i ≡ Some p
       → slice_get (path_parts_of folder) i ≡ Some part → MatchesByFillingStars p part
 
 -- a package has a trigger script and watches the folder by one of its patterns
-pub record IsTriggered (pkg : Plain) (folder : List ℕ) : Type 0 where
+pub record HasTriggerWatchingFolder (pkg : Plain) (folder : List ℕ) : Type 0 where
+  -- the package has a trigger script
   pub script : has_script_of pkg TRIGGER_SCRIPT ≡ true
+  -- a pattern of the package's trigger
   pub pattern : List ℕ
-  pub watched : IsIn pattern (patterns_of pkg)
-  pub matched : is_folder_matched folder pattern ≡ true
+  pub watched : IsIn pattern (trigger_patterns_of_package pkg)
+  -- the pattern matches the folder
+  pub matched : is_folder_matched_by_pattern folder pattern ≡ true
 
 -- a file with one of these paths is right in the folder
-pub record HasFileIn (paths : List (List ℕ)) (folder : List ℕ) : Type 0 where
+pub record HasFileRightInFolder (paths : List (List ℕ)) (folder : List ℕ) : Type 0 where
+  -- one of these paths
   pub path : List ℕ
   pub listed : IsIn path paths
+  -- the folder of the path is this folder
   pub within : folder ≡ folder_of path
 
 -- the trigger of a package is due for a folder that has a file with one of these paths
 pub record IsTriggerDueFor (paths : List (List ℕ)) (m : Member) (folder : List ℕ) : Type 0 where
-  pub file : HasFileIn paths folder
-  pub triggered : IsTriggered m.pkg folder
+  -- the folder has a file with one of these paths
+  pub file : HasFileRightInFolder paths folder
+  -- the package has a trigger script and watches the folder
+  pub triggered : HasTriggerWatchingFolder m.pkg folder
 
 -- ---- the lines
 
@@ -46,9 +55,13 @@ pub record IsTriggerDueFor (paths : List (List ℕ)) (m : Member) (folder : List
 -- packages in their order, and of each the folders in byte order, each once
 pub record HasTriggerLines (paths : List (List ℕ)) (members : List Member) (text : List ℕ)
     : Type 0 where
+  -- the folders for which the trigger of a package is due
   pub folders : Member → List (List ℕ)
+  -- they are in byte order, each once
   pub order : (m : Member) → AreSortedDistinctNames (folders m)
+  -- they are exactly those for which its trigger is due
   pub each : (m : Member) (folder : List ℕ) → IsIn folder (folders m) ↔ IsTriggerDueFor paths m folder
+  -- the text has a line for each package and each of its folders
   pub text_is : text
       ≡ report_lines (flat_map (λ m. map (trigger_due_text (member_name m)) (folders m)) members)
 
@@ -57,11 +70,15 @@ pub record HasTriggerLines (paths : List (List ℕ)) (members : List Member) (te
 -- the first package whose trigger is due has this name
 pub record IsFirstPackageWithDueTrigger (paths : List (List ℕ)) (members : List Member)
     (name : List ℕ) : Type 0 where
+  -- the packages before it, the package, and those after it
   pub front : List Member
   pub member : Member
   pub rest : List Member
   pub members_are : members ≡ front ++ member ∷ rest
+  -- the package has this name
   pub named : member_name member ≡ name
+  -- a folder for which its trigger is due
   pub folder : List ℕ
   pub due : IsTriggerDueFor paths member folder
+  -- no trigger of a package before it is due
   pub earlier : (m : Member) → IsIn m front → (f : List ℕ) → IsTriggerDueFor paths m f → ⊥

@@ -11,31 +11,35 @@ use Rattle.adb_view.specs.declared.tables.Which.TheVariants.{File}
 use Rattle.make_laws.specs.NamedFields.{field_named}
 
 -- the size that an entry gives; 0 if it gives none
-abbrev pub size_given : Plain → ℕ
-size_given entry = int_in (field_named File (codes "size") entry)
+abbrev pub size_field_of_entry : Plain → ℕ
+size_field_of_entry entry = int_in (field_named File (codes "size") entry)
 
 -- the digest that an entry gives; no bytes if it gives none
-abbrev pub digest_given : Plain → List ℕ
-digest_given entry = text_in (field_named File (codes "hashes") entry)
+abbrev pub digest_field_of_entry : Plain → List ℕ
+digest_field_of_entry entry = text_in (field_named File (codes "hashes") entry)
 
 -- the target that an entry gives; no bytes if the file is no link
-abbrev pub target_given : Plain → List ℕ
-target_given entry = text_in (field_named File (codes "target") entry)
+abbrev pub target_field_of_entry : Plain → List ℕ
+target_field_of_entry entry = text_in (field_named File (codes "target") entry)
 
 -- two entries give the same size, the same digest and the same target
-pub record GiveSameFields (a b : Plain) : Type 0 where
-  pub size : size_given a ≡ size_given b
-  pub digest : digest_given a ≡ digest_given b
-  pub target : target_given a ≡ target_given b
+pub record GiveSameSizeDigestAndTarget (a b : Plain) : Type 0 where
+  -- both give the same size, or none
+  pub size : size_field_of_entry a ≡ size_field_of_entry b
+  -- both give the same digest, or none
+  pub digest : digest_field_of_entry a ≡ digest_field_of_entry b
+  -- both give the same link target, or none
+  pub target : target_field_of_entry a ≡ target_field_of_entry b
 
 -- the bytes of a file that represents a link: a mark, and the target without its first two bytes, which
 -- say that it is a link
-abbrev pub RepresentsLink : List ℕ → List ℕ → Type 0
-RepresentsLink target bytes = bytes ≡ codes "!<symlink>" ++ drop 2 target
+abbrev pub IsTargetOfLinkBytes : List ℕ → List ℕ → Type 0
+IsTargetOfLinkBytes target bytes = bytes ≡ codes "!<symlink>" ++ drop 2 target
 
 -- The bytes have this digest. The length of the digest selects the function (FIPS 180-4). A digest of
 -- another length is not compared.
 pub record HasDigest (digest bytes : List ℕ) : Type 0 where
+  -- a digest of 20 bytes is SHA-1, one of 32 is SHA-256, and one of 64 is SHA-512
   pub of_20_bytes : length digest ≡ 20 → digest ≡ sha1 bytes
   pub of_32_bytes : length digest ≡ 32 → digest ≡ sha256 bytes
   pub of_64_bytes : length digest ≡ 64 → digest ≡ sha512 bytes

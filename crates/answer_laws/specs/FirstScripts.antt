@@ -12,16 +12,19 @@ abbrev pub IsUpgradeScript : ℕ → Type 0
 IsUpgradeScript n = (n ≡ PRE_UPGRADE_SCRIPT) ⊎ (n ≡ POST_UPGRADE_SCRIPT)
 
 -- a change runs the script with this number, if the package has it
-abbrev pub RunsScript : Change → ℕ → Type 0
-RunsScript (Install name version) n = (n ≡ PRE_INSTALL_SCRIPT) ⊎ (n ≡ POST_INSTALL_SCRIPT)
-RunsScript (Purge name version) n = (n ≡ PRE_DEINSTALL_SCRIPT) ⊎ (n ≡ POST_DEINSTALL_SCRIPT)
-RunsScript (Reinstall name version) n = IsUpgradeScript n
-RunsScript (Upgrade name old new) n = IsUpgradeScript n
-RunsScript (Downgrade name old new) n = IsUpgradeScript n
-RunsScript (Replace name old new) n = IsUpgradeScript n
+abbrev pub IsScriptNumberRunByChange : Change → ℕ → Type 0
+IsScriptNumberRunByChange (Install name version) n = (n ≡ PRE_INSTALL_SCRIPT) ⊎ (n ≡ POST_INSTALL_SCRIPT)
+IsScriptNumberRunByChange (Purge name version) n = (n ≡ PRE_DEINSTALL_SCRIPT) ⊎ (n ≡ POST_DEINSTALL_SCRIPT)
+IsScriptNumberRunByChange (Reinstall name version) n = IsUpgradeScript n
+IsScriptNumberRunByChange (Upgrade name old new) n = IsUpgradeScript n
+IsScriptNumberRunByChange (Downgrade name old new) n = IsUpgradeScript n
+IsScriptNumberRunByChange (Replace name old new) n = IsUpgradeScript n
 
 -- the script with this number is the first, by number, of those that the change of a package runs
-pub record IsFirstScript (change : Change) (pkg : Plain) (n : ℕ) : Type 0 where
-  pub runs : RunsScript change n
+pub record IsFirstScriptRunByChange (change : Change) (pkg : Plain) (n : ℕ) : Type 0 where
+  -- the change runs the script with this number
+  pub runs : IsScriptNumberRunByChange change n
+  -- the package has this script
   pub present : has_script_of pkg n ≡ true
-  pub first : (m : ℕ) → m < n → RunsScript change m → has_script_of pkg m ≡ false
+  -- the package has no script with a lesser number that the change runs
+  pub first : (m : ℕ) → m < n → IsScriptNumberRunByChange change m → has_script_of pkg m ≡ false

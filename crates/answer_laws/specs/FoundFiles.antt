@@ -11,10 +11,12 @@ abbrev pub candidate_file_name : Candidate → List ℕ
 candidate_file_name c = package_file_name c.name (candidate_version_text c)
 
 -- a candidate is of the repository at a place, counted from 0, whose index has this path
-pub record IsCandidateOfIndex (repositories : List Repository) (c : Candidate) (path : List ℕ)
+pub record IsCandidateOfIndexAtPath (repositories : List Repository) (c : Candidate) (path : List ℕ)
     : Type 0 where
+  -- the place of the repository in the list, counted from 0
   pub place : ℕ
   pub numbered : c.repository ≡ Some (place + 1)
+  -- the repository, whose index has this path
   pub repository : Repository
   pub listed : slice_get repositories place ≡ Some repository
   pub path_is : repository.path ≡ path

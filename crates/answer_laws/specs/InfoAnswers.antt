@@ -14,34 +14,41 @@ use Rattle.command_core.specs.declared.operands.Operand.{Operand}
 use Rattle.installed_info.specs.candidate_core.Candidates.{dependencies_in}
 use Rattle.dep_core.specs.DependencyText.{dep_text}
 use Rattle.installed_info.specs.file_owners.Replaces.{package_version_text}
-use Rattle.installed_info.specs.Form.{form_of}
-use Rattle.installed_info.specs.Packages.{package_meant_by}
+use Rattle.installed_info.specs.Form.{info_form_of_flags}
+use Rattle.installed_info.specs.Packages.{package_meant_by_operand_text}
 use Rattle.make_laws.specs.NamedFields.{field_named}
 use Rattle.report_core.specs.Reports.{name_dash_version, report_lines}
 
 -- a text with a line for each package, its name, in byte order
-pub record HasSortedNames (packages : List Plain) (text : List ℕ) : Type 0 where
+pub record HasSortedPackageNameLines (packages : List Plain) (text : List ℕ) : Type 0 where
+  -- the names of the packages
   pub names : List (List ℕ)
   pub same : IsPermutation (map package_name packages) names
+  -- they are in byte order
   pub order : IsSorted bytes_cmp names
+  -- the text has a line for each of them
   pub text_is : text ≡ report_lines names
 
 -- the operand at this place has no package, in the form that the flags select, and each one before it
 -- has one
-pub record IsFirstAbsent (flags : Flags) (packages : List Plain) (operands : List Operand)
+pub record IsPlaceOfFirstOperandNotFound (flags : Flags) (packages : List Plain) (operands : List Operand)
     (place : ℕ) : Type 0 where
+  -- the operands before it, the operand, and those after it
   pub front : List Operand
   pub operand : Operand
   pub rest : List Operand
   pub operands_are : operands ≡ front ++ operand ∷ rest
+  -- the operand has this place in the command line
   pub place_is : operand.place ≡ place
-  pub absent : package_meant_by (form_of flags) packages operand.text ≡ None
+  -- no package is meant by the operand
+  pub absent : package_meant_by_operand_text (info_form_of_flags flags) packages operand.text ≡ None
+  -- a package is meant by each operand before it
   pub earlier : (o : Operand) → IsIn o front
-      → is_some (package_meant_by (form_of flags) packages o.text) ≡ true
+      → is_some (package_meant_by_operand_text (info_form_of_flags flags) packages o.text) ≡ true
 
 -- a section: a heading, a line for each fact, and an empty line
-abbrev pub section_lines : List ℕ → List (List ℕ) → List ℕ
-section_lines heading facts = report_lines (heading ∷ (facts ++ ([] ∷ [])))
+abbrev pub section_text_with_heading : List ℕ → List (List ℕ) → List ℕ
+section_text_with_heading heading facts = report_lines (heading ∷ (facts ++ ([] ∷ [])))
 
 -- the heading of a section: a package with its version, and a text
 abbrev pub info_heading : Plain → List ℕ → List ℕ
@@ -52,11 +59,11 @@ abbrev pub info_field : List ℕ → Plain → Plain
 info_field name pkg = field_named PkgInfo name (field_named Package (codes "info") pkg)
 
 -- the paths that a package lists: folder by folder, and in each file by file
-abbrev pub paths_in_order : Plain → List (List ℕ)
-paths_in_order pkg =
+abbrev pub file_paths_in_listed_order : Plain → List (List ℕ)
+file_paths_in_listed_order pkg =
     flat_map (λ folder. map (λ file. path_of (name_of folder) (name_of file)) (files_in folder))
     (folders_in pkg)
 
 -- the texts of a package's dependencies, in their order
-abbrev pub depends_in_order : Plain → List (List ℕ)
-depends_in_order pkg = map dep_text (dependencies_in (info_field (codes "depends") pkg))
+abbrev pub depends_texts_of_package : Plain → List (List ℕ)
+depends_texts_of_package pkg = map dep_text (dependencies_in (info_field (codes "depends") pkg))

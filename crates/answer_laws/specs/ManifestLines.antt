@@ -26,8 +26,10 @@ lines_of_package pkg =
     flat_map (λ folder. flat_map (line_of_file folder) (files_in folder)) (folders_in pkg)
 
 -- each operand has an installed package, and a text has the lines of these, in the order given
-pub record HasLinesOfOperands (packages : List Plain) (operands : List Operand) (text : List ℕ) :
+pub record HasManifestLinesOfOperands (packages : List Plain) (operands : List Operand) (text : List ℕ) :
     Type 0 where
+  -- the package of each operand, in the order of the operands
   pub found : List Plain
   pub each : map (package_of_operand packages) operands ≡ map Some found
+  -- the text has the lines of these packages
   pub text_is : text ≡ flat_map lines_of_package found

@@ -14,13 +14,17 @@ use Rattle.version_core.specs.Order.{is_version}
 
 -- an entry of a package's `replaces`, which is no conflict, has the other's own name and accepts its
 -- own version
-pub record IsNamedInReplaces (pkg other : Plain) : Type 0 where
+pub record HasReplacesEntryForOther (pkg other : Plain) : Type 0 where
+  -- an entry of the package's `replaces`
   pub entry : Plain
   pub listed : IsIn entry (entries_at INFO_REPLACES (entry_in pkg PACKAGE_INFO))
+  -- the dependency that the entry is
   pub dependency : Dependency
   pub read : dependency_in entry ≡ Some dependency
+  -- it is no conflict, and has the name of the other package
   pub positive : dependency.conflict ≡ false
   pub name : dependency.name ≡ package_name other
+  -- the other package has a version, which the dependency accepts
   pub version : is_version (package_version_text other) ≡ true
   pub wanted : constraint_accepts dependency.version dependency.bits (Some (package_version_text other))
       ≡ true

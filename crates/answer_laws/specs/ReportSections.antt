@@ -17,28 +17,30 @@ use Rattle.make_laws.specs.NamedFields.{field_named}
 use Rattle.change_outcome.specs.package_changes.Changes.{Replacement, changes_of}
 use Rattle.report_core.specs.Reports.{report_lines}
 use Rattle.answer_laws.specs.DueTriggers.{HasTriggerLines}
-use Rattle.answer_laws.specs.KeptNames.{HasKeptLines}
-use Rattle.answer_laws.specs.WhichChange.{HasNumberedLines}
+use Rattle.answer_laws.specs.KeptNames.{HasStillNeededLines}
+use Rattle.answer_laws.specs.WhichChange.{HasNumberedChangeLines}
 
 -- ---- the sum
 
 -- the installed size of a package, by its information
-abbrev pub size_when_installed : Plain → ℕ
-size_when_installed info = int_in (field_named PkgInfo (codes "installed-size") info)
+abbrev pub installed_size_in_info : Plain → ℕ
+installed_size_in_info info = int_in (field_named PkgInfo (codes "installed-size") info)
 
 -- the information of a package after a change
 abbrev pub member_info : Member → Plain
 member_info m = field_named Package (codes "info") m.pkg
 
--- a number is the sum of some numbers
+-- the number is the sum of the numbers in the list
 abbrev pub IsSumOf : List ℕ → ℕ → Type 0
 IsSumOf [] sum = sum ≡ 0
 IsSumOf (n ∷ numbers) sum = (rest : ℕ) × IsSumOf numbers rest × (sum ≡ n + rest)
 
--- a text is a line with the sum of some sizes, and how many they are
-pub record IsSumLine (sizes : List ℕ) (text : List ℕ) : Type 0 where
+-- the text is a line with the sum of these sizes, and with their number
+pub record IsBytesAndPackageCountLine (sizes : List ℕ) (text : List ℕ) : Type 0 where
+  -- the sum of the sizes
   pub sum : ℕ
   pub sum_is : IsSumOf sizes sum
+  -- the text is the line with the sum and the number of sizes
   pub text_is : text
       ≡ codes "OK: " ++ decimal sum ++ codes " bytes in " ++ decimal (length sizes)
       ++ codes " packages\n"
@@ -64,36 +66,53 @@ changed_file_text (kept path) = path ++ codes " kept; it was changed"
 
 -- a text has a line for each of these configuration files, in byte order of the paths
 pub record HasConfigurationLines (beside kept_paths : List (List ℕ)) (text : List ℕ) : Type 0 where
+  -- the configuration files that have a line
   pub changed : List ChangedFile
+  -- these are the files with a new file beside them, and the kept ones
   pub same : IsPermutation (map placed_beside beside ++ map kept kept_paths) changed
+  -- they are in byte order of their paths
   pub order : IsSorted bytes_cmp (map changed_path changed)
+  -- the text has a line for each of them
   pub text_is : text ≡ report_lines (map changed_file_text changed)
 
 -- ---- the sections
 
 -- a text has the sections of a simulated report, in their order
-pub record HasSimulatedSections (r : Replacement) (to_remove : List (List ℕ)) (text : List ℕ) : Type 0
-  where
-    pub changes : List ℕ
-    pub numbered : HasNumberedLines (changes_of r) changes
-    pub stays : List ℕ
-    pub kept_lines : HasKeptLines r.before r.selected to_remove stays
-    pub last : List ℕ
-    pub sum : IsSumLine (map (λ (c : Candidate). size_when_installed c.info) r.selected) last
-    pub text_is : text ≡ changes ++ stays ++ last
+pub record HasSimulatedReportSections (r : Replacement) (to_remove : List (List ℕ))
+    (text : List ℕ) : Type 0 where
+  -- the lines of the changes, each with its number
+  pub changes : List ℕ
+  pub numbered : HasNumberedChangeLines (changes_of r) changes
+  -- the lines of names that were to be removed, but are still needed
+  pub stays : List ℕ
+  pub kept_lines : HasStillNeededLines r.before r.selected to_remove stays
+  -- the line of the sum of the sizes
+  pub last : List ℕ
+  pub sum : IsBytesAndPackageCountLine
+      (map (λ (c : Candidate). installed_size_in_info c.info) r.selected) last
+  -- the text is these three parts, in this order
+  pub text_is : text ≡ changes ++ stays ++ last
 
 -- a text has the sections of the report of a change that is made, in their order
-pub record HasSections (r : Replacement) (wishes : ChangeWishes) (change : FileChange) (files : Files)
+pub record HasChangeReportSections (r : Replacement) (wishes : ChangeWishes) (change : FileChange)
+    (files : Files)
     (text : List ℕ) : Type 0 where
+  -- the lines of the changes, each with its number
   pub changes : List ℕ
-  pub numbered : HasNumberedLines (changes_of r) changes
+  pub numbered : HasNumberedChangeLines (changes_of r) changes
+  -- the lines of names that were to be removed, but are still needed
   pub stays : List ℕ
-  pub kept_lines : HasKeptLines r.before r.selected wishes.to_remove stays
+  pub kept_lines : HasStillNeededLines r.before r.selected wishes.to_remove stays
+  -- the lines of configuration files
   pub configuration : List ℕ
   pub configured : HasConfigurationLines (paths_with_apk_new_file change files)
       (kept_paths_of change files) configuration
+  -- the lines of due triggers
   pub triggers : List ℕ
   pub due : HasTriggerLines (touched_paths change files) change.members triggers
+  -- the last line, with the sum of what is installed
   pub last : List ℕ
-  pub sum : IsSumLine (map (λ (m : Member). size_when_installed (member_info m)) change.members) last
+  pub sum : IsBytesAndPackageCountLine
+      (map (λ (m : Member). installed_size_in_info (member_info m)) change.members) last
+  -- the report is these sections, in this order
   pub text_is : text ≡ changes ++ stays ++ configuration ++ triggers ++ last

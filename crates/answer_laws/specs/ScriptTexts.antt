@@ -19,9 +19,12 @@ abbrev pub script_text_by_name : Plain → List ℕ → List ℕ
 script_text_by_name pkg name = text_in (script_named name pkg)
 
 -- the first number of a list whose script has text
-pub record IsFirstWithText (pkg : Plain) (numbers : List ℕ) (number : ℕ) : Type 0 where
+pub record IsFirstScriptNumberWithText (pkg : Plain) (numbers : List ℕ) (number : ℕ) : Type 0 where
+  -- the numbers before this one in the list, and those after it
   pub front : List ℕ
   pub rest : List ℕ
   pub numbers_are : numbers ≡ front ++ number ∷ rest
+  -- the script with this number has text
   pub text : script_text_by_number pkg number ≢ []
+  -- no script with a number before it has text
   pub earlier : (m : ℕ) → IsIn m front → script_text_by_number pkg m ≡ []

@@ -77,15 +77,15 @@ files_listed (other_line ∷ lines) = files_listed lines
 
 -- the folders that the lines of a record list: one for each line that begins one, with the access and
 -- the files that the lines up to the next folder give
-abbrev pub folders_listed : List RecordLine → List ListedFolder
-folders_listed [] = []
-folders_listed (info_line f values ∷ lines) = folders_listed lines
-folders_listed (folder_line name ∷ lines) =
+abbrev pub folders_of_record_lines : List RecordLine → List ListedFolder
+folders_of_record_lines [] = []
+folders_of_record_lines (info_line f values ∷ lines) = folders_of_record_lines lines
+folders_of_record_lines (folder_line name ∷ lines) =
     listed_folder_from_parts name (folder_access_in (lines_up_to_folder lines))
     (files_listed (lines_up_to_folder lines))
-    ∷ folders_listed lines
-folders_listed (folder_access_line a ∷ lines) = folders_listed lines
-folders_listed (file_line name ∷ lines) = folders_listed lines
-folders_listed (file_access_line a ∷ lines) = folders_listed lines
-folders_listed (file_hash_line hash ∷ lines) = folders_listed lines
-folders_listed (other_line ∷ lines) = folders_listed lines
+    ∷ folders_of_record_lines lines
+folders_of_record_lines (folder_access_line a ∷ lines) = folders_of_record_lines lines
+folders_of_record_lines (file_line name ∷ lines) = folders_of_record_lines lines
+folders_of_record_lines (file_access_line a ∷ lines) = folders_of_record_lines lines
+folders_of_record_lines (file_hash_line hash ∷ lines) = folders_of_record_lines lines
+folders_of_record_lines (other_line ∷ lines) = folders_of_record_lines lines

@@ -148,14 +148,18 @@ record_with_lines r (line ∷ lines) =
 
 -- the field of a package has what the lines of its letter give: all values for a list, otherwise the
 -- first
-pub record HasValuesOfLines (f : InfoField) (lines : List (List ℕ)) (pkg : Plain) : Type 0 where
+pub record HasFieldValuesOfLines (f : InfoField) (lines : List (List ℕ)) (pkg : Plain) : Type 0 where
+  -- the values that the lines of the field's letter give
   pub said : List FieldValue
   pub say : LinesGiveFieldValues f lines said
+  -- the field has all of them if it is a list, otherwise the first
   pub tells : HasValuesAsList (is_list_letter f) said (letter_value_in_package f pkg)
 
 -- a line has a letter that is not listed, before a colon
-pub record HasUnlistedLetter (line : List ℕ) : Type 0 where
+pub record BeginsWithUnknownFieldLetter (line : List ℕ) : Type 0 where
+  -- the first byte of the line, then a colon and the value
   pub letter : ℕ
   pub value : List ℕ
   pub line_is : line ≡ letter ∷ codes ":" ++ value
+  -- the letter is none of those that are listed
   pub unlisted : IsIn letter known_line_letters → ⊥

@@ -15,16 +15,21 @@ use Rattle.version_core.specs.Order.{is_version}
 -- a name with a package before and a selected candidate of a repository, both of which have versions
 pub record HasBothVersions (r : Replacement) (name : List ℕ) (pkg : Plain) (c : Candidate)
     : Type 0 where
+  -- the package of this name before the change
   pub before : find (is_package_named name) r.before ≡ Some pkg
+  -- the selected candidate of this name, which is from a repository
   pub selected : find (is_candidate_named name) r.selected ≡ Some c
   pub repository : is_some c.repository ≡ true
+  -- the text of each version is a version
   pub old : is_version (package_version_text pkg) ≡ true
   pub new : is_version (candidate_version_text c) ≡ true
 
 -- a name with a package before and a selected candidate of no repository, which is that package
 pub record IsInstalledPackageSelected (r : Replacement) (name : List ℕ) (c : Candidate) : Type 0 where
+  -- the package of this name before the change
   pub installed : Plain
   pub before : find (is_package_named name) r.before ≡ Some installed
+  -- the selected candidate of this name, which is from no repository
   pub selected : find (is_candidate_named name) r.selected ≡ Some c
   pub repository : c.repository ≡ None
 
@@ -59,9 +64,12 @@ abbrev pub HasInstallChange : Replacement → List ℕ → Type 0
 HasInstallChange r name = (version : List ℕ) × (change_of_name r name ≡ Some (Install name version))
 
 -- a text with one line for each change, which has the change's number, from 1, and the count of all
-pub record HasNumberedLines (changes : List Change) (text : List ℕ) : Type 0 where
+pub record HasNumberedChangeLines (changes : List Change) (text : List ℕ) : Type 0 where
+  -- the lines of the text
   pub lines : List (List ℕ)
   pub text_is : text ≡ report_lines lines
+  -- there are as many lines as changes
   pub count : length lines ≡ length changes
+  -- the line of each change begins with its number, counted from 1, and the count of all
   pub each : (i : ℕ) (change : Change) → slice_get changes i ≡ Some change
       → slice_get lines i ≡ Some (numbered_change (i + 1) (length changes) change)

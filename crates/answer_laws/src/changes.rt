@@ -6,7 +6,7 @@ ghost use Rattle.std.specs.Prelude.{◌≡◌, ◌↔◌, ℕ, List, Some, None,
 ghost use Rattle.std.specs.List.{find};
 ghost use Rattle.std.specs.declared.cmp.Ordering.TheVariants.{Less, Equal, Greater};
 ghost use Rattle.adb_view.specs.Plain.{Plain};
-ghost use Rattle.answer_laws.specs.WhichChange.{HasBothVersions, HasInstallChange, HasNumberedLines, HasPurgeChange, IsSelected, IsInstalledPackageSelected, IsSameVersionAndId, WasInstalled, changed_name};
+ghost use Rattle.answer_laws.specs.WhichChange.{HasBothVersions, HasInstallChange, HasNumberedChangeLines, HasPurgeChange, IsSelected, IsInstalledPackageSelected, IsSameVersionAndId, WasInstalled, changed_name};
 ghost use Rattle.base_core.specs.Listed.{AreSortedDistinctNames};
 ghost use Rattle.base_core.specs.Lists.{IsIn};
 ghost use Rattle.installed_info.specs.candidate_core.Candidates.{Candidate};
@@ -21,11 +21,13 @@ ghost use Rattle.version_core.specs.Order.{version_cmp};
 /// package, by the text of its version or by its id. The very package that is installed is
 /// installed again exactly if its name is asked for again; otherwise it is kept.
 pub fn the_order_of_versions_decides_the_change()
+    // An upgrade: the new version is greater.
     ensures upgrade { (r : Replacement) (name : List ℕ) (pkg : Plain) (c : Candidate)
         → HasBothVersions r name pkg c
         → (change_of_name r name
         ≡ Some (Upgrade name (package_version_text pkg) (candidate_version_text c)))
         ↔ (version_cmp (package_version_text pkg) (candidate_version_text c) ≡ Less) }
+    // A downgrade: the new version is less.
     ensures downgrade { (r : Replacement) (name : List ℕ) (pkg : Plain) (c : Candidate)
         → HasBothVersions r name pkg c
         → (change_of_name r name
@@ -37,10 +39,12 @@ pub fn the_order_of_versions_decides_the_change()
         ≡ Some (Replace name (package_version_text pkg) (candidate_version_text c)))
         ↔ ((version_cmp (package_version_text pkg) (candidate_version_text c) ≡ Equal)
         × (IsSameVersionAndId pkg c → ⊥)) }
+    // The same version and id, and the name is to be installed again.
     ensures reinstall { (r : Replacement) (name : List ℕ) (pkg : Plain) (c : Candidate)
         → HasBothVersions r name pkg c
         → (change_of_name r name ≡ Some (Reinstall name (candidate_version_text c)))
         ↔ (IsSameVersionAndId pkg c × IsIn name r.again) }
+    // No change: the same version and id, and the name is not to be installed again.
     ensures kept { (r : Replacement) (name : List ℕ) (pkg : Plain) (c : Candidate)
         → HasBothVersions r name pkg c
         → (change_of_name r name ≡ None)
@@ -50,10 +54,12 @@ pub fn the_order_of_versions_decides_the_change()
 /// A package that no index has is selected as it is installed: it is installed again exactly if its
 /// name is asked for again, and otherwise kept.
 pub fn a_package_of_no_index_is_kept()
+    // It is installed again exactly if its name is to be installed again.
     ensures reinstall { (r : Replacement) (name : List ℕ) (c : Candidate)
         → IsInstalledPackageSelected r name c
         → (change_of_name r name ≡ Some (Reinstall name (candidate_version_text c)))
         ↔ IsIn name r.again }
+    // Otherwise it does not change.
     ensures kept { (r : Replacement) (name : List ℕ) (c : Candidate)
         → IsInstalledPackageSelected r name c
         → (change_of_name r name ≡ None) ↔ (IsIn name r.again → ⊥) }
@@ -77,10 +83,12 @@ pub fn a_package_on_one_side_is_installed_or_removed()
         → HasPurgeChange r name ↔ (WasInstalled r name × (IsSelected r name → ⊥)) }
     ensures install { (r : Replacement) (name : List ℕ)
         → HasInstallChange r name ↔ (IsSelected r name × (WasInstalled r name → ⊥)) }
+    // A package whose name is not selected is removed.
     ensures purged_version { (r : Replacement) (name : List ℕ) (pkg : Plain)
         → find (is_package_named name) r.before ≡ Some pkg
         → find (is_candidate_named name) r.selected ≡ None
         → change_of_name r name ≡ Some (Purge name (package_version_text pkg)) }
+    // A candidate whose name was not installed is installed.
     ensures installed_version { (r : Replacement) (name : List ℕ) (c : Candidate)
         → find (is_package_named name) r.before ≡ None
         → find (is_candidate_named name) r.selected ≡ Some c
@@ -92,5 +100,5 @@ pub fn a_package_on_one_side_is_installed_or_removed()
 /// A report has one line for each change, in the order of the changes, with its number, from 1, and
 /// with their count.
 pub fn each_change_has_one_numbered_line()
-    ensures { (changes : List Change) → HasNumberedLines changes (change_lines changes) }
+    ensures { (changes : List Change) → HasNumberedChangeLines changes (change_lines changes) }
 {}

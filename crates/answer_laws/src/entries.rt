@@ -3,28 +3,32 @@
 
 ghost use Rattle.std.specs.Prelude.{◌≡◌, ◌≢◌, ◌↔◌, ℕ, List, [], ◌++◌, codes, Option, Some, true, false};
 ghost use Rattle.adb_view.specs.Plain.{Plain};
-ghost use Rattle.answer_laws.specs.EntryFields.{GiveSameFields, HasDigest, RepresentsLink, digest_given, size_given, target_given};
+ghost use Rattle.answer_laws.specs.EntryFields.{GiveSameSizeDigestAndTarget, HasDigest, IsTargetOfLinkBytes, digest_field_of_entry, size_field_of_entry, target_field_of_entry};
 ghost use Rattle.audit_core.specs.file_guard.AsListed.{do_entries_agree, is_as_listed};
 ghost use Rattle.change_outcome.specs.change_files.Fate.{is_protected_path};
 ghost use Rattle.change_outcome.specs.change_files.FilesAfter.{is_modified_from_entry};
 
 /// Two entries agree exactly if they give the same size, the same digest and the same target.
 pub fn two_entries_agree_exactly_if_size_digest_and_target_are_equal()
-    ensures { (a b : Plain) → (do_entries_agree a b ≡ true) ↔ GiveSameFields a b }
+    ensures { (a b : Plain) → (do_entries_agree a b ≡ true) ↔ GiveSameSizeDigestAndTarget a b }
 {}
 
 /// The bytes of a file are as its entry lists them exactly if one of three cases holds. The entry
 /// gives a target, and the bytes represent the link. It gives only a digest, and the bytes have it.
 /// It gives neither, its size is 0, and there are no bytes.
 pub fn a_file_is_as_listed_exactly_if_it_has_the_link_or_the_digest_of_its_entry()
-    ensures link { (entry : Plain) (bytes : List ℕ) → target_given entry ≢ []
-        → (is_as_listed entry bytes ≡ true) ↔ RepresentsLink (target_given entry) bytes }
-    ensures digest { (entry : Plain) (bytes : List ℕ) → target_given entry ≡ []
-        → digest_given entry ≢ []
-        → (is_as_listed entry bytes ≡ true) ↔ HasDigest (digest_given entry) bytes }
-    ensures neither { (entry : Plain) (bytes : List ℕ) → target_given entry ≡ []
-        → digest_given entry ≡ []
-        → (is_as_listed entry bytes ≡ true) ↔ ((size_given entry ≡ 0) × (bytes ≡ [])) }
+    // The entry has a link target.
+    ensures link { (entry : Plain) (bytes : List ℕ) → target_field_of_entry entry ≢ []
+        → (is_as_listed entry bytes ≡ true)
+        ↔ IsTargetOfLinkBytes (target_field_of_entry entry) bytes }
+    // The entry has no link target, but a digest.
+    ensures digest { (entry : Plain) (bytes : List ℕ) → target_field_of_entry entry ≡ []
+        → digest_field_of_entry entry ≢ []
+        → (is_as_listed entry bytes ≡ true) ↔ HasDigest (digest_field_of_entry entry) bytes }
+    // The entry has neither: then only an empty file of size 0 is as listed.
+    ensures neither { (entry : Plain) (bytes : List ℕ) → target_field_of_entry entry ≡ []
+        → digest_field_of_entry entry ≡ []
+        → (is_as_listed entry bytes ≡ true) ↔ ((size_field_of_entry entry ≡ 0) × (bytes ≡ [])) }
 {}
 
 /// A file is modified exactly if it is present and its bytes are not as its entry lists them.

@@ -2,36 +2,42 @@
 //! The rules are in `docs/commands.md`, "`add` and `del`", what is read.
 
 ghost use Rattle.std.specs.Prelude.{◌≡◌, ◌++◌, ℕ, List, Option, Bool, Some, None, Ok, Err, [], true, false, codes};
-ghost use Rattle.answer_laws.specs.FoundFiles.{HasNoSlash, IsCandidateOfIndex, candidate_file_name};
+ghost use Rattle.answer_laws.specs.FoundFiles.{HasNoSlash, IsCandidateOfIndexAtPath, candidate_file_name};
 ghost use Rattle.base_core.specs.Name.{is_name};
 ghost use Rattle.installed_info.specs.candidate_core.Candidates.{Candidate};
 ghost use Rattle.change_outcome.specs.change_inputs.Database.{Database, root_database};
-ghost use Rattle.change_outcome.specs.PackageFiles.{package_file_of};
+ghost use Rattle.change_outcome.specs.PackageFiles.{package_file_path_of_candidate};
 ghost use Rattle.dep_core.specs.Repositories.{Repository};
 ghost use Rattle.report_core.specs.declared.refusal.Refusal.TheVariants.{NoDatabase};
 
 /// A package's file is in the folder of its index, at whatever depth that is.
 pub fn a_package_is_found_in_the_folder_of_its_index()
+    // The index is in a folder.
     ensures below { (repositories : List Repository) (c : Candidate) (folder index : List ℕ)
-        → HasNoSlash index → IsCandidateOfIndex repositories c (folder ++ codes "/" ++ index)
+        → HasNoSlash index → IsCandidateOfIndexAtPath repositories c (folder ++ codes "/" ++ index)
         → is_name (folder ++ codes "/" ++ candidate_file_name c) ≡ true
-        → package_file_of repositories c ≡ Some (folder ++ codes "/" ++ candidate_file_name c) }
+        → package_file_path_of_candidate repositories c ≡ Some (folder ++ codes "/"
+        ++ candidate_file_name c) }
+    // The index is in the root itself.
     ensures top { (repositories : List Repository) (c : Candidate) (index : List ℕ)
-        → HasNoSlash index → IsCandidateOfIndex repositories c index
+        → HasNoSlash index → IsCandidateOfIndexAtPath repositories c index
         → is_name (candidate_file_name c) ≡ true
-        → package_file_of repositories c ≡ Some (candidate_file_name c) }
+        → package_file_path_of_candidate repositories c ≡ Some (candidate_file_name c) }
 {}
 
 /// A container decides what is installed, whatever the text database has; without a container the
 /// text does, also if a database may be begun. A database is begun only if there is neither.
 pub fn the_container_decides_before_the_text()
+    // If there is a container, the text database does not matter.
     ensures container { (begins other : Bool) (file : List ℕ) (text another : Option (List ℕ))
         → root_database begins (Some file) text ≡ root_database other (Some file) another }
+    // A database that is read from a container has the bytes of its file.
     ensures by_container { (begins : Bool) (file : List ℕ) (text : Option (List ℕ)) (d : Database)
         → root_database begins (Some file) text ≡ Ok d
         → (d.from_text ≡ false) × (d.file ≡ Some file) }
     ensures text { (begins other : Bool) (text : List ℕ)
         → root_database begins None (Some text) ≡ root_database other None (Some text) }
+    // A database that is read from a text has no container file.
     ensures by_text { (begins : Bool) (text : List ℕ) (d : Database)
         → root_database begins None (Some text) ≡ Ok d
         → (d.from_text ≡ true) × (d.file ≡ None) }

@@ -6,30 +6,31 @@ ghost use Rattle.std.specs.List.{filter};
 ghost use Rattle.change_outcome.specs.adb_fields.Repeated.{package_name};
 ghost use Rattle.adb_view.specs.Plain.{Plain};
 ghost use Rattle.adb_view.specs.Values.{text_in};
-ghost use Rattle.answer_laws.specs.InfoAnswers.{HasSortedNames, IsFirstAbsent, depends_in_order, info_field, info_heading, paths_in_order, section_lines};
+ghost use Rattle.answer_laws.specs.InfoAnswers.{HasSortedPackageNameLines, IsPlaceOfFirstOperandNotFound, depends_texts_of_package, info_field, info_heading, file_paths_in_listed_order, section_text_with_heading};
 ghost use Rattle.base_core.specs.Lists.{IsIn};
 ghost use Rattle.command_core.specs.declared.command.Flags.{Flags};
 ghost use Rattle.command_core.specs.declared.operands.Operand.{Operand};
 ghost use Rattle.change_outcome.specs.db_core.Packages.{lists_path};
 ghost use Rattle.dep_core.specs.LeadingSlash.{without_slash};
 ghost use Rattle.installed_info.specs.file_owners.Replaces.{package_version_text};
-ghost use Rattle.installed_info.specs.Form.{form_of};
-ghost use Rattle.installed_info.specs.Info.{info_refusal, names_info, operands_info, package_info};
-ghost use Rattle.installed_info.specs.Packages.{package_meant_by, package_named};
+ghost use Rattle.installed_info.specs.Form.{info_form_of_flags};
+ghost use Rattle.installed_info.specs.Info.{info_refusal, sorted_package_name_lines, operands_info, package_info};
+ghost use Rattle.installed_info.specs.Packages.{package_meant_by_operand_text, package_named};
 ghost use Rattle.report_core.specs.Reports.{owner_text, report_line, report_lines};
 ghost use Rattle.report_core.specs.declared.refusal.Refusal.TheVariants.{NotInstalled};
 
 /// Without an operand `info` prints the name of each package, in byte order, in whatever order the
 /// database has them.
 pub fn info_prints_the_names_in_byte_order()
-    ensures { (packages : List Plain) → HasSortedNames packages (names_info packages) }
+    ensures { (packages : List Plain)
+        → HasSortedPackageNameLines packages (sorted_package_name_lines packages) }
 {}
 
 /// The operand that `info` refuses is the first without a package.
 pub fn info_refuses_the_first_absent_operand()
     ensures { (flags : Flags) (packages : List Plain) (operands : List Operand) (place : ℕ)
-        → (info_refusal (form_of flags) packages operands ≡ Some (NotInstalled place))
-        ↔ IsFirstAbsent flags packages operands place }
+        → (info_refusal (info_form_of_flags flags) packages operands ≡ Some (NotInstalled place))
+        ↔ IsPlaceOfFirstOperandNotFound flags packages operands place }
 {}
 
 /// `info -e` prints exactly those of its operands that are names of installed packages, in the
@@ -37,7 +38,7 @@ pub fn info_refuses_the_first_absent_operand()
 pub fn info_prints_the_installed_operands()
     ensures { (flags : Flags) (packages : List Plain) (operands : List Operand)
         → flags.who_owns ≡ false → flags.installed ≡ true
-        → operands_info (form_of flags) packages operands
+        → operands_info (info_form_of_flags flags) packages operands
         ≡ report_lines (map (λ (o : Operand). o.text)
         (filter (λ (o : Operand). is_some (package_named packages o.text)) operands)) }
 {}
@@ -46,27 +47,31 @@ pub fn info_prints_the_installed_operands()
 /// dependencies, both in the order of the database; without a flag its description; `-W` says that
 /// it owns the path.
 pub fn each_question_of_info_has_its_answer()
+    // With `--contents`: the paths of the package, in their order.
     ensures contents { (flags : Flags) (name : List ℕ) (pkg : Plain)
         → flags.who_owns ≡ false → flags.installed ≡ false → flags.contents ≡ true
-        → package_info (form_of flags) name pkg
-        ≡ section_lines (info_heading pkg (codes " contains:"))
-        (paths_in_order pkg) }
+        → package_info (info_form_of_flags flags) name pkg
+        ≡ section_text_with_heading (info_heading pkg (codes " contains:"))
+        (file_paths_in_listed_order pkg) }
     ensures listed { (pkg : Plain) (path : List ℕ)
-        → IsIn path (paths_in_order pkg) ↔ (lists_path path pkg ≡ true) }
+        → IsIn path (file_paths_in_listed_order pkg) ↔ (lists_path path pkg ≡ true) }
+    // With `--depends`: the dependencies of the package.
     ensures depends { (flags : Flags) (name : List ℕ) (pkg : Plain)
         → flags.who_owns ≡ false → flags.installed ≡ false → flags.contents ≡ false
         → flags.depends ≡ true
-        → package_info (form_of flags) name pkg
-        ≡ section_lines (info_heading pkg (codes " depends on:"))
-        (depends_in_order pkg) }
+        → package_info (info_form_of_flags flags) name pkg
+        ≡ section_text_with_heading (info_heading pkg (codes " depends on:"))
+        (depends_texts_of_package pkg) }
+    // Without one of these options: the description of the package.
     ensures description { (flags : Flags) (name : List ℕ) (pkg : Plain)
         → flags.who_owns ≡ false → flags.installed ≡ false → flags.contents ≡ false
         → flags.depends ≡ false
-        → package_info (form_of flags) name pkg
-        ≡ section_lines (info_heading pkg (codes " description:"))
+        → package_info (info_form_of_flags flags) name pkg
+        ≡ section_text_with_heading (info_heading pkg (codes " description:"))
         (text_in (info_field (codes "description") pkg) ∷ []) }
+    // With `--who-owns`: the package that has the path.
     ensures owner { (flags : Flags) (path : List ℕ) (pkg : Plain) → flags.who_owns ≡ true
-        → package_info (form_of flags) path pkg
+        → package_info (info_form_of_flags flags) path pkg
         ≡ report_line (owner_text (without_slash path) (package_name pkg)
         (package_version_text pkg)) }
 {}
@@ -75,16 +80,20 @@ pub fn each_question_of_info_has_its_answer()
 /// order given, also if an operand is given twice. An operand without a package adds nothing.
 pub fn info_answers_each_operand_in_the_order_given()
     ensures none { (flags : Flags) (packages : List Plain)
-        → operands_info (form_of flags) packages [] ≡ [] }
+        → operands_info (info_form_of_flags flags) packages [] ≡ [] }
+    // An operand with a package has its lines at its place in the report.
     ensures found { (flags : Flags) (packages : List Plain) (front rest : List Operand)
-        (o : Operand) (pkg : Plain) → package_meant_by (form_of flags) packages o.text ≡ Some pkg
-        → operands_info (form_of flags) packages (front ++ o ∷ rest)
-        ≡ operands_info (form_of flags) packages front
-        ++ (package_info (form_of flags) o.text pkg
-        ++ operands_info (form_of flags) packages rest) }
+        (o : Operand) (pkg : Plain)
+        → package_meant_by_operand_text (info_form_of_flags flags) packages o.text ≡ Some pkg
+        → operands_info (info_form_of_flags flags) packages (front ++ o ∷ rest)
+        ≡ operands_info (info_form_of_flags flags) packages front
+        ++ (package_info (info_form_of_flags flags) o.text pkg
+        ++ operands_info (info_form_of_flags flags) packages rest) }
+    // An operand without a package has no lines.
     ensures absent { (flags : Flags) (packages : List Plain) (front rest : List Operand)
-        (o : Operand) → package_meant_by (form_of flags) packages o.text ≡ None
-        → operands_info (form_of flags) packages (front ++ o ∷ rest)
-        ≡ operands_info (form_of flags) packages front
-        ++ operands_info (form_of flags) packages rest }
+        (o : Operand) → package_meant_by_operand_text (info_form_of_flags flags) packages o.text
+        ≡ None
+        → operands_info (info_form_of_flags flags) packages (front ++ o ∷ rest)
+        ≡ operands_info (info_form_of_flags flags) packages front
+        ++ operands_info (info_form_of_flags flags) packages rest }
 {}

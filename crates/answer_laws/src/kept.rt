@@ -3,7 +3,7 @@
 
 ghost use Rattle.std.specs.Prelude.{◌↔◌, ℕ, List};
 ghost use Rattle.adb_view.specs.Plain.{Plain};
-ghost use Rattle.answer_laws.specs.KeptNames.{AreNamedOnce, HasKeptLines, IsNeededBySelectedName};
+ghost use Rattle.answer_laws.specs.KeptNames.{IsEachNameSelectedAtMostOnce, HasStillNeededLines, IsNeededBySelectedName};
 ghost use Rattle.base_core.specs.Listed.{AreSortedDistinctNames};
 ghost use Rattle.base_core.specs.Lists.{IsIn};
 ghost use Rattle.installed_info.specs.candidate_core.Candidates.{Candidate};
@@ -23,6 +23,7 @@ pub fn a_kept_package_is_required_by_those_that_need_it()
 /// it has one, and the lines are in byte order of the names.
 pub fn a_name_stays_if_it_is_still_selected()
     ensures { (before : List Plain) (selected : List Candidate) (to_remove : List (List ℕ))
-        → AreNamedOnce selected
-        → HasKeptLines before selected to_remove (still_needed_lines before selected to_remove) }
+        → IsEachNameSelectedAtMostOnce selected
+        → HasStillNeededLines before selected to_remove
+        (still_needed_lines before selected to_remove) }
 {}

@@ -4,8 +4,8 @@
 ghost use Rattle.std.specs.Prelude.{◌≡◌, ◌↔◌, ℕ, List, Some, codes, map};
 ghost use Rattle.adb_view.specs.Plain.{null};
 ghost use Rattle.adb_view.specs.declared.tables.Which.TheVariants.{File, Idb, Package, PkgInfo};
-ghost use Rattle.answer_laws.specs.TextLetters.{HasUnlistedLetter, HasValuesOfLines, record_with_lines};
-ghost use Rattle.make_laws.specs.NamedFields.{entries_named, field_named};
+ghost use Rattle.answer_laws.specs.TextLetters.{BeginsWithUnknownFieldLetter, HasFieldValuesOfLines, record_with_lines};
+ghost use Rattle.make_laws.specs.NamedFields.{entries_of_field_named, field_named};
 ghost use Rattle.change_outcome.specs.v2_core.Database.{listed_file_value, record_value, value_of_records};
 ghost use Rattle.change_outcome.specs.v2_core.Records.{ListedFile, Record, empty_record};
 ghost use Rattle.change_outcome.specs.v2_lines.Lines.{other_line, record_line_of};
@@ -18,15 +18,17 @@ use dep_core::{read_texts_are_spelled, spelled_texts_are_read};
 pub fn each_letter_gives_its_field()
     ensures { (lines : List (List ℕ)) (r : Record) (f : InfoField)
         → record_with_lines empty_record lines ≡ Some r
-        → HasValuesOfLines f lines (record_value r) }
+        → HasFieldValuesOfLines f lines (record_value r) }
 {
+    // Laws that the proof needs; they have no effect at run time.
     read_texts_are_spelled();
     spelled_texts_are_read();
 }
 
 /// A line is dropped exactly if its letter is not listed.
 pub fn a_line_is_dropped_if_its_letter_is_not_listed()
-    ensures { (line : List ℕ) → (record_line_of line ≡ Some other_line) ↔ HasUnlistedLetter line }
+    ensures { (line : List ℕ) → (record_line_of line ≡ Some other_line)
+        ↔ BeginsWithUnknownFieldLetter line }
 {}
 
 /// A package of a text has no field that no letter gives, and a file neither size nor time nor
@@ -51,6 +53,6 @@ pub fn what_no_letter_gives_is_null()
 /// A text becomes one package for each of its records, in their order.
 pub fn each_record_is_a_package_in_order()
     ensures { (records : List Record)
-        → entries_named Idb (codes "packages") (value_of_records records)
+        → entries_of_field_named Idb (codes "packages") (value_of_records records)
         ≡ map record_value records }
 {}

@@ -4,9 +4,9 @@
 ghost use Rattle.std.specs.Prelude.{◌≡◌, ℕ, List, Some, codes, map, option_map};
 ghost use Rattle.adb_view.specs.Plain.{blob_or_null, int};
 ghost use Rattle.adb_view.specs.declared.tables.Which.TheVariants.{Acl, Dir, File, Package};
-ghost use Rattle.answer_laws.specs.TextFiles.{folders_listed};
+ghost use Rattle.answer_laws.specs.TextFiles.{folders_of_record_lines};
 ghost use Rattle.answer_laws.specs.TextLetters.{letter_line, record_with_lines};
-ghost use Rattle.make_laws.specs.NamedFields.{entries_named, field_named};
+ghost use Rattle.make_laws.specs.NamedFields.{entries_of_field_named, field_named};
 ghost use Rattle.change_outcome.specs.v2_core.Database.{listed_access_value, listed_file_value, listed_folder_value, listed_hash_value, record_value};
 ghost use Rattle.change_outcome.specs.v2_core.Records.{ListedFile, ListedFolder, Record, empty_record};
 ghost use Rattle.change_outcome.specs.v2_lines.Accesses.{Access, access_in};
@@ -35,18 +35,18 @@ pub fn lines_list_folders_and_their_files()
     ensures { (lines : List (List ℕ)) (meanings : List RecordLine) (r : Record)
         → map record_line_of lines ≡ map Some meanings
         → record_with_lines empty_record lines ≡ Some r
-        → r.folders ≡ folders_listed meanings }
+        → r.folders ≡ folders_of_record_lines meanings }
 {}
 
 /// A package has its folders, and each folder its files, in their order; each of them has its name,
 /// its access and its hash in the field of that name.
 pub fn folders_and_files_have_their_fields()
-    ensures folders { (r : Record) → entries_named Package (codes "paths") (record_value r)
+    ensures folders { (r : Record) → entries_of_field_named Package (codes "paths") (record_value r)
         ≡ map listed_folder_value r.folders }
     ensures folder { (f : ListedFolder)
         → (field_named Dir (codes "name") (listed_folder_value f) ≡ blob_or_null f.name)
         × (field_named Dir (codes "acl") (listed_folder_value f) ≡ listed_access_value f.access)
-        × (entries_named Dir (codes "files") (listed_folder_value f)
+        × (entries_of_field_named Dir (codes "files") (listed_folder_value f)
         ≡ map listed_file_value f.files) }
     ensures file { (f : ListedFile)
         → (field_named File (codes "name") (listed_file_value f) ≡ blob_or_null f.name)

@@ -3,7 +3,7 @@
 
 ghost use Rattle.std.specs.Prelude.{ℕ, ◌≡◌, ◌↔◌, List, Ok};
 ghost use Rattle.adb_view.specs.Plain.{Plain};
-ghost use Rattle.answer_laws.specs.ManifestLines.{HasLinesOfOperands};
+ghost use Rattle.answer_laws.specs.ManifestLines.{HasManifestLinesOfOperands};
 ghost use Rattle.audit_core.specs.Manifest.{manifest_of};
 ghost use Rattle.command_core.specs.declared.operands.Operand.{Operand};
 
@@ -12,5 +12,6 @@ ghost use Rattle.command_core.specs.declared.operands.Operand.{Operand};
 /// the order of the database.
 pub fn manifest_prints_each_file_of_the_packages_that_are_named()
     ensures { (packages : List Plain) (operands : List Operand) (text : List ℕ)
-        → (manifest_of packages operands ≡ Ok text) ↔ HasLinesOfOperands packages operands text }
+        → (manifest_of packages operands ≡ Ok text)
+        ↔ HasManifestLinesOfOperands packages operands text }
 {}

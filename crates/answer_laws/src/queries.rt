@@ -3,7 +3,7 @@
 
 ghost use Rattle.std.specs.Prelude.{ℕ, ◌≡◌, ◌++◌, Bool, List, Option};
 ghost use Rattle.std.specs.List.{flat_map};
-ghost use Rattle.answer_laws.specs.QueryLines.{HasLinesOfAsked, HasPlacesOfVersion, IsInListReport, IsInSearchReport};
+ghost use Rattle.answer_laws.specs.QueryLines.{HasLineOfEachAskedCandidate, HasPolicyLinesOfVersion, IsInListReport, IsInSearchReport};
 ghost use Rattle.command_core.specs.declared.operands.Operand.{Operand};
 ghost use Rattle.dep_core.specs.Repositories.{Repository};
 ghost use Rattle.installed_info.specs.candidate_core.Candidates.{Candidate};
@@ -22,9 +22,11 @@ use query_core::{
 /// queries.
 pub fn list_prints_a_line_for_each_candidate_that_is_asked_for()
     ensures { (candidates : List Candidate) (patterns : List Operand) (installed_only : Bool)
-        → HasLinesOfAsked (IsInListReport patterns installed_only) candidate_line candidates
+        → HasLineOfEachAskedCandidate
+        (IsInListReport patterns installed_only) candidate_line candidates
         (list_report candidates patterns installed_only) }
 {
+    // Laws that the proof needs; they have no effect at run time.
     a_query_selects_what_passes_its_test();
     list_prints_what_is_asked_for();
 }
@@ -33,10 +35,11 @@ pub fn list_prints_a_line_for_each_candidate_that_is_asked_for()
 /// order of queries.
 pub fn search_prints_a_line_for_each_candidate_that_is_asked_for()
     ensures { (candidates : List Candidate) (patterns : List Operand)
-        → HasLinesOfAsked (IsInSearchReport patterns)
+        → HasLineOfEachAskedCandidate (IsInSearchReport patterns)
         (λ (c : Candidate). search_line c.name (printed_version c.version)) candidates
         (search_report candidates patterns) }
 {
+    // Laws that the proof needs; they have no effect at run time.
     a_query_selects_what_passes_its_test();
     search_prints_what_is_asked_for();
 }
@@ -52,6 +55,6 @@ pub fn policy_prints_where_each_version_is()
         (versions_of_name candidates o.text)) names }
     ensures places { (candidates : List Candidate) (repositories : List Repository)
         (name : List ℕ) (version : Option (List ℕ))
-        → HasPlacesOfVersion candidates repositories name version
+        → HasPolicyLinesOfVersion candidates repositories name version
         (version_policy candidates repositories name version) }
 {}

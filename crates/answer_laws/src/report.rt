@@ -2,8 +2,8 @@
 //! The rules are in `docs/commands.md`, "`add` and `del`", what is reported.
 
 ghost use Rattle.std.specs.Prelude.{List, map, ℕ};
-ghost use Rattle.answer_laws.specs.KeptNames.{AreNamedOnce};
-ghost use Rattle.answer_laws.specs.ReportSections.{HasConfigurationLines, HasSections, HasSimulatedSections, IsSumLine, size_when_installed, member_info};
+ghost use Rattle.answer_laws.specs.KeptNames.{IsEachNameSelectedAtMostOnce};
+ghost use Rattle.answer_laws.specs.ReportSections.{HasConfigurationLines, HasChangeReportSections, HasSimulatedReportSections, IsBytesAndPackageCountLine, installed_size_in_info, member_info};
 ghost use Rattle.base_core.specs.Files.{Files};
 ghost use Rattle.installed_info.specs.candidate_core.Candidates.{Candidate};
 ghost use Rattle.change_outcome.specs.change_files.FileChange.{FileChange};
@@ -17,10 +17,12 @@ ghost use Rattle.change_outcome.specs.package_changes.Report.{selected_sum_line,
 /// and how many they are.
 pub fn the_sum_counts_what_is_installed()
     ensures simulated { (selected : List Candidate)
-        → IsSumLine (map (λ (c : Candidate). size_when_installed c.info) selected)
+        → IsBytesAndPackageCountLine (map (λ
+        (c : Candidate). installed_size_in_info c.info) selected)
         (selected_sum_line selected) }
     ensures made { (members : List Member)
-        → IsSumLine (map (λ (m : Member). size_when_installed (member_info m)) members)
+        → IsBytesAndPackageCountLine (map (λ (m : Member). installed_size_in_info
+        (member_info m)) members)
         (member_sum_line members) }
 {}
 
@@ -34,9 +36,12 @@ pub fn each_configuration_file_has_one_line()
 /// The sections of a report are in this order: the changes, the kept names, configuration,
 /// triggers, the sum. A simulated report has the first two and the last.
 pub fn a_report_has_its_sections_in_order()
-    ensures simulated { (r : Replacement) (to_remove : List (List ℕ)) → AreNamedOnce r.selected
-        → HasSimulatedSections r to_remove (simulated_report r to_remove) }
+    // The report of a simulated change.
+    ensures simulated { (r : Replacement) (to_remove : List (List ℕ))
+        → IsEachNameSelectedAtMostOnce r.selected
+        → HasSimulatedReportSections r to_remove (simulated_report r to_remove) }
+    // The report of a change that is made.
     ensures made { (r : Replacement) (wishes : ChangeWishes) (change : FileChange) (files : Files)
-        → AreNamedOnce r.selected
-        → HasSections r wishes change files (change_report r wishes change files) }
+        → IsEachNameSelectedAtMostOnce r.selected
+        → HasChangeReportSections r wishes change files (change_report r wishes change files) }
 {}

@@ -3,8 +3,8 @@
 
 ghost use Rattle.std.specs.Prelude.{◌≡◌, ◌≢◌, ◌↔◌, ℕ, List, [], Some, None, codes, true, false};
 ghost use Rattle.adb_view.specs.Plain.{Plain};
-ghost use Rattle.answer_laws.specs.FirstScripts.{IsFirstScript, RunsScript};
-ghost use Rattle.answer_laws.specs.ScriptTexts.{IsFirstWithText, script_text_by_name, script_text_by_number};
+ghost use Rattle.answer_laws.specs.FirstScripts.{IsFirstScriptRunByChange, IsScriptNumberRunByChange};
+ghost use Rattle.answer_laws.specs.ScriptTexts.{IsFirstScriptNumberWithText, script_text_by_name, script_text_by_number};
 ghost use Rattle.base_core.specs.Lists.{IsIn};
 ghost use Rattle.change_outcome.specs.PackageFiles.{first_script_of, has_script_of, scripts_of_change};
 ghost use Rattle.report_core.specs.Numbers.{POST_DEINSTALL_SCRIPT, POST_INSTALL_SCRIPT, POST_UPGRADE_SCRIPT, PRE_DEINSTALL_SCRIPT, PRE_INSTALL_SCRIPT, PRE_UPGRADE_SCRIPT, TRIGGER_SCRIPT};
@@ -14,10 +14,11 @@ ghost use Rattle.report_core.specs.Reports.{Change};
 /// exactly if the package has none of them.
 pub fn the_first_script_by_number_is_named()
     ensures named { (change : Change) (pkg : Plain) (n : ℕ)
-        → (first_script_of pkg (scripts_of_change change) ≡ Some n) ↔ IsFirstScript change pkg n }
+        → (first_script_of pkg (scripts_of_change change) ≡ Some n)
+        ↔ IsFirstScriptRunByChange change pkg n }
     ensures none { (change : Change) (pkg : Plain)
         → (first_script_of pkg (scripts_of_change change) ≡ None)
-        ↔ ((n : ℕ) → RunsScript change n → has_script_of pkg n ≡ false) }
+        ↔ ((n : ℕ) → IsScriptNumberRunByChange change n → has_script_of pkg n ≡ false) }
 {}
 
 /// A package has a script exactly if the field with its name has at least one byte. The seven
@@ -45,7 +46,9 @@ pub fn a_script_is_run_only_if_it_has_text()
 /// none of the scripts has text.
 pub fn the_first_script_that_has_text_is_taken()
     ensures first { (pkg : Plain) (numbers : List ℕ) (number : ℕ)
-        → (first_script_of pkg numbers ≡ Some number) ↔ IsFirstWithText pkg numbers number }
+        → (first_script_of pkg numbers ≡ Some number)
+        ↔ IsFirstScriptNumberWithText pkg numbers number }
+    // None is taken exactly if no script of the list has text.
     ensures none { (pkg : Plain) (numbers : List ℕ)
         → (first_script_of pkg numbers ≡ None)
         ↔ ((m : ℕ) → IsIn m numbers → script_text_by_number pkg m ≡ []) }

@@ -3,14 +3,14 @@
 
 ghost use Rattle.std.specs.Prelude.{◌≡◌, ◌⊎◌, ◌↔◌, ℕ, List, [], true, false, Ok, Err, codes};
 ghost use Rattle.adb_view.specs.Plain.{Plain};
-ghost use Rattle.answer_laws.specs.DueTriggers.{HasFileIn, HasTriggerLines, IsTriggerDueFor, MatchesFolderByParts, IsFirstPackageWithDueTrigger, IsTriggered};
+ghost use Rattle.answer_laws.specs.DueTriggers.{HasFileRightInFolder, HasTriggerLines, IsTriggerDueFor, MatchesFolderByParts, IsFirstPackageWithDueTrigger, HasTriggerWatchingFolder};
 ghost use Rattle.base_core.specs.Files.{Files};
 ghost use Rattle.base_core.specs.Listed.{AreSortedDistinctNames};
 ghost use Rattle.base_core.specs.Lists.{IsIn};
 ghost use Rattle.change_outcome.specs.change_files.FileChange.{FileChange};
 ghost use Rattle.change_outcome.specs.change_files.FilesAfter.{is_removed, is_written};
 ghost use Rattle.change_outcome.specs.ChangeOutcome.{touched_paths};
-ghost use Rattle.change_outcome.specs.Triggers.{folders_of_paths, is_trigger_due, is_folder_matched, trigger_lines, unless_trigger_due};
+ghost use Rattle.change_outcome.specs.Triggers.{folders_of_paths, is_trigger_due, is_folder_matched_by_pattern, trigger_lines, unless_trigger_due};
 ghost use Rattle.change_outcome.specs.db_core.Members.{Member};
 ghost use Rattle.report_core.specs.declared.refusal.Refusal.TheVariants.{TriggerNeeded};
 
@@ -18,14 +18,17 @@ use change_outcome::{
     a_pattern_matches_what_its_stars_are_filled_to, the_lists_of_a_plan_hold_just_its_names,
 };
 
-/// A pattern matches a folder exactly if both have as many parts and the stars of each part of the
-/// pattern can be filled to the folder's part. The root is matched by `/` alone.
+/// A pattern matches a folder exactly if both have the same number of parts, and bytes can replace
+/// the stars of each part of the pattern so that it reads as the folder's part. The root is matched
+/// by `/` alone.
 pub fn a_pattern_matches_a_folder_part_by_part()
     ensures below { (folder pattern : List ℕ) → (folder ≡ [] → ⊥)
-        → (is_folder_matched folder pattern ≡ true) ↔ MatchesFolderByParts pattern folder }
+        → (is_folder_matched_by_pattern folder pattern ≡ true)
+        ↔ MatchesFolderByParts pattern folder }
     ensures root { (pattern : List ℕ)
-        → (is_folder_matched [] pattern ≡ true) ↔ (pattern ≡ codes "/") }
+        → (is_folder_matched_by_pattern [] pattern ≡ true) ↔ (pattern ≡ codes "/") }
 {
+    // A law that the proof needs; it has no effect at run time.
     a_pattern_matches_what_its_stars_are_filled_to();
 }
 
@@ -34,9 +37,9 @@ pub fn a_pattern_matches_a_folder_part_by_part()
 /// them, each once, in byte order.
 pub fn a_trigger_is_due_for_a_changed_folder()
     ensures due { (pkg : Plain) (folder : List ℕ)
-        → (is_trigger_due pkg folder ≡ true) ↔ IsTriggered pkg folder }
+        → (is_trigger_due pkg folder ≡ true) ↔ HasTriggerWatchingFolder pkg folder }
     ensures folders { (paths : List (List ℕ)) (folder : List ℕ)
-        → IsIn folder (folders_of_paths paths) ↔ HasFileIn paths folder }
+        → IsIn folder (folders_of_paths paths) ↔ HasFileRightInFolder paths folder }
     ensures order { (paths : List (List ℕ)) → AreSortedDistinctNames (folders_of_paths paths) }
 {}
 
@@ -50,9 +53,11 @@ pub fn each_due_trigger_has_a_line()
 /// If scripts may not be left out, a change is accepted exactly if no trigger is due; a refusal
 /// names the first package whose trigger is due.
 pub fn a_due_trigger_refuses_the_change()
+    // The change is accepted exactly if no trigger is due.
     ensures accepted { (paths : List (List ℕ)) (members : List Member)
         → (unless_trigger_due false paths members ≡ Ok true)
         ↔ ((m : Member) → IsIn m members → (folder : List ℕ) → IsTriggerDueFor paths m folder → ⊥) }
+    // The refusal names the first package whose trigger is due.
     ensures named { (paths : List (List ℕ)) (members : List Member) (name : List ℕ)
         → unless_trigger_due false paths members ≡ Err (TriggerNeeded name)
         → IsFirstPackageWithDueTrigger paths members name }
@@ -65,5 +70,6 @@ pub fn the_changed_files_are_those_written_or_removed()
         → IsIn path (touched_paths change files)
         ↔ ((is_written change files path ≡ true) ⊎ (is_removed change files path ≡ true)) }
 {
+    // A law that the proof needs; it has no effect at run time.
     the_lists_of_a_plan_hold_just_its_names();
 }

@@ -1,5 +1,6 @@
-//! The program `apk`: the top call over the folder that it runs in and the two standard streams.
-//! The rules are in `docs/commands.md`, "Answers and statuses" and "A fault of the tree".
+//! The program `apk`: it calls `apk_as_promised`, which runs its command line over the folder that
+//! it runs in and the two standard streams, and then prints hints for the user. The rules are in
+//! `docs/commands.md`, "Answers and statuses" and "A fault of the tree".
 //!
 //! This crate is trusted, as is `host_tree`: its tree and its sinks obey their traits, but no proof
 //! can see what the host did. Everything else is decided in the crates below it.
@@ -27,8 +28,8 @@ const NO_MEMORY: u8 = 4;
 /// same table).
 const TOO_MANY_WORDS: u8 = 5;
 
-/// The last line after an I/O error of the tree, if there is a journal entry: of this run's change,
-/// or of an earlier one that recovery has not finished.
+/// The last line that is printed after an I/O error of the tree, if there is a journal entry: that
+/// of this run's change, or that of an earlier change that recovery has not finished.
 const UNFINISHED: &[u8] =
     b"apk: the change is committed: once the cause is gone, the next command finishes it\n";
 
@@ -36,8 +37,8 @@ const UNFINISHED: &[u8] =
 const OMITTED: &[u8] =
     b"apk: the package drops a permission to execute, or an empty folder, that the folder has\n";
 
-/// Runs the command line over the folder that the program is in, and exits with the answer's
-/// status. The root is locked as the command needs it.
+/// Runs the command line over the folder that the program runs in, and exits with the status of its
+/// answer. The lock on the folder is shared or exclusive, as the command needs.
 fn main(rt: HostRuntime) -> ExitCode {
     let words = match words_of(&rt, rt.alloc()) {
         Ok(words) => words,
@@ -58,22 +59,27 @@ fn main(rt: HostRuntime) -> ExitCode {
     let mut err = HostSink::new(rt.stderr());
     let answer = apk_as_promised(rt.alloc(), &words, &mut tree, &mut out, &mut err);
     match &answer {
+        // An I/O error of the tree: which call failed, and why.
         Answer::TreeFault => {
             let _ = tell_why(&rt, &tree);
         }
+        // A command line that is not valid: what is wrong with the word at this place.
         Answer::Refused(Refusal::Usage { place }) => {
             let _ = explain_usage(&words, *place, &mut err);
         }
+        // No selection of packages satisfies world: why not.
         Answer::Refused(Refusal::Unsatisfied) => {
             let _ = explain_selection(rt.alloc(), &words, &mut tree, &mut err);
         }
+        // Any other refusal: what is wrong with which package, file or name.
         Answer::Refused(refusal) => {
             let _ = explain_package(rt.alloc(), &words, refusal, &mut tree, &mut err);
             let _ = explain(rt.alloc(), &words, refusal, &mut tree, &mut err);
             let _ = explain_contents(rt.alloc(), &words, refusal, &mut tree, &mut err);
         }
         Answer::Ok => {
-            // The next call lists only the folder of `mkpkg -F`, and earlier lists do not count.
+            // `warn` lists only the folder of `mkpkg -F`; what earlier lists omitted does not
+            // count.
             tree.take_omitted();
             let _ = warn(rt.alloc(), &words, &mut tree, &mut err);
             if tree.take_omitted() {
@@ -86,14 +92,15 @@ fn main(rt: HostRuntime) -> ExitCode {
     ExitCode::from(status(&answer))
 }
 
-/// Exits if there is no memory even for the arguments, or for the stack.
+/// Prints that the program is out of memory, and returns the exit status for this: there is no
+/// memory for the arguments, or for the stack.
 fn out_of_memory(rt: &HostRuntime) -> ExitCode {
     let _ = rt.stderr().write_all(b"ERROR: out of memory\n");
     ExitCode::from(NO_MEMORY)
 }
 
-/// The lock that a run takes on its root: one that writes has the root alone, and any number may
-/// read.
+/// The lock that a run takes on its root: exclusive if it writes, and shared with other runs if it
+/// only reads.
 fn lock_for(access: RootAccess) -> Lock {
     match access {
         RootAccess::Read => Lock::Shared,
@@ -101,8 +108,9 @@ fn lock_for(access: RootAccess) -> Lock {
     }
 }
 
-/// Prints the first failure on the host, whether the new file may be there already, and whether a
-/// change is committed, so that the next command completes it.
+/// Prints on standard error, after an I/O error of the tree: the first call on the host that
+/// failed, the file that may have its new contents already, and whether the next command finishes a
+/// change.
 fn tell_why(rt: &HostRuntime, tree: &HostTree<'_, HostRuntime>) -> io::Result<()> {
     let mut to = rt.stderr();
     if let Some(failure) = tree.failure() {

@@ -1,5 +1,5 @@
-//! What the process gives a run: the arguments of its command line, and its standard streams as
-//! sinks. The rules are in `docs/commands.md`, "Answers and statuses".
+//! What a run gets from its process: the arguments of the command line, its stack, and the standard
+//! streams as sinks. The rules are in `docs/commands.md`, "Answers and statuses".
 
 ghost use Rattle.std.specs.Prelude.{◌≤◌, IfOk, IfSome, ◌≡◌, ◌<◌, None, length};
 ghost use Rattle.std.specs.Vec.{vec_len};
@@ -14,13 +14,13 @@ use std::io::{ErrorKind, Write};
 /// The most words that a command line may have: 2^32 - 2.
 const MOST_WORDS: usize = 4294967294;
 
-/// How often a buffer is tried for one argument; after each try that is too short, it is doubled.
-/// An argument that does not fit then counts as out of memory. The buffer has 4,096 bytes for the
-/// first argument and is not made smaller, so each may have two gigabytes.
+/// How often an argument is read with a buffer that is doubled after each try for which it was too
+/// short. An argument that never fits counts as out of memory. The buffer has 4,096 bytes at first
+/// and is never made smaller, so that an argument may have two gigabytes.
 const MOST_DOUBLINGS: u32 = 20;
 
-/// How many bytes of stack a run takes, after it has read its words and before any call on the tree.
-/// The deepest run of the tests needs some 280,000.
+/// How many bytes of stack a run takes, after it has read its words and before any call on the
+/// tree. The deepest run of the tests needs some 280,000.
 const STACK: usize = 524_288;
 
 /// Why the arguments of the command line are not read.
@@ -56,27 +56,27 @@ pub fn words_of(rt: &impl Env, alloc: Global) -> Result<Words, ArgumentsFault> {
     Err(ArgumentsFault::TooMany)
 }
 
-/// Takes the stack that a run needs, so that a limit on memory is met here, and not by a signal in
-/// the middle of a change. The host kills a program whose stack cannot grow. So as much memory is
-/// asked for first, and given back: where the host has it, the stack can grow by as much.
+/// Makes the stack as large as a run needs, so that a lack of memory is an error here, and not a
+/// signal during a change: the host kills a program whose stack cannot grow. So as much memory is
+/// requested first, and released: if the host has it, the stack can grow by as much.
 ///
-/// `seed` is a number that no compiler knows, so that the stack is touched in fact.
+/// `seed` is a number that the compiler does not know, so that it cannot leave out the writes.
 pub fn take_stack(alloc: Global, seed: usize) -> Result<(), AllocError> {
     let mut room = Vec::with_capacity(alloc, STACK)?;
     room.push(1)?;
     room.push(0)?;
     let mark = room[seed % 2];
     drop(room);
-    // The bytes are 0 and 1; the test keeps the call.
+    // The result is 0 or 1. Because of this test the compiler cannot leave out the call.
     if touch_stack(seed, mark) > 1 {
         return Err(AllocError);
     }
     Ok(())
 }
 
-/// Fills a part of the stack with zeros and one mark, and returns one of these bytes. The call must
-/// not be inlined: the frame of its caller would keep the bytes for the whole run, and later calls
-/// would need more stack than was taken.
+/// Fills `STACK` bytes of the stack with zeros and one byte `mark`, and returns one of these bytes.
+/// The call must not be inlined: the frame of its caller would keep the bytes for the whole run,
+/// and later calls would need more stack than was taken.
 #[inline(never)]
 fn touch_stack(seed: usize, mark: u8) -> u8 {
     let mut stack = [0u8; STACK];
@@ -87,6 +87,7 @@ fn touch_stack(seed: usize, mark: u8) -> u8 {
 // Reads an argument into the buffer, which grows until it fits, and returns its length, or None if
 // there is no such argument.
 fn read_word(rt: &impl Env, i: usize, buffer: &mut Vec<u8>) -> Result<Option<usize>, AllocError>
+    // The length is at most that of the buffer.
     ensures { IfOk result (λ found. IfSome found (λ len. len ≤ vec_len buffer.new)) }
 {
     for _doubling in 0..MOST_DOUBLINGS {
@@ -111,6 +112,7 @@ pub struct HostSink<W: Write + Drop> {
 impl<W: Write + Drop> HostSink<W> {
     /// A sink that has not failed yet.
     pub fn new(inner: W) -> HostSink<W>
+        // No fault is counted yet.
         ensures { result.faults ≡ 0 }
     {
         HostSink { inner, faults: 0 }
@@ -118,7 +120,9 @@ impl<W: Write + Drop> HostSink<W> {
 
     /// Counts a fault; the count saturates at its largest value.
     fn fault(&mut self) -> SinkFault
+        // One more fault is counted, up to 2^64 - 1.
         ensures faults { self.new.faults ≡ saturating_increment self.old.faults }
+        // The count of faults does not fall.
         ensures later { self.old.faults ≤ self.new.faults }
     {
         self.faults = self.faults.saturating_add(1);
@@ -127,7 +131,7 @@ impl<W: Write + Drop> HostSink<W> {
 }
 
 impl<W: Write + Drop> Sink for HostSink<W> {
-    // The bytes of a host's stream are not seen by a contract.
+    // The bytes of a host's stream are not observable: no contract mentions them.
     ghost bytes = { λ sink. None };
 
     // The counts are those of a host's sink with this many faults.
@@ -145,9 +149,10 @@ impl<W: Write + Drop> Sink for HostSink<W> {
     }
 }
 
-/// The length of the part of a piece that the host took, at least one byte, or None if it failed. A
-/// write that a signal interrupts is tried again.
+/// Writes the beginning of a piece, and returns how many bytes the host took, or None if the write
+/// failed. A write that a signal interrupts is tried again.
 fn write_some<W: Write>(inner: &mut W, piece: &[u8]) -> Option<usize>
+    // The host took at least one byte, and at most the bytes of the piece.
     ensures { IfSome result (λ n. (0 < n) × (n ≤ length piece.now)) }
 {
     for _ in 0..u64::MAX {

@@ -13,16 +13,16 @@ use Rattle.base_core.specs.Tree.{TreeState, files_of}
 use Rattle.base_core.specs.declared.cause.Cause.{Cause}
 use Rattle.base_core.specs.declared.tree.TreeFault.{TreeFault}
 use Rattle.base_core.specs.declared.tree.TreeFault.TheVariants.{Memory as NoMemory}
-use Rattle.journal_core.specs.Kept.{HasOldOrNewBytes, JournalOnlyShrinks, NamesOutsideJournalAreDurable}
+use Rattle.journal_core.specs.Kept.{HasOldOrNewBytesOutsideJournal, JournalOnlyShrinks, NamesOutsideJournalAreDurable}
 use Rattle.journal_core.specs.Quiet.{EachCrashLeavesOld, StateIsUnchanged}
-use Rattle.journal_core.specs.Recovery.{EachCrashLeavesOldOrNew, EachCrashLeaves, StateDependsOn, intent_name, intent_of, state_of}
+use Rattle.journal_core.specs.Recovery.{EachCrashLeavesOldOrNew, EachCrashLeavesStateOf, StateDependsOn, intent_name, intent_of, state_of}
 use Rattle.journal_core.specs.Replacing.{IsMomentOfReplacing}
-use Rattle.journal_core.specs.Staged.{IsEmptyStage, IsOldUntilCommit, unstaged_files}
+use Rattle.journal_core.specs.Staged.{HasNoStagedNames, IsOldUntilCommit, unstaged_files}
 use Rattle.journal_core.proofs.Lasting.{some_none}
 use Rattle.outcome.specs.Effect.{Effect, does_recover}
 use Rattle.outcome.specs.Outcome.{Outcome}
 use Rattle.outcome.specs.Work.{recovery_fault, files_recovered_if_needed}
-use Rattle.apk_front.specs.Moments.{MomentsLeadToFiles, AreFilesReadDuringRun, AreStatesOldOrLeadToOutcome, CanRecover, HasNothingToRecover, IsDurableState, IsRecoveringOrNext, IsStateDuringRun, IsRecovering, MustOutcomeBeDurable, MustOutcomeBeDurableWithoutRecovery, NamesAreDurableWithoutIntentExcept, ignored_except_output}
+use Rattle.apk_front.specs.Moments.{MomentsLeadToFiles, AreStatesOfRecoveryOrCommittingRun, AreStatesOldOrLeadToOutcome, CanRecover, HasNothingToRecover, IsDurableAndLeavesFiles, IsStateDuringRecoveryOrNext, IsStateDuringRun, IsStateDuringRecovery, MustOutcomeBeDurable, MustOutcomeBeDurableWithoutRecovery, NamesAreDurableWithoutIntentExcept, ignored_except_output}
 use Rattle.apk_front.specs.Runs.{AreFilesReadWithoutRecovery, IsRunAfterRecovery, IsRunWithRecovery, IsOutOfMemoryOrWithoutCommit}
 use Rattle.apk_front.proofs.Runs.{History, Judged, Leaves, err_ok, on_ok, settled_before, since_weaker}
 
@@ -34,7 +34,7 @@ Ignored = List ℕ → Bool
 pub record AreLaws : Type 0 where
   pub none : (ignored : Ignored) (v : TreeState) → IsDurable (StateDependsOn ignored) v → StateIsUnchanged ignored v v
   pub calls : (ignored : Ignored) (v w : TreeState) (old between new : History) → Since (StateIsUnchanged ignored v) old between → StateIsUnchanged ignored v w → Since (StateIsUnchanged ignored w) between new → Since (StateIsUnchanged ignored v) old new
-  pub lasts : (ignored : Ignored) (files : Files) (a b : TreeState) → EachCrashLeaves ignored files a → EachCrashLeavesOld ignored a b → EachCrashLeaves ignored files b
+  pub lasts : (ignored : Ignored) (files : Files) (a b : TreeState) → EachCrashLeavesStateOf ignored files a → EachCrashLeavesOld ignored a b → EachCrashLeavesStateOf ignored files b
   pub quiet : (ignored : Ignored) (a b : TreeState) (new : Files) → EachCrashLeavesOld ignored a b → EachCrashLeavesOldOrNew ignored a new b
   pub behind : (ignored : Ignored) (a b c : TreeState) (new : Files) → EachCrashLeavesOld ignored a b → EachCrashLeavesOldOrNew ignored b new c → EachCrashLeavesOldOrNew ignored a new c
   pub is_unchanged : (ignored : Ignored) (files : Files) (start v : TreeState) (earlier : History) → StateIsUnchanged ignored start v → IsOldUntilCommit ignored files start earlier v
@@ -104,10 +104,10 @@ safe_after laws A B makes ignored v u old mid now into is_unchanged first (inr (
 
 -- ---- what lasts
 
-settled_same : (ignored : Ignored) (v u : TreeState) → EachCrashLeaves ignored (files_of v) u → state_of ignored (files_of u) ≡ state_of ignored (files_of v) → EachCrashLeaves ignored (files_of u) u
+settled_same : (ignored : Ignored) (v u : TreeState) → EachCrashLeavesStateOf ignored (files_of v) u → state_of ignored (files_of u) ≡ state_of ignored (files_of v) → EachCrashLeavesStateOf ignored (files_of u) u
 settled_same ignored v u settled reads = λ image is. settled image is ∙ sym reads
 
-settles_after : AreLaws → (effect : Effect) (ignored : Ignored) (v u : TreeState) (o : Outcome) → StateIsUnchanged ignored v u → (IsSome (intent_of (files_of v)) → EachCrashLeaves ignored (files_of v) u) → MustOutcomeBeDurable effect ignored v o → MustOutcomeBeDurableWithoutRecovery ignored u o
+settles_after : AreLaws → (effect : Effect) (ignored : Ignored) (v u : TreeState) (o : Outcome) → StateIsUnchanged ignored v u → (IsSome (intent_of (files_of v)) → EachCrashLeavesStateOf ignored (files_of v) u) → MustOutcomeBeDurable effect ignored v o → MustOutcomeBeDurableWithoutRecovery ignored u o
 settles_after laws effect ignored v u o is_unchanged found (inl (inl commits)) = inl commits
 settles_after laws effect ignored v u o is_unchanged found (inl (inr before)) = inr (settled_same ignored v u (laws.lasts ignored (files_of v) v u before is_unchanged.quiet) is_unchanged.reads)
 settles_after laws effect ignored v u o is_unchanged found (inr (recovers, some)) = inr (settled_same ignored v u (found some) is_unchanged.reads)
@@ -131,7 +131,7 @@ RecoversAs v w = unstaged_files (files_of w) ≡ unstaged_files (files_of v)
 
 -- each name that does not wait has its old bytes or its recovered ones
 abbrev pub BytesAs : TreeState → TreeState → Type 0
-BytesAs v w = HasOldOrNewBytes (files_of v) (unstaged_files (files_of v)) w
+BytesAs v w = HasOldOrNewBytesOutsideJournal (files_of v) (unstaged_files (files_of v)) w
 
 -- as soon as no intent is read, a crash undoes no change of a name that does not wait
 abbrev pub NamesAreDurableWithoutIntent : TreeState → Type 0
@@ -144,15 +144,15 @@ pub record IsRecovery (v : TreeState) (old mid : History) : Type 0 where
   pub bytes : Since (BytesAs v) old mid
   pub waiting : Since (JournalOnlyShrinks v) old mid
   pub last : IsSome (v.names intent_name) → Since NamesAreDurableWithoutIntent old mid
-  pub idle : v.names intent_name ≡ None → IsEmptyStage v.names → mid ≡ old
+  pub idle : v.names intent_name ≡ None → HasNoStagedNames v.names → mid ≡ old
 
 -- and where it ended well
 pub record IsRecovered (v : TreeState) (old mid : History) : Type 0 where
   pub recovery : IsRecovery v old mid
   pub files : HoldsNow mid (λ w. (files_of w ≡ unstaged_files (files_of v)) × (w.names intent_name ≡ None))
-  pub settled : (ignored : Ignored) → IsDurable (StateDependsOn ignored) v → IsSome (intent_of (files_of v)) → HoldsNow mid (EachCrashLeaves ignored (files_of v))
+  pub settled : (ignored : Ignored) → IsDurable (StateDependsOn ignored) v → IsSome (intent_of (files_of v)) → HoldsNow mid (EachCrashLeavesStateOf ignored (files_of v))
 
-nothing_done : (effect : Effect) (v : TreeState) (P : Type 0) → does_recover effect ≡ true → (v.names intent_name ≡ None → IsEmptyStage v.names → P) → HasNothingToRecover effect v → P
+nothing_done : (effect : Effect) (v : TreeState) (P : Type 0) → does_recover effect ≡ true → (v.names intent_name ≡ None → HasNoStagedNames v.names → P) → HasNothingToRecover effect v → P
 nothing_done effect v P recovers idle (inl not_so) = absurd (false≢true (sym not_so ∙ recovers))
 nothing_done effect v P recovers idle (inr (absent, empty)) = idle absent empty
 
@@ -167,21 +167,21 @@ since_and P Q old now p q =
     let same : q.added ≡ p.added = append_cancel_right q.added p.added old (sym q.is ∙ p.is) in
     record { added = p.added; is = p.is; each = all_both P Q p.added p.each (subst (λ (h : History). All Q h) same q.each) }
 
-recovering : (v : TreeState) (old mid : History) → IsRecovery v old mid → Since (IsRecovering v) old mid
+recovering : (v : TreeState) (old mid : History) → IsRecovery v old mid → Since (IsStateDuringRecovery v) old mid
 recovering v old mid recovery =
-    since_weaker (λ w. RecoversAs v w × (BytesAs v w × JournalOnlyShrinks v w)) (IsRecovering v) old mid (λ w all. record { reads = all.0; bytes = all.1.0; waiting = all.1.1 })
+    since_weaker (λ w. RecoversAs v w × (BytesAs v w × JournalOnlyShrinks v w)) (IsStateDuringRecovery v) old mid (λ w all. record { reads = all.0; bytes = all.1.0; waiting = all.1.1 })
     (since_and (RecoversAs v) (λ w. BytesAs v w × JournalOnlyShrinks v w) old mid recovery.reads (since_and (BytesAs v) (JournalOnlyShrinks v) old mid recovery.bytes recovery.waiting))
 
 reads_after : (A B : Outcome → Type 0) (effect : Effect) (output : Option (List ℕ)) (v u : TreeState) (old mid now : History) → does_recover effect ≡ true → files_of u ≡ files_recovered_if_needed effect (files_of v) → ((o : Outcome) → A o → B o)
-    → Since (IsRecovering v) old mid → AreFilesReadWithoutRecovery A effect output u mid now → AreFilesReadDuringRun B effect output v old now
+    → Since (IsStateDuringRecovery v) old mid → AreFilesReadWithoutRecovery A effect output u mid now → AreStatesOfRecoveryOrCommittingRun B effect output v old now
 reads_after A B effect output v u old mid now recovers work into first (inl same) =
-    inl (since_both (IsRecovering v) (λ w. files_of w ≡ files_of u) (IsRecoveringOrNext effect (λ w. files_of w ≡ files_recovered_if_needed effect (files_of v)) v) old mid now (λ w r. inl (recovers, r)) (λ w is. inr (is ∙ work)) first same)
+    inl (since_both (IsStateDuringRecovery v) (λ w. files_of w ≡ files_of u) (IsStateDuringRecoveryOrNext effect (λ w. files_of w ≡ files_recovered_if_needed effect (files_of v)) v) old mid now (λ w r. inl (recovers, r)) (λ w is. inr (is ∙ work)) first same)
 reads_after A B effect output v u old mid now recovers work into first (inr (o, one, commits, at_work)) =
     inr (
       o,
       into o one,
       commits,
-      since_both (IsRecovering v) (IsStateDuringRun effect output o.files (files_of u)) (IsRecoveringOrNext effect (IsStateDuringRun effect output o.files (files_recovered_if_needed effect (files_of v))) v) old mid now
+      since_both (IsStateDuringRecovery v) (IsStateDuringRun effect output o.files (files_of u)) (IsStateDuringRecoveryOrNext effect (IsStateDuringRun effect output o.files (files_recovered_if_needed effect (files_of v))) v) old mid now
           (λ w r. inl (recovers, r))
           (λ w is. inr (subst (λ (f : Files). IsStateDuringRun effect output o.files f w) work is)) first at_work,
     )
@@ -239,12 +239,12 @@ pub whole_failed : AreLaws → (IsOne : Outcome → Type 0) (effect : Effect) (o
 whole_failed laws IsOne effect output judged e v rest now recovers failed recovery bad = record {
   moments = λ ignored is_durable hides. inl (recovery.calm ignored is_durable);
   is_durable = λ ignored is_durable hides. newest_durable laws ignored v rest now is_durable (recovery.calm ignored is_durable);
-  settled = λ ignored o is_durable hides one lasts. err_ok (HoldsNow now (EachCrashLeaves ignored o.files)) judged e failed;
-  durable_state = λ ignored o is_durable hides one commits. err_ok (HoldsNow now (IsDurableState (ignored_except_output output ignored) o.files)) judged e failed;
+  settled = λ ignored o is_durable hides one lasts. err_ok (HoldsNow now (EachCrashLeavesStateOf ignored o.files)) judged e failed;
+  durable_state = λ ignored o is_durable hides one commits. err_ok (HoldsNow now (IsDurableAndLeavesFiles (ignored_except_output output ignored) o.files)) judged e failed;
   left = λ without ignored is_durable. recovery.calm ignored is_durable;
   idle = λ without nothing. nothing_done effect v (now ≡ v ∷ rest) recovers recovery.idle nothing;
   bad = bad;
-  reads = inl (since_weaker (IsRecovering v) (IsRecoveringOrNext effect (λ w. files_of w ≡ files_recovered_if_needed effect (files_of v)) v) (v ∷ rest) now (λ w r. inl (recovers, r)) (recovering v (v ∷ rest) now recovery));
+  reads = inl (since_weaker (IsStateDuringRecovery v) (IsStateDuringRecoveryOrNext effect (λ w. files_of w ≡ files_recovered_if_needed effect (files_of v)) v) (v ∷ rest) now (λ w r. inl (recovers, r)) (recovering v (v ∷ rest) now recovery));
   last = λ some. since_weaker NamesAreDurableWithoutIntent (NamesAreDurableWithoutIntentExcept output) (v ∷ rest) now (unread_last output) (recovery.last some);
   leaves = λ o one. err_ok (HoldsNow now (λ w. files_of w ≡ o.files)) judged e failed;
 }
@@ -253,7 +253,7 @@ whole_failed laws IsOne effect output judged e v rest now recovers failed recove
 abbrev pub LeavesAll : Effect → TreeState → Outcome → Type 0
 LeavesAll effect v o = Leaves (files_of v) o × (CanRecover effect v → ⊥)
 
-settled_left : (effect : Effect) (ignored : Ignored) (v : TreeState) (o : Outcome) → LeavesAll effect v o → MustOutcomeBeDurable effect ignored v o → EachCrashLeaves ignored (files_of v) v
+settled_left : (effect : Effect) (ignored : Ignored) (v : TreeState) (o : Outcome) → LeavesAll effect v o → MustOutcomeBeDurable effect ignored v o → EachCrashLeavesStateOf ignored (files_of v) v
 settled_left effect ignored v o (leaves, never) (inl settles) = settled_before ignored v o leaves.1 settles
 settled_left effect ignored v o (leaves, never) (inr can) = absurd (never can)
 
@@ -265,13 +265,13 @@ whole_idle IsOne effect output judged v rest now same all = record {
   is_durable = λ ignored is_durable hides. subst (λ (h : History). HoldsNow h (IsDurable (StateDependsOn ignored))) (sym same) is_durable;
   settled = λ ignored o is_durable hides one lasts.
       on_ok judged
-      (λ left. subst (λ (h : History). HoldsNow h (EachCrashLeaves ignored o.files)) (sym same) (subst (λ (f : Files). EachCrashLeaves ignored f v) (sym left.0.0) (settled_left effect ignored v o left lasts)))
+      (λ left. subst (λ (h : History). HoldsNow h (EachCrashLeavesStateOf ignored o.files)) (sym same) (subst (λ (f : Files). EachCrashLeavesStateOf ignored f v) (sym left.0.0) (settled_left effect ignored v o left lasts)))
       (all o one);
   durable_state = λ ignored o is_durable hides one commits. on_ok judged (λ left. absurd (false≢true (sym left.0.1 ∙ commits))) (all o one);
   left = λ without ignored is_durable. none_since (StateIsUnchanged ignored v) (v ∷ rest) now same;
   idle = λ without nothing. same;
   bad = λ some. same;
-  reads = inl (none_since (IsRecoveringOrNext effect (λ w. files_of w ≡ files_recovered_if_needed effect (files_of v)) v) (v ∷ rest) now same);
+  reads = inl (none_since (IsStateDuringRecoveryOrNext effect (λ w. files_of w ≡ files_recovered_if_needed effect (files_of v)) v) (v ∷ rest) now same);
   last = λ some. none_since (NamesAreDurableWithoutIntentExcept output) (v ∷ rest) now same;
   leaves = λ o one. on_ok judged (λ left. subst (λ (h : History). HoldsNow h (λ w. files_of w ≡ o.files)) (sym same) (sym left.0.0)) (all o one);
 }

@@ -12,8 +12,8 @@ use Rattle.base_core.specs.Tree.{TreeState, files_of}
 use Rattle.base_core.specs.declared.cause.Cause.{Cause}
 use Rattle.command_core.specs.Command.{CommandLine}
 use Rattle.journal_core.specs.Kept.{JournalOnlyShrinks}
-use Rattle.journal_core.specs.Recovery.{EachCrashLeaves, StateDependsOn, intent_in_file, intent_name, intent_of, intent_unless_fault, read_intent, recovered_files}
-use Rattle.journal_core.specs.Staged.{AreReplayPathsFree, IsEmptyStage, IsIntentFault, unstaged_files}
+use Rattle.journal_core.specs.Recovery.{EachCrashLeavesStateOf, StateDependsOn, intent_in_file, intent_name, intent_of, intent_unless_fault, read_intent, recovered_files}
+use Rattle.journal_core.specs.Staged.{AreReplayPathsFree, HasNoStagedNames, IsIntentFault, unstaged_files}
 use Rattle.journal_core.specs.declared.fault.RecoverFault.{RecoverFault}
 use Rattle.journal_core.specs.declared.fault.RecoverFault.TheVariants.{IntentBad as BadIntent}
 use Rattle.outcome.specs.Commands.{IsPossibleOutcomeWithoutDemo, IsPossibleOutcomeAfterRecovery, IsOutcomeWithoutDemo, IsOutcomeOverRecoveredFiles, IsOutcomeUnlessBadIntent}
@@ -112,10 +112,10 @@ behind_read command (Err e) found = tt
 behind_read command (Ok verdict) (o, one, reports) = (o, inl one, reports)
 
 abbrev pub Settled : History → TreeState → Type 0
-Settled mid v = (ignored : List ℕ → Bool) → IsDurable (StateDependsOn ignored) v → IsSome (intent_of (files_of v)) → HoldsNow mid (EachCrashLeaves ignored (files_of v))
+Settled mid v = (ignored : List ℕ → Bool) → IsDurable (StateDependsOn ignored) v → IsSome (intent_of (files_of v)) → HoldsNow mid (EachCrashLeavesStateOf ignored (files_of v))
 
 abbrev pub Idle : History → History → TreeState → Type 0
-Idle old mid v = v.names intent_name ≡ None → IsEmptyStage v.names → mid ≡ old
+Idle old mid v = v.names intent_name ≡ None → HasNoStagedNames v.names → mid ≡ old
 
 pub behind_run : AreLaws → (command : CommandLine) (output : Option (List ℕ)) (judged : Judged) (old mid now : History) → does_recover (effect_of command.applet) ≡ true
     → IfObservable old (λ v. IsRecovery v old mid) → IfObservable old IsGood → IfObservable old (λ v. HoldsNow mid (LeavesUnstaged v)) → IfObservable old (Settled mid)

@@ -14,19 +14,19 @@ use Rattle.base_core.specs.declared.cause.Cause.{Cause}
 use Rattle.base_core.specs.declared.tree.TreeFault.{TreeFault}
 use Rattle.base_core.specs.declared.tree.TreeFault.TheVariants.{Disk, Memory as NoMemory}
 use Rattle.journal_core.specs.Quiet.{StateIsUnchanged}
-use Rattle.journal_core.specs.Recovery.{EachCrashLeaves, StateDependsOn, intent_name}
+use Rattle.journal_core.specs.Recovery.{EachCrashLeavesStateOf, StateDependsOn, intent_name}
 use Rattle.make_core.specs.make_info.Output.{output_name}
 use Rattle.make_core.specs.package_files.Sources.{AreNamesBelowFirstFolder, values_of_letter}
 use Rattle.command_core.specs.declared.values.TheConstants.{FILES}
-use Rattle.make_core.specs.make_index.Files.{FindOnlyFiles}
+use Rattle.make_core.specs.make_index.Files.{AreOperandReadsFileBytes}
 use Rattle.make_core.specs.make_info.Reads.{Reads}
 use Rattle.outcome.specs.Make.{mkndx, mkpkg}
 use Rattle.outcome.specs.Commands.{IsPossibleOutcomeWithoutDemo, IsPossibleOutcomeAfterRecovery, IsOutcomeWithoutDemo, IsOutcomeOverRecoveredFiles, reads_in, outcome_from_arguments_alone, effect_outcome, reading_outcome}
-use Rattle.outcome.specs.Given.{Given, IsChosenFor, IsFirstClashForEffect, IsListingChoiceAndClashFor, IsListingFor, MayBeListingChoiceAndClashFor, MayBeListedFor, MayBeFirstClashForEffect, no_listing_choice_or_clash}
+use Rattle.outcome.specs.Given.{Given, IsChoiceForCommand, IsFirstClashForEffect, IsListingChoiceAndClashFor, AreNamesListedForApplet, MayBeListingChoiceAndClashFor, MayBeNamesListedForApplet, MayBeFirstClashForEffect, no_listing_choice_or_clash}
 use Rattle.outcome.specs.Effect.{Effect, Computes, OnlyReadsFiles, AsksRoot, Makes, Changes, does_only_read, does_recover, ignores_files, effect_of_arguments, effect_of, output, output_name_of_arguments, output_name_for_effect, reads_only, depends_only_on_arguments}
 use Rattle.outcome.specs.Words.{IsPossibleOutcome, IsOutcome}
 use Rattle.outcome.specs.Work.{recovery_fault}
-use Rattle.outcome.specs.Outcome.{Outcome, just_refusal, just_report, outcome_of, report_unless}
+use Rattle.outcome.specs.Outcome.{Outcome, just_refusal, just_report, outcome_without_commit, just_report_unless_refusal}
 use Rattle.report_core.specs.declared.refusal.Refusal.{Refusal}
 use Rattle.report_core.specs.declared.refusal.Refusal.TheVariants.{Usage}
 use Rattle.command_core.specs.Command.{CommandLine}
@@ -41,7 +41,7 @@ use Rattle.command_core.specs.declared.operands.Operand.{Operand}
 use Rattle.outcome.proofs.Looking.{look_leaves}
 use Rattle.apk_front.specs.Answers.{answer_for_refusal}
 use Rattle.apk_front.specs.Effects.{root_access_if_read_only}
-use Rattle.apk_front.specs.Moments.{AnswersOutcome, AreFilesReadDuringRun, AreStatesOldOrLeadToOutcome, IsRefusedOrCommitsNothing, HasNothingToRecover, ArePathsToWriteFree, IgnoresScratchOf, IsDurableState, IsRefusedOrOutOfMemory, LeavesDurableStateIfCommitted, LeavesDurableFilesOnceAnswered, AreRunPathsFree, AreOutcomePathsFree, LeavesDurableFilesIfRequired, MustOutcomeBeDurable, NamesAreDurableWithoutIntentExcept, ignored_except_output}
+use Rattle.apk_front.specs.Moments.{IsOkRefusedOrOutputFault, AreStatesOfRecoveryOrCommittingRun, AreStatesOldOrLeadToOutcome, IsRefusedOrCommitsNothing, HasNothingToRecover, ArePathsToWriteFree, IgnoresScratchNameOfOutput, IsDurableAndLeavesFiles, IsRefusedOrOutOfMemory, LeavesDurableStateIfCommitted, LeavesDurableFilesOnceAnswered, AreRunPathsFree, AreOutcomePathsFree, LeavesDurableFilesIfRequired, MustOutcomeBeDurable, NamesAreDurableWithoutIntentExcept, ignored_except_output}
 use Rattle.apk_front.specs.RunContracts.{IsRunByArguments}
 use Rattle.apk_front.specs.Runs.{IfNothingStaged, IsRunAfterRecovery, IsRunWithRecovery, IsOutOfMemoryOrWithoutCommit}
 use Rattle.apk_front.specs.Containers.{IsIndexOutcome, IsPackageOutcome}
@@ -91,22 +91,22 @@ look_run command (v ∷ rest) now judged reads same =
 abbrev listed : List (List ℕ) → Given
 listed names = record { names = names; chosen = None; clash = None }
 
-made_given : (applet : Applet) (command : CommandLine) (files : Files) (names : List (List ℕ)) → effect_of applet ≡ Makes → IsListingFor applet command files names
-    → IsListingFor applet command files names × IsChosenFor (effect_of applet) command (reads_in files) None × IsFirstClashForEffect (effect_of applet) command (reads_in files) files None None
+made_given : (applet : Applet) (command : CommandLine) (files : Files) (names : List (List ℕ)) → effect_of applet ≡ Makes → AreNamesListedForApplet applet command files names
+    → AreNamesListedForApplet applet command files names × IsChoiceForCommand (effect_of applet) command (reads_in files) None × IsFirstClashForEffect (effect_of applet) command (reads_in files) files None None
 made_given Mkpkg command files names makes are = (are, refl, refl)
 made_given Mkndx command files names makes are = (are, refl, refl)
 made_given other command files names makes are = cc
 
-given_of_names : (command : CommandLine) (files : Files) (names : List (List ℕ)) → effect_of command.applet ≡ Makes → IsListingFor command.applet command files names → IsListingChoiceAndClashFor command (reads_in files) files (listed names)
+given_of_names : (command : CommandLine) (files : Files) (names : List (List ℕ)) → effect_of command.applet ≡ Makes → AreNamesListedForApplet command.applet command files names → IsListingChoiceAndClashFor command (reads_in files) files (listed names)
 given_of_names command files names makes are = let (list, choice, clash) = made_given command.applet command files names makes are in record { names = list; chosen = choice; clash = clash }
 
-made_by_some : (applet : Applet) (command : CommandLine) (read : Reads) (files : Files) (names : List (List ℕ)) → effect_of applet ≡ Makes → MayBeListedFor applet command names
-    → MayBeListedFor applet command names × IsChosenFor (effect_of applet) command read None × MayBeFirstClashForEffect (effect_of applet) command read files None None
+made_by_some : (applet : Applet) (command : CommandLine) (read : Reads) (files : Files) (names : List (List ℕ)) → effect_of applet ≡ Makes → MayBeNamesListedForApplet applet command names
+    → MayBeNamesListedForApplet applet command names × IsChoiceForCommand (effect_of applet) command read None × MayBeFirstClashForEffect (effect_of applet) command read files None None
 made_by_some Mkpkg command read files names makes are = (are, refl, refl)
 made_by_some Mkndx command read files names makes are = (are, refl, refl)
 made_by_some other command read files names makes are = absurd (cc)
 
-given_by_some : (command : CommandLine) (read : Reads) (files : Files) (names : List (List ℕ)) → effect_of command.applet ≡ Makes → MayBeListedFor command.applet command names → MayBeListingChoiceAndClashFor command read files (listed names)
+given_by_some : (command : CommandLine) (read : Reads) (files : Files) (names : List (List ℕ)) → effect_of command.applet ≡ Makes → MayBeNamesListedForApplet command.applet command names → MayBeListingChoiceAndClashFor command read files (listed names)
 given_by_some command read files names makes are = let (list, choice, clash) = made_by_some command.applet command read files names makes are in record { names = list; chosen = choice; clash = clash }
 
 makes_package : (command : CommandLine) → Mkpkg ≡ command.applet → effect_of command.applet ≡ Makes
@@ -117,15 +117,15 @@ makes_index command same = sym (ap effect_of same)
 
 package_one : (command : CommandLine) (files : Files) (o : Outcome) → Mkpkg ≡ command.applet → IsPackageOutcome command files o → IsOutcomeOverRecoveredFiles command files o
 package_one command files o same (names, are, is) =
-    (listed names, given_of_names command files names (makes_package command same) (subst (λ (a : Applet). IsListingFor a command files names) same are), is ∙ ap (λ (a : Applet). effect_outcome (effect_of a) a command (listed names) (reads_in files) files) same)
+    (listed names, given_of_names command files names (makes_package command same) (subst (λ (a : Applet). AreNamesListedForApplet a command files names) same are), is ∙ ap (λ (a : Applet). effect_outcome (effect_of a) a command (listed names) (reads_in files) files) same)
 
 one_package : (command : CommandLine) (files : Files) (o : Outcome) → Mkpkg ≡ command.applet → IsOutcomeOverRecoveredFiles command files o → IsPackageOutcome command files o
 one_package command files o same (given, are, is) =
-    (given.names, subst (λ (a : Applet). IsListingFor a command files given.names) (sym same) are.names, is ∙ ap (λ (a : Applet). effect_outcome (effect_of a) a command given (reads_in files) files) (sym same))
+    (given.names, subst (λ (a : Applet). AreNamesListedForApplet a command files given.names) (sym same) are.names, is ∙ ap (λ (a : Applet). effect_outcome (effect_of a) a command given (reads_in files) files) (sym same))
 
 index_one : (command : CommandLine) (files : Files) (o : Outcome) → Mkndx ≡ command.applet → IsIndexOutcome command files o → IsOutcomeOverRecoveredFiles command files o
 index_one command files o same is =
-    (listed [], given_of_names command files [] (makes_index command same) (subst (λ (a : Applet). IsListingFor a command files []) same refl), is ∙ ap (λ (a : Applet). effect_outcome (effect_of a) a command (listed []) (reads_in files) files) same)
+    (listed [], given_of_names command files [] (makes_index command same) (subst (λ (a : Applet). AreNamesListedForApplet a command files []) same refl), is ∙ ap (λ (a : Applet). effect_outcome (effect_of a) a command (listed []) (reads_in files) files) same)
 
 one_index : (command : CommandLine) (files : Files) (o : Outcome) → Mkndx ≡ command.applet → IsOutcomeOverRecoveredFiles command files o → IsIndexOutcome command files o
 one_index command files o same (given, are, is) = is ∙ ap (λ (a : Applet). effect_outcome (effect_of a) a command given (reads_in files) files) (sym same)
@@ -148,13 +148,13 @@ pub package_read_one : (command : CommandLine) (judged : Judged) → Mkpkg ≡ c
     → IfOk judged (ReportsOneOfOutcomes (IsPossibleOutcomeAfterRecovery command))
 package_read_one command (Err e) same found = tt
 package_read_one command (Ok verdict) same (names, named, read, reports) =
-    (mkpkg read no_names command names, (listed names, read, no_names, given_by_some command read no_names names (makes_package command same) (subst (λ (a : Applet). MayBeListedFor a command names) same named), inl (ap (λ (a : Applet). effect_outcome (effect_of a) a command (listed names) read no_names) same)), reports)
+    (mkpkg read no_names command names, (listed names, read, no_names, given_by_some command read no_names names (makes_package command same) (subst (λ (a : Applet). MayBeNamesListedForApplet a command names) same named), inl (ap (λ (a : Applet). effect_outcome (effect_of a) a command (listed names) read no_names) same)), reports)
 
-pub index_read_one : (command : CommandLine) (judged : Judged) → Mkndx ≡ command.applet → IfOk judged (λ verdict. (read : Reads) × FindOnlyFiles read 0 command.operands × Reports verdict (mkndx read no_names command))
+pub index_read_one : (command : CommandLine) (judged : Judged) → Mkndx ≡ command.applet → IfOk judged (λ verdict. (read : Reads) × AreOperandReadsFileBytes read 0 command.operands × Reports verdict (mkndx read no_names command))
     → IfOk judged (ReportsOneOfOutcomes (IsPossibleOutcomeAfterRecovery command))
 index_read_one command (Err e) same found = tt
 index_read_one command (Ok verdict) same (read, files, reports) =
-    (mkndx read no_names command, (listed [], read, no_names, given_by_some command read no_names [] (makes_index command same) (subst (λ (a : Applet). MayBeListedFor a command []) same refl), inl (ap (λ (a : Applet). effect_outcome (effect_of a) a command (listed []) read no_names) same)), reports)
+    (mkndx read no_names command, (listed [], read, no_names, given_by_some command read no_names [] (makes_index command same) (subst (λ (a : Applet). MayBeNamesListedForApplet a command []) same refl), inl (ap (λ (a : Applet). effect_outcome (effect_of a) a command (listed []) read no_names) same)), reports)
 
 runs_among : (A B : TreeState → Outcome → Type 0) (out : Option (List ℕ)) (judged : Judged) (old now : History) → ((v : TreeState) (o : Outcome) → A v o → B v o) → ((v : TreeState) (o : Outcome) → B v o → A v o)
     → IfObservable old (λ v. IsRunAfterRecovery (A v) Makes out judged v old now) → IfNothingStaged old (λ v. IsRunAfterRecovery (B v) Makes out judged v old now)
@@ -247,7 +247,7 @@ failed_run words e (v ∷ rest) = whole_idle (IsOutcome (command_of words) (file
 -- ---- the answer
 
 pub reads_by : (words : List (List ℕ)) (judged : Judged) (old now : History) → Runs words judged old now
-    → IfObservable old (λ v. AreFilesReadDuringRun (IsOutcome (command_of words) (files_of v)) (effect_of_arguments (command_of words)) (output words) v old now)
+    → IfObservable old (λ v. AreStatesOfRecoveryOrCommittingRun (IsOutcome (command_of words) (files_of v)) (effect_of_arguments (command_of words)) (output words) v old now)
 reads_by words judged [] now run = tt
 reads_by words judged (v ∷ rest) now run = run.reads
 
@@ -257,12 +257,12 @@ last_by words judged [] now run = tt
 last_by words judged (v ∷ rest) now run = run.last
 
 pub crash_by : (words : List (List ℕ)) (judged : Judged) (old now : History) → Runs words judged old now
-    → IfObservable old (λ v. (ignored : List ℕ → Bool) → IsDurable (StateDependsOn ignored) v → IgnoresScratchOf (output words) ignored → AreStatesOldOrLeadToOutcome (IsOutcome (command_of words) (files_of v)) (is_some (output words)) ignored v old now)
+    → IfObservable old (λ v. (ignored : List ℕ → Bool) → IsDurable (StateDependsOn ignored) v → IgnoresScratchNameOfOutput (output words) ignored → AreStatesOldOrLeadToOutcome (IsOutcome (command_of words) (files_of v)) (is_some (output words)) ignored v old now)
 crash_by words judged [] now run = tt
 crash_by words judged (v ∷ rest) now run = run.moments
 
 pub durable_by : (words : List (List ℕ)) (judged : Judged) (old now : History) → Runs words judged old now
-    → IfObservable old (λ v. (ignored : List ℕ → Bool) → IsDurable (StateDependsOn ignored) v → IgnoresScratchOf (output words) ignored → HoldsNow now (IsDurable (StateDependsOn ignored)))
+    → IfObservable old (λ v. (ignored : List ℕ → Bool) → IsDurable (StateDependsOn ignored) v → IgnoresScratchNameOfOutput (output words) ignored → HoldsNow now (IsDurable (StateDependsOn ignored)))
 durable_by words judged [] now run = tt
 durable_by words judged (v ∷ rest) now run = run.is_durable
 
@@ -287,13 +287,13 @@ lasting_shown IsOne effect ignored v now verdict o TreeFailed out err one report
 lasting_shown IsOne effect ignored v now verdict o Memory out err one reports lasts printed = tt
 
 lasting_judged : (IsOne : Outcome → Type 0) (effect : Effect) (ignored : List ℕ → Bool) (v : TreeState) (now : History) (judged : Judged) (answer : Answer) (out err : SinkBeforeAndAfter) → IfOk judged (ReportsOneOfOutcomes IsOne) → IsVerdictPrinted judged answer out err
-    → ((o : Outcome) → IsOne o → MustOutcomeBeDurable effect ignored v o → OnOk judged (HoldsNow now (EachCrashLeaves ignored o.files))) → LeavesDurableFilesOnceAnswered IsOne effect ignored v now answer
+    → ((o : Outcome) → IsOne o → MustOutcomeBeDurable effect ignored v o → OnOk judged (HoldsNow now (EachCrashLeavesStateOf ignored o.files))) → LeavesDurableFilesOnceAnswered IsOne effect ignored v now answer
 lasting_judged IsOne effect ignored v now (Ok verdict) answer out err (o, one, reports) is_shown settled = lasting_shown IsOne effect ignored v now verdict o answer out err one reports (settled o one) (is_shown o.files)
 lasting_judged IsOne effect ignored v now (Err Disk) answer out err found is_shown settled = subst (LeavesDurableFilesOnceAnswered IsOne effect ignored v now) (sym is_shown.0) tt
 lasting_judged IsOne effect ignored v now (Err NoMemory) answer out err found is_shown settled = subst (LeavesDurableFilesOnceAnswered IsOne effect ignored v now) (sym is_shown.0) tt
 
 pub settled_by : (words : List (List ℕ)) (judged : Judged) (answer : Answer) (out err : SinkBeforeAndAfter) (old now : History) → IsVerdictPrinted judged answer out err → IfOk judged (λ verdict. IfObservable old (λ v. ReportsOneOfOutcomes (IsOutcome (command_of words) (files_of v)) verdict)) → Runs words judged old now
-    → IfObservable old (λ v. (ignored : List ℕ → Bool) → IsDurable (StateDependsOn ignored) v → IgnoresScratchOf (output words) ignored → LeavesDurableFilesOnceAnswered (IsOutcome (command_of words) (files_of v)) (effect_of_arguments (command_of words)) ignored v now answer)
+    → IfObservable old (λ v. (ignored : List ℕ → Bool) → IsDurable (StateDependsOn ignored) v → IgnoresScratchNameOfOutput (output words) ignored → LeavesDurableFilesOnceAnswered (IsOutcome (command_of words) (files_of v)) (effect_of_arguments (command_of words)) ignored v now answer)
 settled_by words judged answer out err [] now is_shown found run = tt
 settled_by words judged answer out err (v ∷ rest) now is_shown found run = λ ignored is_durable hides.
     lasting_judged (IsOutcome (command_of words) (files_of v)) (effect_of_arguments (command_of words)) ignored v now judged answer out err (found_at v rest judged (λ verdict w. ReportsOneOfOutcomes (IsOutcome (command_of words) (files_of w)) verdict) found) is_shown
@@ -346,14 +346,14 @@ bad_by words judged (v ∷ rest) now run = run.bad
 
 -- ---- the output counts again
 
-rest_of : (IsOne : Outcome → Type 0) (output : Option (List ℕ)) (ignored : List ℕ → Bool) (now : History) (judged : Judged) (answer : Answer) (out err : SinkBeforeAndAfter) → IfOk judged (ReportsOneOfOutcomes IsOne) → IsVerdictPrinted judged answer out err → AnswersOutcome answer
-    → ((o : Outcome) → IsOne o → o.commits ≡ true → OnOk judged (HoldsNow now (IsDurableState (ignored_except_output output ignored) o.files))) → LeavesDurableStateIfCommitted IsOne output ignored now
+rest_of : (IsOne : Outcome → Type 0) (output : Option (List ℕ)) (ignored : List ℕ → Bool) (now : History) (judged : Judged) (answer : Answer) (out err : SinkBeforeAndAfter) → IfOk judged (ReportsOneOfOutcomes IsOne) → IsVerdictPrinted judged answer out err → IsOkRefusedOrOutputFault answer
+    → ((o : Outcome) → IsOne o → o.commits ≡ true → OnOk judged (HoldsNow now (IsDurableAndLeavesFiles (ignored_except_output output ignored) o.files))) → LeavesDurableStateIfCommitted IsOne output ignored now
 rest_of IsOne output ignored now (Ok verdict) answer out err (o, one, reports) is_shown answers rests = (o, one, λ commits. rests o one commits)
-rest_of IsOne output ignored now (Err Disk) answer out err found is_shown answers rests = absurd (subst AnswersOutcome is_shown.0 answers)
-rest_of IsOne output ignored now (Err NoMemory) answer out err found is_shown answers rests = absurd (subst AnswersOutcome is_shown.0 answers)
+rest_of IsOne output ignored now (Err Disk) answer out err found is_shown answers rests = absurd (subst IsOkRefusedOrOutputFault is_shown.0 answers)
+rest_of IsOne output ignored now (Err NoMemory) answer out err found is_shown answers rests = absurd (subst IsOkRefusedOrOutputFault is_shown.0 answers)
 
 pub rest_by : (words : List (List ℕ)) (judged : Judged) (answer : Answer) (out err : SinkBeforeAndAfter) (old now : History) → IsVerdictPrinted judged answer out err → FindsOne words judged old → Runs words judged old now
-    → IfObservable old (λ v. (ignored : List ℕ → Bool) → IsDurable (StateDependsOn ignored) v → IgnoresScratchOf (output words) ignored → AnswersOutcome answer → LeavesDurableStateIfCommitted (IsOutcome (command_of words) (files_of v)) (output words) ignored now)
+    → IfObservable old (λ v. (ignored : List ℕ → Bool) → IsDurable (StateDependsOn ignored) v → IgnoresScratchNameOfOutput (output words) ignored → IsOkRefusedOrOutputFault answer → LeavesDurableStateIfCommitted (IsOutcome (command_of words) (files_of v)) (output words) ignored now)
 rest_by words judged answer out err [] now is_shown found run = tt
 rest_by words judged answer out err (v ∷ rest) now is_shown found run = λ ignored is_durable hides answers.
     rest_of (IsOutcome (command_of words) (files_of v)) (output words) ignored now judged answer out err (found_first words judged v rest found) is_shown answers (λ o one commits. run.durable_state ignored o is_durable hides one commits)

@@ -10,32 +10,32 @@ use Rattle.base_core.specs.Restart.{EachMoment, SinceGivenEarlier}
 use Rattle.base_core.specs.Tree.{TreeState, files_of}
 use Rattle.base_core.specs.declared.tree.TreeFault.{TreeFault}
 use Rattle.base_core.specs.declared.tree.TreeFault.TheVariants as Trees
-use Rattle.tell_core.specs.change_inputs.Answers.{AgreesUnlessDisk}
+use Rattle.tell_core.specs.change_inputs.Answers.{AgreesUnlessDiskOrMemory}
 use Rattle.tell_core.specs.change_inputs.declared.root.Refused.{Refused}
 use Rattle.tell_core.specs.change_inputs.declared.root.Refused.TheVariants.{Disk, Memory, Refusal as IsRefused}
 use Rattle.engine_core.specs.change_outcome.ChangeOutcome.{ChangeDone}
 use Rattle.command_core.specs.Command.{CommandLine}
 use Rattle.command_core.specs.declared.command.Applet.{Applet}
 use Rattle.command_core.specs.declared.command.Applet.TheVariants.{Add, Del, Fix, Upgrade}
-use Rattle.engine_core.specs.ChangeRun.{CarriesOut, DoesCommit, IsChangeRun, IsCommit, IsChangedSinceTested, IsUnchangedOrCommit, report_as_is, report_of_result}
-use Rattle.engine_core.specs.Changed.{IsClashOfCommand, IsClashOfCommandAmong, change_of_command, found_packages, selected_for}
+use Rattle.engine_core.specs.ChangeRun.{IsEndOfRunOfWantedChange, DoesCommit, IsChangeRun, IsRunThatCommitsChange, IsPackageFileChangedSinceTested, IsUnchangedOrCommit, report_as_is, report_of_result}
+use Rattle.engine_core.specs.Changed.{IsClashOfCommand, IsClashOfCommandAmong, change_of_command, packages_found_after_change, selected_from_reads_by_choice}
 use Rattle.engine_core.specs.Choice.{IsChoiceFrom}
 use Rattle.engine_core.specs.Runs.{IsRunCounted}
 use Rattle.engine_core.specs.Selecting.{pool_of_command}
-use Rattle.journal_core.specs.Kept.{HasOldOrNewBytes}
-use Rattle.journal_core.specs.Recovery.{EachCrashLeaves, StateDependsOn, intent_name}
+use Rattle.journal_core.specs.Kept.{HasOldOrNewBytesOutsideJournal}
+use Rattle.journal_core.specs.Recovery.{EachCrashLeavesStateOf, StateDependsOn, intent_name}
 use Rattle.journal_core.specs.Staged.{IsOldUntilCommit}
 use Rattle.make_core.specs.make_info.Reads.{Reads}
 use Rattle.tell_core.specs.path_clashes.Clash.{NamePair}
 use Rattle.report_core.specs.declared.refusal.Refusal.{Refusal}
-use Rattle.engine_core.specs.journal_commit.StageRun.{IsStateDuringChange, IsStagedChangeComplete, NamesAreDurableWithoutIntent}
+use Rattle.engine_core.specs.journal_commit.StageRun.{IsStateDuringChangeToNewFromOld, IsStagedChangeComplete, NamesAreDurableWithoutIntent}
 use Rattle.outcome.proofs.Applets.{change_is}
 use Rattle.outcome.specs.Changing.{change_outcome}
 use Rattle.outcome.specs.Commands.{IsPossibleOutcomeAfterRecovery, IsOutcomeOverRecoveredFiles, effect_outcome, reads_in}
 use Rattle.outcome.specs.Effect.{Effect, Changes, effect_of, output_name_for_effect}
-use Rattle.outcome.specs.Given.{Given, IsChosenFor, IsFirstClashForEffect, IsListingChoiceAndClashFor, IsListingFor, MayBeListingChoiceAndClashFor, MayBeListedFor, MayBeFirstClashForEffect}
+use Rattle.outcome.specs.Given.{Given, IsChoiceForCommand, IsFirstClashForEffect, IsListingChoiceAndClashFor, AreNamesListedForApplet, MayBeListingChoiceAndClashFor, MayBeNamesListedForApplet, MayBeFirstClashForEffect}
 use Rattle.outcome.specs.Outcome.{Outcome, just_refusal, just_report}
-use Rattle.apk_front.specs.Moments.{IsDurableState, IsStateDuringRun, NamesAreDurableWithoutIntentExcept}
+use Rattle.apk_front.specs.Moments.{IsDurableAndLeavesFiles, IsStateDuringRun, NamesAreDurableWithoutIntentExcept}
 use Rattle.apk_front.specs.Runs.{HasNothingStaged, IfNothingStaged, IsRunAfterRecovery}
 use Rattle.apk_front.specs.Told.{IsVerdictOnChange}
 use Rattle.apk_front.specs.Verdicts.{Reports, ReportsOneOfOutcomes, as_outcome}
@@ -59,7 +59,7 @@ abbrev given_by : Option (List ℕ) → Option NamePair → Given
 given_by chosen clash = record { names = []; chosen = chosen; clash = clash }
 
 parts_given : (applet : Applet) (command : CommandLine) (read : Reads) (files : Files) (chosen : Option (List ℕ)) (clash : Option NamePair) → effect_of applet ≡ Changes → IsChoiceFrom (pool_of_command command read) chosen → IsClashOfCommand command read files chosen clash
-    → IsListingFor applet command files [] × IsChosenFor (effect_of applet) command read chosen × IsFirstClashForEffect (effect_of applet) command read files chosen clash
+    → AreNamesListedForApplet applet command files [] × IsChoiceForCommand (effect_of applet) command read chosen × IsFirstClashForEffect (effect_of applet) command read files chosen clash
 parts_given Add command read files chosen clash changes choice first = (refl, choice, first)
 parts_given Del command read files chosen clash changes choice first = (refl, choice, first)
 parts_given Upgrade command read files chosen clash changes choice first = (refl, choice, first)
@@ -73,7 +73,7 @@ are_given command read files chosen clash changes choice first =
     record { names = list; chosen = chosen_so; clash = clash_so }
 
 parts_by_some : (applet : Applet) (command : CommandLine) (read : Reads) (files present_files : Files) (chosen : Option (List ℕ)) (clash : Option NamePair) → effect_of applet ≡ Changes → IsChoiceFrom (pool_of_command command read) chosen
-    → IsClashOfCommandAmong command read files present_files chosen clash → MayBeListedFor applet command [] × IsChosenFor (effect_of applet) command read chosen × MayBeFirstClashForEffect (effect_of applet) command read files chosen clash
+    → IsClashOfCommandAmong command read files present_files chosen clash → MayBeNamesListedForApplet applet command [] × IsChoiceForCommand (effect_of applet) command read chosen × MayBeFirstClashForEffect (effect_of applet) command read files chosen clash
 parts_by_some Add command read files present_files chosen clash changes choice first = (refl, choice, (present_files, first))
 parts_by_some Del command read files present_files chosen clash changes choice first = (refl, choice, (present_files, first))
 parts_by_some Upgrade command read files present_files chosen clash changes choice first = (refl, choice, (present_files, first))
@@ -115,7 +115,7 @@ reports_refusal verdict files wanted refusal is told =
     subst (λ (w : Wanted). Reports verdict (change_outcome files w)) (sym (refused_as wanted refusal is)) (ap (λ (o : Outcome). record o { commits = false }) (told files))
 
 -- what was answered as wanted is reported so
-reports_wanted : (answer : Answered) (verdict : Verdict) (files : Files) (wanted : Wanted) → AgreesUnlessDisk report_as_is answer (report_of_result wanted) → IsVerdictOnChange answer (Ok verdict) → Reports verdict (change_outcome files wanted)
+reports_wanted : (answer : Answered) (verdict : Verdict) (files : Files) (wanted : Wanted) → AgreesUnlessDiskOrMemory report_as_is answer (report_of_result wanted) → IsVerdictOnChange answer (Ok verdict) → Reports verdict (change_outcome files wanted)
 reports_wanted (Ok report) verdict files wanted agrees told = reports_done verdict files wanted report agrees told
 reports_wanted (Err (IsRefused refusal)) verdict files wanted agrees told = reports_refusal verdict files wanted refusal agrees told
 reports_wanted (Err Disk) verdict files wanted agrees told = absurd (cc (told))
@@ -143,7 +143,7 @@ module _ (command : CommandLine) (changes : effect_of command.applet ≡ Changes
   abbrev wanted : Wanted
   wanted = change_of_command command run.read run.files run.chosen run.clash
 
-  found_so : (verdict : Verdict) → IsVerdictOnChange answer (Ok verdict) → AgreesUnlessDisk report_as_is answer (report_of_result wanted) ⊎ IsChangedSinceTested (found_packages command run.read (selected_for command run.read run.chosen)) wanted old answer → ReportsOneOfOutcomes (IsPossibleOutcomeAfterRecovery command) verdict
+  found_so : (verdict : Verdict) → IsVerdictOnChange answer (Ok verdict) → AgreesUnlessDiskOrMemory report_as_is answer (report_of_result wanted) ⊎ IsPackageFileChangedSinceTested (packages_found_after_change command run.read (selected_from_reads_by_choice command run.read run.chosen)) wanted old answer → ReportsOneOfOutcomes (IsPossibleOutcomeAfterRecovery command) verdict
   found_so verdict told (inl agrees) = (
     change_outcome run.files wanted,
     (found, run.read, run.files, may_be_given command run.read run.files run.present_files run.chosen run.clash changes run.choice run.is_clash, inl (applet_is command.applet command run.read run.files run.chosen run.clash changes)),
@@ -178,12 +178,12 @@ pub record IsRunAt (command : CommandLine) (v : TreeState) (old now : History) (
   pub chosen : Option (List ℕ)
   pub clash : Option NamePair
   pub given : IsListingChoiceAndClashFor command (reads_in (files_of v)) (files_of v) (given_by chosen clash)
-  pub comes : CarriesOut (found_packages command (reads_in (files_of v)) (selected_for command (reads_in (files_of v)) chosen)) (change_of_command command (reads_in (files_of v)) (files_of v) chosen clash) old now a b answer
+  pub comes : IsEndOfRunOfWantedChange (packages_found_after_change command (reads_in (files_of v)) (selected_from_reads_by_choice command (reads_in (files_of v)) chosen)) (change_of_command command (reads_in (files_of v)) (files_of v) chosen clash) old now a b answer
 
 abbrev RunFacts : CommandLine → History → History → Counts → Counts → Answered → Option (List ℕ) → Option NamePair → Reads → Files → Files → Type 0
 RunFacts command old now a b answer chosen clash read files present_files =
     IsChoiceFrom (pool_of_command command read) chosen × IsClashOfCommandAmong command read files present_files chosen clash
-    × CarriesOut (found_packages command read (selected_for command read chosen)) (change_of_command command read files chosen clash) old now a b answer
+    × IsEndOfRunOfWantedChange (packages_found_after_change command read (selected_from_reads_by_choice command read chosen)) (change_of_command command read files chosen clash) old now a b answer
 
 run_at : (command : CommandLine) → effect_of command.applet ≡ Changes → (v : TreeState) (rest now : History) (a b : Counts) (answer : Answered) → IsChangeRun command (v ∷ rest) now a b answer → IsRunAt command v (v ∷ rest) now a b answer
 run_at command changes v rest now a b answer run = record {
@@ -230,7 +230,7 @@ module _ (command : CommandLine) (changes : effect_of command.applet ≡ Changes
   the_one : (o : Outcome) → Ones command v o → outcome ≡ o
   the_one o one = unique command (files_of v) outcome o is_one one
 
-  told_so : AgreesUnlessDisk report_as_is answer (report_of_result asked)
+  told_so : AgreesUnlessDiskOrMemory report_as_is answer (report_of_result asked)
   told_so = elim run.comes.told [ inl agrees ↦ agrees | inr spoiled ↦ absurd (spoiled.unseen nothing.0 nothing.1) ]
 
   reports : (verdict : Verdict) → judged ≡ Ok verdict → ReportsOneOfOutcomes (Ones command v) verdict
@@ -238,7 +238,7 @@ module _ (command : CommandLine) (changes : effect_of command.applet ≡ Changes
 
   -- ---- nothing was written
 
-  idle_commits : (answer : Answered) (wanted : Wanted) → AgreesUnlessDisk report_as_is answer (report_of_result wanted) → OnOk answer (DoesCommit wanted → ⊥) → (judged : Judged) → IsVerdictOnChange answer judged → OnOk judged ((change_outcome (files_of v) wanted).commits ≡ false)
+  idle_commits : (answer : Answered) (wanted : Wanted) → AgreesUnlessDiskOrMemory report_as_is answer (report_of_result wanted) → OnOk answer (DoesCommit wanted → ⊥) → (judged : Judged) → IsVerdictOnChange answer judged → OnOk judged ((change_outcome (files_of v) wanted).commits ≡ false)
   idle_commits answer wanted agrees never (Err e) told = tt
   idle_commits (Ok report) wanted agrees never (Ok verdict) told = not_so (change_outcome (files_of v) wanted).commits refl
     where
@@ -256,7 +256,7 @@ module _ (command : CommandLine) (changes : effect_of command.applet ≡ Changes
 
   -- ---- the change was carried out
 
-  module _ (commit : IsCommit asked v (v ∷ rest) now answer) where
+  module _ (commit : IsRunThatCommitsChange asked v (v ∷ rest) now answer) where
     files_are : outcome.files ≡ commit.done.files
     files_are = ap (λ (w : Wanted). (change_outcome (files_of v) w).files) commit.is
 
@@ -276,12 +276,12 @@ module _ (command : CommandLine) (changes : effect_of command.applet ≡ Changes
         by_added [] is each = subst (λ (h : History). HoldsNow h (IsDurable (StateDependsOn ignored))) (sym is) is_durable
         by_added (m ∷ added) is each = subst (λ (h : History). HoldsNow h (IsDurable (StateDependsOn ignored))) (sym is) each.0.is_durable
 
-    at_work : (w : TreeState) → IsStateDuringChange commit.done.files (files_of v) w → IsStateDuringRun Changes None outcome.files (files_of v) w
+    at_work : (w : TreeState) → IsStateDuringChangeToNewFromOld commit.done.files (files_of v) w → IsStateDuringRun Changes None outcome.files (files_of v) w
     at_work w (inl waiting) = inl waiting
-    at_work w (inr (inl by_intent)) = inr (inl (record { changes = refl; intent = by_intent.intent; leads = by_intent.leads ∙ sym files_are; bytes = subst (λ (f : Files). HasOldOrNewBytes (files_of v) f w) (sym files_are) by_intent.bytes }))
+    at_work w (inr (inl by_intent)) = inr (inl (record { changes = refl; intent = by_intent.intent; leads = by_intent.leads ∙ sym files_are; bytes = subst (λ (f : Files). HasOldOrNewBytesOutsideJournal (files_of v) f w) (sym files_are) by_intent.bytes }))
     at_work w (inr (inr is)) = inr (inr (is ∙ sym files_are))
 
-    rests : (ignored : List ℕ → Bool) (h : History) (files : Files) → HoldsNow h (IsDurable (StateDependsOn ignored)) → HoldsNow h (EachCrashLeaves ignored files) → HoldsNow h (IsDurableState ignored files)
+    rests : (ignored : List ℕ → Bool) (h : History) (files : Files) → HoldsNow h (IsDurable (StateDependsOn ignored)) → HoldsNow h (EachCrashLeavesStateOf ignored files) → HoldsNow h (IsDurableAndLeavesFiles ignored files)
     rests ignored [] files is_durable settled = absurd is_durable
     rests ignored (w ∷ h) files is_durable settled = record { is_durable = is_durable; settled = settled }
 
@@ -289,10 +289,10 @@ module _ (command : CommandLine) (changes : effect_of command.applet ≡ Changes
     commit_run = record {
       moments = λ ignored is_durable hides. inr (outcome, is_one, commits_are, subst (λ (f : Files). SinceGivenEarlier (IsOldUntilCommit ignored f v) (v ∷ rest) now) (sym files_are) (commit.run.moments ignored is_durable));
       is_durable = λ ignored is_durable hides. left_durable ignored is_durable;
-      settled = λ ignored o is_durable hides one lasts. on_ok judged (λ done. subst (λ (f : Files). HoldsNow now (EachCrashLeaves ignored f)) (files_of_one o one) (done.settled ignored is_durable)) done_so;
+      settled = λ ignored o is_durable hides one lasts. on_ok judged (λ done. subst (λ (f : Files). HoldsNow now (EachCrashLeavesStateOf ignored f)) (files_of_one o one) (done.settled ignored is_durable)) done_so;
       durable_state = λ ignored o is_durable hides one commits.
-          on_ok judged (λ done. subst (λ (f : Files). HoldsNow now (IsDurableState ignored f)) (files_of_one o one) (rests ignored now commit.done.files (left_durable ignored is_durable) (done.settled ignored is_durable))) done_so;
-      reads = inr (outcome, is_one, commits_are, since_weaker (IsStateDuringChange commit.done.files (files_of v)) (IsStateDuringRun Changes None outcome.files (files_of v)) (v ∷ rest) now at_work commit.run.reads);
+          on_ok judged (λ done. subst (λ (f : Files). HoldsNow now (IsDurableAndLeavesFiles ignored f)) (files_of_one o one) (rests ignored now commit.done.files (left_durable ignored is_durable) (done.settled ignored is_durable))) done_so;
+      reads = inr (outcome, is_one, commits_are, since_weaker (IsStateDuringChangeToNewFromOld commit.done.files (files_of v)) (IsStateDuringRun Changes None outcome.files (files_of v)) (v ∷ rest) now at_work commit.run.reads);
       last = λ last. since_weaker NamesAreDurableWithoutIntent (NamesAreDurableWithoutIntentExcept None) (v ∷ rest) now (λ w lasts none map among q off no_intent unstaged. lasts none map among q no_intent unstaged) (commit.run.last last);
       leaves = λ o one. on_ok judged (λ done. reads_now now o one done.reads) done_so;
       idle = λ o one idle. absurd (false≢true (sym idle ∙ (sym (ap (λ (x : Outcome). x.commits) (the_one o one)) ∙ commits_are)));

@@ -14,13 +14,13 @@ use Rattle.make_core.specs.make_info.Reads.{Reads}
 use Rattle.make_core.specs.make_package.Answers.{IsMadeBySomeReads, IsMadeFromTree, UnlessDiskOrMemory}
 use Rattle.make_core.specs.make_package.Making.{made_package}
 use Rattle.make_core.specs.make_info.Output.{output_name}
-use Rattle.make_core.specs.make_index.Files.{FindOnlyFiles, reads_of}
+use Rattle.make_core.specs.make_index.Files.{AreOperandReadsFileBytes, reads_of}
 use Rattle.make_core.specs.package_files.Sources.{AreNamesBelowFirstFolder, values_of_letter}
 use Rattle.make_core.specs.make_info.declared.fault.MakeFault.{MakeFault}
 use Rattle.command_core.specs.declared.values.TheConstants.{FILES}
 use Rattle.outcome.specs.Commands.{reads_in}
 use Rattle.outcome.specs.Effect.{Makes}
-use Rattle.outcome.specs.Make.{index_report_line, make_outcome, mkndx, mkpkg, unless_reserved}
+use Rattle.outcome.specs.Make.{index_report_line, make_outcome, mkndx, mkpkg, outcome_unless_output_reserved}
 use Rattle.outcome.proofs.Existing.{HaveOneList, listing_one}
 use Rattle.outcome.specs.Outcome.{Outcome, just_refusal}
 use Rattle.report_core.specs.declared.refusal.Refusal.{Refusal}
@@ -99,7 +99,7 @@ index_made command container old h =
     map_observable old (λ v. AgreesUnlessMemoryOrDisk (λ (file : Vec ℕ Global). file.items) container (made_index command (reads_of v))) (λ v. OnMade container (IsIndexMade command (files_of v)))
     (λ v m. made_means container (made_index command (reads_of v)) m) h
 
-pub index_found : (command : CommandLine) (container : Container) → (read : Reads) × FindOnlyFiles read 0 command.operands × AgreesUnlessMemoryOrDisk (λ (file : Vec ℕ Global). file.items) container (made_index command read) → OnMade container (IsIndexFound command)
+pub index_found : (command : CommandLine) (container : Container) → (read : Reads) × AreOperandReadsFileBytes read 0 command.operands × AgreesUnlessMemoryOrDisk (λ (file : Vec ℕ Global). file.items) container (made_index command read) → OnMade container (IsIndexFound command)
 index_found command container (read, files, m) =
     weaker container (λ made. made_index command read ≡ made) (IsIndexFound command) (λ made is. record { read = read; files = files; is = is }) (made_means container (made_index command read) m)
 
@@ -115,7 +115,7 @@ abbrev pub Outcomes : Type 1
 Outcomes = TreeState → Outcome → Type 0
 
 pub large_is : (output : Option (List ℕ)) (why : MakeFault) (bytes values : ℕ) (refusal : Refusal) → why ≡ Faults.TooLarge bytes values
-    → ((files : Files) → just_refusal files refusal ≡ unless_reserved files output (just_refusal files (ResultTooLarge bytes values))) → (files : Files) (report : List ℕ) → make_outcome files output report (Err why) ≡ just_refusal files refusal
+    → ((files : Files) → just_refusal files refusal ≡ outcome_unless_output_reserved files output (just_refusal files (ResultTooLarge bytes values))) → (files : Files) (report : List ℕ) → make_outcome files output report (Err why) ≡ just_refusal files refusal
 large_is output why bytes values refusal is found files report = ap (λ (w : MakeFault). make_outcome files output report (Err w)) is ∙ sym (found files)
 
 -- that nothing was made is reported
@@ -131,7 +131,7 @@ pub refused_made : (output : Option (List ℕ)) (container : Container) (why : M
 refused_made output container why (Ok verdict) is found report = λ files. subst (λ (c : Container). Reports verdict (make_outcome files output report (made_file_bytes c))) (sym is) (found files report)
 refused_made output container why (Err e) is found report = tt
 
-unless_leaves : (output : Option (List ℕ)) (files : Files) (o : Outcome) → Leaves files o → Leaves files (unless_reserved files output o)
+unless_leaves : (output : Option (List ℕ)) (files : Files) (o : Outcome) → Leaves files o → Leaves files (outcome_unless_output_reserved files output o)
 unless_leaves None files o leaves = leaves
 unless_leaves (Some name) files o leaves =
     elim (is_reserved name) as (λ b. Leaves files (if b then just_refusal files (Reserved name) else o)) [
@@ -244,7 +244,7 @@ index_outcomes command report is = record {
 
 pub index_read : (command : CommandLine) (report : List ℕ) (container : Container) (judged : Judged) → report ≡ index_report_line (length command.operands) → OnMade container (IsIndexFound command) → IfOk judged (λ verdict. is_making_ended_by_disk_or_memory container ≡ false)
     → IfOk judged (λ verdict. (files : Files) → Reports verdict (make_outcome files (output_name command) report (made_file_bytes container)))
-    → IfOk judged (λ verdict. (read : Reads) × FindOnlyFiles read 0 command.operands × Reports verdict (mkndx read no_names command))
+    → IfOk judged (λ verdict. (read : Reads) × AreOperandReadsFileBytes read 0 command.operands × Reports verdict (mkndx read no_names command))
 index_read command report container (Err e) is found whole reports = tt
 index_read command report container (Ok verdict) is found whole reports =
     let m = meant container (IsIndexFound command) whole found in

@@ -15,9 +15,9 @@ use Rattle.outcome.specs.demo_lines.Lines.{add_words, demo_repositories, mkndx_w
 use Rattle.outcome.specs.demo_lines.Report.{demo_line}
 use Rattle.outcome.proofs.demo_lines.Lengths.{plus_one}
 use Rattle.outcome.specs.Commands.{IsPossibleOutcomeWithoutDemo, IsOutcomeWithoutDemo, reads_in}
-use Rattle.outcome.specs.Demo.{IsDemoOutcomeAfterIndexing, IsDemoOutcomeAfterInstalling, IsDemoOutcomeAfterPackaging, IsDemoOutcome, IsOutcomeOfNextRun, IsOutcomeOfNextRunUnlessRefused, outcome_before_demo, with_demo_file}
+use Rattle.outcome.specs.Demo.{IsDemoOutcomeAfterIndexing, IsDemoOutcomeAfterInstalling, IsDemoOutcomeAfterPackaging, IsDemoOutcome, IsOutcomeOfNextRun, IsOutcomeOfNextRunUnlessRefused, outcome_with_demo_repositories, with_demo_file}
 use Rattle.outcome.specs.Effect.{does_recover, ignores_files, effect_of, output_name_for_effect}
-use Rattle.outcome.specs.Outcome.{Outcome, just_refusal, just_report, report_unless}
+use Rattle.outcome.specs.Outcome.{Outcome, just_refusal, just_report, just_report_unless_refusal}
 use Rattle.outcome.specs.Words.{IsPossibleOutcome, IsPossibleOutcomeOfApplet, IsOutcome, IsOutcomeOfApplet}
 use Rattle.report_core.specs.declared.refusal.Refusal.{Refusal}
 use Rattle.report_core.specs.declared.refusal.Refusal.TheVariants.{Usage}
@@ -121,7 +121,7 @@ demo_by_reads command applet operands (Ok verdict) same is of one = (
   refl,
 )
 
-unless_leaves : (files : Files) (refusal : Option Refusal) (report : List ℕ) → Leaves files (report_unless files refusal report)
+unless_leaves : (files : Files) (refusal : Option Refusal) (report : List ℕ) → Leaves files (just_report_unless_refusal files refusal report)
 unless_leaves files None report = (refl, refl)
 unless_leaves files (Some refusal) report = (refl, refl)
 
@@ -197,8 +197,8 @@ behind_run words change last old (Ok verdict) new none (o, one, reported, files)
 
 -- ---- all runs
 
-pub start_to : (tree : MemoryTree) (verdict : Verdict) → ((files : Files) → as_outcome files verdict ≡ just_report files []) → files_of (tree_state tree) ≡ outcome_before_demo.files → IsRunToOutcome (IsDemoOutcomeAfterPackaging 0) verdict tree
-start_to tree verdict shown files = (outcome_before_demo, refl, shown outcome_before_demo.files, files)
+pub start_to : (tree : MemoryTree) (verdict : Verdict) → ((files : Files) → as_outcome files verdict ≡ just_report files []) → files_of (tree_state tree) ≡ outcome_with_demo_repositories.files → IsRunToOutcome (IsDemoOutcomeAfterPackaging 0) verdict tree
+start_to tree verdict shown files = (outcome_with_demo_repositories, refl, shown outcome_with_demo_repositories.files, files)
 
 next_at : (i : ℕ) (last verdict : Verdict) (old new : MemoryTree) → IsRunToOutcome (IsDemoOutcomeAfterPackaging i) last old → CountsOnlyRise (mkpkg_words (suc i)) (with_demo_file (suc i)) last old verdict new → IsRunToOutcome (IsDemoOutcomeAfterPackaging (suc i)) verdict new
 next_at i last verdict old new (before, is, reports, files) on =
@@ -223,14 +223,14 @@ add_to n last old new (Ok verdict) (before, is, reports, files) on =
 -- ---- what is told
 
 pub told_demo : (n : ℕ) (last : Verdict) (tree : MemoryTree) (judged : Judged) → IsRunToOutcome (IsDemoOutcomeAfterInstalling n) last tree
-    → MatchResult judged (λ verdict. (files : Files) → as_outcome files verdict ≡ report_unless files last.refusal (demo_line n last.report)) (λ fault. fault ≡ NoMemory)
+    → MatchResult judged (λ verdict. (files : Files) → as_outcome files verdict ≡ just_report_unless_refusal files last.refusal (demo_line n last.report)) (λ fault. fault ≡ NoMemory)
     → MatchResult judged (λ verdict. (files : Files) → IsDemoOutcome n files (as_outcome files verdict)) (λ fault. fault ≡ NoMemory)
 told_demo n last tree (Err fault) one shown = shown
 told_demo n last tree (Ok verdict) (o, is, reports, files) shown = λ files. (
   o,
   is,
-  shown files ∙ ap (λ (r : Option Refusal). report_unless files r (demo_line n last.report)) (ap (λ (p : Outcome). p.refusal) reports)
-      ∙ ap (λ (t : List ℕ). report_unless files o.refusal (demo_line n t)) (ap (λ (p : Outcome). p.out) reports),
+  shown files ∙ ap (λ (r : Option Refusal). just_report_unless_refusal files r (demo_line n last.report)) (ap (λ (p : Outcome). p.refusal) reports)
+      ∙ ap (λ (t : List ℕ). just_report_unless_refusal files o.refusal (demo_line n t)) (ap (λ (p : Outcome). p.out) reports),
 )
 
 -- words and files by which a run is named
@@ -245,7 +245,7 @@ package_to words more files at new judged same_words same_files ran =
 pub put_to : (files new : Files) (name at bytes text : List ℕ) → new ≡ put_name files name bytes → name ≡ at → bytes ≡ text → new ≡ put_name files at text
 put_to files new name at bytes text is same_name same_text = is ∙ (ap (λ (n : List ℕ). put_name files n bytes) same_name ∙ ap (λ (t : List ℕ). put_name files at t) same_text)
 
-pub start_files : (files new : Files) (bytes : List ℕ) → new ≡ put_name files repositories_name bytes → files ≡ no_names → bytes ≡ demo_repositories → new ≡ outcome_before_demo.files
+pub start_files : (files new : Files) (bytes : List ℕ) → new ≡ put_name files repositories_name bytes → files ≡ no_names → bytes ≡ demo_repositories → new ≡ outcome_with_demo_repositories.files
 start_files files new bytes is none same =
     is ∙ (ap (λ (f : Files). put_name f repositories_name bytes) none ∙ ap (λ (b : List ℕ). put_name {X = List ℕ} no_names repositories_name b) same)
 

@@ -6,7 +6,7 @@ use Rattle.base_core.specs.declared.cause.Cause.{Cause}
 use Rattle.base_core.specs.Calls.{IfObservable}
 use Rattle.base_core.specs.Files.{Files, no_names}
 use Rattle.base_core.specs.Tree.{TreeState, files_of}
-use Rattle.adb_block.specs.Header.{header_of}
+use Rattle.adb_block.specs.Header.{schema_of_header}
 use Rattle.adb_block.specs.Reading.{Reading, done, fault, more, block_stream_from}
 use Rattle.adb_block.specs.ReaderPosition.{ReaderPosition, first_block_position}
 use Rattle.adb_dump.specs.Dump.{dump_text}
@@ -79,7 +79,7 @@ root_known schema which h =
     known : (w : Which) → Some w ≡ Some which → is_some (schema_word w) ≡ true → is_some (schema_word which) ≡ true
     known w e k = subst (λ x. is_some (schema_word x) ≡ true) (same_Some w which e) k
 
-pub dump_is : (file : List ℕ) (schema : ℕ) (s : ReaderPosition) (which : Which) (answer : Result (List ℕ) Cause) → header_of file ≡ Ok schema → s ≡ first_block_position schema file → table_of_schema schema ≡ Some which → dump_of_blocks which (block_stream_from s) ≡ answer → dump_of file ≡ answer
+pub dump_is : (file : List ℕ) (schema : ℕ) (s : ReaderPosition) (which : Which) (answer : Result (List ℕ) Cause) → schema_of_header file ≡ Ok schema → s ≡ first_block_position schema file → table_of_schema schema ≡ Some which → dump_of_blocks which (block_stream_from s) ≡ answer → dump_of file ≡ answer
 unfolding dump_of
 dump_is file schema s which answer h at root is =
     ap (dump_by_schema file) h ∙ (ap (dump_by_root_table schema (block_stream_from (first_block_position schema file))) root ∙ (ap (λ t. dump_of_blocks which (block_stream_from t)) (sym at) ∙ is))

@@ -22,7 +22,7 @@ use Rattle.outcome.specs.Outcome.{Outcome, just_refusal}
 use Rattle.outcome.specs.Words.{IsPossibleOutcome, IsOutcome}
 use Rattle.outcome.specs.Version.{version}
 use Rattle.outcome.specs.Commands.{IsOutcomeWithoutDemo, IsOutcomeOverRecoveredFiles, IsOutcomeUnlessBadIntent, effect_outcome, reads_in}
-use Rattle.outcome.specs.Given.{IsChosenFor, IsFirstClashForEffect, IsListingChoiceAndClashFor, IsListingFor, MayBeListingChoiceAndClashFor, MayBeListedFor, MayBeFirstClashForEffect, no_listing_choice_or_clash}
+use Rattle.outcome.specs.Given.{IsChoiceForCommand, IsFirstClashForEffect, IsListingChoiceAndClashFor, AreNamesListedForApplet, MayBeListingChoiceAndClashFor, MayBeNamesListedForApplet, MayBeFirstClashForEffect, no_listing_choice_or_clash}
 use Rattle.outcome.specs.Effect.{Effect, Computes, OnlyReadsFiles, AsksRoot, Makes, Changes, does_only_read, does_recover, ignores_files, effect_of_arguments, effect_of, output, depends_only_on_arguments}
 use Rattle.outcome.specs.Work.{recovery_fault, files_recovered_if_needed}
 use Rattle.base_core.specs.declared.cause.Cause.{Cause}
@@ -40,15 +40,15 @@ pub usage_over : (words : List (List ℕ)) (place : ℕ) (files : Files) → com
 usage_over words place files is = subst (λ (r : Result CommandLine ℕ). IsOutcome r files (just_refusal files (Usage place))) (sym is) refl
 
 -- an applet that only reads lists and chooses nothing
-no_listing : (applet : Applet) (command : CommandLine) (files : Files) → does_only_read (effect_of applet) ≡ true → IsListingFor applet command files []
+no_listing : (applet : Applet) (command : CommandLine) (files : Files) → does_only_read (effect_of applet) ≡ true → AreNamesListedForApplet applet command files []
 no_listing Mkpkg command files reads = cc
 no_listing other command files reads = refl
 
-no_listing_by_some : (applet : Applet) (command : CommandLine) → does_only_read (effect_of applet) ≡ true → MayBeListedFor applet command []
+no_listing_by_some : (applet : Applet) (command : CommandLine) → does_only_read (effect_of applet) ≡ true → MayBeNamesListedForApplet applet command []
 no_listing_by_some Mkpkg command reads = cc
 no_listing_by_some other command reads = refl
 
-no_choice : (effect : Effect) (command : CommandLine) (read : Reads) → does_only_read effect ≡ true → IsChosenFor effect command read None
+no_choice : (effect : Effect) (command : CommandLine) (read : Reads) → does_only_read effect ≡ true → IsChoiceForCommand effect command read None
 no_choice Changes command read reads = cc
 no_choice other command read reads = refl
 

@@ -11,21 +11,21 @@ use Rattle.words_core.specs.Grammar.{command_of, start_of_command_line}
 use Rattle.words_core.specs.declared.read.WordsFault.{WordsFault}
 use Rattle.words_core.specs.declared.read.WordsFault.TheVariants.{Memory as WantsMemory}
 use Rattle.std.specs.Prelude.{is_ok}
-use Rattle.apk_front.specs.Answers.{is_command_named}
+use Rattle.apk_front.specs.Answers.{is_applet_help_or_version_named}
 use Rattle.apk_front.specs.Verdicts.{IsVerdictPrinted}
 use Rattle.apk_front.specs.declared.answer.Answer.{Answer}
 use Rattle.apk_front.specs.declared.answer.Answer.TheVariants.{Ok as Done, Refused, TreeFault as TreeFailed, OutFault, Memory}
 use Rattle.apk_front.specs.declared.answer.Verdict.{Verdict}
 
 -- a command names one
-pub command_named : (words : List (List ℕ)) (command : CommandLine) → command_of words ≡ Ok command → IsTrue (is_command_named words)
+pub command_named : (words : List (List ℕ)) (command : CommandLine) → command_of words ≡ Ok command → IsTrue (is_applet_help_or_version_named words)
 command_named words command h = or_right (is_ok (start_of_command_line words)) (is_ok (command_of words)) (ap is_ok h)
 
 -- and so do words whose applet was found
-start_named : (words : List (List ℕ)) → IsTrue (is_ok (start_of_command_line words)) → IsTrue (is_command_named words)
+start_named : (words : List (List ℕ)) → IsTrue (is_ok (start_of_command_line words)) → IsTrue (is_applet_help_or_version_named words)
 start_named words found = or_left (is_ok (start_of_command_line words)) (is_ok (command_of words)) found
 
-pub memory_named_so : (words : List (List ℕ)) (fault : WordsFault) → fault ≡ WantsMemory → HasStartIfOutOfMemory fault (start_of_command_line words) → IsTrue (is_command_named words)
+pub memory_named_so : (words : List (List ℕ)) (fault : WordsFault) → fault ≡ WantsMemory → HasStartIfOutOfMemory fault (start_of_command_line words) → IsTrue (is_applet_help_or_version_named words)
 memory_named_so words fault is behind = start_named words (subst (λ (f : WordsFault). HasStartIfOutOfMemory f (start_of_command_line words)) is behind)
 
 -- want of memory is answered where the judge found none

@@ -25,7 +25,7 @@ use Rattle.command_core.specs.declared.operands.Operand.{Operand}
 use Rattle.command_core.specs.declared.operands.OperandKind.TheVariants.{Any, Number}
 use Rattle.make_core.specs.make_info.Reads.{Reads}
 use Rattle.outcome.specs.Commands.{reads_in}
-use Rattle.outcome.specs.Outcome.{just_refusal, just_report, report_unless}
+use Rattle.outcome.specs.Outcome.{just_refusal, just_report, just_report_unless_refusal}
 use Rattle.outcome.specs.Verify.{file_refusal, sound_lines, verify, verify_refusal}
 use Rattle.outcome.specs.Version.{invalid_version_line, invalid_version_lines, order_line, version_order_report, version_refusal}
 use Rattle.report_core.specs.declared.refusal.Refusal.{Refusal}
@@ -214,13 +214,13 @@ found_all [] os i ended so_far = tt
 found_all (v ∷ old) os i ended so_far = sym (so_far ∙ ap (verify_refusal (reads_in (files_of v)) i) ended)
 
 pub verify_found : (old : List TreeState) (os : List Operand) (verdict : Verdict) (r : Option Refusal) → IfObservable old (λ v. r ≡ verify_refusal (reads_in (files_of v)) 0 os)
-    → ((files : Files) → as_outcome files verdict ≡ report_unless files r (sound_lines os)) → IfObservable old (λ v. as_outcome (files_of v) verdict ≡ verify (reads_in (files_of v)) (files_of v) os)
+    → ((files : Files) → as_outcome files verdict ≡ just_report_unless_refusal files r (sound_lines os)) → IfObservable old (λ v. as_outcome (files_of v) verdict ≡ verify (reads_in (files_of v)) (files_of v) os)
 verify_found [] os verdict r found is = tt
-verify_found (v ∷ old) os verdict r found is = is (files_of v) ∙ ap (λ (x : Option Refusal). report_unless (files_of v) x (sound_lines os)) found
+verify_found (v ∷ old) os verdict r found is = is (files_of v) ∙ ap (λ (x : Option Refusal). just_report_unless_refusal (files_of v) x (sound_lines os)) found
 
 pub verify_read : (os : List Operand) (verdict : Verdict) (r : Option Refusal) → (read : Reads) × (r ≡ verify_refusal read 0 os)
-    → ((files : Files) → as_outcome files verdict ≡ report_unless files r (sound_lines os)) → (read : Reads) × (as_outcome no_names verdict ≡ verify read no_names os)
-verify_read os verdict r (read, same) is = (read, is no_names ∙ ap (λ (x : Option Refusal). report_unless no_names x (sound_lines os)) same)
+    → ((files : Files) → as_outcome files verdict ≡ just_report_unless_refusal files r (sound_lines os)) → (read : Reads) × (as_outcome no_names verdict ≡ verify read no_names os)
+verify_read os verdict r (read, same) is = (read, is no_names ∙ ap (λ (x : Option Refusal). just_report_unless_refusal no_names x (sound_lines os)) same)
 
 pub test_found : (old : List TreeState) (place : ℕ) (name : List ℕ) (found : Option (List ℕ)) (r : Option Refusal) → r ≡ file_refusal place found
     → IfObservable old (λ v. found ≡ files_of v name) → IfObservable old (λ v. r ≡ file_refusal place (files_of v name))
@@ -259,13 +259,13 @@ two_of (p ∷ []) a b n x y = cc
 two_of (p ∷ (q ∷ [])) a b n x y = cc
 two_of (p ∷ (q ∷ (r ∷ os))) a b n x y = absurd (three_not_two (length os) n)
 
-pub first_bad : (os : List Operand) (a b : Operand) → os ≡ a ∷ (b ∷ []) → is_version a.text ≡ false → (files : Files) → report_unless files (version_refusal os) (version_order_report os) ≡ just_refusal files (VersionBad a.place)
+pub first_bad : (os : List Operand) (a b : Operand) → os ≡ a ∷ (b ∷ []) → is_version a.text ≡ false → (files : Files) → just_report_unless_refusal files (version_refusal os) (version_order_report os) ≡ just_refusal files (VersionBad a.place)
 first_bad os a b is e files = rw is (rw e refl)
 
-pub second_bad : (os : List Operand) (a b : Operand) → os ≡ a ∷ (b ∷ []) → is_version a.text ≡ true → is_version b.text ≡ false → (files : Files) → report_unless files (version_refusal os) (version_order_report os) ≡ just_refusal files (VersionBad b.place)
+pub second_bad : (os : List Operand) (a b : Operand) → os ≡ a ∷ (b ∷ []) → is_version a.text ≡ true → is_version b.text ≡ false → (files : Files) → just_report_unless_refusal files (version_refusal os) (version_order_report os) ≡ just_refusal files (VersionBad b.place)
 second_bad os a b is e f files = rw is (rw e (rw f refl))
 
-pub both_good : (os : List Operand) (a b : Operand) → os ≡ a ∷ (b ∷ []) → is_version a.text ≡ true → is_version b.text ≡ true → (files : Files) → report_unless files (version_refusal os) (version_order_report os) ≡ just_report files (order_line (version_cmp a.text b.text))
+pub both_good : (os : List Operand) (a b : Operand) → os ≡ a ∷ (b ∷ []) → is_version a.text ≡ true → is_version b.text ≡ true → (files : Files) → just_report_unless_refusal files (version_refusal os) (version_order_report os) ≡ just_report files (order_line (version_cmp a.text b.text))
 both_good os a b is e f files = rw is (rw e (rw f refl))
 
 pub cmp_same : (v w a b : List ℕ) → v ≡ a → w ≡ b → version_cmp v w ≡ version_cmp a b

@@ -8,7 +8,7 @@ use Rattle.base_core.specs.Read.{OnlyReads}
 use Rattle.base_core.specs.Tree.{TreeState, files_of}
 use Rattle.base_core.specs.declared.tree.TreeFault.{TreeFault}
 use Rattle.base_core.specs.declared.tree.TreeFault.TheVariants as Trees
-use Rattle.tell_core.specs.change_inputs.Answers.{AgreesUnlessDisk}
+use Rattle.tell_core.specs.change_inputs.Answers.{AgreesUnlessDiskOrMemory}
 use Rattle.tell_core.specs.change_inputs.declared.root.Refused.{Refused}
 use Rattle.tell_core.specs.change_inputs.declared.root.Refused.TheVariants.{Disk, Memory, Refusal as IsRefused}
 use Rattle.command_core.specs.Command.{CommandLine}
@@ -22,7 +22,7 @@ use Rattle.report_core.specs.declared.refusal.Refusal.{Refusal}
 use Rattle.outcome.proofs.Applets.{report_is, told_commits, told_files}
 use Rattle.outcome.specs.Commands.{IsPossibleOutcomeAfterRecovery, reads_in}
 use Rattle.outcome.specs.Effect.{AsksRoot, Effect, effect_of, output_name_for_effect}
-use Rattle.outcome.specs.Given.{IsChosenFor, IsFirstClashForEffect, IsListingChoiceAndClashFor, IsListingFor, MayBeListingChoiceAndClashFor, MayBeListedFor, MayBeFirstClashForEffect, no_listing_choice_or_clash}
+use Rattle.outcome.specs.Given.{IsChoiceForCommand, IsFirstClashForEffect, IsListingChoiceAndClashFor, AreNamesListedForApplet, MayBeListingChoiceAndClashFor, MayBeNamesListedForApplet, MayBeFirstClashForEffect, no_listing_choice_or_clash}
 use Rattle.outcome.specs.Outcome.{Outcome}
 use Rattle.outcome.specs.OutcomeOfReport.{outcome_of_report}
 use Rattle.apk_front.specs.Runs.{IfNothingStaged, IsRunAfterRecovery}
@@ -39,35 +39,35 @@ abbrev pub Wanted : Type 0
 Wanted = Result ReportAndRefusal Refusal
 
 abbrev pub IsToldBy : CommandLine → History → Answered → Type 0
-IsToldBy command old answer = IsExplainedBySomeReads old (λ read. AgreesUnlessDisk (λ done. done) answer (report_for_command command read))
+IsToldBy command old answer = IsExplainedBySomeReads old (λ read. AgreesUnlessDiskOrMemory (λ done. done) answer (report_for_command command read))
 
 -- ---- nothing is given
 
-tells_listed : (applet : Applet) (command : CommandLine) (files : Files) → effect_of applet ≡ AsksRoot → IsListingFor applet command files []
+tells_listed : (applet : Applet) (command : CommandLine) (files : Files) → effect_of applet ≡ AsksRoot → AreNamesListedForApplet applet command files []
 tells_listed Mkpkg command files tells = absurd (cc (tells))
 tells_listed other command files tells = refl
 
 are_given : (command : CommandLine) (read : Reads) (files : Files) → effect_of command.applet ≡ AsksRoot → IsListingChoiceAndClashFor command read files no_listing_choice_or_clash
 are_given command read files tells = record {
   names = tells_listed command.applet command files tells;
-  chosen = subst (λ (e : Effect). IsChosenFor e command read None) (sym tells) refl;
+  chosen = subst (λ (e : Effect). IsChoiceForCommand e command read None) (sym tells) refl;
   clash = subst (λ (e : Effect). IsFirstClashForEffect e command read files None None) (sym tells) refl;
 }
 
-tells_some : (applet : Applet) (command : CommandLine) → effect_of applet ≡ AsksRoot → MayBeListedFor applet command []
+tells_some : (applet : Applet) (command : CommandLine) → effect_of applet ≡ AsksRoot → MayBeNamesListedForApplet applet command []
 tells_some Mkpkg command tells = absurd (cc (tells))
 tells_some other command tells = refl
 
 may_be_given : (command : CommandLine) (read : Reads) (files : Files) → effect_of command.applet ≡ AsksRoot → MayBeListingChoiceAndClashFor command read files no_listing_choice_or_clash
 may_be_given command read files tells = record {
   names = tells_some command.applet command tells;
-  chosen = subst (λ (e : Effect). IsChosenFor e command read None) (sym tells) refl;
+  chosen = subst (λ (e : Effect). IsChoiceForCommand e command read None) (sym tells) refl;
   clash = subst (λ (e : Effect). MayBeFirstClashForEffect e command read files None None) (sym tells) refl;
 }
 
 -- ---- what was answered as wanted is reported so
 
-reports_wanted : (answer : Answered) (verdict : Verdict) (files : Files) (wanted : Wanted) → AgreesUnlessDisk (λ done. done) answer wanted → IsVerdictOnReport answer (Ok verdict) → Reports verdict (outcome_of_report files wanted)
+reports_wanted : (answer : Answered) (verdict : Verdict) (files : Files) (wanted : Wanted) → AgreesUnlessDiskOrMemory (λ done. done) answer wanted → IsVerdictOnReport answer (Ok verdict) → Reports verdict (outcome_of_report files wanted)
 reports_wanted (Ok done) verdict files wanted agrees told =
     subst (λ (w : Wanted). Reports verdict (outcome_of_report files w)) (sym agrees) (ap (λ (o : Outcome). record o { commits = false }) (told files))
 reports_wanted (Err (IsRefused refusal)) verdict files wanted agrees told =
@@ -86,7 +86,7 @@ module _ (command : CommandLine) (tells : effect_of command.applet ≡ AsksRoot)
     outcome_of_report (files_of v) (report_for_command command (reads_in (files_of v))),
     (no_listing_choice_or_clash, are_given command (reads_in (files_of v)) (files_of v) tells, report_is command.applet command no_listing_choice_or_clash (reads_in (files_of v)) (files_of v) tells),
     reports_wanted answer verdict (files_of v) (report_for_command command (reads_in (files_of v)))
-        (subst (λ (read : Reads). AgreesUnlessDisk (λ done. done) answer (report_for_command command read)) (same_reads v rest (λ read. AgreesUnlessDisk (λ done. done) answer (report_for_command command read)) by) by.is) told,
+        (subst (λ (read : Reads). AgreesUnlessDiskOrMemory (λ done. done) answer (report_for_command command read)) (same_reads v rest (λ read. AgreesUnlessDiskOrMemory (λ done. done) answer (report_for_command command read)) by) by.is) told,
   )
 
   pub report_read : (old : History) (answer : Answered) (judged : Judged) → IsVerdictOnReport answer judged → IsToldBy command old answer → IfOk judged (ReportsOneOfOutcomes (IsPossibleOutcomeAfterRecovery command))

@@ -1,7 +1,7 @@
 -- What a package is made of: the names below its folder, as the files have them.
 use Rattle.std.proofs.Common.{◌≡◌, ℕ, true, List, [], ◌∷◌, length, Result, Ok, Err, refl, sym, ap, subst, ◌∙◌}
 use Rattle.std.specs.Prelude.{is_ok}
-use Rattle.base_core.specs.Listed.{IsListOf, IsNamesOf}
+use Rattle.base_core.specs.Listed.{IsSortedListingOfFolder, AreSortedNamesInMap}
 use Rattle.base_core.specs.Tree.{TreeState, files_of}
 use Rattle.command_core.specs.Command.{CommandLine}
 use Rattle.command_core.specs.Files.{without_dot_slash}
@@ -12,14 +12,14 @@ use Rattle.make_core.specs.make_info.Reads.{Reads}
 use Rattle.make_core.specs.make_info.declared.fault.MakeFault.{MakeFault}
 use Rattle.make_core.specs.make_package.Answers.{AreNamesBelowFirstOption, IsMadeFromTree}
 use Rattle.make_core.specs.make_package.Making.{made_package, or_info_bad, package_of_parts}
-use Rattle.make_core.specs.package_files.Sources.{and_then, folders_below, values_of_letter, scripts_from}
+use Rattle.make_core.specs.package_files.Sources.{and_then, source_folders_of_first_option, values_of_letter, scripts_from_read}
 use Rattle.outcome.specs.Commands.{reads_in}
 use Rattle.outcome.specs.Make.{AreNamesBelowOptionFolder, files_below}
 use Rattle.apk_front.specs.Containers.{IsPackageMade}
 
 -- the names below a folder, as a tree lists them, are those of its files
 abbrev pub HaveListing : Type 0
-HaveListing = (folder : List ℕ) (v : TreeState) (names : List (List ℕ)) → IsListOf folder v names → IsNamesOf (files_below folder (files_of v)) names
+HaveListing = (folder : List ℕ) (v : TreeState) (names : List (List ℕ)) → IsSortedListingOfFolder folder v names → AreSortedNamesInMap (files_below folder (files_of v)) names
 
 -- ---- what is made of them
 
@@ -27,7 +27,7 @@ no_folder : (command : CommandLine) (read : Reads) (names others : List (List �
 unfolding made_package
 no_folder command read names others none =
     let by : List OptionValue → List (List ℕ) → Result (List ℕ) MakeFault = λ values ns.
-    and_then (scripts_from read 0 (values_of_letter SCRIPT command.values)) (λ scripts. and_then (or_info_bad (information command)) (λ about. and_then (folders_below read (length scripts) values ns) (package_of_parts command scripts about))) in
+    and_then (scripts_from_read read 0 (values_of_letter SCRIPT command.values)) (λ scripts. and_then (or_info_bad (information command)) (λ about. and_then (source_folders_of_first_option read (length scripts) values ns) (package_of_parts command scripts about))) in
     ap (λ values. by values names) none ∙ sym (ap (λ values. by values others) none)
 
 pub package_here : HaveListing → (command : CommandLine) (v : TreeState) (made : Result (List ℕ) MakeFault) → IsMadeFromTree command v made → IsPackageMade command (files_of v) made
@@ -58,6 +58,6 @@ info_ok (Err place) about h = cc
 pub made_allowed : (command : CommandLine) (names : List (List ℕ)) (read : Reads) (file : List ℕ) → made_package command names read ≡ Ok file → is_ok (information command) ≡ true
 unfolding made_package
 made_allowed command names read file h =
-    let (scripts, one, more) = after_ok (scripts_from read 0 (values_of_letter SCRIPT command.values)) (λ scripts. and_then (or_info_bad (information command)) (λ about. and_then (folders_below read (length scripts) (values_of_letter FILES command.values) names) (package_of_parts command scripts about))) file h in
-    let (about, two, last) = after_ok (or_info_bad (information command)) (λ about. and_then (folders_below read (length scripts) (values_of_letter FILES command.values) names) (package_of_parts command scripts about)) file more in
+    let (scripts, one, more) = after_ok (scripts_from_read read 0 (values_of_letter SCRIPT command.values)) (λ scripts. and_then (or_info_bad (information command)) (λ about. and_then (source_folders_of_first_option read (length scripts) (values_of_letter FILES command.values) names) (package_of_parts command scripts about))) file h in
+    let (about, two, last) = after_ok (or_info_bad (information command)) (λ about. and_then (source_folders_of_first_option read (length scripts) (values_of_letter FILES command.values) names) (package_of_parts command scripts about)) file more in
     info_ok (information command) about two

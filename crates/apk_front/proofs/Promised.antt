@@ -9,7 +9,7 @@ use Rattle.command_core.specs.declared.command.Applet.{Applet}
 use Rattle.command_core.specs.declared.command.Applet.TheVariants.{Demo, Mkndx, Mkpkg}
 use Rattle.journal_core.specs.Staged.{unstaged_files}
 use Rattle.outcome.specs.Effect.{Effect, Changes, Makes, AsksRoot, does_only_read, effect_of_arguments, effect_of}
-use Rattle.engine_core.specs.journal_commit.Asked.{TargetsAreAccepted, HasAcceptedTargets}
+use Rattle.engine_core.specs.journal_commit.Asked.{TargetsAreAccepted, RecoveryChangesOnlyAcceptedNames}
 use Rattle.words_core.specs.Grammar.{command_of}
 use Rattle.apk_front.specs.Moments.{AreRecoveryTargetsAccepted}
 use Rattle.apk_front.proofs.AfterRecovery.{RecoversAs, none_since, since_both}
@@ -17,18 +17,18 @@ use Rattle.apk_front.proofs.Behind.{LeavesUnstaged, nothing_waits}
 use Rattle.apk_front.proofs.Runs.{History, since_weaker}
 
 module _ (accepts : Option (List ℕ) → List ℕ → Type 0) where
-  kept : (v w : TreeState) → RecoversAs v w → HasAcceptedTargets accepts (unstaged_files (files_of v)) w
+  kept : (v w : TreeState) → RecoversAs v w → RecoveryChangesOnlyAcceptedNames accepts (unstaged_files (files_of v)) w
   kept v w same = λ name differs. absurd (differs (ap (λ (f : Files). f name) same))
 
   -- nothing is written
   pub asked_idle : (old : History) → AreRecoveryTargetsAccepted accepts old old
   asked_idle [] = tt
-  asked_idle (v ∷ rest) = none_since (HasAcceptedTargets accepts (unstaged_files (files_of v))) (v ∷ rest) (v ∷ rest) refl
+  asked_idle (v ∷ rest) = none_since (RecoveryChangesOnlyAcceptedNames accepts (unstaged_files (files_of v))) (v ∷ rest) (v ∷ rest) refl
 
   -- the recovery did not end
   pub asked_unrecovered : (old mid : History) → IfObservable old (λ v. Since (RecoversAs v) old mid) → AreRecoveryTargetsAccepted accepts old mid
   asked_unrecovered [] mid reads = tt
-  asked_unrecovered (v ∷ rest) mid reads = since_weaker (RecoversAs v) (HasAcceptedTargets accepts (unstaged_files (files_of v))) (v ∷ rest) mid (λ w same. kept v w same) reads
+  asked_unrecovered (v ∷ rest) mid reads = since_weaker (RecoversAs v) (RecoveryChangesOnlyAcceptedNames accepts (unstaged_files (files_of v))) (v ∷ rest) mid (λ w same. kept v w same) reads
 
   -- it ended well
   pub asked_behind : (old mid now : History) → IfObservable old (λ v. Since (RecoversAs v) old mid) → IfObservable old (λ v. HoldsNow mid (LeavesUnstaged v)) → TargetsAreAccepted accepts mid now → AreRecoveryTargetsAccepted accepts old now
@@ -36,8 +36,8 @@ module _ (accepts : Option (List ℕ) → List ℕ → Type 0) where
   asked_behind (v ∷ rest) [] now reads left run = absurd left
   asked_behind (v ∷ rest) (u ∷ more) now reads left run =
       let waits = nothing_waits v u left in
-      since_both (RecoversAs v) (HasAcceptedTargets accepts (files_of u)) (HasAcceptedTargets accepts (unstaged_files (files_of v))) (v ∷ rest) (u ∷ more) now (λ w same. kept v w same)
-      (λ w promised. subst (λ (f : Files). HasAcceptedTargets accepts f w) left.0 promised) reads (run waits.0 waits.1)
+      since_both (RecoversAs v) (RecoveryChangesOnlyAcceptedNames accepts (files_of u)) (RecoveryChangesOnlyAcceptedNames accepts (unstaged_files (files_of v))) (v ∷ rest) (u ∷ more) now (λ w same. kept v w same)
+      (λ w promised. subst (λ (f : Files). RecoveryChangesOnlyAcceptedNames accepts f w) left.0 promised) reads (run waits.0 waits.1)
 
 -- ---- only a change asks
 

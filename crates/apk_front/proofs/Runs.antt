@@ -15,14 +15,14 @@ use Rattle.base_core.specs.declared.tree.TreeFault.{TreeFault}
 use Rattle.adb_dump.specs.adb_schema.Reserved.{is_reserved}
 use Rattle.journal_core.specs.Kept.{IsSyncedAt, KeepsCrashMapsExcept, NamesOutsideJournalAreDurable}
 use Rattle.journal_core.specs.Quiet.{StateIsUnchanged}
-use Rattle.journal_core.specs.Recovery.{EachCrashLeaves, StateDependsOn, intent_name, is_staged, state_of}
-use Rattle.journal_core.specs.Replacing.{CanAddOutputNames, IgnoresScratch, IsMomentOfReplacing, replaced_files, scratch_name_of}
+use Rattle.journal_core.specs.Recovery.{EachCrashLeavesStateOf, StateDependsOn, intent_name, is_staged, state_of}
+use Rattle.journal_core.specs.Replacing.{CanAddOutputNames, IgnoresScratchNameButNotIntent, IsMomentOfReplacing, files_after_replacement, scratch_name_of}
 use Rattle.journal_core.specs.Reading.{ReadsOldOrReplaced}
 use Rattle.outcome.specs.Effect.{Effect, Makes}
 use Rattle.outcome.specs.Make.{make_outcome}
 use Rattle.outcome.specs.Outcome.{Outcome, commit_report, just_refusal, just_report}
 use Rattle.report_core.specs.declared.refusal.Refusal.TheVariants.{Reserved}
-use Rattle.apk_front.specs.Moments.{AreStatesOldOrLeadToOutcome, CanAddOutputNamesIfAny, IgnoresScratchOf, IsDurableState, IsStateDuringRun, MustOutcomeBeDurableWithoutRecovery, NamesAreDurableWithoutIntentExcept, ignored_except_output, is_temporary_name, output_names}
+use Rattle.apk_front.specs.Moments.{AreStatesOldOrLeadToOutcome, CanAddOutputNamesIfAny, IgnoresScratchNameOfOutput, IsDurableAndLeavesFiles, IsStateDuringRun, MustOutcomeBeDurableWithoutRecovery, NamesAreDurableWithoutIntentExcept, ignored_except_output, is_temporary_name, output_names}
 use Rattle.apk_front.specs.RunContracts.{IsMakingRun}
 use Rattle.apk_front.specs.Runs.{AreFilesReadWithoutRecovery, IsRunAfterRecovery}
 use Rattle.apk_front.specs.Verdicts.{Reports, as_outcome}
@@ -59,7 +59,7 @@ abbrev pub IsEventWithoutCommit : (Outcome → Type 0) → Judged → TreeState 
 IsEventWithoutCommit IsOne judged v = (o : Outcome) → IsOne o → OnOk judged (Leaves (files_of v) o)
 
 -- what commits nothing is settled where it was so before
-pub settled_before : (ignored : List ℕ → Bool) (v : TreeState) (o : Outcome) → o.commits ≡ false → MustOutcomeBeDurableWithoutRecovery ignored v o → EachCrashLeaves ignored (files_of v) v
+pub settled_before : (ignored : List ℕ → Bool) (v : TreeState) (o : Outcome) → o.commits ≡ false → MustOutcomeBeDurableWithoutRecovery ignored v o → EachCrashLeavesStateOf ignored (files_of v) v
 settled_before ignored v o none (inl commits) = absurd (false≢true (sym none ∙ commits))
 settled_before ignored v o none (inr before) = before
 
@@ -68,7 +68,7 @@ run_idle IsOne effect output judged v rest now same idle = record {
   moments = λ ignored is_durable hides. inl (record { added = []; is = same; each = All-nil (StateIsUnchanged ignored v) });
   is_durable = λ ignored is_durable hides. subst (λ (h : History). HoldsNow h (IsDurable (StateDependsOn ignored))) (sym same) is_durable;
   settled = λ ignored o is_durable hides one lasts.
-      on_ok judged (λ is. subst (λ (h : History). HoldsNow h (EachCrashLeaves ignored o.files)) (sym same) (subst (λ (f : Files). EachCrashLeaves ignored f v) (sym is.0) (settled_before ignored v o is.1 lasts))) (idle o one);
+      on_ok judged (λ is. subst (λ (h : History). HoldsNow h (EachCrashLeavesStateOf ignored o.files)) (sym same) (subst (λ (f : Files). EachCrashLeavesStateOf ignored f v) (sym is.0) (settled_before ignored v o is.1 lasts))) (idle o one);
   durable_state = λ ignored o is_durable hides one commits. on_ok judged (λ is. absurd (false≢true (sym is.1 ∙ commits))) (idle o one);
   reads = inl (record { added = []; is = same; each = All-nil (λ w. files_of w ≡ files_of v) });
   last = λ last. record { added = []; is = same; each = All-nil (NamesAreDurableWithoutIntentExcept output) };
@@ -114,12 +114,12 @@ IsMade output report file v o = o ≡ make_outcome (files_of v) output report (O
 reserved_is : (output : Option (List ℕ)) (report file name : List ℕ) (files : Files) → output ≡ Some name → is_reserved name ≡ true → make_outcome files output report (Ok file) ≡ just_refusal files (Reserved name)
 reserved_is output report file name files is reserved =
     ap (λ (out : Option (List ℕ)). make_outcome files out report (Ok file)) is
-    ∙ ap (λ b. if b then just_refusal files (Reserved name) else commit_report (replaced_files name file files) report) reserved
+    ∙ ap (λ b. if b then just_refusal files (Reserved name) else commit_report (files_after_replacement name file files) report) reserved
 
-free_is : (output : Option (List ℕ)) (report file name : List ℕ) (files : Files) → output ≡ Some name → is_reserved name ≡ false → make_outcome files output report (Ok file) ≡ commit_report (replaced_files name file files) report
+free_is : (output : Option (List ℕ)) (report file name : List ℕ) (files : Files) → output ≡ Some name → is_reserved name ≡ false → make_outcome files output report (Ok file) ≡ commit_report (files_after_replacement name file files) report
 free_is output report file name files is free =
     ap (λ (out : Option (List ℕ)). make_outcome files out report (Ok file)) is
-    ∙ ap (λ b. if b then just_refusal files (Reserved name) else commit_report (replaced_files name file files) report) free
+    ∙ ap (λ b. if b then just_refusal files (Reserved name) else commit_report (files_after_replacement name file files) report) free
 
 pub reserved_run : (output : Option (List ℕ)) (report file name : List ℕ) (judged : Judged) (old now : History) → output ≡ Some name → is_reserved name ≡ true → now ≡ old
     → IfObservable old (λ v. IsRunAfterRecovery (IsMade output report file v) Makes output judged v old now)
@@ -137,7 +137,7 @@ pub free_reports : (output : Option (List ℕ)) (report file name : List ℕ) (v
     → (files : Files) → Reports verdict (make_outcome files output report (Ok file))
 free_reports output report file name verdict is free same_outcome files =
     let same = free_is output report file name files is free in
-    subst (λ (o : Outcome). Reports verdict o) (sym same) (ap (λ (o : Outcome). record o { commits = true }) (same_outcome (replaced_files name file files)))
+    subst (λ (o : Outcome). Reports verdict o) (sym same) (ap (λ (o : Outcome). record o { commits = true }) (same_outcome (files_after_replacement name file files)))
 
 -- ---- its name and the scratch name count again
 
@@ -148,14 +148,14 @@ ImageHasState = (ignored : List ℕ → Bool) (v : TreeState) → IsDurable (Sta
 only_map : (w : TreeState) (map : NameMap) → w.older ≡ [] → IsCrashMap w map → map ≡ w.names
 only_map w map one left = left_only w one map left
 
-scratch_gone : (name file : List ℕ) (files : Files) (q : List ℕ) → bytes_eq q name ≡ false → bytes_eq q (scratch_name_of name) ≡ true → replaced_files name file files q ≡ None
+scratch_gone : (name file : List ℕ) (files : Files) (q : List ℕ) → bytes_eq q name ≡ false → bytes_eq q (scratch_name_of name) ≡ true → files_after_replacement name file files q ≡ None
 scratch_gone name file files q other scratch = ap (λ b. if b then Some file else drop_name files (scratch_name_of name) q) other ∙ ap (λ b. if b then None else files q) scratch
 
 none_read : (files : ℕ → File) (o : Option ℕ) (n : ℕ) → o ≡ Some n → bytes_of_file_number files o ≡ None → ⊥
 none_read files None n is none = cc
 none_read files (Some k) n is none = cc
 
-module _ (ignored : List ℕ → Bool) (name file : List ℕ) (files : Files) (w : TreeState) (is_durable : IsDurable (StateDependsOn ignored) w) (synced : IsSyncedAt name w) (reads : files_of w ≡ replaced_files name file files) where
+module _ (ignored : List ℕ → Bool) (name file : List ℕ) (files : Files) (w : TreeState) (is_durable : IsDurable (StateDependsOn ignored) w) (synced : IsSyncedAt name w) (reads : files_of w ≡ files_after_replacement name file files) where
   rests_too : (q : List ℕ) (F : Files) → bytes_eq q name ≡ false → bytes_eq q (scratch_name_of name) ≡ false → StateDependsOn (ignored_except_output (Some name) ignored) F q → StateDependsOn ignored F q
   rests_too q F other another (inl intent) = inl intent
   rests_too q F other another (inr (inl shown)) =
@@ -171,7 +171,7 @@ module _ (ignored : List ℕ → Bool) (name file : List ℕ) (files : Files) (w
   counts_again : IsDurable (StateDependsOn (ignored_except_output (Some name) ignored)) w
   counts_again = record { each = λ map among q n rests at. synced_map map among q n (bytes_eq q name) (bytes_eq q (scratch_name_of name)) refl refl rests at }
 
-  rest_at : ImageHasState → IsDurableState (ignored_except_output (Some name) ignored) (replaced_files name file files) w
+  rest_at : ImageHasState → IsDurableAndLeavesFiles (ignored_except_output (Some name) ignored) (files_after_replacement name file files) w
   rest_at law = record {
     is_durable = counts_again;
     settled = λ image (map, among, by).
@@ -179,8 +179,8 @@ module _ (ignored : List ℕ → Bool) (name file : List ℕ) (files : Files) (w
         ∙ ap (λ (m : NameMap). state_of (ignored_except_output (Some name) ignored) (files_under_map w m)) (only_map w map synced.one_map among) ∙ ap (state_of (ignored_except_output (Some name) ignored)) reads;
   }
 
-rest_now : ImageHasState → (ignored : List ℕ → Bool) (name file : List ℕ) (files : Files) (judged : Judged) (now : History) → HoldsNow now (IsDurable (StateDependsOn ignored)) → OnOk judged (HoldsNow now (IsSyncedAt name)) → OnOk judged (HoldsNow now (λ w. files_of w ≡ replaced_files name file files))
-    → OnOk judged (HoldsNow now (IsDurableState (ignored_except_output (Some name) ignored) (replaced_files name file files)))
+rest_now : ImageHasState → (ignored : List ℕ → Bool) (name file : List ℕ) (files : Files) (judged : Judged) (now : History) → HoldsNow now (IsDurable (StateDependsOn ignored)) → OnOk judged (HoldsNow now (IsSyncedAt name)) → OnOk judged (HoldsNow now (λ w. files_of w ≡ files_after_replacement name file files))
+    → OnOk judged (HoldsNow now (IsDurableAndLeavesFiles (ignored_except_output (Some name) ignored) (files_after_replacement name file files)))
 rest_now law ignored name file files (Err e) now is_durable synced reads = tt
 rest_now law ignored name file files (Ok verdict) [] is_durable synced reads = absurd is_durable
 rest_now law ignored name file files (Ok verdict) (w ∷ now) is_durable synced reads = rest_at ignored name file files w is_durable synced reads law
@@ -192,7 +192,7 @@ since_weaker P Q old now f since = record { added = since.added; is = since.is; 
 off_scratch : (name q : List ℕ) → is_temporary_name Makes (Some name) q ≡ false → q ≢ scratch_name_of name
 off_scratch name q off is = false≢true (sym off ∙ (bytes_eq-Decides q (scratch_name_of name)).1 is)
 
-drafting : (name file : List ℕ) (files : Files) (w : TreeState) → ReadsOldOrReplaced name file files w → IsStateDuringRun Makes (Some name) (replaced_files name file files) files w
+drafting : (name file : List ℕ) (files : Files) (w : TreeState) → ReadsOldOrReplaced name file files w → IsStateDuringRun Makes (Some name) (files_after_replacement name file files) files w
 drafting name file files w (inl others) = inl (λ q off. others q (off_scratch name q off))
 drafting name file files w (inr is) = inr (inr is)
 
@@ -204,11 +204,11 @@ names_kept output u w last keeps none map among q off no_intent unstaged =
 
 -- what `replace` says of the tree
 pub record IsReplaced (name file : List ℕ) (judged : Judged) (v : TreeState) (old now : History) : Type 0 where
-  pub moments : (ignored : List ℕ → Bool) → IsDurable (StateDependsOn ignored) v → IgnoresScratch ignored name → Since (IsMomentOfReplacing ignored (replaced_files name file (files_of v)) v) old now
-  pub is_durable : (ignored : List ℕ → Bool) → IsDurable (StateDependsOn ignored) v → IgnoresScratch ignored name → HoldsNow now (IsDurable (StateDependsOn ignored))
-  pub settled : (ignored : List ℕ → Bool) → IsDurable (StateDependsOn ignored) v → IgnoresScratch ignored name → OnOk judged (HoldsNow now (EachCrashLeaves ignored (replaced_files name file (files_of v))))
+  pub moments : (ignored : List ℕ → Bool) → IsDurable (StateDependsOn ignored) v → IgnoresScratchNameButNotIntent ignored name → Since (IsMomentOfReplacing ignored (files_after_replacement name file (files_of v)) v) old now
+  pub is_durable : (ignored : List ℕ → Bool) → IsDurable (StateDependsOn ignored) v → IgnoresScratchNameButNotIntent ignored name → HoldsNow now (IsDurable (StateDependsOn ignored))
+  pub settled : (ignored : List ℕ → Bool) → IsDurable (StateDependsOn ignored) v → IgnoresScratchNameButNotIntent ignored name → OnOk judged (HoldsNow now (EachCrashLeavesStateOf ignored (files_after_replacement name file (files_of v))))
   pub reads : Since (ReadsOldOrReplaced name file (files_of v)) old now
-  pub leaves : OnOk judged (HoldsNow now (λ w. files_of w ≡ replaced_files name file (files_of v)))
+  pub leaves : OnOk judged (HoldsNow now (λ w. files_of w ≡ files_after_replacement name file (files_of v)))
   pub synced : OnOk judged (HoldsNow now (IsSyncedAt name))
   pub others : Since (KeepsCrashMapsExcept (name ∷ scratch_name_of name ∷ []) v) old now
 
@@ -216,19 +216,19 @@ free_run : ImageHasState → (output : Option (List ℕ)) (report file name : Li
     → IsReplaced name file judged v old now → IsRunAfterRecovery (IsMade output report file v) Makes output judged v old now
 free_run law output report file name judged v old now is free done =
     let same = free_is output report file name (files_of v) is free in
-    let hidden : (ignored : List ℕ → Bool) → IgnoresScratchOf output ignored → IgnoresScratch ignored name = λ ignored hides. subst (λ (out : Option (List ℕ)). IgnoresScratchOf out ignored) is hides in
-    let left : (o : Outcome) → IsMade output report file v o → replaced_files name file (files_of v) ≡ o.files = λ o one. sym (ap (λ (x : Outcome). x.files) (one ∙ same)) in
+    let hidden : (ignored : List ℕ → Bool) → IgnoresScratchNameOfOutput output ignored → IgnoresScratchNameButNotIntent ignored name = λ ignored hides. subst (λ (out : Option (List ℕ)). IgnoresScratchNameOfOutput out ignored) is hides in
+    let left : (o : Outcome) → IsMade output report file v o → files_after_replacement name file (files_of v) ≡ o.files = λ o one. sym (ap (λ (x : Outcome). x.files) (one ∙ same)) in
     record {
       moments = λ ignored is_durable hides. subst (λ (out : Option (List ℕ)). AreStatesOldOrLeadToOutcome (IsMade output report file v) (is_some out) ignored v old now) (sym is)
-          (inr (commit_report (replaced_files name file (files_of v)) report, sym same, refl, done.moments ignored is_durable (hidden ignored hides)));
+          (inr (commit_report (files_after_replacement name file (files_of v)) report, sym same, refl, done.moments ignored is_durable (hidden ignored hides)));
       is_durable = λ ignored is_durable hides. done.is_durable ignored is_durable (hidden ignored hides);
-      settled = λ ignored o is_durable hides one lasts. subst (λ (f : Files). OnOk judged (HoldsNow now (EachCrashLeaves ignored f))) (left o one) (done.settled ignored is_durable (hidden ignored hides));
+      settled = λ ignored o is_durable hides one lasts. subst (λ (f : Files). OnOk judged (HoldsNow now (EachCrashLeavesStateOf ignored f))) (left o one) (done.settled ignored is_durable (hidden ignored hides));
       durable_state = λ ignored o is_durable hides one commits.
-          subst (λ (f : Files). OnOk judged (HoldsNow now (IsDurableState (ignored_except_output output ignored) f))) (left o one)
-          (subst (λ (out : Option (List ℕ)). OnOk judged (HoldsNow now (IsDurableState (ignored_except_output out ignored) (replaced_files name file (files_of v))))) (sym is)
+          subst (λ (f : Files). OnOk judged (HoldsNow now (IsDurableAndLeavesFiles (ignored_except_output output ignored) f))) (left o one)
+          (subst (λ (out : Option (List ℕ)). OnOk judged (HoldsNow now (IsDurableAndLeavesFiles (ignored_except_output out ignored) (files_after_replacement name file (files_of v))))) (sym is)
           (rest_now law ignored name file (files_of v) judged now (done.is_durable ignored is_durable (hidden ignored hides)) done.synced done.leaves));
       reads = subst (λ (out : Option (List ℕ)). AreFilesReadWithoutRecovery (IsMade output report file v) Makes out v old now) (sym is)
-          (inr (commit_report (replaced_files name file (files_of v)) report, sym same, refl, since_weaker (ReadsOldOrReplaced name file (files_of v)) (IsStateDuringRun Makes (Some name) (replaced_files name file (files_of v)) (files_of v)) old now (drafting name file (files_of v)) done.reads));
+          (inr (commit_report (files_after_replacement name file (files_of v)) report, sym same, refl, since_weaker (ReadsOldOrReplaced name file (files_of v)) (IsStateDuringRun Makes (Some name) (files_after_replacement name file (files_of v)) (files_of v)) old now (drafting name file (files_of v)) done.reads));
       last = subst (λ (out : Option (List ℕ)). NamesOutsideJournalAreDurable v → Since (NamesAreDurableWithoutIntentExcept out) old now) (sym is)
           (λ last. since_weaker (KeepsCrashMapsExcept (name ∷ scratch_name_of name ∷ []) v) (NamesAreDurableWithoutIntentExcept (Some name)) old now (λ w. names_kept (Some name) v w last) done.others);
       leaves = λ o one. subst (λ (f : Files). OnOk judged (HoldsNow now (λ w. files_of w ≡ f))) (left o one) done.leaves;
@@ -236,21 +236,21 @@ free_run law output report file name judged v old now is free done =
     }
 
 abbrev ChangesHistory : List ℕ → List ℕ → History → History → Type 0
-ChangesHistory name file old now = IfObservable old (λ v. (ignored : List ℕ → Bool) → IsDurable (StateDependsOn ignored) v → IgnoresScratch ignored name → Since (IsMomentOfReplacing ignored (replaced_files name file (files_of v)) v) old now)
+ChangesHistory name file old now = IfObservable old (λ v. (ignored : List ℕ → Bool) → IsDurable (StateDependsOn ignored) v → IgnoresScratchNameButNotIntent ignored name → Since (IsMomentOfReplacing ignored (files_after_replacement name file (files_of v)) v) old now)
 
 abbrev IsReadOnTheWay : List ℕ → List ℕ → History → History → Type 0
 IsReadOnTheWay name file old now = IfObservable old (λ v. Since (ReadsOldOrReplaced name file (files_of v)) old now)
 
 abbrev StaysDurable : List ℕ → History → History → Type 0
-StaysDurable name old now = IfObservable old (λ v. (ignored : List ℕ → Bool) → IsDurable (StateDependsOn ignored) v → IgnoresScratch ignored name → HoldsNow now (IsDurable (StateDependsOn ignored)))
+StaysDurable name old now = IfObservable old (λ v. (ignored : List ℕ → Bool) → IsDurable (StateDependsOn ignored) v → IgnoresScratchNameButNotIntent ignored name → HoldsNow now (IsDurable (StateDependsOn ignored)))
 
 abbrev StaysElsewhere : List ℕ → History → History → Type 0
 StaysElsewhere name old now = IfObservable old (λ v. Since (KeepsCrashMapsExcept (name ∷ scratch_name_of name ∷ []) v) old now)
 
 pub written_run : ImageHasState → (output : Option (List ℕ)) (report file name : List ℕ) (verdict : Verdict) (old now : History) → output ≡ Some name → is_reserved name ≡ false
     → ChangesHistory name file old now → StaysDurable name old now → IsReadOnTheWay name file old now
-    → IfObservable old (λ v. (ignored : List ℕ → Bool) → IsDurable (StateDependsOn ignored) v → IgnoresScratch ignored name → HoldsNow now (EachCrashLeaves ignored (replaced_files name file (files_of v))))
-    → IfObservable old (λ v. HoldsNow now (λ w. files_of w ≡ replaced_files name file (files_of v))) → IfObservable old (λ v. HoldsNow now (IsSyncedAt name)) → StaysElsewhere name old now
+    → IfObservable old (λ v. (ignored : List ℕ → Bool) → IsDurable (StateDependsOn ignored) v → IgnoresScratchNameButNotIntent ignored name → HoldsNow now (EachCrashLeavesStateOf ignored (files_after_replacement name file (files_of v))))
+    → IfObservable old (λ v. HoldsNow now (λ w. files_of w ≡ files_after_replacement name file (files_of v))) → IfObservable old (λ v. HoldsNow now (IsSyncedAt name)) → StaysElsewhere name old now
     → IfObservable old (λ v. IsRunAfterRecovery (IsMade output report file v) Makes output (Ok verdict) v old now)
 written_run law output report file name verdict [] now is free moves is_durable reads settled leaves synced others = tt
 written_run law output report file name verdict (v ∷ rest) now is free moves is_durable reads settled leaves synced others =

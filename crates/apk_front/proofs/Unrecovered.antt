@@ -9,7 +9,7 @@ use Rattle.journal_core.specs.Recovery.{intent_in_file, intent_name, is_staged, 
 use Rattle.journal_core.specs.Staged.{unstaged_files}
 use Rattle.outcome.specs.Effect.{Effect, Computes, OnlyReadsFiles, AsksRoot, Makes, Changes, does_recover}
 use Rattle.outcome.specs.Work.{files_recovered_if_needed}
-use Rattle.apk_front.specs.Moments.{HasNothingToRecover, IsRecovering}
+use Rattle.apk_front.specs.Moments.{HasNothingToRecover, IsStateDuringRecovery}
 
 -- neither an intent is there, nor anything that waits
 abbrev NoneWaits : Files → Type 0
@@ -29,7 +29,7 @@ no_staged_intent : (effect : Effect) (v : TreeState) → does_recover effect ≡
 no_staged_intent effect v recovers (inl not_so) q waits = absurd (false≢true (sym not_so ∙ recovers))
 no_staged_intent effect v recovers (inr (absent, empty)) q waits = ap (bytes_of_file_number v.files) (⊎_elim (λ is. ap v.names is ∙ absent) (λ staged. empty q staged) waits)
 
-pub same_files : (effect : Effect) (v w : TreeState) → HasNothingToRecover effect v → (does_recover effect ≡ true) × IsRecovering v w → files_of w ≡ files_of v
+pub same_files : (effect : Effect) (v w : TreeState) → HasNothingToRecover effect v → (does_recover effect ≡ true) × IsStateDuringRecovery v w → files_of w ≡ files_of v
 same_files effect v w nothing (recovers, moment) =
     let before = no_staged_intent effect v recovers nothing in
     let now : NoneWaits (files_of w) = λ q waits. ⊎_elim (λ gone. gone) (λ was. was ∙ before q waits) (moment.waiting q waits) in

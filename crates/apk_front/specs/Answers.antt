@@ -33,8 +33,8 @@ abbrev pub DidNotFail : SinkBeforeAndAfter → Type 0
 DidNotFail sink = CountsNoNewFault sink.before sink.after
 
 -- a sink gets a whole line, or a prefix of the line if the sink failed
-abbrev pub GetsLineOrPrefix : SinkBeforeAndAfter → List ℕ → Type 0
-GetsLineOrPrefix sink line =
+abbrev pub GetsLineOrFailsWithPrefix : SinkBeforeAndAfter → List ℕ → Type 0
+GetsLineOrFailsWithPrefix sink line =
     (SinkGets sink line × DidNotFail sink) ⊎ (SinkGetsPrefix sink line × SinkFailed sink)
 
 -- a sink failed, and at least one byte was to be printed on it
@@ -45,9 +45,12 @@ pub record FailedWithBytesToPrint (sink : SinkBeforeAndAfter) (bytes : List ℕ)
 -- the answer and all bytes are those of an outcome, and no sink failed
 pub record IsAnsweredInFull (outcome : Outcome) (answer : Answer)
     (out err : SinkBeforeAndAfter) : Type 0 where
+  -- the answer is that of the outcome
   pub same : answer ≡ answer_of outcome
+  -- each sink gets all bytes of the outcome
   pub out_gets : SinkGets out outcome.out
   pub err_gets : SinkGets err outcome.err
+  -- no sink failed
   pub out_kept : DidNotFail out
   pub err_kept : DidNotFail err
 
@@ -57,14 +60,17 @@ pub record IsSingleSinkFault (outcome : Outcome) (out err : SinkBeforeAndAfter) 
   pub which :
       (FailedWithBytesToPrint out outcome.out × SinkGets err [] × DidNotFail err)
       ⊎ (FailedWithBytesToPrint err outcome.err × SinkGets out outcome.out × DidNotFail out)
+  -- each sink got the first bytes of what was to be printed on it, or all of them
   pub out_gets : SinkGetsPrefix out outcome.out
   pub err_gets : SinkGetsPrefix err outcome.err
 
 -- no outcome was printed: only this line on err; out got nothing, and did not fail
 pub record PrintsOnlyErrorLine (line : List ℕ) (out err : SinkBeforeAndAfter) : Type 0 where
+  -- standard output gets nothing, and does not fail
   pub out_gets : SinkGets out []
   pub out_kept : DidNotFail out
-  pub err_gets : GetsLineOrPrefix err line
+  -- standard error gets the line, or the first bytes of it
+  pub err_gets : GetsLineOrFailsWithPrefix err line
 
 -- ---- the answer
 
@@ -118,6 +124,7 @@ IsAnswerExplainedByCounts Memory before after out err =
 
 -- a run in which no count of faults rose: neither the tree's, nor a sink's
 pub record IsFaultless (before after : Counts) (out err : SinkBeforeAndAfter) : Type 0 where
+  -- the count of faults did not rise, and is not at its greatest value: of the tree, and of each sink
   pub tree : ¬ RoseOrIsSaturated before.faults after.faults
   pub out_sink : ¬ RoseOrIsSaturated out.before.faults out.after.faults
   pub err_sink : ¬ RoseOrIsSaturated err.before.faults err.after.faults
@@ -133,7 +140,9 @@ AnswersOutcomeUnlessMemory words files answer =
 -- no failure of a tree or a sink is planned, and its count of misuses is below 2^64 - 1, the greatest
 -- count, so that one more misuse would be counted
 pub record HasNoPlannedFailure (counts : Counts) : Type 0 where
+  -- the counts say that no call is to fail
   pub unplanned : counts.fallible ≡ false
+  -- one more misuse would be counted
   pub below : counts.misuses < 2 ^ 64 - 1
 
 -- The answer, all bytes and the files are the outcome's, or memory ran out: the run's, or the own
@@ -160,5 +169,5 @@ IsAnsweredInFullUnlessMemory words files Leaves Memory before after out err = Un
 
 -- whether the arguments name an applet, perhaps after leading options, or ask for help or for the version
 -- without one
-abbrev pub is_command_named : List (List ℕ) → Bool
-is_command_named words = is_ok (start_of_command_line words) || is_ok (command_of words)
+abbrev pub is_applet_help_or_version_named : List (List ℕ) → Bool
+is_applet_help_or_version_named words = is_ok (start_of_command_line words) || is_ok (command_of words)

@@ -11,7 +11,7 @@ use Rattle.base_core.specs.Files.{Files}
 use Rattle.base_core.specs.declared.cause.Cause.{Cause}
 use Rattle.command_core.specs.Command.{CommandLine}
 use Rattle.command_core.specs.declared.values.TheConstants.{FILES}
-use Rattle.make_core.specs.make_index.Files.{FindOnlyFiles}
+use Rattle.make_core.specs.make_index.Files.{AreOperandReadsFileBytes}
 use Rattle.make_core.specs.make_index.Index.{made_index}
 use Rattle.make_core.specs.make_info.Reads.{Reads}
 use Rattle.make_core.specs.make_info.declared.fault.MakeFault.{MakeFault}
@@ -76,8 +76,11 @@ OnMade (Err why) Means = is_disk_or_memory why ≡ false → Means (Err why)
 -- below the folder of `-F`
 pub record IsPackageMade (command : CommandLine) (files : Files)
     (made : Result (List ℕ) MakeFault) : Type 0 where
+  -- the names of the files to be packed
   pub names : List (List ℕ)
+  -- they are those below the folder of `-F`
   pub listing : AreNamesBelowOptionFolder (values_of_letter FILES command.values) files names
+  -- the package of these names and files, or the reason for which none is made
   pub is : made_package command names (reads_in files) ≡ made
 
 -- what `mkndx` makes of a command and these files, or why it makes none
@@ -99,6 +102,8 @@ IsIndexOutcome command files outcome = outcome ≡ mkndx (reads_in files) files 
 
 -- the index that is made of a command by some reads, as on a tree that is not observable
 pub record IsIndexFound (command : CommandLine) (made : Result (List ℕ) MakeFault) : Type 0 where
+  -- some contents for each read; under an operand it finds nothing, or bytes that a file may have
   pub read : Reads
-  pub files : FindOnlyFiles read 0 command.operands
+  pub files : AreOperandReadsFileBytes read 0 command.operands
+  -- the index of these reads, or the reason for which none is made
   pub is : made_index command read ≡ made

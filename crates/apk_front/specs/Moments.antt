@@ -9,16 +9,16 @@ use Rattle.base_core.specs.Undone.{IsDurable}
 use Rattle.base_core.specs.Files.{Files}
 use Rattle.base_core.specs.Restart.{SinceGivenEarlier}
 use Rattle.base_core.specs.Tree.{TreeState, files_of}
-use Rattle.journal_core.specs.Kept.{HasOldOrNewBytes, JournalOnlyShrinks, NamesOutsideJournalAreDurableExcept}
+use Rattle.journal_core.specs.Kept.{HasOldOrNewBytesOutsideJournal, JournalOnlyShrinks, NamesOutsideJournalAreDurableExcept}
 use Rattle.journal_core.specs.Quiet.{StateIsUnchanged}
-use Rattle.journal_core.specs.Recovery.{EachCrashLeaves, StateDependsOn, intent_name, intent_of, is_staged}
-use Rattle.journal_core.specs.Replacing.{CanAddOutputNames, IgnoresScratch, IsMomentOfReplacing, scratch_name_of}
-use Rattle.journal_core.specs.Staged.{AreReplayPathsFree, AreStagingPathsFree, IsEmptyStage, IsOldUntilCommit, unstaged_files}
+use Rattle.journal_core.specs.Recovery.{EachCrashLeavesStateOf, StateDependsOn, intent_name, intent_of, is_staged}
+use Rattle.journal_core.specs.Replacing.{CanAddOutputNames, IgnoresScratchNameButNotIntent, IsMomentOfReplacing, scratch_name_of}
+use Rattle.journal_core.specs.Staged.{AreReplayPathsFree, AreStagingPathsFree, HasNoStagedNames, IsOldUntilCommit, unstaged_files}
 use Rattle.outcome.specs.Effect.{Effect, Computes, OnlyReadsFiles, AsksRoot, Makes, Changes, does_recover, effect_of_arguments, output}
 use Rattle.outcome.specs.Outcome.{Outcome}
 use Rattle.outcome.specs.Words.{IsOutcome}
 use Rattle.outcome.specs.Work.{files_recovered_if_needed}
-use Rattle.engine_core.specs.journal_commit.Asked.{HasAcceptedTargets}
+use Rattle.engine_core.specs.journal_commit.Asked.{RecoveryChangesOnlyAcceptedNames}
 use Rattle.words_core.specs.Grammar.{command_of}
 use Rattle.apk_front.specs.declared.answer.Answer.{Answer}
 use Rattle.apk_front.specs.declared.answer.Answer.TheVariants.{Ok, Refused, OutFault, Memory}
@@ -31,11 +31,11 @@ output_names None = []
 output_names (Some name) = name ∷ scratch_name_of name ∷ []
 
 -- the ignored names contain the scratch name of an output, and not the name of the intent
-abbrev pub IgnoresScratchOf : Option (List ℕ) → (List ℕ → Bool) → Type 0
-IgnoresScratchOf None ignored = Unit {0}
-IgnoresScratchOf (Some name) ignored = IgnoresScratch ignored name
+abbrev pub IgnoresScratchNameOfOutput : Option (List ℕ) → (List ℕ → Bool) → Type 0
+IgnoresScratchNameOfOutput None ignored = Unit {0}
+IgnoresScratchNameOfOutput (Some name) ignored = IgnoresScratchNameButNotIntent ignored name
 
--- the ignored names without an output and its scratch name
+-- whether a name is ignored, if the output and its scratch name are no longer ignored
 abbrev pub ignored_except_output : Option (List ℕ) → (List ℕ → Bool) → List ℕ → Bool
 ignored_except_output None ignored q = ignored q
 ignored_except_output (Some name) ignored q =
@@ -92,10 +92,14 @@ HasFilesExceptTemporaryOnes effect output files w =
 -- a change has committed its journal entry (intent), and recovery yields the new files; each name
 -- outside the staging area has its old bytes or its new ones
 pub record IsCommittedChange (effect : Effect) (new old : Files) (w : TreeState) : Type 0 where
+  -- the command changes what is installed
   pub changes : effect ≡ Changes
+  -- the intent is under its final name
   pub intent : IsSome (w.names intent_name)
+  -- recovery of the files in w yields the new files
   pub leads : unstaged_files (files_of w) ≡ new
-  pub bytes : HasOldOrNewBytes old new w
+  -- each name outside the staging area has its old bytes or its new ones
+  pub bytes : HasOldOrNewBytesOutsideJournal old new w
 
 -- the files as read are the old ones, except under temporary names; or a change to the new files is
 -- committed and in progress; or the files as read are the new ones
@@ -110,38 +114,40 @@ IsStateDuringRun effect output new old w =
 -- staged file
 abbrev pub HasNothingToRecover : Effect → TreeState → Type 0
 HasNothingToRecover effect v =
-    (does_recover effect ≡ false) ⊎ ((v.names intent_name ≡ None) × IsEmptyStage v.names)
+    (does_recover effect ≡ false) ⊎ ((v.names intent_name ≡ None) × HasNoStagedNames v.names)
 
 -- a run can recover: its command does, and the file under the intent's name is an intent
 abbrev pub CanRecover : Effect → TreeState → Type 0
 CanRecover effect v = (does_recover effect ≡ true) × IsSome (intent_of (files_of v))
 
--- recovery of the files as read yields what it yields of the old ones, apart from staged files; each
--- other name has its old bytes or its recovered ones; and the intent and each staged file is unchanged
--- or removed
-pub record IsRecovering (v w : TreeState) : Type 0 where
+-- from state v to state w a recovery is in progress
+pub record IsStateDuringRecovery (v w : TreeState) : Type 0 where
+  -- recovery yields of the files in w what it yields of those in v
   pub reads : unstaged_files (files_of w) ≡ unstaged_files (files_of v)
-  pub bytes : HasOldOrNewBytes (files_of v) (unstaged_files (files_of v)) w
+  -- each name outside the staging area has its bytes in v or its recovered bytes
+  pub bytes : HasOldOrNewBytesOutsideJournal (files_of v) (unstaged_files (files_of v)) w
+  -- the intent and each staged file is unchanged or removed
   pub waiting : JournalOnlyShrinks v w
 
 -- in state `w` of a run the tree is being recovered from state `v`, if the command recovers; or `IsNext`,
 -- which is required after recovery, holds of `w`
-abbrev pub IsRecoveringOrNext : Effect → (TreeState → Type 0) → TreeState → TreeState → Type 0
-IsRecoveringOrNext effect IsNext v w = ((does_recover effect ≡ true) × IsRecovering v w) ⊎ IsNext w
+abbrev pub IsStateDuringRecoveryOrNext : Effect → (TreeState → Type 0) → TreeState → TreeState → Type 0
+IsStateDuringRecoveryOrNext effect IsNext v w =
+    ((does_recover effect ≡ true) × IsStateDuringRecovery v w) ⊎ IsNext w
 
 -- Except while the tree is recovered, the files as read are those on which the command works
 -- (*files_recovered_if_needed*). Or the run has an outcome that commits, and its states are those of such a run
 -- (*IsStateDuringRun*).
-abbrev pub AreFilesReadDuringRun :
+abbrev pub AreStatesOfRecoveryOrCommittingRun :
     (Outcome → Type 0) → Effect → Option (List ℕ) → TreeState → List TreeState → List TreeState
     → Type 0
-AreFilesReadDuringRun IsOne effect output v old now =
-    Since (IsRecoveringOrNext effect
+AreStatesOfRecoveryOrCommittingRun IsOne effect output v old now =
+    Since (IsStateDuringRecoveryOrNext effect
     (λ w. files_of w ≡ files_recovered_if_needed effect (files_of v)) v) old now
     ⊎ ((outcome : Outcome)
     × IsOne outcome
     × (outcome.commits ≡ true)
-    × Since (IsRecoveringOrNext effect
+    × Since (IsStateDuringRecoveryOrNext effect
     (IsStateDuringRun effect output outcome.files
     (files_recovered_if_needed effect (files_of v))) v) old now)
 
@@ -162,7 +168,8 @@ MomentsLeadToFiles true ignored files v old now = Since (IsMomentOfReplacing ign
 MomentsLeadToFiles false ignored files v old now =
     SinceGivenEarlier (IsOldUntilCommit ignored files v) old now
 
--- The state is unchanged; or the run has an outcome that commits, and leads to its files.
+-- At each moment of the run the state is unchanged; or the run has an outcome that commits, and its moments
+-- lead to the files of this outcome. `makes` says whether the run makes one file.
 abbrev pub AreStatesOldOrLeadToOutcome :
     (Outcome → Type 0) → Bool → (List ℕ → Bool) → TreeState → List TreeState → List TreeState
     → Type 0
@@ -177,7 +184,7 @@ AreStatesOldOrLeadToOutcome IsOne makes ignored v old now =
 -- the files as read
 abbrev pub MustOutcomeBeDurableWithoutRecovery : (List ℕ → Bool) → TreeState → Outcome → Type 0
 MustOutcomeBeDurableWithoutRecovery ignored v outcome =
-    (outcome.commits ≡ true) ⊎ EachCrashLeaves ignored (files_of v) v
+    (outcome.commits ≡ true) ⊎ EachCrashLeavesStateOf ignored (files_of v) v
 
 -- an outcome's files must be durable after the run: by *MustOutcomeBeDurableWithoutRecovery*, or because an
 -- intent can be recovered
@@ -186,17 +193,19 @@ MustOutcomeBeDurable effect ignored v outcome = MustOutcomeBeDurableWithoutRecov
     ⊎ CanRecover effect v
 
 -- the tree is durable, and each crash leaves these files
-pub record IsDurableState (ignored : List ℕ → Bool) (files : Files) (w : TreeState) : Type 0 where
+pub record IsDurableAndLeavesFiles (ignored : List ℕ → Bool) (files : Files) (w : TreeState) : Type 0 where
+  -- no crash changes the bytes of a file on which recovery depends
   pub is_durable : IsDurable (StateDependsOn ignored) w
-  pub settled : EachCrashLeaves ignored files w
+  -- each crash leaves the state of these files
+  pub settled : EachCrashLeavesStateOf ignored files w
 
 -- ---- the answer
 
 -- the command was carried out, though its report may not have been printed
-abbrev pub IsCarriedOut : Answer → Type 0
-IsCarriedOut Ok = Unit {0}
-IsCarriedOut OutFault = Unit {0}
-IsCarriedOut other = ⊥
+abbrev pub IsOkOrOutputFault : Answer → Type 0
+IsOkOrOutputFault Ok = Unit {0}
+IsOkOrOutputFault OutFault = Unit {0}
+IsOkOrOutputFault other = ⊥
 
 -- the command was not carried out, and the tree did not fail
 abbrev pub IsRefusedOrOutOfMemory : Answer → Type 0
@@ -204,12 +213,12 @@ IsRefusedOrOutOfMemory (Refused refusal) = Unit {0}
 IsRefusedOrOutOfMemory Memory = Unit {0}
 IsRefusedOrOutOfMemory other = ⊥
 
--- the outcome was answered, or a sink's fault in its place
-abbrev pub AnswersOutcome : Answer → Type 0
-AnswersOutcome Ok = Unit {0}
-AnswersOutcome (Refused refusal) = Unit {0}
-AnswersOutcome OutFault = Unit {0}
-AnswersOutcome other = ⊥
+-- the answer is that of the outcome, or it is a fault of a sink
+abbrev pub IsOkRefusedOrOutputFault : Answer → Type 0
+IsOkRefusedOrOutputFault Ok = Unit {0}
+IsOkRefusedOrOutputFault (Refused refusal) = Unit {0}
+IsOkRefusedOrOutputFault OutFault = Unit {0}
+IsOkRefusedOrOutputFault other = ⊥
 
 -- one of these outcomes commits nothing
 abbrev pub HasOutcomeWithoutCommit : (Outcome → Type 0) → Type 0
@@ -223,7 +232,8 @@ IsRefusedOrCommitsNothing IsOne answer = IsRefusedOrOutOfMemory answer ⊎ HasOu
 abbrev pub LeavesDurableFilesIfRequired :
     Effect → (List ℕ → Bool) → TreeState → List TreeState → Outcome → Type 0
 LeavesDurableFilesIfRequired effect ignored v now outcome =
-    MustOutcomeBeDurable effect ignored v outcome → HoldsNow now (EachCrashLeaves ignored outcome.files)
+    MustOutcomeBeDurable effect ignored v outcome
+    → HoldsNow now (EachCrashLeavesStateOf ignored outcome.files)
 
 -- Once an outcome is answered, even a refusal, or a sink's fault instead, its files are durable if they
 -- must be. After other answers nothing is said.
@@ -250,7 +260,7 @@ abbrev pub LeavesDurableStateIfCommitted :
 LeavesDurableStateIfCommitted IsOne output ignored now =
     (outcome : Outcome)
     × IsOne outcome
-    × (outcome.commits ≡ true → HoldsNow now (IsDurableState (ignored_except_output output ignored)
+    × (outcome.commits ≡ true → HoldsNow now (IsDurableAndLeavesFiles (ignored_except_output output ignored)
     outcome.files))
 
 -- ---- what is promised
@@ -260,4 +270,4 @@ LeavesDurableStateIfCommitted IsOne output ignored now =
 abbrev pub AreRecoveryTargetsAccepted :
     (Option (List ℕ) → List ℕ → Type 0) → List TreeState → List TreeState → Type 0
 AreRecoveryTargetsAccepted accepts old now = IfObservable old (λ v.
-    Since (HasAcceptedTargets accepts (unstaged_files (files_of v))) old now)
+    Since (RecoveryChangesOnlyAcceptedNames accepts (unstaged_files (files_of v))) old now)

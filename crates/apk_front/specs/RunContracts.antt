@@ -30,6 +30,7 @@ pub record IsVerdictExplainedByCounts (before now : Counts)
   pub disk : IsErrOf judged Disk → IsFaultCountedWithCause before now
   -- neither a verdict nor out of memory hides a fault
   pub kept : OnOk judged (CountsNoNewFault before now)
+  -- if memory ran out, the tree counted no failed call
   pub memory : IsErrOf judged Memory → CountsNoNewFault before now
 
 -- a run of `mkpkg` or `mkndx`, or a call that writes what such a run has made: its effect on the tree, if
@@ -64,6 +65,7 @@ pub record IsFileTest (place : ℕ) (name : List ℕ) (old now : List TreeState)
       refusal ≡ file_refusal place (files_of v name)))
   -- on every tree some bytes are tested, or none are found
   pub by_reads : IfOk tested (λ refusal. (found : Option (List ℕ)) × (refusal ≡ file_refusal place found))
+  -- the tree is only read
   pub tree : OnlyReads Disk old now counts_before counts_now tested
 
 -- a run of a command whose outcome depends on its arguments alone: one of these over any files
@@ -90,6 +92,7 @@ pub record IsRecoveredRun (command : CommandLine) (old now : List TreeState)
       (output_name_for_effect (effect_of command.applet) command) judged v old now)
   -- if memory ran out nothing was written
   pub undone : IfNothingStaged old (λ v. IsErrOf judged Memory → now ≡ old)
+  -- if there is a verdict, the tree counted no failed call; an I/O error has its cause in the counts
   pub counts : IsVerdictExplainedByCounts counts_before counts_now judged
   -- no call is a misuse if the paths are free that an outcome that commits writes
   pub proper : IfNothingStaged old (λ v.
@@ -115,6 +118,7 @@ pub record IsJudgedRun (accepts : Option (List ℕ) → List ℕ → Type 0)
   pub tree : IfObservable old (λ v. IsRunWithRecovery (IsOne (files_of v)) effect output judged v old now)
   -- a change has asked the tree for each name that it promises
   pub promised : effect ≡ Changes → AreRecoveryTargetsAccepted accepts old now
+  -- if there is a verdict, the tree counted no failed call; an I/O error has its cause in the counts
   pub counts : IsVerdictExplainedByCounts counts_before counts_now judged
   -- no call is a misuse if the paths of the run are free
   pub proper : IfObservable old (λ v. AreOutcomePathsFree effect output (IsOne (files_of v)) (files_of v)

@@ -10,19 +10,19 @@ use Rattle.base_core.specs.declared.tree.TreeFault.{TreeFault}
 use Rattle.base_core.specs.declared.tree.TreeFault.TheVariants.{Memory}
 use Rattle.journal_core.specs.Kept.{NamesOutsideJournalAreDurable}
 use Rattle.journal_core.specs.Quiet.{StateIsUnchanged}
-use Rattle.journal_core.specs.Recovery.{StateDependsOn, EachCrashLeaves, intent_name}
-use Rattle.journal_core.specs.Staged.{IsEmptyStage}
+use Rattle.journal_core.specs.Recovery.{StateDependsOn, EachCrashLeavesStateOf, intent_name}
+use Rattle.journal_core.specs.Staged.{HasNoStagedNames}
 use Rattle.outcome.specs.Effect.{Effect}
 use Rattle.outcome.specs.Outcome.{Outcome}
 use Rattle.outcome.specs.Work.{recovery_fault}
-use Rattle.apk_front.specs.Moments.{AreFilesReadDuringRun, AreStatesOldOrLeadToOutcome, HasOutcomeWithoutCommit, HasNothingToRecover, IgnoresScratchOf, IsDurableState, IsStateDuringRun, MustOutcomeBeDurable, MustOutcomeBeDurableWithoutRecovery, NamesAreDurableWithoutIntentExcept, ignored_except_output}
+use Rattle.apk_front.specs.Moments.{AreStatesOfRecoveryOrCommittingRun, AreStatesOldOrLeadToOutcome, HasOutcomeWithoutCommit, HasNothingToRecover, IgnoresScratchNameOfOutput, IsDurableAndLeavesFiles, IsStateDuringRun, MustOutcomeBeDurable, MustOutcomeBeDurableWithoutRecovery, NamesAreDurableWithoutIntentExcept, ignored_except_output}
 use Rattle.apk_front.specs.declared.answer.Verdict.{Verdict}
 
 -- ---- after recovery
 
 -- no intent is read, and there is no file below the staging area
 abbrev pub HasNothingStaged : TreeState → Type 0
-HasNothingStaged v = (v.names intent_name ≡ None) × IsEmptyStage (files_of v)
+HasNothingStaged v = (v.names intent_name ≡ None) × HasNoStagedNames (files_of v)
 
 -- P holds of the newest state, if the history is observable and there is neither an intent nor a staged
 -- file
@@ -49,22 +49,23 @@ pub record IsRunAfterRecovery (IsOne : Outcome → Type 0) (effect : Effect) (ou
   -- at each moment the tree is durable, and a crash leaves a state from before or that of the files of
   -- an outcome that commits
   pub moments : (ignored : List ℕ → Bool)
-      → IsDurable (StateDependsOn ignored) v → IgnoresScratchOf output ignored
+      → IsDurable (StateDependsOn ignored) v → IgnoresScratchNameOfOutput output ignored
       → AreStatesOldOrLeadToOutcome IsOne (is_some output) ignored v old now
   -- the tree is left durable
   pub is_durable : (ignored : List ℕ → Bool)
-      → IsDurable (StateDependsOn ignored) v → IgnoresScratchOf output ignored
+      → IsDurable (StateDependsOn ignored) v → IgnoresScratchNameOfOutput output ignored
       → HoldsNow now (IsDurable (StateDependsOn ignored))
   -- if an outcome was judged whose files must be durable, each crash leaves them
   pub settled : (ignored : List ℕ → Bool) (outcome : Outcome)
-      → IsDurable (StateDependsOn ignored) v → IgnoresScratchOf output ignored
+      → IsDurable (StateDependsOn ignored) v → IgnoresScratchNameOfOutput output ignored
       → IsOne outcome → MustOutcomeBeDurableWithoutRecovery ignored v outcome
-      → OnOk judged (HoldsNow now (EachCrashLeaves ignored outcome.files))
+      → OnOk judged (HoldsNow now (EachCrashLeavesStateOf ignored outcome.files))
   -- if an outcome that commits was judged, its output and the scratch name are no longer ignored
   pub durable_state : (ignored : List ℕ → Bool) (outcome : Outcome)
-      → IsDurable (StateDependsOn ignored) v → IgnoresScratchOf output ignored
+      → IsDurable (StateDependsOn ignored) v → IgnoresScratchNameOfOutput output ignored
       → IsOne outcome → outcome.commits ≡ true
-      → OnOk judged (HoldsNow now (IsDurableState (ignored_except_output output ignored) outcome.files))
+      → OnOk judged (HoldsNow now
+      (IsDurableAndLeavesFiles (ignored_except_output output ignored) outcome.files))
   -- the files as read are the old ones, or the run works on them
   pub reads : AreFilesReadWithoutRecovery IsOne effect output v old now
   -- if no crash undoes a change of a name at the start, none does as long as no intent is read, except
@@ -84,27 +85,36 @@ IsOutOfMemoryOrWithoutCommit IsOne judged = IsErrOf judged Memory ⊎ HasOutcome
 -- of *IsRunAfterRecovery* say, with the recovery before it.
 pub record IsRunWithRecovery (IsOne : Outcome → Type 0) (effect : Effect) (output : Option (List ℕ))
     (judged : Result Verdict TreeFault) (v : TreeState) (old now : List TreeState) : Type 0 where
+  -- at each moment the state is old, or the run leads to the files of an outcome that commits
   pub moments : (ignored : List ℕ → Bool)
-      → IsDurable (StateDependsOn ignored) v → IgnoresScratchOf output ignored
+      → IsDurable (StateDependsOn ignored) v → IgnoresScratchNameOfOutput output ignored
       → AreStatesOldOrLeadToOutcome IsOne (is_some output) ignored v old now
+  -- a durable tree is durable after the run
   pub is_durable : (ignored : List ℕ → Bool)
-      → IsDurable (StateDependsOn ignored) v → IgnoresScratchOf output ignored
+      → IsDurable (StateDependsOn ignored) v → IgnoresScratchNameOfOutput output ignored
       → HoldsNow now (IsDurable (StateDependsOn ignored))
+  -- if there is a verdict, each crash leaves the files of the outcome, if they must be durable
   pub settled : (ignored : List ℕ → Bool) (outcome : Outcome)
-      → IsDurable (StateDependsOn ignored) v → IgnoresScratchOf output ignored
+      → IsDurable (StateDependsOn ignored) v → IgnoresScratchNameOfOutput output ignored
       → IsOne outcome → MustOutcomeBeDurable effect ignored v outcome
-      → OnOk judged (HoldsNow now (EachCrashLeaves ignored outcome.files))
+      → OnOk judged (HoldsNow now (EachCrashLeavesStateOf ignored outcome.files))
+  -- after an outcome that commits, each crash leaves its files, also under the output's name
   pub durable_state : (ignored : List ℕ → Bool) (outcome : Outcome)
-      → IsDurable (StateDependsOn ignored) v → IgnoresScratchOf output ignored
+      → IsDurable (StateDependsOn ignored) v → IgnoresScratchNameOfOutput output ignored
       → IsOne outcome → outcome.commits ≡ true
-      → OnOk judged (HoldsNow now (IsDurableState (ignored_except_output output ignored) outcome.files))
+      → OnOk judged (HoldsNow now
+      (IsDurableAndLeavesFiles (ignored_except_output output ignored) outcome.files))
   -- a run that commits nothing leaves the state, and writes nothing if there is nothing to recover
   pub left : IsOutOfMemoryOrWithoutCommit IsOne judged → (ignored : List ℕ → Bool)
       → IsDurable (StateDependsOn ignored) v → Since (StateIsUnchanged ignored v) old now
+  -- without anything to recover, a run that is out of memory or commits nothing leaves the tree unchanged
   pub idle : IsOutOfMemoryOrWithoutCommit IsOne judged → HasNothingToRecover effect v → now ≡ old
   -- nothing is written either if the intent is bad
   pub bad : IsSome (recovery_fault effect (files_of v)) → now ≡ old
-  pub reads : AreFilesReadDuringRun IsOne effect output v old now
+  -- which files are read at each moment of the run
+  pub reads : AreStatesOfRecoveryOrCommittingRun IsOne effect output v old now
+  -- if there was an intent, crashes undo no change of a name from the moment at which no intent is read
   pub last : IsSome (v.names intent_name) → Since (NamesAreDurableWithoutIntentExcept output) old now
+  -- if there is a verdict, the files as read are those of the outcome
   pub leaves : (outcome : Outcome) → IsOne outcome
       → OnOk judged (HoldsNow now (λ w. files_of w ≡ outcome.files))

@@ -7,7 +7,7 @@ use Rattle.base_core.specs.declared.tree.TreeFault.TheVariants as Trees
 use Rattle.tell_core.specs.change_inputs.declared.root.Refused.{Refused}
 use Rattle.tell_core.specs.change_inputs.declared.root.Refused.TheVariants.{Disk, Memory, Refusal}
 use Rattle.tell_core.specs.installed_info.declared.telling.ReportAndRefusal.{ReportAndRefusal}
-use Rattle.outcome.specs.Outcome.{just_refusal, just_report, outcome_of}
+use Rattle.outcome.specs.Outcome.{just_refusal, just_report, outcome_without_commit}
 use Rattle.apk_front.specs.Verdicts.{as_outcome}
 use Rattle.apk_front.specs.declared.answer.Verdict.{Verdict}
 
@@ -29,6 +29,7 @@ IsVerdictOnChange (Err refused) judged = IsVerdictOnRefusal refused judged
 -- the verdict on a report: it is reported, with the refusal after it, or a refusal is
 abbrev pub IsVerdictOnReport : Result ReportAndRefusal Refused → Result Verdict TreeFault → Type 0
 IsVerdictOnReport (Ok done) (Ok verdict) =
-    (files : Files) → as_outcome files verdict ≡ outcome_of done.following_refusal done.report files
+    (files : Files) → as_outcome files verdict
+    ≡ outcome_without_commit done.following_refusal done.report files
 IsVerdictOnReport (Ok done) (Err fault) = ⊥
 IsVerdictOnReport (Err refused) judged = IsVerdictOnRefusal refused judged

@@ -10,7 +10,7 @@ use Rattle.make_core.specs.make_info.Reads.{Reads}
 use Rattle.outcome.specs.Commands.{effect_outcome}
 use Rattle.outcome.specs.Effect.{effect_of}
 use Rattle.outcome.specs.Given.{no_listing_choice_or_clash}
-use Rattle.outcome.specs.Outcome.{Outcome, outcome_of}
+use Rattle.outcome.specs.Outcome.{Outcome, outcome_without_commit}
 use Rattle.report_core.specs.Texts.{refusal_line, tree_failure_line, out_of_memory_line}
 use Rattle.report_core.specs.declared.refusal.Refusal.{Refusal}
 use Rattle.apk_front.specs.Answers.{DidNotFail, IsAnsweredInFull, IsSingleSinkFault, PrintsOnlyErrorLine}
@@ -20,7 +20,7 @@ use Rattle.apk_front.specs.declared.answer.Verdict.{Verdict}
 
 -- a verdict as an outcome that writes nothing, and leaves these files
 abbrev pub as_outcome : Files → Verdict → Outcome
-as_outcome files verdict = outcome_of verdict.refusal verdict.report files
+as_outcome files verdict = outcome_without_commit verdict.refusal verdict.report files
 
 -- the outcome of a command that only reads: it needs no listing of a folder, and no selection
 abbrev pub read_only_outcome : CommandLine → Reads → Files → Outcome

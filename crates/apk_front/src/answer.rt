@@ -1,7 +1,7 @@
 //! The answer of a run: what it was judged to answer is printed on the two sinks. The rules are in
 //! `docs/commands.md`, "Answers and statuses", and the texts in "Error lines".
 ghost use Rattle.std.specs.Prelude.{◌≡◌, ◌≢◌, [], OnErr, Err};
-ghost use Rattle.apk_front.specs.Answers.{GetsLineOrPrefix};
+ghost use Rattle.apk_front.specs.Answers.{GetsLineOrFailsWithPrefix};
 ghost use Rattle.apk_front.specs.Status.{status_of};
 ghost use Rattle.apk_front.specs.Verdicts.{IsPrinted, IsRefusalPrinted, IsVerdictPrinted, as_outcome};
 ghost use Rattle.base_core.specs.Files.{Files};
@@ -87,6 +87,7 @@ pub(crate) fn show<O: Sink, E: Sink>(
     out: &mut O,
     err: &mut E,
 ) -> Answer
+    // The answer and the bytes printed are those of the verdict, unless a sink fails.
     ensures shown { IsVerdictPrinted judged result
         (sink_before_and_after O.bytes O.counts out.old out.new)
         (sink_before_and_after E.bytes E.counts err.old err.new) }
@@ -105,6 +106,7 @@ pub(crate) fn show<O: Sink, E: Sink>(
 // Prints the line of an I/O error of the file tree, or of running out of memory. Nothing is written
 // to `_out`; the clauses name it.
 fn print_fault<O: Sink, E: Sink>(fault: TreeFault, _out: &mut O, err: &mut E) -> Answer
+    // The line of the fault is printed on standard error, unless the sink fails.
     ensures shown { IsVerdictPrinted (Err fault) result
         (sink_before_and_after O.bytes O.counts _out.old _out.new)
         (sink_before_and_after E.bytes E.counts err.old err.new) }
@@ -127,6 +129,7 @@ fn print_fault<O: Sink, E: Sink>(fault: TreeFault, _out: &mut O, err: &mut E) ->
 
 // Prints the report, and then the line of the refusal.
 fn print_verdict<O: Sink, E: Sink>(verdict: Verdict, out: &mut O, err: &mut E) -> Answer
+    // The report and the refusal of the verdict are printed, unless a sink fails.
     ensures printed { (files : Files) → IsPrinted (as_outcome files verdict) result
         (sink_before_and_after O.bytes O.counts out.old out.new)
         (sink_before_and_after E.bytes E.counts err.old err.new) }
@@ -173,7 +176,7 @@ fn print_refusal<E: Sink>(refusal: Option<Refusal>, err: &mut E) -> Answer
 // Prints a fault's line. A fault of the sink does not change the answer: the status reports the
 // first fault.
 fn print_line<E: Sink>(line: &[u8], err: &mut E)
-    ensures line { GetsLineOrPrefix
+    ensures line { GetsLineOrFailsWithPrefix
         (sink_before_and_after E.bytes E.counts err.old err.new) line.now }
     ensures counts { IsUseWithoutMisuse (sink_before_and_after E.bytes E.counts err.old err.new) }
 {

@@ -15,7 +15,7 @@ ghost use Rattle.outcome.specs.demo_lines.Lines.{mkpkg_words};
 ghost use Rattle.outcome.specs.demo_lines.Report.{demo_line};
 ghost use Rattle.outcome.specs.Commands.{IsOutcomeWithoutDemo};
 ghost use Rattle.outcome.specs.Demo.{IsDemoOutcomeAfterInstalling, IsDemoOutcomeAfterPackaging, IsDemoOutcome, IsOutcomeOfNextRun, with_demo_file};
-ghost use Rattle.outcome.specs.Outcome.{Outcome, report_unless};
+ghost use Rattle.outcome.specs.Outcome.{Outcome, just_report_unless_refusal};
 ghost use Rattle.tree_memory.specs.Memory.{tree_state};
 ghost use Rattle.words_core.specs.Grammar.{command_of};
 
@@ -39,6 +39,7 @@ const REPOSITORIES: &[u8] = b"etc/apk/repositories";
 /// line. It fails only by running out of memory.
 pub(crate) fn demo(alloc: Global, operands: &Operands) -> Result<Verdict, TreeFault>
     requires { IsTrue (are_allowed_operands (Some (exactly 1 Number)) operands.now) }
+    // The verdict is that of an outcome of `demo`. The only fault is a lack of memory.
     ensures { MatchResult result
         (λ verdict. (files : Files)
         → IsDemoOutcome (demo_count operands.now) files (as_outcome files verdict))
@@ -55,9 +56,11 @@ pub(crate) fn demo(alloc: Global, operands: &Operands) -> Result<Verdict, TreeFa
 // The report on the last run: its refusal, or the line of `demo` with the last line of that run's
 // report.
 fn told(alloc: Global, count: u16, last: Verdict) -> Result<Verdict, TreeFault>
+    // The verdict is the line of `demo`, or the refusal of the last command. The only fault is a
+    // lack of memory.
     ensures { MatchResult result
         (λ verdict. (files : Files) → as_outcome files verdict
-        ≡ report_unless files last.refusal (demo_line count last.report))
+        ≡ just_report_unless_refusal files last.refusal (demo_line count last.report))
         (λ fault. fault ≡ TreeFault.Memory) }
 {
     let line = demo_line(alloc, count, last.report.as_bytes())?;
@@ -66,7 +69,8 @@ fn told(alloc: Global, count: u16, last: Verdict) -> Result<Verdict, TreeFault>
 
 // The verdict with the refusal, if there is one, and with the report otherwise.
 fn unless_refused(alloc: Global, refusal: Option<Refusal>, report: Text) -> Verdict
-    ensures { (files : Files) → as_outcome files result ≡ report_unless files refusal report }
+    ensures { (files : Files) → as_outcome files result
+        ≡ just_report_unless_refusal files refusal report }
 {
     match refusal {
         Some(refusal) => Verdict::refused(alloc, refusal),

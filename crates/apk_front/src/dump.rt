@@ -24,8 +24,8 @@ use pkg_core::table_of_schema;
 use report_core::Refusal;
 use std::alloc::{AllocError, Global};
 
-/// Prints the text of the file that the one operand names: on an observable tree the text of that
-/// file, on every tree that of some bytes.
+/// Prints the dump text of the file that the operand names. On a tree that is not observable it is
+/// the text of some bytes.
 pub(crate) fn adbdump<T: Tree>(
     alloc: Global,
     operands: &Operands,
@@ -33,6 +33,7 @@ pub(crate) fn adbdump<T: Tree>(
 ) -> Result<Verdict, TreeFault>
     requires one { length operands.now ≡ 1 }
     requires files { IsTrue (are_files operands.now) }
+    // The verdict is that of the specification, and the tree is only read.
     ensures { IsReadingRun (λ read files. adbdump read files operands.now)
         (T.history tree.old) (T.history tree.new) (T.counts tree.old) (T.counts tree.new) result }
 {
@@ -119,7 +120,7 @@ fn shape_payload<'a>(payload: &'a [u8], which: Which) -> Result<Shaped<'a>, Caus
     shape(adb, which)
 }
 
-// Tests the framing of the blocks after the first.
+// Tests the block headers (kind and lengths) of the blocks after the first one.
 fn check_framing(blocks: &mut Blocks<'_>) -> Result<(), Cause>
     ensures { result_err result ≡ framing_fault (block_stream_from blocks.old) }
 {

@@ -2,8 +2,8 @@
 //! run is described in `docs/commands.md`, and its effect on a tree in `docs/crash-safety.md`,
 //! "Recovery", in the table of what a run of `apk` may leave.
 ghost use Rattle.std.specs.Prelude.{◌≡◌, ℕ, Bool, List, IsSome, IsTrue, is_some};
-ghost use Rattle.apk_front.specs.Answers.{is_command_named, IsAnswerOfSomeOutcome, LeavesFiles, LeavesAnyFiles, IsAnswerExplainedByCounts, IsFaultless, AnswersOutcomeUnlessMemory, HasNoPlannedFailure, IsAnsweredInFullUnlessMemory};
-ghost use Rattle.apk_front.specs.Moments.{AnswersOutcome, AreFilesReadDuringRun, AreStatesOldOrLeadToOutcome, IsRefusedOrCommitsNothing, HasNothingToRecover, IgnoresScratchOf, AreRecoveryTargetsAccepted, LeavesDurableStateIfCommitted, LeavesDurableFilesOnceAnswered, AreRunPathsFree, NamesAreDurableWithoutIntentExcept};
+ghost use Rattle.apk_front.specs.Answers.{is_applet_help_or_version_named, IsAnswerOfSomeOutcome, LeavesFiles, LeavesAnyFiles, IsAnswerExplainedByCounts, IsFaultless, AnswersOutcomeUnlessMemory, HasNoPlannedFailure, IsAnsweredInFullUnlessMemory};
+ghost use Rattle.apk_front.specs.Moments.{IsOkRefusedOrOutputFault, AreStatesOfRecoveryOrCommittingRun, AreStatesOldOrLeadToOutcome, IsRefusedOrCommitsNothing, HasNothingToRecover, IgnoresScratchNameOfOutput, AreRecoveryTargetsAccepted, LeavesDurableStateIfCommitted, LeavesDurableFilesOnceAnswered, AreRunPathsFree, NamesAreDurableWithoutIntentExcept};
 ghost use Rattle.base_core.specs.Calls.{HoldsNow, IfObservable};
 ghost use Rattle.base_core.specs.Crash.{Since};
 ghost use Rattle.base_core.specs.Undone.{IsDurable};
@@ -94,7 +94,7 @@ pub fn apk<T: Tree, O: Sink, E: Sink>(
 
     // Out of memory is answered only if the arguments name an applet, or ask for help or the
     // version.
-    ensures memory { result ≡ Answer.Memory → IsTrue (is_command_named words.now) }
+    ensures memory { result ≡ Answer.Memory → IsTrue (is_applet_help_or_version_named words.now) }
 
     // No call is a misuse of the tree if two conditions hold: the paths that recovery writes are
     // free in the files, and those that the outcome writes are free in the recovered files. Then
@@ -150,7 +150,7 @@ pub fn apk<T: Tree, O: Sink, E: Sink>(
     // fails: no file is ever temporarily missing. Not proved: that an unchanged file is never
     // rewritten with the same bytes.
     ensures reads { IfObservable (T.history tree.old) (λ v.
-        AreFilesReadDuringRun (IsOutcome (command_of words.now) (files_of v))
+        AreStatesOfRecoveryOrCommittingRun (IsOutcome (command_of words.now) (files_of v))
         (effect_of_arguments (command_of words.now)) (output words.now) v (T.history tree.old)
         (T.history tree.new)) }
 
@@ -174,7 +174,8 @@ pub fn apk<T: Tree, O: Sink, E: Sink>(
     // crash leaves the old files or the outcome's; OUTPUT.apk-tmp may be left too. A state includes
     // a bad intent, so a crash leaves one only if it might have left one before.
     ensures crash { IfObservable (T.history tree.old) (λ v. (ignored : List ℕ → Bool)
-        → IsDurable (StateDependsOn ignored) v → IgnoresScratchOf (output words.now) ignored
+        → IsDurable (StateDependsOn ignored) v
+        → IgnoresScratchNameOfOutput (output words.now) ignored
         → AreStatesOldOrLeadToOutcome (IsOutcome (command_of words.now) (files_of v)) (is_some
         (output
         words.now))
@@ -182,14 +183,16 @@ pub fn apk<T: Tree, O: Sink, E: Sink>(
 
     // The tree is durable again, whatever is answered.
     ensures is_durable { IfObservable (T.history tree.old) (λ v. (ignored : List ℕ → Bool)
-        → IsDurable (StateDependsOn ignored) v → IgnoresScratchOf (output words.now) ignored
+        → IsDurable (StateDependsOn ignored) v
+        → IgnoresScratchNameOfOutput (output words.now) ignored
         → HoldsNow (T.history tree.new) (IsDurable (StateDependsOn ignored))) }
 
     // Once the outcome is answered, even a refusal, or a sink's fault instead, each crash leaves
     // its files. If it commits nothing, this holds if each crash left the old ones before, or if an
     // intent was found and done.
     ensures settled { IfObservable (T.history tree.old) (λ v. (ignored : List ℕ → Bool)
-        → IsDurable (StateDependsOn ignored) v → IgnoresScratchOf (output words.now) ignored
+        → IsDurable (StateDependsOn ignored) v
+        → IgnoresScratchNameOfOutput (output words.now) ignored
         → LeavesDurableFilesOnceAnswered (IsOutcome (command_of words.now) (files_of v))
         (effect_of_arguments (command_of words.now)) ignored v (T.history tree.new) result) }
 
@@ -197,8 +200,9 @@ pub fn apk<T: Tree, O: Sink, E: Sink>(
     // OUTPUT.apk-tmp are no longer ignored: the tree is durable, and each crash leaves the
     // outcome's files, under these names too.
     ensures durable_state { IfObservable (T.history tree.old) (λ v. (ignored : List ℕ → Bool)
-        → IsDurable (StateDependsOn ignored) v → IgnoresScratchOf (output words.now) ignored
-        → AnswersOutcome result
+        → IsDurable (StateDependsOn ignored) v
+        → IgnoresScratchNameOfOutput (output words.now) ignored
+        → IsOkRefusedOrOutputFault result
         → LeavesDurableStateIfCommitted (IsOutcome (command_of words.now) (files_of v))
         (output words.now) ignored (T.history tree.new)) }
 {

@@ -15,8 +15,8 @@ use gen_core::{GenFault, gen_};
 use report_core::Refusal;
 use std::alloc::{AllocError, Global};
 
-/// Prints the container of the text in the file that the one operand names: on an observable tree
-/// of that file's text, on every tree of some bytes.
+/// Prints the container that is made of a text: the text in the file that the operand names. On a
+/// tree that is not observable it is the container of some bytes.
 pub(crate) fn adbgen<T: Tree>(
     alloc: Global,
     operands: &Operands,
@@ -24,6 +24,7 @@ pub(crate) fn adbgen<T: Tree>(
 ) -> Result<Verdict, TreeFault>
     requires one { length operands.now ≡ 1 }
     requires files { IsTrue (are_files operands.now) }
+    // The verdict is that of the specification, and the tree is only read.
     ensures { IsReadingRun (λ read files. adbgen read files operands.now)
         (T.history tree.old) (T.history tree.new) (T.counts tree.old) (T.counts tree.new) result }
 {

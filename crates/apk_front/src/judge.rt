@@ -4,7 +4,7 @@
 //! does"; and for how counts explain an answer in "Misuses, faults and counts".
 
 ghost use Rattle.std.specs.Prelude.{◌≡◌, Ok, IfOk, IsErrOf, IsTrue};
-ghost use Rattle.apk_front.specs.Answers.{is_command_named};
+ghost use Rattle.apk_front.specs.Answers.{is_applet_help_or_version_named};
 ghost use Rattle.apk_front.specs.RunContracts.{IsJudgedRun, IsReadingRun, IsRunByArguments};
 ghost use Rattle.apk_front.specs.Verdicts.{read_only_outcome};
 ghost use Rattle.outcome.specs.Commands.{IsPossibleOutcomeWithoutDemo, IsOutcomeWithoutDemo, reads_in};
@@ -44,7 +44,8 @@ pub(crate) fn judge<T: Tree>(
         → IsRunByArguments (IsOutcome (command_of words.now)) tree.old tree.new result }
     ensures same { IsTrue (reads_only (command_of words.now))
         → T.history tree.new ≡ T.history tree.old }
-    ensures named { IsErrOf result TreeFault.Memory → IsTrue (is_command_named words.now) }
+    ensures named { IsErrOf result TreeFault.Memory
+        → IsTrue (is_applet_help_or_version_named words.now) }
 {
     match read_words(alloc, words) {
         Ok(command) => run_command(alloc, &command, tree),
@@ -63,10 +64,12 @@ fn run_command<T: Tree>(
     command: &Command,
     tree: &mut T,
 ) -> Result<Verdict, TreeFault>
+    // What the run answers, and its effect on the tree.
     ensures run { IsJudgedRun T.accepts (IsOutcome (Ok command.now))
         (IsPossibleOutcome (Ok command.now)) (effect_of command.now.applet)
         (output_name_for_effect (effect_of command.now.applet) command.now)
         (T.history tree.old) (T.history tree.new) (T.counts tree.old) (T.counts tree.new) result }
+    // A command that ignores files has one verdict over all files, and leaves the tree as it is.
     ensures by_arguments { IsTrue (ignores_files (effect_of command.now.applet))
         → IsRunByArguments (IsOutcome (Ok command.now)) tree.old tree.new result }
     ensures same { IsTrue (does_only_read (effect_of command.now.applet))
@@ -84,10 +87,12 @@ pub(crate) fn run<T: Tree>(
     command: &Command,
     tree: &mut T,
 ) -> Result<Verdict, TreeFault>
+    // What the run answers, and its effect on the tree.
     ensures run { IsJudgedRun T.accepts (IsOutcomeWithoutDemo (Ok command.now))
         (IsPossibleOutcomeWithoutDemo command.now) (effect_of command.now.applet)
         (output_name_for_effect (effect_of command.now.applet) command.now)
         (T.history tree.old) (T.history tree.new) (T.counts tree.old) (T.counts tree.new) result }
+    // A command that ignores files has one verdict over all files, and leaves the tree as it is.
     ensures by_arguments { IsTrue (ignores_files (effect_of command.now.applet))
         → IsRunByArguments
         (λ files outcome. outcome ≡ read_only_outcome command.now (reads_in files) files)
@@ -107,6 +112,7 @@ fn look<T: Tree>(alloc: Global, command: &Command, tree: &mut T) -> Result<Verdi
     requires { IsTrue (does_only_read (effect_of command.now.applet)) }
     ensures run { IsReadingRun (read_only_outcome command.now)
         (T.history tree.old) (T.history tree.new) (T.counts tree.old) (T.counts tree.new) result }
+    // A command that ignores files has one verdict over all files, and leaves the tree as it is.
     ensures by_arguments { IsTrue (ignores_files (effect_of command.now.applet))
         → IsRunByArguments
         (λ files outcome. outcome ≡ read_only_outcome command.now (reads_in files) files)

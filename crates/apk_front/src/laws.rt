@@ -1,12 +1,12 @@
 //! Laws: the clauses of `apk` hold of each outcome that a command line has, and not only of the one
 //! that they name. They serve `run_lists`; the rules are in `docs/crash-safety.md`, "Recovery".
 ghost use Rattle.std.specs.Prelude.{◌≡◌, ℕ, Bool, true, List, None, is_some};
-ghost use Rattle.apk_front.specs.Moments.{AreStatesOldOrLeadToOutcome, HasNothingToRecover, IsCarriedOut, IsRecovering, LeavesDurableFilesOnceAnswered, MustOutcomeBeDurable};
+ghost use Rattle.apk_front.specs.Moments.{AreStatesOldOrLeadToOutcome, HasNothingToRecover, IsOkOrOutputFault, IsStateDuringRecovery, LeavesDurableFilesOnceAnswered, MustOutcomeBeDurable};
 ghost use Rattle.apk_front.specs.declared.answer.Answer.{Answer};
 ghost use Rattle.base_core.specs.Calls.{HoldsNow};
 ghost use Rattle.base_core.specs.Crash.{Since};
 ghost use Rattle.base_core.specs.Tree.{TreeState, files_of};
-ghost use Rattle.journal_core.specs.Recovery.{EachCrashLeaves};
+ghost use Rattle.journal_core.specs.Recovery.{EachCrashLeavesStateOf};
 ghost use Rattle.journal_core.specs.Replacing.{IsMomentOfReplacing};
 ghost use Rattle.outcome.specs.Effect.{Effect, does_recover, effect_of_arguments, output};
 ghost use Rattle.outcome.specs.Outcome.{Outcome};
@@ -28,6 +28,7 @@ pub fn a_crash_leaves_the_old_files_or_those_of_the_outcome()
         → IsOutcome (command_of words) (files_of v) outcome
         → Since (IsMomentOfReplacing ignored outcome.files v) old now }
 {
+    // Laws that the proof needs; they have no effect at run time.
     an_outcome_is_unique();
     quiet_then_old_or_new_is_old_or_new();
 }
@@ -41,11 +42,12 @@ pub fn what_is_carried_out_is_durable()
         → LeavesDurableFilesOnceAnswered (IsOutcome (command_of words) (files_of v))
         (effect_of_arguments
         (command_of words))
-        ignored v now answer → IsCarriedOut answer
+        ignored v now answer → IsOkOrOutputFault answer
         → IsOutcome (command_of words) (files_of v) outcome → outcome.refusal ≡ None
         → MustOutcomeBeDurable (effect_of_arguments (command_of words)) ignored v outcome
-        → HoldsNow now (EachCrashLeaves ignored outcome.files) }
+        → HoldsNow now (EachCrashLeavesStateOf ignored outcome.files) }
 {
+    // A law that the proof needs; it has no effect at run time.
     an_outcome_is_unique();
 }
 
@@ -53,7 +55,7 @@ pub fn what_is_carried_out_is_durable()
 /// files, and the command works on these.
 pub fn without_recovery_the_files_are_the_old_ones()
     ensures moments { (effect : Effect) (v w : TreeState) → HasNothingToRecover effect v
-        → (does_recover effect ≡ true) × IsRecovering v w → files_of w ≡ files_of v }
+        → (does_recover effect ≡ true) × IsStateDuringRecovery v w → files_of w ≡ files_of v }
     ensures work { (effect : Effect) (v : TreeState) → HasNothingToRecover effect v
         → files_recovered_if_needed effect (files_of v) ≡ files_of v }
 {}

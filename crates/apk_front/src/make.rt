@@ -15,11 +15,11 @@ ghost use Rattle.base_core.specs.Tree.{files_of};
 ghost use Rattle.command_core.specs.Sound.{IsValidCommand};
 ghost use Rattle.command_core.specs.declared.command.Applet.TheVariants.{Mkndx, Mkpkg};
 ghost use Rattle.command_core.specs.declared.values.TheConstants.{FILES};
-ghost use Rattle.make_core.specs.make_index.Files.{FindOnlyFiles};
+ghost use Rattle.make_core.specs.make_index.Files.{AreOperandReadsFileBytes};
 ghost use Rattle.make_core.specs.make_info.Output.{output_name};
 ghost use Rattle.make_core.specs.make_info.Reads.{Reads};
 ghost use Rattle.make_core.specs.package_files.Sources.{AreNamesBelowFirstFolder, values_of_letter};
-ghost use Rattle.outcome.specs.Make.{index_report_line, make_outcome, mkndx, mkpkg, unless_reserved};
+ghost use Rattle.outcome.specs.Make.{index_report_line, make_outcome, mkndx, mkpkg, outcome_unless_output_reserved};
 ghost use Rattle.outcome.specs.Outcome.{Outcome, just_refusal};
 ghost use Rattle.report_core.specs.declared.refusal.Refusal.TheVariants.{ResultTooLarge};
 
@@ -56,9 +56,12 @@ pub(crate) fn mkpkg<T: Tree>(
         × AreNamesBelowFirstFolder (values_of_letter FILES command.now.values) names
         × (read : Reads) × Reports verdict (mkpkg read no_names command.now names)) }
     // The effect of the run on the tree.
+    // The effect of the run on the tree.
     ensures run { IsMakingRun (IsPackageOutcome command.now) (output_name command.now)
         (T.history tree.old) (T.history tree.new) result }
+    // If there is a verdict, the tree counted no failed call; an I/O error has its cause there.
     ensures counts { IsVerdictExplainedByCounts (T.counts tree.old) (T.counts tree.new) result }
+    // No call is a misuse if the paths of the output and its scratch name are free.
     // No call is a misuse if the paths of the output and its scratch name are free.
     ensures proper { IfObservable (T.history tree.old) (λ v.
         ((outcome : Outcome) → IsPackageOutcome command.now (files_of v) outcome
@@ -85,13 +88,17 @@ pub(crate) fn mkndx<T: Tree>(
     requires applet { command.now.applet ≡ Mkndx }
     ensures found { IfOk result (λ verdict. IfObservable (T.history tree.old) (λ v.
         ReportsOneOfOutcomes (IsIndexOutcome command.now (files_of v)) verdict)) }
-    // On every tree, for some contents at each read; the files are not used, so none are given.
+    // On every tree the verdict is the specification's, for some contents at each read. The files
+    // are not used, so `no_names` stands for them.
     ensures by_reads { IfOk result (λ verdict. (read : Reads)
-        × FindOnlyFiles read 0 command.now.operands
+        × AreOperandReadsFileBytes read 0 command.now.operands
         × Reports verdict (mkndx read no_names command.now)) }
+    // The effect of the run on the tree.
     ensures run { IsMakingRun (IsIndexOutcome command.now) (output_name command.now)
         (T.history tree.old) (T.history tree.new) result }
+    // If there is a verdict, the tree counted no failed call; an I/O error has its cause there.
     ensures counts { IsVerdictExplainedByCounts (T.counts tree.old) (T.counts tree.new) result }
+    // No call is a misuse if the paths of the output and its scratch name are free.
     ensures proper { IfObservable (T.history tree.old) (λ v.
         ((outcome : Outcome) → IsIndexOutcome command.now (files_of v) outcome
         → outcome.commits ≡ true → CanAddOutputNamesIfAny (output_name command.now) (files_of v))
@@ -163,20 +170,28 @@ fn finish<T: Tree>(
     // The verdict is that of the outcome, whatever the files are.
     ensures reported { IfOk result (λ verdict. (files : Files) → Reports verdict
         (make_outcome files (output_name command.now) report (made_file_bytes container))) }
+    // The effect of the run on the tree.
     ensures run { IsMakingRun (λ files outcome. outcome
         ≡ make_outcome files (output_name command.now) report (made_file_bytes container))
         (output_name command.now) (T.history tree.old) (T.history tree.new) result }
+    // If there is a verdict, no I/O error and no lack of memory stopped the making.
     ensures done { IfOk result (λ verdict. is_making_ended_by_disk_or_memory container ≡ false) }
+    // If an I/O error or a lack of memory stopped the making, the tree is unchanged.
     ensures cut { is_making_ended_by_disk_or_memory container ≡ true → T.history tree.new
         ≡ T.history tree.old }
+    // No count of failed calls falls.
     ensures goes_on { CountsOnlyRise (T.counts tree.old) (T.counts tree.new) }
     ensures disk { IsErrOf result TreeFault.Disk
         → IsErrOf container MakeFault.Disk
         ⊎ IsFaultCountedWithCause (T.counts tree.old) (T.counts tree.new) }
+    // If there is a verdict, the tree counted no failed call here.
     ensures kept { OnOk result (CountsNoNewFault (T.counts tree.old) (T.counts tree.new)) }
+    // If memory ran out, the tree counted no failed call here.
     ensures memory { IsErrOf result TreeFault.Memory
         → CountsNoNewFault (T.counts tree.old) (T.counts tree.new) }
+    // An I/O error while the container was made is not answered as out of memory.
     ensures lost { IsErrOf result TreeFault.Memory → container ≢ Err MakeFault.Disk }
+    // No call is a misuse if the paths of the output and its scratch name are free.
     ensures proper { IfObservable (T.history tree.old) (λ v.
         IfOk container (λ file.
         (make_outcome (files_of v) (output_name command.now) report (Ok file.items)).commits
@@ -199,13 +214,17 @@ fn write<T: Tree>(
     tree: &mut T,
 ) -> Result<Verdict, TreeFault>
     requires command { IsValidCommand command.now }
+    // The command has an output.
     requires output { IsSome (output_name command.now) }
     ensures reported { IfOk result (λ verdict. (files : Files) → Reports verdict
         (make_outcome files (output_name command.now) report (Ok file.now))) }
+    // The effect of the run on the tree.
     ensures run { IsMakingRun (λ files outcome. outcome
         ≡ make_outcome files (output_name command.now) report (Ok file.now))
         (output_name command.now) (T.history tree.old) (T.history tree.new) result }
+    // If there is a verdict, the tree counted no failed call; an I/O error has its cause there.
     ensures counts { IsVerdictExplainedByCounts (T.counts tree.old) (T.counts tree.new) result }
+    // No call is a misuse if the paths of the output and its scratch name are free.
     ensures proper { IfObservable (T.history tree.old) (λ v.
         ((make_outcome (files_of v) (output_name command.now) report (Ok file.now)).commits ≡ true
         → CanAddOutputNamesIfAny (output_name command.now) (files_of v))
@@ -214,7 +233,7 @@ fn write<T: Tree>(
     // Laws that the proof needs; they have no effect at run time.
     an_output_is_short();
     an_image_has_the_state_of_its_map();
-    // A command of which a container was made has an output.
+    // The output exists, as the clause `output` requires.
     let Some(output) = output_name(alloc, command)? else {
         unreachable!()
     };
@@ -227,8 +246,10 @@ fn write<T: Tree>(
 
 // The verdict if no container was made: its refusal, or the fault that stopped the making.
 fn refuse(alloc: Global, command: &Command, fault: MakeFault) -> Result<Verdict, TreeFault>
+    // The verdict is that of the outcome, whatever the files and the report are.
     ensures reported { IfOk result (λ verdict. (files : Files) (report : List ℕ)
         → Reports verdict (make_outcome files (output_name command.now) report (Err fault))) }
+    // A verdict of this function is a refusal.
     ensures refused { IfOk result (λ verdict. IsSome verdict.refusal) }
     // A fault that stops the making gives no verdict.
     ensures done { IfOk result (λ verdict. is_disk_or_memory fault ≡ false) }
@@ -244,6 +265,7 @@ fn refuse(alloc: Global, command: &Command, fault: MakeFault) -> Result<Verdict,
 // Why no container was made: the refusal, or the fault that stopped the making. A reserved name is
 // refused before a result that is too large. The clauses are those of `refuse`.
 fn refusal_of(alloc: Global, command: &Command, fault: MakeFault) -> Result<Refusal, TreeFault>
+    // The refusal is that of the outcome, whatever the files and the report are.
     ensures reported { IfOk result (λ refusal. (files : Files) (report : List ℕ)
         → make_outcome files (output_name command.now) report (Err fault)
         ≡ just_refusal files refusal) }
@@ -271,8 +293,9 @@ fn too_large(
     bytes: u64,
     values: u64,
 ) -> Result<Refusal, AllocError>
+    // The refusal is the one that the specification gives: `Reserved` if the output is reserved.
     ensures { IfOk result (λ refusal. (files : Files) → just_refusal files refusal
-        ≡ unless_reserved files (output_name command.now)
+        ≡ outcome_unless_output_reserved files (output_name command.now)
         (just_refusal files (ResultTooLarge bytes values))) }
 {
     match output_name(alloc, command)? {

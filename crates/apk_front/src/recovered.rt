@@ -32,6 +32,7 @@ pub(crate) fn recover_and_run<T: Tree>(
     tree: &mut T,
 ) -> Result<Verdict, TreeFault>
     requires { does_recover (effect_of command.now.applet) ≡ true }
+    // What the run answers, and its effect on the tree.
     ensures { IsJudgedRun T.accepts (IsOutcomeWithoutDemo (Ok command.now))
         (IsPossibleOutcomeWithoutDemo command.now) (effect_of command.now.applet)
         (output_name_for_effect (effect_of command.now.applet) command.now)
@@ -83,6 +84,7 @@ fn run_recovered<T: Tree>(
 // The verdict if the recovery did not end: a bad intent is refused; an I/O error of the tree and
 // out of memory are returned.
 fn refuse_to_recover(alloc: Global, fault: RecoverFault) -> Result<Verdict, TreeFault>
+    // If there is a verdict, recovery found a bad intent, and this is refused.
     ensures refused { IfOk result (λ verdict. (cause : Cause)
         × (fault ≡ RecoverFault.IntentBad cause)
         × ((files : Files) → as_outcome files verdict ≡ just_refusal files (IntentBad cause))) }

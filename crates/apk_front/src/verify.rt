@@ -10,7 +10,7 @@ ghost use Rattle.base_core.specs.Tree.{files_of};
 ghost use Rattle.command_core.specs.Named.{are_files};
 ghost use Rattle.make_core.specs.make_info.Reads.{Reads};
 ghost use Rattle.outcome.specs.Commands.{reads_in};
-ghost use Rattle.outcome.specs.Outcome.{report_unless};
+ghost use Rattle.outcome.specs.Outcome.{just_report_unless_refusal};
 ghost use Rattle.outcome.specs.Verify.{file_refusal, sound_lines, verify, verify_refusal};
 
 use crate::answer::Verdict;
@@ -29,6 +29,7 @@ pub(crate) fn verify<T: Tree>(
     tree: &mut T,
 ) -> Result<Verdict, TreeFault>
     requires { IsTrue (are_files operands.now) }
+    // The verdict is that of the specification, and the tree is only read.
     ensures { IsReadingRun (λ read files. verify read files operands.now)
         (T.history tree.old) (T.history tree.new) (T.counts tree.old) (T.counts tree.new) result }
 {
@@ -45,7 +46,8 @@ fn verdict_by(
 ) -> Result<Verdict, AllocError>
     requires { IsTrue (are_files operands.now) }
     ensures { IfOk result (λ verdict. (files : Files)
-        → as_outcome files verdict ≡ report_unless files refusal (sound_lines operands.now)) }
+        → as_outcome files verdict
+        ≡ just_report_unless_refusal files refusal (sound_lines operands.now)) }
 {
     match refusal {
         Some(refusal) => Ok(Verdict::refused(alloc, refusal)),

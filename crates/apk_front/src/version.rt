@@ -4,7 +4,7 @@
 ghost use Rattle.std.specs.Prelude.{◌≡◌, ◌++◌, length, true, IfOk, OnOk};
 ghost use Rattle.apk_front.specs.Verdicts.{as_outcome};
 ghost use Rattle.base_core.specs.Files.{Files};
-ghost use Rattle.outcome.specs.Outcome.{outcome_of, report_unless};
+ghost use Rattle.outcome.specs.Outcome.{outcome_without_commit, just_report_unless_refusal};
 ghost use Rattle.outcome.specs.Version.{invalid_version_line, invalid_version_lines, order_line, version_order_report, version, version_refusal};
 
 use crate::answer::Verdict;
@@ -36,8 +36,10 @@ pub(crate) fn version(
 // no version.
 fn compare(alloc: Global, operands: &Operands) -> Result<Verdict, AllocError>
     requires { length operands.now ≡ 2 }
+    // The verdict is that of the specification, whatever the files are.
     ensures { IfOk result (λ verdict. (files : Files) → as_outcome files verdict
-        ≡ report_unless files (version_refusal operands.now) (version_order_report operands.now)) }
+        ≡ just_report_unless_refusal files (version_refusal operands.now)
+        (version_order_report operands.now)) }
 {
     let (first, second) = (operands.get(0), operands.get(1));
     let Some(version) = Version::read(first.text.as_bytes()) else {
@@ -66,8 +68,10 @@ fn order_line(order: Ordering) -> &'static [u8]
 // The verdict of `--check`: the operands that are no versions, and the refusal of the first of
 // them.
 fn check(alloc: Global, operands: &Operands) -> Result<Verdict, AllocError>
+    // The verdict is that of the specification, whatever the files are.
     ensures { IfOk result (λ verdict. (files : Files) → as_outcome files verdict
-        ≡ outcome_of (version_refusal operands.now) (invalid_version_lines operands.now) files) }
+        ≡ outcome_without_commit (version_refusal operands.now)
+        (invalid_version_lines operands.now) files) }
 {
     let report = lines(alloc, operands)?;
     let refusal = first_refusal(operands);

@@ -8,11 +8,11 @@ use Rattle.adb_view.specs.Plain.{Plain}
 use Rattle.command_core.proofs.Entries.{left_at}
 use Rattle.command_core.specs.declared.operands.Operand.{Operand}
 use Rattle.db_core.specs.Packages.{is_package_named}
-use Rattle.report_core.specs.AuditReports.{digest_and_path_text, named_digest}
+use Rattle.report_core.specs.AuditReports.{digest_and_path_text, digest_with_algorithm_name}
 use Rattle.report_core.specs.Reports.{report_line}
 use Rattle.report_core.specs.declared.refusal.Refusal.{Refusal}
 use Rattle.report_core.specs.declared.refusal.Refusal.TheVariants.{NotInstalled}
-use Rattle.audit_core.specs.Manifest.{manifest_of, manifest_with, operand_package, package_manifest, manifest_with_lines_before}
+use Rattle.audit_core.specs.Manifest.{manifest_of, manifest_with_package_of_operand, package_named_by_operand, package_manifest, manifest_with_lines_before}
 use Rattle.audit_core.proofs.RecordSteps.{at_place}
 
 -- ---- a line
@@ -24,11 +24,11 @@ four_added r0 r1 r2 r3 a b p e one two three =
     ∙ (append_assoc r0 (a ++ b) (p ++ e)
     ∙ ap (λ z. r0 ++ z) (sym (append_assoc (a ++ b) p e))))
 
-pub line_added : {E : Type 0} (r0 r1 r2 r3 digest path wanted_digest wanted_path : List ℕ) (result : Result (Unit {0}) E) → r1 ≡ r0 ++ named_digest digest → r2 ≡ r1 ++ codes "  "
+pub line_added : {E : Type 0} (r0 r1 r2 r3 digest path wanted_digest wanted_path : List ℕ) (result : Result (Unit {0}) E) → r1 ≡ r0 ++ digest_with_algorithm_name digest → r2 ≡ r1 ++ codes "  "
     → OnOk result (r3 ≡ r2 ++ report_line path) → digest ≡ wanted_digest → path ≡ wanted_path → OnOk result (r3 ≡ r0 ++ report_line (digest_and_path_text wanted_digest wanted_path))
 line_added r0 r1 r2 r3 digest path wanted_digest wanted_path (Err e) one two three d p = tt
 line_added r0 r1 r2 r3 digest path wanted_digest wanted_path (Ok x) one two three d p =
-    four_added r0 r1 r2 r3 (named_digest digest) (codes "  ") path (codes "\n") one two three
+    four_added r0 r1 r2 r3 (digest_with_algorithm_name digest) (codes "  ") path (codes "\n") one two three
     ∙ (ap (λ z. r0 ++ report_line (digest_and_path_text z path)) d ∙ ap (λ z. r0 ++ report_line (digest_and_path_text wanted_digest z)) p)
 
 -- ---- operands
@@ -64,7 +64,7 @@ package_at packages text place is = ap (option_and_then (slice_get packages)) is
 
 -- one operand more, whose package is installed
 pub reported_package : (packages : List Plain) (operands : List Operand) (i : ℕ) (o : Operand) (report more : List ℕ) (place : ℕ) → slice_get operands i ≡ Some o → place < length packages
-    → slice_get packages place ≡ operand_package packages o → more ≡ report ++ option_map_or package_manifest (slice_get packages place) []
+    → slice_get packages place ≡ package_named_by_operand packages o → more ≡ report ++ option_map_or package_manifest (slice_get packages place) []
     → IsManifestTo packages operands i report → IsManifestTo packages operands (i + 1) more
 reported_package packages operands i o report more place at within is added so_far = go (slice_get packages place) refl (at_place packages place within)
   where
@@ -72,17 +72,17 @@ reported_package packages operands i o report more place at within is added so_f
     go found e (pkg, here) =
         so_far
         ∙ (ap (λ os. manifest_with_lines_before report (manifest_of packages os)) (left_at operands i o at)
-        ∙ (ap (λ p. manifest_with_lines_before report (manifest_with o p (manifest_of packages (drop (i + 1) operands)))) (sym is ∙ here)
+        ∙ (ap (λ p. manifest_with_lines_before report (manifest_with_package_of_operand o p (manifest_of packages (drop (i + 1) operands)))) (sym is ∙ here)
         ∙ (more_lines report (package_manifest pkg) (manifest_of packages (drop (i + 1) operands))
         ∙ ap (λ r. manifest_with_lines_before r (manifest_of packages (drop (i + 1) operands))) (sym (added ∙ ap (λ p. report ++ option_map_or package_manifest p []) here)))))
 
 -- an operand whose package is not installed
-pub refused_at : (packages : List Plain) (operands : List Operand) (i : ℕ) (o : Operand) (report : List ℕ) → slice_get operands i ≡ Some o → operand_package packages o ≡ None → IsManifestTo packages operands i report
+pub refused_at : (packages : List Plain) (operands : List Operand) (i : ℕ) (o : Operand) (report : List ℕ) → slice_get operands i ≡ Some o → package_named_by_operand packages o ≡ None → IsManifestTo packages operands i report
     → Err (NotInstalled o.place) ≡ manifest_of packages operands
 refused_at packages operands i o report at is so_far =
     sym (so_far
     ∙ (ap (λ os. manifest_with_lines_before report (manifest_of packages os)) (left_at operands i o at)
-    ∙ ap (λ p. manifest_with_lines_before report (manifest_with o p (manifest_of packages (drop (i + 1) operands)))) is))
+    ∙ ap (λ p. manifest_with_lines_before report (manifest_with_package_of_operand o p (manifest_of packages (drop (i + 1) operands)))) is))
 
 pub all_reported : (packages : List Plain) (operands : List Operand) (i : ℕ) (report : List ℕ) → length operands ≤ i → IsManifestTo packages operands i report → Ok report ≡ manifest_of packages operands
 all_reported packages operands i report l so_far =

@@ -12,9 +12,9 @@ use Rattle.path_clashes.specs.adb_fields.Paths.{path_of}
 use Rattle.path_clashes.specs.adb_fields.Repeated.{entries_at, files_in, folders_in, list_of, name_of, paths_of_package_files, paths_of_folder_files}
 use Rattle.path_clashes.proofs.adb_fields.Members.{from-flat_map, from-map, in-map}
 use Rattle.path_clashes.proofs.adb_fields.Distinct.{distinct_front}
-use Rattle.db_core.specs.adb_schema.Rules.{is_file_name_in_folder, is_one_part}
+use Rattle.db_core.specs.adb_schema.Rules.{is_valid_file_name_in_folder, is_one_part}
 use Rattle.db_core.specs.adb_schema.SoundContainers.{IsSoundValue}
-use Rattle.db_core.specs.adb_schema.SoundValues.{IsSoundFileOf, IsSoundFolder, IsSoundPackage}
+use Rattle.db_core.specs.adb_schema.SoundValues.{IsSoundFileInFolder, IsSoundFolder, IsSoundPackage}
 use Rattle.adb_view.specs.FieldIndexes.{DIR_FILES, IDB_PACKAGES, PACKAGE_PATHS}
 use Rattle.adb_view.specs.Plain.{Plain, Plains, more, none}
 use Rattle.adb_view.specs.Shaped.{Each}
@@ -48,7 +48,7 @@ abbrev is_slash : ℕ → Bool
 is_slash b = b == 47
 
 -- a file's name has no slash
-no_slash : (folder name : List ℕ) → is_file_name_in_folder folder name ≡ true → list_any is_slash name ≡ false
+no_slash : (folder name : List ℕ) → is_valid_file_name_in_folder folder name ≡ true → list_any is_slash name ≡ false
 no_slash folder name h = not-true (list_any is_slash name) (both_second _ (not (list_any is_slash name)) (both_first (is_one_part name) (nat_le (length (path_of folder name)) 1024) h))
 
 slash_after : (xs ys : List ℕ) → list_any is_slash (xs ++ 47 ∷ ys) ≡ true
@@ -90,7 +90,7 @@ AreParts folder = (file : Plain) → IsIn file (files_in folder) → list_any is
 
 parts_of_folder : (folder : Plain) → IsSoundFolder Idb folder → AreParts folder
 parts_of_folder folder is file here =
-    no_slash (name_of folder) (name_of file) (each_in (IsSoundFileOf Idb (name_of folder)) file (entries_in (entry_in folder DIR_FILES)) is.files here).name
+    no_slash (name_of folder) (name_of file) (each_in (IsSoundFileInFolder Idb (name_of folder)) file (entries_in (entry_in folder DIR_FILES)) is.files here).name
 
 map_twice : (f : List ℕ → List ℕ) (files : List Plain) → map f (map name_of files) ≡ map (λ file. f (name_of file)) files
 map_twice f [] = refl

@@ -13,7 +13,9 @@ use Rattle.report_core.specs.Reports.{report_line}
 
 -- a file that differs from its record, by its path, and how it differs
 pub record FileDifference : Type 0 where
+  -- the path of the file
   pub path : List ℕ
+  -- how the file differs from its record
   pub difference : Difference
 
 -- how a file differs from its entry, by what is found under its path: no file, or other bytes than

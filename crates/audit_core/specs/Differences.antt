@@ -19,19 +19,24 @@ file_differences files packages =
 
 -- one of the packages lists the file of a record
 pub record IsRecordOfPackages (packages : List Plain) (r : PathAndEntry) : Type 0 where
+  -- an installed package
   pub pkg : Plain
   pub installed : IsIn pkg packages
+  -- the record is one of this package
   pub listed : IsIn r (package_records pkg)
 
--- what is found under a path differs so from the entry
+-- what is found under a path differs from the entry in this way
 abbrev pub DiffersFromEntry : Difference → Plain → Option (List ℕ) → Type 0
 DiffersFromEntry Missing entry found = found ≡ None
 DiffersFromEntry Changed entry found = IsSomeAnd found (λ bytes. is_as_listed entry bytes ≡ false)
 
 -- one of the packages lists a file under this path, and the file differs so from its entry
 pub record IsDifferenceIn (packages : List Plain) (files : Files) (d : FileDifference) : Type 0 where
+  -- the entry of the file in its package
   pub entry : Plain
+  -- a package lists the path with this entry
   pub recorded : IsRecordOfPackages packages (record { path = d.path; entry = entry })
+  -- the file under the path differs from the entry in this way
   pub differs : DiffersFromEntry d.difference entry (files d.path)
 
 -- each file that a package lists is there, with bytes as its entry lists them

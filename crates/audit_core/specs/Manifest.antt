@@ -22,22 +22,23 @@ abbrev pub package_manifest : Plain → List ℕ
 package_manifest pkg = flat_map manifest_line (package_records pkg)
 
 -- the package that an operand names; no two packages of a database have one name
-abbrev pub operand_package : List Plain → Operand → Option Plain
-operand_package packages o = find (is_package_named o.text) packages
+abbrev pub package_named_by_operand : List Plain → Operand → Option Plain
+package_named_by_operand packages o = find (is_package_named o.text) packages
 
 -- a manifest of further packages, after these lines; a refusal is kept as it is
 abbrev pub manifest_with_lines_before : List ℕ → Result (List ℕ) Refusal → Result (List ℕ) Refusal
 manifest_with_lines_before lines further = and_then further (λ more. Ok (lines ++ more))
 
 -- the manifest with the package of an operand first, unless that is not installed
-abbrev pub manifest_with :
+abbrev pub manifest_with_package_of_operand :
     Operand → Option Plain → Result (List ℕ) Refusal → Result (List ℕ) Refusal
-manifest_with o None further = Err (NotInstalled o.place)
-manifest_with o (Some pkg) further = manifest_with_lines_before (package_manifest pkg) further
+manifest_with_package_of_operand o None further = Err (NotInstalled o.place)
+manifest_with_package_of_operand o (Some pkg) further =
+    manifest_with_lines_before (package_manifest pkg) further
 
 -- the lines of the packages that operands name, in the order given; or the refusal of the first
 -- operand that names no installed package
 abbrev pub manifest_of : List Plain → List Operand → Result (List ℕ) Refusal
 manifest_of packages [] = Ok []
 manifest_of packages (o ∷ operands) =
-    manifest_with o (operand_package packages o) (manifest_of packages operands)
+    manifest_with_package_of_operand o (package_named_by_operand packages o) (manifest_of packages operands)

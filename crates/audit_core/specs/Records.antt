@@ -13,7 +13,9 @@ use Rattle.base_core.specs.Sorted.{sorted_by}
 -- the record of a file: the path that a package lists, and the entry, which says what bytes the
 -- file has
 pub record PathAndEntry : Type 0 where
+  -- the path of the file
   pub path : List ℕ
+  -- the package's entry of the file, as a plain value
   pub entry : Plain
 
 -- the record of a file in the folder of this name

@@ -60,6 +60,7 @@ fn audit_records<T: Tree>(
     tree: &mut T,
 ) -> Result<Vec<u8>, TreeFault>
     requires { All (λ r. IsName r.path) (map record_seen records.now) }
+    // The report has a line for each record whose file differs.
     ensures report { (first : ℕ) → IsExplainedBySomeReads (T.history tree.old) (λ read.
         IfOk result (λ report. report.items ≡ flat_map difference_line
         (differences_from read first (map record_seen records.now)))) }
@@ -75,8 +76,8 @@ fn audit_records<T: Tree>(
     Ok(report)
 }
 
-// Adds the line of a file, if it differs from its record. The file is read into the piece; what
-// this has before does not matter.
+// Adds the line of a file, if it differs from its record. The file is read into the buffer `piece`,
+// whose contents before do not matter.
 fn audit_record<T: Tree>(
     alloc: Global,
     report: &mut Vec<u8>,
@@ -85,6 +86,7 @@ fn audit_record<T: Tree>(
     piece: &mut [u8; PIECE_LEN],
 ) -> Result<(), TreeFault>
     requires { IsName (record_seen record.now).path }
+    // A line is appended if the file that is found differs from the record.
     ensures line { (found : Option (List ℕ))
         × IfObservable (T.history tree.old)
         (λ v. found ≡ files_of v (record_seen record.now).path)

@@ -9,7 +9,7 @@ ghost use Rattle.audit_core.specs.Manifest.{manifest_line, manifest_of, package_
 ghost use Rattle.audit_core.specs.Records.{file_record, folder_records};
 ghost use Rattle.db_core.specs.Seen.{packages_of};
 ghost use Rattle.hex.specs.Hex.{encode_lower};
-ghost use Rattle.report_core.specs.AuditReports.{named_digest};
+ghost use Rattle.report_core.specs.AuditReports.{digest_with_algorithm_name};
 ghost use Rattle.report_core.specs.Reports.{report_line};
 ghost use Rattle.std.specs.List.{flat_map};
 ghost use Rattle.std.specs.Option.{option_map_or};
@@ -84,6 +84,7 @@ fn push_folders<'a>(
     report: &mut Vec<u8>,
     folders: &List<'a, DirInfo<'a>>,
 ) -> Result<(), AllocError>
+    // The line of each file of these folders is appended.
     ensures { OnOk result (report.new.items ≡ report.old.items ++ flat_map manifest_line
         (flat_map folder_records (list_of (entries_in (list_value folders.now))))) }
 {
@@ -119,6 +120,7 @@ fn push_files<'a>(
     folder: &[u8],
     files: &List<'a, FileInfo<'a>>,
 ) -> Result<(), AllocError>
+    // The line of each of these files of the folder is appended.
     ensures { OnOk result (report.new.items ≡ report.old.items ++ flat_map manifest_line
         (map (file_record folder.now) (list_of (entries_in (list_value files.now))))) }
 {
@@ -152,7 +154,8 @@ fn push_file<'a>(
 
 // Adds a digest with the name of its function, which its length determines.
 fn push_digest(alloc: Global, report: &mut Vec<u8>, digest: &[u8]) -> Result<(), AllocError>
-    ensures { OnOk result (report.new.items ≡ report.old.items ++ named_digest digest.now) }
+    ensures { OnOk result (report.new.items ≡ report.old.items
+        ++ digest_with_algorithm_name digest.now) }
 {
     match digest.len() {
         SHA1_LEN => push_digits(alloc, report, b"sha1:", digest),

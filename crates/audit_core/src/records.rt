@@ -95,6 +95,7 @@ fn add_package<'a>(
     _mark: PhantomData<PackageView<'a>>,
 ) -> Result<(), AllocError>
     requires { i < length (packages_of db.now) }
+    // The records of the package at this place are appended.
     ensures { OnOk result (map record_seen records.new.items ≡ map record_seen records.old.items
         ++ option_map_or package_records (slice_get (packages_of db.now) i) []) }
 {
@@ -107,6 +108,7 @@ fn add_folders<'a>(
     records: &mut Vec<Record<'a>>,
     folders: &List<'a, DirInfo<'a>>,
 ) -> Result<(), AllocError>
+    // The records of the files of all these folders are appended.
     ensures { OnOk result (map record_seen records.new.items ≡ map record_seen records.old.items
         ++ flat_map folder_records (list_of (entries_in (list_value folders.now)))) }
 {
@@ -123,6 +125,7 @@ fn add_folder<'a>(
     i: usize,
 ) -> Result<(), AllocError>
     requires { i < count_of (entries_in (list_value folders.now)) }
+    // The records of the files of one of these folders are appended.
     ensures { OnOk result (map record_seen records.new.items ≡ map record_seen records.old.items
         ++ folder_records (entry_in (list_value folders.now) i)) }
 {
@@ -140,6 +143,7 @@ fn add_files<'a>(
     folder: &'a [u8],
     files: &List<'a, FileInfo<'a>>,
 ) -> Result<(), AllocError>
+    // The records of these files of the folder are appended.
     ensures { OnOk result (map record_seen records.new.items ≡ map record_seen records.old.items
         ++ map (file_record folder.now) (list_of (entries_in (list_value files.now)))) }
 {
@@ -157,6 +161,7 @@ fn add_file<'a>(
     i: usize,
 ) -> Result<(), AllocError>
     requires { i < count_of (entries_in (list_value files.now)) }
+    // The record of one of these files is appended.
     ensures { OnOk result (map record_seen records.new.items ≡ map record_seen records.old.items
         ++ file_record folder.entry.now (entry_in (list_value files.now) i) ∷ []) }
 {

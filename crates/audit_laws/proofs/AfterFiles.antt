@@ -9,7 +9,7 @@ use Rattle.base_core.specs.Files.{Files}
 use Rattle.root_laws.specs.change_files.Fate.{is_protected_path}
 use Rattle.root_laws.specs.change_files.FileChange.{FileChange, added_owner_listing, is_listed_after_change, old_entry, owner_listing}
 use Rattle.root_laws.specs.change_files.FilesAfter.{DatabaseAndWorldAfter, files_after_change, apk_new_listing_at, path_of_apk_new_name}
-use Rattle.root_laws.specs.change_files.Touched.{IsModifiedConfigFile, is_apk_new_name, is_record_name}
+use Rattle.root_laws.specs.change_files.Touched.{IsModifiedConfigFile, is_apk_new_name, is_database_or_world_name}
 use Rattle.root_laws.proofs.change_files.Coming.{takes_path}
 use Rattle.root_laws.proofs.change_files.OwnedFiles.{beside_is, claimed_by_owner, coming_is, nobody_beside}
 use Rattle.root_laws.proofs.change_files.Untouched.{stays_as_it_is, takes_its_path, users_file_is_spared}
@@ -26,7 +26,7 @@ pub differs_by : (entry : Plain) (found : Option (List ℕ)) (bytes : List ℕ) 
 differs_by entry found bytes Missing is differs = absurd (cc (is, differs))
 differs_by entry found bytes Changed is differs = (refl, subst (λ (o : Option (List ℕ)). IsSomeAnd o (λ b. is_as_listed entry b ≡ false)) is differs)
 
-module _ (change : FileChange) (bytes_of : Listing → List ℕ) (records : DatabaseAndWorldAfter) (files : Files) (path : List ℕ) (plain : is_record_name records path ≡ false) where
+module _ (change : FileChange) (bytes_of : Listing → List ℕ) (records : DatabaseAndWorldAfter) (files : Files) (path : List ℕ) (plain : is_database_or_world_name records path ≡ false) where
   -- ---- of a package that stays
 
   pub stays_so : (l : Listing) (d : Difference) → owner_listing change path ≡ Some l → is_added l.member ≡ false

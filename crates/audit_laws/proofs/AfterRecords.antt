@@ -13,7 +13,7 @@ use Rattle.audit_core.specs.adb_fields.Repeated.{entries_at, files_in, folders_i
 use Rattle.audit_core.proofs.adb_fields.Members.{from-flat_map, from-map, in-flat_map, in-map}
 use Rattle.root_laws.specs.adb_schema.Reserved.{is_reserved}
 use Rattle.root_laws.specs.adb_schema.SoundContainers.{IsSoundValue}
-use Rattle.root_laws.specs.adb_schema.SoundValues.{IsSoundFileOf, IsSoundFolder, IsSoundPackage}
+use Rattle.root_laws.specs.adb_schema.SoundValues.{IsSoundFileInFolder, IsSoundFolder, IsSoundPackage}
 use Rattle.adb_view.specs.FieldIndexes.{DIR_FILES, IDB_PACKAGES, PACKAGE_PATHS}
 use Rattle.adb_view.specs.Plain.{Plain, Plains, more, none}
 use Rattle.adb_view.specs.Shaped.{Each}
@@ -31,7 +31,7 @@ use Rattle.root_laws.proofs.change_files.OwnedFiles.{owner_is}
 use Rattle.audit_core.specs.db_core.Members.{Listing, Member, listings_of_path, member_listings, members_of_kept}
 use Rattle.audit_core.specs.db_core.OwnedListings.{owned_listings, owned_paths}
 use Rattle.root_laws.specs.db_write.NewDatabase.{packages_in_new_database}
-use Rattle.audit_core.specs.file_guard.AsListed.{file_hash, file_size, file_target, is_as_listed, is_as_listed_by}
+use Rattle.audit_core.specs.file_guard.AsListed.{file_hash, file_size, file_target, is_as_listed, is_as_listed_by_size_hash_target}
 use Rattle.root_laws.specs.file_owners.Owners.{owned_flags_of, owner_of_path}
 use Rattle.root_laws.proofs.file_owners.OneOwner.{owner_is as member_place}
 use Rattle.root_laws.specs.path_claims.Claims.{is_owning_member}
@@ -46,9 +46,9 @@ pub record WrittenLaws : Type 0 where
 
 zeros_as_listed : (entry : Plain) (bytes : List ℕ) → is_as_listed (without_zeros entry) bytes ≡ is_as_listed entry bytes
 zeros_as_listed entry bytes =
-    ap (λ size. is_as_listed_by size (file_hash (without_zeros entry)) (file_target (without_zeros entry)) bytes) (ap int_in (entry_zeros entry 2) ∙ int_zeros (entry_in entry 2))
-    ∙ (ap (λ hash. is_as_listed_by (file_size entry) hash (file_target (without_zeros entry)) bytes) (ap text_in (entry_zeros entry 4) ∙ text_zeros (entry_in entry 4))
-    ∙ ap (λ target. is_as_listed_by (file_size entry) (file_hash entry) target bytes) (ap text_in (entry_zeros entry 5) ∙ text_zeros (entry_in entry 5)))
+    ap (λ size. is_as_listed_by_size_hash_target size (file_hash (without_zeros entry)) (file_target (without_zeros entry)) bytes) (ap int_in (entry_zeros entry 2) ∙ int_zeros (entry_in entry 2))
+    ∙ (ap (λ hash. is_as_listed_by_size_hash_target (file_size entry) hash (file_target (without_zeros entry)) bytes) (ap text_in (entry_zeros entry 4) ∙ text_zeros (entry_in entry 4))
+    ∙ ap (λ target. is_as_listed_by_size_hash_target (file_size entry) (file_hash entry) target bytes) (ap text_in (entry_zeros entry 5) ∙ text_zeros (entry_in entry 5)))
 
 pub zeros_alike : (entry : Plain) (found : Option (List ℕ)) (d : Difference) → DiffersFromEntry d (without_zeros entry) found ↔ DiffersFromEntry d entry found
 zeros_alike entry found Missing = (λ is. is, λ is. is)
@@ -148,7 +148,7 @@ free_path database sound r here =
     let file = from-map (file_record (name_of folder.0)) r (files_in folder.0) folder.2 in
     let is_package = each_in (IsSoundPackage Idb) pkg.0 (entries_in (entry_in database IDB_PACKAGES)) sound.rules pkg.1 in
     let is_folder = each_in (IsSoundFolder Idb) folder.0 (entries_in (entry_in pkg.0 PACKAGE_PATHS)) is_package.folders folder.1 in
-    let is_file = each_in (IsSoundFileOf Idb (name_of folder.0)) file.0 (entries_in (entry_in folder.0 DIR_FILES)) is_folder.files file.1 in
+    let is_file = each_in (IsSoundFileInFolder Idb (name_of folder.0)) file.0 (entries_in (entry_in folder.0 DIR_FILES)) is_folder.files file.1 in
     ap (λ (q : PathAndEntry). is_reserved q.path) file.2 ∙ not-true (is_reserved (file_record (name_of folder.0) file.0).path) is_file.listed
 
 -- ---- the database after a change

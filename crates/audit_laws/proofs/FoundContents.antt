@@ -9,8 +9,8 @@ use Rattle.root_laws.specs.candidate_core.Candidates.{Candidate, is_same_id}
 use Rattle.root_laws.specs.change_inputs.Chains.{and_then}
 use Rattle.root_laws.specs.change_inputs.Inputs.{first_index_read_number}
 use Rattle.root_laws.proofs.change_outcome.Made.{and_then_ok}
-use Rattle.root_laws.specs.change_outcome.MembersAfter.{MemberFound, added_package_by_path, added_member_found, found_package_contents, members_after, found_members, member_of_name_after, member_of_name_by_change, member_of_name_by_selected, member_of_added_name, member_of_removed_name, names_after, kept_member_found}
-use Rattle.root_laws.specs.change_outcome.PackageFiles.{AddedPackage, first_script_of, package_file_of, added_package_or_refusal, package_in_file, scripts_of_change, unless_different, unless_script_number, unless_package_bad, unless_script_needed}
+use Rattle.root_laws.specs.change_outcome.MembersAfter.{MemberFound, added_package_by_path, added_member_found, found_package_contents, members_after, found_members, member_of_name_after, member_of_name_by_change, member_of_name_by_selected, member_of_added_name, member_of_removed_name, members_of_names_after, kept_member_found}
+use Rattle.root_laws.specs.change_outcome.PackageFiles.{AddedPackage, first_script_of, package_file_path_of_candidate, added_package_or_refusal, package_in_file, scripts_of_change, package_unless_other_than_candidate, unless_script_number, unless_package_bad, unless_script_needed}
 use Rattle.audit_core.specs.db_core.Members.{Member, is_added}
 use Rattle.audit_core.specs.db_core.Packages.{is_package_named}
 use Rattle.dep_core.specs.Repositories.{Repository}
@@ -39,7 +39,7 @@ abbrev kept_package : Result AddedPackage Refusal → Result AddedPackage Refusa
 kept_package r = r
 
 module _ (told : HasFirstValue) (read : Reads) where
-  different_ok : (c : Candidate) (pkg p : AddedPackage) → unless_different c pkg ≡ Ok p → p ≡ pkg
+  different_ok : (c : Candidate) (pkg p : AddedPackage) → package_unless_other_than_candidate c pkg ≡ Ok p → p ≡ pkg
   different_ok c pkg p e = by_tests _ _ _ (is_same_id c.id pkg.id) (bytes_eq c.name (package_name pkg.value)) (bytes_eq (candidate_version_text c) (package_version_text pkg.value)) e
     where
       by_tests : (x y z : Refusal) (a b v : Bool) → kept_package (if not a then Err x else if not b then Err y else if not v then Err z else Ok pkg) ≡ Ok p → p ≡ pkg
@@ -75,10 +75,10 @@ module _ (told : HasFirstValue) (read : Reads) where
   comes_ok : (repositories : List Repository) (no_scripts : Bool) (n : ℕ) (name : List ℕ) (change : Change) (c : Candidate) (o : Option MemberFound)
       → member_of_added_name read repositories no_scripts n name change c ≡ Ok o → IfListed o
   comes_ok repositories no_scripts n name change c o e =
-      let pkg = and_then_ok (added_package_by_path read n c (package_file_of repositories c)) (λ pkg.
+      let pkg = and_then_ok (added_package_by_path read n c (package_file_path_of_candidate repositories c)) (λ pkg.
       unless_script_needed no_scripts name pkg.value (scripts_of_change change) (Some (added_member_found pkg))) o e in
       subst IfListed (script_ok no_scripts name pkg.0.value (scripts_of_change change) (Some (added_member_found pkg.0)) o pkg.2)
-      (λ comes. path_ok n c (package_file_of repositories c) pkg.0 pkg.1)
+      (λ comes. path_ok n c (package_file_path_of_candidate repositories c) pkg.0 pkg.1)
 
   goes_ok : (no_scripts : Bool) (name : List ℕ) (change : Change) (before : Option Plain) (o : Option MemberFound) → member_of_removed_name no_scripts name change before ≡ Ok o → IfListed o
   goes_ok no_scripts name change None o e = let same : None ≡ o = cc in subst IfListed same tt
@@ -108,13 +108,13 @@ module _ (told : HasFirstValue) (read : Reads) where
     one_more None fs here are = are
     one_more (Some f) fs here are = (here, are)
 
-    names_ok : (n : ℕ) (names : List (List ℕ)) (fs : List MemberFound) → names_after r read repositories no_scripts n names ≡ Ok fs → AllListed fs
+    names_ok : (n : ℕ) (names : List (List ℕ)) (fs : List MemberFound) → members_of_names_after r read repositories no_scripts n names ≡ Ok fs → AllListed fs
     names_ok n [] fs e = let same : [] ≡ fs = cc in subst AllListed same tt
     names_ok n (name ∷ names) fs e =
         let first = and_then_ok (member_of_name_after r read repositories no_scripts n name) (λ first.
-        and_then (names_after r read repositories no_scripts (suc n) names) (λ others.
+        and_then (members_of_names_after r read repositories no_scripts (suc n) names) (λ others.
         Ok (cons_option first others))) fs e in
-        let others = and_then_ok (names_after r read repositories no_scripts (suc n) names) (λ others. Ok (cons_option first.0 others)) fs first.2 in
+        let others = and_then_ok (members_of_names_after r read repositories no_scripts (suc n) names) (λ others. Ok (cons_option first.0 others)) fs first.2 in
         let same : cons_option first.0 others.0 ≡ fs = (let last = others.2 in cc) in
         subst AllListed same
         (one_more first.0 others.0

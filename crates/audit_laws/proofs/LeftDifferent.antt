@@ -18,13 +18,13 @@ use Rattle.base_core.specs.Files.{Files}
 use Rattle.base_core.specs.declared.cause.Cause.{Cause}
 use Rattle.root_laws.specs.change_files.FileChange.{FileChange, added_owner_listing, if_member_added, owner_listing}
 use Rattle.root_laws.specs.change_files.FilesAfter.{DatabaseAndWorldAfter, files_after_change, listing_bytes}
-use Rattle.root_laws.specs.change_files.Touched.{is_record_name}
+use Rattle.root_laws.specs.change_files.Touched.{is_database_or_world_name}
 use Rattle.root_laws.proofs.change_files.Lists.{IsOneOf, contains_from_one}
 use Rattle.root_laws.proofs.change_files.OwnedFiles.{coming_is}
 use Rattle.root_laws.proofs.change_files.RecordNames.{database_after}
 use Rattle.root_laws.specs.change_inputs.Chains.{and_then, unless_cause}
 use Rattle.root_laws.specs.change_inputs.Database.{Database, container_database, database_from_parts, root_database}
-use Rattle.root_laws.specs.change_outcome.ChangeOutcome.{ChangeDone, ChangeWishes, change_or_refusal, file_change, new_records}
+use Rattle.root_laws.specs.change_outcome.ChangeOutcome.{ChangeDone, ChangeWishes, change_or_refusal, file_change, database_and_world_after_change}
 use Rattle.root_laws.specs.change_outcome.Made.{IsChangeMade}
 use Rattle.root_laws.specs.change_outcome.MembersAfter.{MemberFound, found_package_contents, found_members}
 use Rattle.command_core.specs.Command.{CommandLine}
@@ -42,9 +42,9 @@ use Rattle.root_laws.specs.pkg_core.GoodContents.{AreContentsOf, HaveValidDigest
 use Rattle.root_laws.proofs.pkg_core.Digests.{HasFirstValue}
 use Rattle.report_core.specs.declared.refusal.Refusal.{Refusal}
 use Rattle.report_core.specs.declared.refusal.Refusal.TheVariants.{DatabaseBad}
-use Rattle.root_laws.specs.RootLeft.{IsRootLeft}
+use Rattle.root_laws.specs.RootLeft.{IsRootLeftByChange}
 use Rattle.root_names.specs.RootNames.{database_name, text_database_name}
-use Rattle.audit_laws.specs.AfterChange.{ExplainsDifference, IsEmptyWithOtherDigest, IsLeftDifferent, change_left, contents_left, packages_left}
+use Rattle.audit_laws.specs.AfterChange.{ExplainsDifference, IsEmptyFileWithOtherDigest, IsDifferenceExplainedAfterChange, change_left, contents_left, packages_left}
 use Rattle.audit_laws.proofs.AfterFiles.{by_left, left_by, stays_so}
 use Rattle.audit_laws.proofs.AfterRecords.{WrittenLaws, owner_free, owner_record, record_of_owner, zeros_alike}
 use Rattle.audit_laws.proofs.FoundContents.{contents_listed}
@@ -52,7 +52,7 @@ use Rattle.audit_laws.proofs.FoundContents.{contents_listed}
 -- what the laws of the crates below say
 pub record Laws : Type 0 where
   pub values : (which : Which) (file : List ℕ) → IsSoundContainer which file → IsSoundValue which (root_value which (payload_in file))
-  pub reserved : (records : DatabaseAndWorldAfter) (name : List ℕ) → is_record_name records name ≡ true → is_reserved name ≡ true
+  pub reserved : (records : DatabaseAndWorldAfter) (name : List ℕ) → is_database_or_world_name records name ≡ true → is_reserved name ≡ true
   pub made : (inputs : Inputs) (r : Replacement) (wishes : ChangeWishes) (read : Reads) (clash : Option NamePair) (files : Files) (done : ChangeDone)
       → change_or_refusal inputs r wishes read clash files ≡ Ok done → IsChangeMade inputs r wishes read clash files done
   pub differences : (files : Files) (packages : List Plain) (d : FileDifference) → IsIn d (file_differences files packages) ↔ IsDifferenceIn packages files d
@@ -75,17 +75,17 @@ container_ok file packages bytes e = by_fault (container_fault_except_contents I
     by_fault None t e = (let same : there ≡ database_from_parts packages (Some bytes) false = (let both : kept there ≡ kept (database_from_parts packages (Some bytes) false) = e in cc) in (t, ap (λ (d : Database). d.packages) same))
     by_fault (Some cause) t e = absurd (cc (e))
 
-not_record : (records : DatabaseAndWorldAfter) (name : List ℕ) → ((records : DatabaseAndWorldAfter) (name : List ℕ) → is_record_name records name ≡ true → is_reserved name ≡ true) → is_reserved name ≡ false → is_record_name records name ≡ false
-not_record records name reserved free = by_test (is_record_name records name) refl
+not_record : (records : DatabaseAndWorldAfter) (name : List ℕ) → ((records : DatabaseAndWorldAfter) (name : List ℕ) → is_database_or_world_name records name ≡ true → is_reserved name ≡ true) → is_reserved name ≡ false → is_database_or_world_name records name ≡ false
+not_record records name reserved free = by_test (is_database_or_world_name records name) refl
   where
-    by_test : (b : Bool) → is_record_name records name ≡ b → is_record_name records name ≡ false
+    by_test : (b : Bool) → is_database_or_world_name records name ≡ b → is_database_or_world_name records name ≡ false
     by_test true t = absurd (true≢false (sym (reserved records name t) ∙ free))
     by_test false t = t
 
 comes_if : (change : FileChange) (path : List ℕ) (l : Listing) → owner_listing change path ≡ Some l → is_added l.member ≡ true → added_owner_listing change path ≡ Some l
 comes_if change path l owner comes = ap if_member_added owner ∙ ap (λ (b : Bool). if b then Some l else None) comes
 
-module _ (laws : Laws) (command : CommandLine) (read : Reads) (files : Files) (chosen : Option (List ℕ)) (clash : Option NamePair) (done : ChangeDone) (left : IsRootLeft command read chosen done)
+module _ (laws : Laws) (command : CommandLine) (read : Reads) (files : Files) (chosen : Option (List ℕ)) (clash : Option NamePair) (done : ChangeDone) (left : IsRootLeftByChange command read chosen done)
     (e : change_of_command command read files chosen clash ≡ Ok done) (off : command.flags.simulate ≡ false) where
   abbrev s : InputsAndReplacement
   s = left.selected
@@ -105,7 +105,7 @@ module _ (laws : Laws) (command : CommandLine) (read : Reads) (files : Files) (c
   same_found = let both : Ok made_so.found ≡ Ok left.found = sym made_so.members ∙ left.members in (cc)
 
   abbrev records : DatabaseAndWorldAfter
-  records = new_records s.inputs made_so.database
+  records = database_and_world_after_change s.inputs made_so.database
 
   abbrev change : FileChange
   change = change_left left
@@ -134,7 +134,7 @@ module _ (laws : Laws) (command : CommandLine) (read : Reads) (files : Files) (c
   sound : IsSoundValue Idb value
   sound = laws.values Idb made_so.database read_back.0
 
-  plain : (path : List ℕ) (l : Listing) → owner_listing change path ≡ Some l → is_record_name records path ≡ false
+  plain : (path : List ℕ) (l : Listing) → owner_listing change path ≡ Some l → is_database_or_world_name records path ≡ false
   plain path l owner = not_record records path laws.reserved (owner_free laws.written change value sound read_back.1 path l owner)
 
   -- ---- what differs was left so
@@ -152,7 +152,7 @@ module _ (laws : Laws) (command : CommandLine) (read : Reads) (files : Files) (c
           subst (λ (q : List ℕ). ExplainsDifference (contents_left left) change files (record { path = q; difference = d.difference }) l true) (sym at)
           (left_by change bytes_of records files path (plain path l owner) l (comes_if change path l owner t) d.difference here)
 
-  pub is_path_left_over : (d : FileDifference) → IsIn d (file_differences done.files (packages_left left)) → IsLeftDifferent (contents_left left) change files d
+  pub is_path_left_over : (d : FileDifference) → IsIn d (file_differences done.files (packages_left left)) → IsDifferenceExplainedAfterChange (contents_left left) change files d
   is_path_left_over d here =
       let is = (laws.differences done.files (packages_left left) d).0 here in
       let found = record_of_owner laws.written change value sound read_back.1 d.path is.entry is.recorded in
@@ -170,7 +170,7 @@ module _ (laws : Laws) (command : CommandLine) (read : Reads) (files : Files) (c
   differs_so l d owner false t why = (stays_so change bytes_of records files d.path (plain d.path l owner) l d.difference owner t).1 why
   differs_so l d owner true t why = by_left change bytes_of records files d.path (plain d.path l owner) l (comes_if change d.path l owner t) d.difference why
 
-  pub left_is : (d : FileDifference) → IsLeftDifferent (contents_left left) change files d → IsIn d (file_differences done.files (packages_left left))
+  pub left_is : (d : FileDifference) → IsDifferenceExplainedAfterChange (contents_left left) change files d → IsIn d (file_differences done.files (packages_left left))
   left_is d is =
       let l = is.listing in
       let here = subst (λ (fs : Files). DiffersFromEntry d.difference l.entry (fs d.path)) (sym files_are) (differs_so l d is.owner (is_added l.member) refl is.left) in
@@ -188,13 +188,13 @@ some_place l [] here = absurd here
 some_place l (k ∷ ls) (inl is) = (0, ap Some (sym is))
 some_place l (k ∷ ls) (inr later) = let found = some_place l ls later in (suc found.0, found.1)
 
-empty_by : (entry : Plain) (bytes : List ℕ) → ((is_file_with_contents entry ≡ false → has_target entry ≡ false → is_as_listed entry [] ≡ true) → is_as_listed entry bytes ≡ true) → is_as_listed entry bytes ≡ false → IsEmptyWithOtherDigest entry
+empty_by : (entry : Plain) (bytes : List ℕ) → ((is_file_with_contents entry ≡ false → has_target entry ≡ false → is_as_listed entry [] ≡ true) → is_as_listed entry bytes ≡ true) → is_as_listed entry bytes ≡ false → IsEmptyFileWithOtherDigest entry
 empty_by entry bytes brought unlike = by_tests (is_file_with_contents entry) refl (has_target entry) refl (is_as_listed entry []) refl
   where
-    never : (is_file_with_contents entry ≡ false → has_target entry ≡ false → is_as_listed entry [] ≡ true) → IsEmptyWithOtherDigest entry
+    never : (is_file_with_contents entry ≡ false → has_target entry ≡ false → is_as_listed entry [] ≡ true) → IsEmptyFileWithOtherDigest entry
     never h = absurd (true≢false (sym (brought h) ∙ unlike))
 
-    by_tests : (a : Bool) → is_file_with_contents entry ≡ a → (b : Bool) → has_target entry ≡ b → (c : Bool) → is_as_listed entry [] ≡ c → IsEmptyWithOtherDigest entry
+    by_tests : (a : Bool) → is_file_with_contents entry ≡ a → (b : Bool) → has_target entry ≡ b → (c : Bool) → is_as_listed entry [] ≡ c → IsEmptyFileWithOtherDigest entry
     by_tests true with b target c same = never (λ h g. absurd (true≢false (sym with ∙ h)))
     by_tests false with true target c same = never (λ h g. absurd (true≢false (sym target ∙ g)))
     by_tests false with false target true same = never (λ h g. same)
@@ -205,8 +205,8 @@ pub empty_alone :
     → ((contents : ℕ → List Contents) (members : List Member) (l : Listing) → Contains (member_listings members) l → HaveValidDigestLengths (expected_files_of_package l.member.pkg)
     → AreContentsOf (expected_files_of_package l.member.pkg) (contents l.place) → (is_file_with_contents l.entry ≡ false → has_target l.entry ≡ false → is_as_listed l.entry [] ≡ true)
     → is_as_listed l.entry (listing_bytes contents l) ≡ true)
-    → (command : CommandLine) (read : Reads) (chosen : Option (List ℕ)) (done : ChangeDone) (left : IsRootLeft command read chosen done) (path : List ℕ) (l : Listing)
-    → added_owner_listing (change_left left) path ≡ Some l → is_as_listed l.entry (listing_bytes (contents_left left) l) ≡ false → IsEmptyWithOtherDigest l.entry
+    → (command : CommandLine) (read : Reads) (chosen : Option (List ℕ)) (done : ChangeDone) (left : IsRootLeftByChange command read chosen done) (path : List ℕ) (l : Listing)
+    → added_owner_listing (change_left left) path ≡ Some l → is_as_listed l.entry (listing_bytes (contents_left left) l) ≡ false → IsEmptyFileWithOtherDigest l.entry
 empty_alone told placed brought command read chosen done left path l comes unlike =
     let members = found_members left.found in
     let owner = coming_is (change_left left) path l comes in

@@ -2,7 +2,7 @@
 use Rattle.std.proofs.Common.{◌≡◌, ℕ, List, [], None, Result, Ok, Err, sym, subst}
 use Rattle.base_core.specs.declared.cause.Cause.{Cause}
 use Rattle.base_core.proofs.Causes.{first_none, second_none}
-use Rattle.adb_block.specs.Header.{header_of}
+use Rattle.adb_block.specs.Header.{schema_of_header}
 use Rattle.adb_block.specs.Reading.{Reading, done, fault, more, block_stream_from}
 use Rattle.adb_block.specs.ReaderPosition.{first_block_position}
 use Rattle.root_laws.specs.adb_schema.Soundness.{blocks_fault, file_fault_after_header, first_block_payload, payload_after_header, payload_fault, payload_in, root_value, schema_fault}
@@ -34,4 +34,4 @@ header_listed told file (Err c) e = absurd (cc)
 
 pub tested_listed : HasFirstValue → (file : List ℕ) → package_fault file ≡ None → AreListedContents (root_value Package (payload_in file)) (contents_in (files_read_from_package file))
 unfolding container_fault_of_table files_read_from_package payload_in
-tested_listed told file h = header_listed told file (header_of file) h
+tested_listed told file h = header_listed told file (schema_of_header file) h

@@ -18,14 +18,17 @@ use Rattle.root_laws.specs.engine_core.Wishes.{wishes_of}
 use Rattle.audit_core.specs.file_guard.AsListed.{has_target, is_as_listed}
 use Rattle.root_laws.specs.make_info.Reads.{Reads}
 use Rattle.root_laws.specs.pkg_core.Contents.{Contents}
-use Rattle.root_laws.specs.RootLeft.{IsRootLeft, database_of_members}
+use Rattle.root_laws.specs.RootLeft.{IsRootLeftByChange, database_of_members}
 
 -- ---- a file that is left different
 
 -- an entry of an empty file with the digest of other bytes, which no test of a package compares
-pub record IsEmptyWithOtherDigest (entry : Plain) : Type 0 where
+pub record IsEmptyFileWithOtherDigest (entry : Plain) : Type 0 where
+  -- the entry is that of an empty file
   pub no_contents : is_file_with_contents entry ≡ false
+  -- the entry has no link target
   pub no_link : has_target entry ≡ false
+  -- an empty file does not agree with the digest of the entry
   pub unlike : is_as_listed entry [] ≡ false
 
 -- the file under a path is configuration that the user changed
@@ -44,10 +47,13 @@ ExplainsDifference contents change files d l true =
     ⊎ (is_as_listed l.entry (listing_bytes contents l) ≡ false))
 
 -- a file that differs after a change, of the package that owns its path
-pub record IsLeftDifferent (contents : ℕ → List Contents) (change : FileChange) (files : Files)
+pub record IsDifferenceExplainedAfterChange (contents : ℕ → List Contents) (change : FileChange)
+    (files : Files)
     (d : FileDifference) : Type 0 where
+  -- the listing of the file in the package that owns its path
   pub listing : Listing
   pub owner : owner_listing change d.path ≡ Some listing
+  -- the reason for which a change leaves such a difference
   pub left : ExplainsDifference contents change files d listing (is_added listing.member)
 
 -- ---- of the root that a command leaves
@@ -55,17 +61,17 @@ pub record IsLeftDifferent (contents : ℕ → List Contents) (change : FileChan
 -- the packages after a command, as the next one reads them
 abbrev pub packages_left :
     {command : CommandLine} → {read : Reads} → {chosen : Option (List ℕ)} → {done : ChangeDone}
-    → IsRootLeft command read chosen done → List Plain
+    → IsRootLeftByChange command read chosen done → List Plain
 packages_left left = (database_of_members (found_members left.found) left.bytes).packages
 
 -- the change of files that a command has made
 abbrev pub change_left :
     {command : CommandLine} → {read : Reads} → {chosen : Option (List ℕ)} → {done : ChangeDone}
-    → IsRootLeft command read chosen done → FileChange
+    → IsRootLeftByChange command read chosen done → FileChange
 change_left {command} left = file_change left.selected.inputs (wishes_of command) left.found
 
 -- the contents of the files of each package that a command has added
 abbrev pub contents_left :
     {command : CommandLine} → {read : Reads} → {chosen : Option (List ℕ)} → {done : ChangeDone}
-    → IsRootLeft command read chosen done → ℕ → List Contents
+    → IsRootLeftByChange command read chosen done → ℕ → List Contents
 contents_left left = found_package_contents left.found

@@ -1,33 +1,33 @@
 -- What a sink has got after several writes.
 use Rattle.std.proofs.Common.{◌≡◌, ℕ, List, [], ◌++◌, take, drop, Option, Some, None, refl, ◌-◌, length, arith, take_all, length-drop, sym, ap, ◌∙◌, append_assoc, append-nil, take-append-drop}
 use Rattle.std.specs.Option.{option_map}
-use Rattle.base_core.specs.Sink.{Adds, AddsPrefixToSink}
+use Rattle.base_core.specs.Sink.{AddsBytesToSink, AddsPrefixToSink}
 
-pub Adds-none : (old : Option (List ℕ)) → Adds old old []
-Adds-none None = refl
-Adds-none (Some b) = ap Some (sym (append-nil b))
+pub AddsBytesToSink-none : (old : Option (List ℕ)) → AddsBytesToSink old old []
+AddsBytesToSink-none None = refl
+AddsBytesToSink-none (Some b) = ap Some (sym (append-nil b))
 
-pub Adds-more : (old mid new : Option (List ℕ)) (a b : List ℕ) → Adds old mid a → Adds mid new b → Adds old new (a ++ b)
-Adds-more None mid new a b h k = k ∙ ap (option_map (λ x. x ++ b)) h
-Adds-more (Some x) mid new a b h k = k ∙ ap (option_map (λ x. x ++ b)) h ∙ ap Some (append_assoc x a b)
+pub AddsBytesToSink-more : (old mid new : Option (List ℕ)) (a b : List ℕ) → AddsBytesToSink old mid a → AddsBytesToSink mid new b → AddsBytesToSink old new (a ++ b)
+AddsBytesToSink-more None mid new a b h k = k ∙ ap (option_map (λ x. x ++ b)) h
+AddsBytesToSink-more (Some x) mid new a b h k = k ∙ ap (option_map (λ x. x ++ b)) h ∙ ap Some (append_assoc x a b)
 
 -- all is a front that the sink has got, and this rest
 pub record IsUnderWay (old new : Option (List ℕ)) (all rest : List ℕ) : Type 0 where
   pub front : List ℕ
   pub whole : all ≡ front ++ rest
-  pub added : Adds old new front
+  pub added : AddsBytesToSink old new front
 
 pub started : (old : Option (List ℕ)) (all : List ℕ) → IsUnderWay old old all all
-started old all = record { front = []; whole = refl; added = Adds-none old }
+started old all = record { front = []; whole = refl; added = AddsBytesToSink-none old }
 
-pub one_more : (old mid new : Option (List ℕ)) (all rest : List ℕ) (n : ℕ) → IsUnderWay old mid all rest → Adds mid new (take n rest) → IsUnderWay old new all (drop n rest)
+pub one_more : (old mid new : Option (List ℕ)) (all rest : List ℕ) (n : ℕ) → IsUnderWay old mid all rest → AddsBytesToSink mid new (take n rest) → IsUnderWay old new all (drop n rest)
 one_more old mid new all rest n h k = record {
   front = h.front ++ take n rest;
   whole = h.whole ∙ ap (λ r. h.front ++ r) (sym (take-append-drop n rest)) ∙ sym (append_assoc h.front (take n rest) (drop n rest));
-  added = Adds-more old mid new h.front (take n rest) h.added k;
+  added = AddsBytesToSink-more old mid new h.front (take n rest) h.added k;
 }
 
-pub ended : (old new : Option (List ℕ)) (all rest : List ℕ) → IsUnderWay old new all rest → rest ≡ [] → Adds old new all
+pub ended : (old new : Option (List ℕ)) (all rest : List ℕ) → IsUnderWay old new all rest → rest ≡ [] → AddsBytesToSink old new all
 ended old new all rest h e = h.added ∙ ap (λ a. option_map (λ x. x ++ a) old) (sym (h.whole ∙ ap (λ r. h.front ++ r) e ∙ append-nil h.front))
 
 pub cut : (old mid new : Option (List ℕ)) (all rest : List ℕ) → IsUnderWay old mid all rest → new ≡ mid → AddsPrefixToSink old new all

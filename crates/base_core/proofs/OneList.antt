@@ -7,9 +7,9 @@ use Rattle.std.proofs.lemmas.Bool.{and_parts}
 use Rattle.std.proofs.lemmas.Bool.Decides.{Decides-eqb}
 use Rattle.std.proofs.lemmas.Slice.Eq.{bytes_eq-Decides}
 use Rattle.std.proofs.lemmas.Map.Views.{Contains-from_any}
-use Rattle.base_core.specs.Files.{NameMap, AreNamedFiles, AreFileBytes, HasNamesAmong, IsFolderOf}
+use Rattle.base_core.specs.Files.{NameMap, HaveValidNamesAndBytes, AreFileBytes, HasNamesAmong, IsFolderOf}
 use Rattle.base_core.specs.Tree.{TreeState, IsCurrentOrOlderMap, IsWellFormed, bytes_of_file_number, files_under_map, files_of}
-use Rattle.base_core.specs.Listed.{AreNamesBelow, IsListOf, IsNameBelow, IsNamesOf, AreSortedDistinctNames}
+use Rattle.base_core.specs.Listed.{AreSortedNamesBelowFolder, IsSortedListingOfFolder, IsValidNameBelowFolder, AreSortedNamesInMap, AreSortedDistinctNames}
 use Rattle.base_core.proofs.Rising.{in_at, keep, keep_rises, kept_passes, passing_kept, same_list, contains_from_in, in_from_contains, pairs_from_rises, rises_from_pairs}
 
 -- just the names that P holds of, in byte order
@@ -38,12 +38,12 @@ only_list P a b one two = same_list a b (rises_from_pairs a one.rising) (rises_f
 
 -- ---- all names of a map
 
-pub names_exist : {X : Type 0} (map : List ℕ → Option X) (within : List (List ℕ)) → HasNamesAmong within map → (names : List (List ℕ)) × IsNamesOf map names
+pub names_exist : {X : Type 0} (map : List ℕ → Option X) (within : List (List ℕ)) → HasNamesAmong within map → (names : List (List ℕ)) × AreSortedNamesInMap map names
 names_exist map within finite =
     let found = listed (λ q. IsSome (map q)) (λ q. is_some (map q)) (λ q. (λ h. h, λ h. h)) within finite in
     (found.0, record { rising = found.1.rising; each = found.1.each })
 
-pub names_one : {X : Type 0} (map : List ℕ → Option X) (a b : List (List ℕ)) → IsNamesOf map a → IsNamesOf map b → a ≡ b
+pub names_one : {X : Type 0} (map : List ℕ → Option X) (a b : List (List ℕ)) → AreSortedNamesInMap map a → AreSortedNamesInMap map b → a ≡ b
 names_one map a b one two = only_list (λ q. IsSome (map q)) a b (record { rising = one.rising; each = one.each }) (record { rising = two.rising; each = two.each })
 
 -- ---- the names below a folder
@@ -82,7 +82,7 @@ list_decides folder v q = (
 all_contained : (P : List ℕ → Type 0) (names : List (List ℕ)) → ((q : List ℕ) → Contains names q → P q) → All P names
 all_contained P names each k d within = each (get_or names k d) (contains_from_in names (get_or names k d) (in_at names k d within))
 
-pub list_exists : (v : TreeState) → IsWellFormed v → (folder : List ℕ) → (names : List (List ℕ)) × IsListOf folder v names × AreNamesBelow folder names
+pub list_exists : (v : TreeState) → IsWellFormed v → (folder : List ℕ) → (names : List (List ℕ)) × IsSortedListingOfFolder folder v names × AreSortedNamesBelowFolder folder names
 list_exists v whole folder =
     let finite = whole.finite v.names (inl refl) in
     let found = listed (λ q. IsSome (v.names q) × IsFolderOf folder q) (λ q. is_some (v.names q) && is_below folder q) (list_decides folder v) finite.0 (λ q h. finite.1 q h.0) in (
@@ -90,12 +90,12 @@ list_exists v whole folder =
       record { rising = found.1.rising; each = found.1.each },
       record {
         rising = found.1.rising;
-        each = all_contained (IsNameBelow folder) found.0 (λ q here.
+        each = all_contained (IsValidNameBelowFolder folder) found.0 (λ q here.
             let present = (found.1.each q).0 here in record { named = whole.named v.names (inl refl) q present.0; below = present.1 });
       },
     )
 
-pub list_one : (v : TreeState) (folder : List ℕ) (a b : List (List ℕ)) → IsListOf folder v a → IsListOf folder v b → a ≡ b
+pub list_one : (v : TreeState) (folder : List ℕ) (a b : List (List ℕ)) → IsSortedListingOfFolder folder v a → IsSortedListingOfFolder folder v b → a ≡ b
 list_one v folder a b one two = only_list (λ q. IsSome (v.names q) × IsFolderOf folder q) a b (record { rising = one.rising; each = one.each }) (record { rising = two.rising; each = two.each })
 
 -- ---- a name leads to a file just where its bytes are read
@@ -104,7 +104,7 @@ has_bytes : (v : TreeState) (n : Option ℕ) → IsSome n ↔ IsSome (bytes_of_f
 has_bytes v None = (λ h. h, λ h. h)
 has_bytes v (Some n) = (λ h. refl, λ h. refl)
 
-pub names_are_of_files : (v : TreeState) (names : List (List ℕ)) → IsNamesOf v.names names → IsNamesOf (files_of v) names
+pub names_are_of_files : (v : TreeState) (names : List (List ℕ)) → AreSortedNamesInMap v.names names → AreSortedNamesInMap (files_of v) names
 names_are_of_files v names of_map = record {
   rising = of_map.rising;
   each = λ q. (λ found. (has_bytes v (v.names q)).0 ((of_map.each q).0 found), λ some. (of_map.each q).1 ((has_bytes v (v.names q)).1 some));
@@ -116,7 +116,7 @@ some_bytes : (v : TreeState) (n : Option ℕ) (bytes : List ℕ) → IsWellForme
 some_bytes v None bytes whole is = absurd (cc)
 some_bytes v (Some n) bytes whole is = let same : (v.files n).bytes ≡ bytes = cc in subst AreFileBytes same (whole.bytes n)
 
-pub files_named : (v : TreeState) → IsWellFormed v → (map : NameMap) → IsCurrentOrOlderMap v map → AreNamedFiles (files_under_map v map)
+pub files_named : (v : TreeState) → IsWellFormed v → (map : NameMap) → IsCurrentOrOlderMap v map → HaveValidNamesAndBytes (files_under_map v map)
 files_named v whole map among = record {
   named = λ q some. whole.named map among q ((has_bytes v (map q)).1 some);
   each = λ q bytes is. some_bytes v (map q) bytes whole is;

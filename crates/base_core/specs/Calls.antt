@@ -38,6 +38,7 @@ pub record IsCounted {T E : Type 0} (can : TreeState → Type 0) (history : List
   pub cause : OnErr result (IsFaultCountedWithCause before now)
   -- a call that succeeds counts neither a fault nor a lack of memory, and was no misuse
   pub kept : OnOk result (CountsNoNewFault before now)
+  -- a call that succeeds was allowed at the newest state
   pub allowed : OnOk result (IfObservable history can)
   -- exactly the misuses are counted as such
   pub proper : IfObservable history (λ v. can v → now.misuses ≡ before.misuses)

@@ -26,6 +26,7 @@ IsCrashImageIfUndoneNewestFirst v image =
 -- files of that map: only a crate that can read the journal knows it
 pub record IsDurableIfUndoneNewestFirst (depends_on : Files → List ℕ → Type 0)
     (v : TreeState) : Type 0 where
+  -- in each such map, a file on which something depends is synced
   pub each : (map : NameMap) → IsCurrentOrOlderMap v map → (q : List ℕ) (n : ℕ)
       → depends_on (files_under_map v map) q
       → map q ≡ Some n → (v.files n).synced ≡ true

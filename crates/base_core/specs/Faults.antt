@@ -25,8 +25,11 @@ RoseOrIsSaturated before now = saturating_increment before ≤ now
 -- from one moment to a later one no count fell, and a tree or sink that could not fail for another
 -- reason still cannot
 pub record CountsOnlyRise (before now : Counts) : Type 0 where
+  -- the number of failed calls
   pub faults : before.faults ≤ now.faults
+  -- the number of misuses (invalid calls)
   pub misuses : before.misuses ≤ now.misuses
+  -- the number of calls that failed for lack of memory
   pub memory_faults : before.memory_faults ≤ now.memory_faults
   -- `fallible` does not become true again
   pub fallible : IsTrue now.fallible → IsTrue before.fallible
@@ -42,7 +45,9 @@ pub record IsFaultCountedWithCause (before now : Counts) : Type 0 where
 
 -- between two moments neither a fault nor a lack of memory was counted
 pub record CountsNoNewFault (before now : Counts) : Type 0 where
+  -- the number of failed calls is unchanged
   pub faults : now.faults ≡ before.faults
+  -- the number of calls that failed for lack of memory is unchanged
   pub memory_faults : now.memory_faults ≡ before.memory_faults
 
 -- how a call of a sink changes its counts, by the call's result

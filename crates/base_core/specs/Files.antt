@@ -49,9 +49,12 @@ HasNoFileAsFolder map = (p q : List ℕ) → IsFolderOf p q → IsSome (map p) �
 pub record AreFileBytes (bytes : List ℕ) : Type 0 where
   -- each is a byte
   pub each : All (λ b. b < 256) bytes
+  -- the length of the file is below 2 ^ 64
   pub few : length bytes < 2 ^ 64
 
 -- each file is under a name, and has bytes that a file may have
-pub record AreNamedFiles (files : Files) : Type 0 where
+pub record HaveValidNamesAndBytes (files : Files) : Type 0 where
+  -- each present file is under a valid name
   pub named : AreNames files
+  -- each present file has bytes that a file may have
   pub each : (q bytes : List ℕ) → files q ≡ Some bytes → AreFileBytes bytes

@@ -13,23 +13,29 @@ abbrev pub AreSortedDistinctNames : List (List ℕ) → Type 0
 AreSortedDistinctNames names = AllPairs (λ a b. slice_cmp nat_cmp a b ≡ Less) names
 
 -- exactly the names that are present in a map, in byte order
-pub record IsNamesOf {X : Type 0} (map : List ℕ → Option X) (names : List (List ℕ)) : Type 0 where
+pub record AreSortedNamesInMap {X : Type 0} (map : List ℕ → Option X) (names : List (List ℕ)) : Type 0 where
+  -- the names are in byte order, each once
   pub rising : AreSortedDistinctNames names
   -- the list has exactly the present names
   pub each : (q : List ℕ) → Contains names q ↔ IsSome (map q)
 
 -- the listing of a folder: exactly the present names below it, at any depth, in byte order
-pub record IsListOf (folder : List ℕ) (v : TreeState) (names : List (List ℕ)) : Type 0 where
+pub record IsSortedListingOfFolder (folder : List ℕ) (v : TreeState) (names : List (List ℕ)) : Type 0 where
+  -- the names are in byte order, each once
   pub rising : AreSortedDistinctNames names
   -- the list has exactly the present names below the folder
   pub each : (q : List ℕ) → Contains names q ↔ (IsSome (v.names q) × IsFolderOf folder q)
 
 -- these bytes are a name, and the folder is a folder of it
-pub record IsNameBelow (folder name : List ℕ) : Type 0 where
+pub record IsValidNameBelowFolder (folder name : List ℕ) : Type 0 where
+  -- the bytes are a valid name
   pub named : IsName name
+  -- the folder is above this name, at any distance
   pub below : IsFolderOf folder name
 
 -- names below the folder in byte order, each once; which ones a tree has is left open
-pub record AreNamesBelow (folder : List ℕ) (names : List (List ℕ)) : Type 0 where
+pub record AreSortedNamesBelowFolder (folder : List ℕ) (names : List (List ℕ)) : Type 0 where
+  -- the names are in byte order, each once
   pub rising : AreSortedDistinctNames names
-  pub each : All (IsNameBelow folder) names
+  -- each is a valid name below the folder
+  pub each : All (IsValidNameBelowFolder folder) names

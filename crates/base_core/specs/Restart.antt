@@ -1,5 +1,5 @@
 -- The tree after a crash, and what holds at a moment given the earlier ones. The rules are in
--- `docs/crash-safety.md`, "What a crash leaves", and of `HasNamedNewFile` in "Moments".
+-- `docs/crash-safety.md`, "What a crash leaves", and of `HasNameLedToFileFromNumber` in "Moments".
 use Rattle.std.specs.Prelude.{◌≡◌, ◌⊎◌, ◌≤◌, ℕ, true, List, [], ◌∷◌, ◌++◌, Some}
 use Rattle.base_core.specs.Crash.{IsCrashImageIfUndoneNewestFirst}
 use Rattle.base_core.specs.Tree.{TreeState, files_of}
@@ -26,10 +26,11 @@ pub record SinceGivenEarlier (P : List TreeState → TreeState → Type 0)
   pub added : List TreeState
   -- the new history is these states before the old history
   pub is : new ≡ added ++ old
+  -- P holds at each added state, together with the states before it
   pub each : EachMoment P added
 
 -- at one of the moments the name as read led to a file whose number is `made` or larger
-abbrev pub HasNamedNewFile : List ℕ → ℕ → List TreeState → Type 0
-HasNamedNewFile name made [] = ⊥
-HasNamedNewFile name made (v ∷ earlier) =
-    ((n : ℕ) × (v.names name ≡ Some n) × (made ≤ n)) ⊎ HasNamedNewFile name made earlier
+abbrev pub HasNameLedToFileFromNumber : List ℕ → ℕ → List TreeState → Type 0
+HasNameLedToFileFromNumber name made [] = ⊥
+HasNameLedToFileFromNumber name made (v ∷ earlier) =
+    ((n : ℕ) × (v.names name ≡ Some n) × (made ≤ n)) ⊎ HasNameLedToFileFromNumber name made earlier

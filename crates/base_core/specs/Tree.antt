@@ -119,6 +119,7 @@ CanRead name at len v =
 
 -- for `create`: nothing is under the name, and no file's name would be a folder of another
 pub record CanCreate (name : List ℕ) (v : TreeState) : Type 0 where
+  -- the name leads to no file
   pub absent : v.names name ≡ None
   -- with the new name no name is a folder of another
   pub folders : HasNoFileAsFolder (put_name v.names name v.made)
@@ -126,6 +127,7 @@ pub record CanCreate (name : List ℕ) (v : TreeState) : Type 0 where
 -- for `rename`: a file is under the first name, the names differ, and no file's name would be a
 -- folder of another
 pub record CanRename (from to : List ℕ) (v : TreeState) : Type 0 where
+  -- the first name leads to a file
   pub present : IsSome (v.names from)
   -- the two names differ
   pub apart : from ≢ to

@@ -38,6 +38,7 @@ IsCrashImage v image = (map : NameMap) × IsCrashMap v map × IsCrashImageUnderM
 -- leave. The parameter `depends_on` says which files these are, given the files of that map: only a
 -- crate that can read the journal knows it
 pub record IsDurable (depends_on : Files → List ℕ → Type 0) (v : TreeState) : Type 0 where
+  -- in each such map, a file on which something depends is synced
   pub each : (map : NameMap) → IsCrashMap v map → (q : List ℕ) (n : ℕ)
       → depends_on (files_under_map v map) q
       → map q ≡ Some n → (v.files n).synced ≡ true

@@ -5,10 +5,10 @@
 ghost use Rattle.std.specs.Prelude.{◌≡◌, ◌≤◌, ◌++◌, ℕ, List, [], Option, Result, Bool};
 ghost use Rattle.base_core.specs.Crash.{IsCrashImageIfUndoneNewestFirst, IsCrashImageUnderMap, IsDurableIfUndoneNewestFirst};
 ghost use Rattle.base_core.specs.Faults.{Counts, CountsOnlyRise, IsFaultCountedWithCause, CountsNoNewFault};
-ghost use Rattle.base_core.specs.Files.{Files, NameMap, AreNamedFiles, HasNamesAmong};
-ghost use Rattle.base_core.specs.Listed.{AreNamesBelow, IsListOf, IsNamesOf};
+ghost use Rattle.base_core.specs.Files.{Files, NameMap, HaveValidNamesAndBytes, HasNamesAmong};
+ghost use Rattle.base_core.specs.Listed.{AreSortedNamesBelowFolder, IsSortedListingOfFolder, AreSortedNamesInMap};
 ghost use Rattle.base_core.specs.Read.{OnlyReads};
-ghost use Rattle.base_core.specs.Restart.{HasNamedNewFile, IsAfterCrashIfUndoneNewestFirst};
+ghost use Rattle.base_core.specs.Restart.{HasNameLedToFileFromNumber, IsAfterCrashIfUndoneNewestFirst};
 ghost use Rattle.base_core.specs.Tree.{TreeState, IsCurrentOrOlderMap, IsWellFormed, files_of, files_under_map, with_names};
 ghost use Rattle.base_core.specs.Undone.{IsAfterCrash, IsDurable, IsCrashImage, IsCrashMap, with_change_replayed};
 
@@ -16,7 +16,9 @@ ghost use Rattle.base_core.specs.Undone.{IsAfterCrash, IsDurable, IsCrashImage, 
 
 /// The files by each map of names, and so the files as read, are among what a crash may leave.
 pub fn a_crash_may_leave_the_files_as_read()
+    // The files as read are among those that a crash may leave.
     ensures read { (v : TreeState) → IsCrashImageIfUndoneNewestFirst v (files_of v) }
+    // The files under the current map, or an older one, are among those that a crash may leave.
     ensures by_map { (v : TreeState) (map : NameMap) → IsCurrentOrOlderMap v map
         → IsCrashImageIfUndoneNewestFirst v (files_under_map v map) }
 {}
@@ -67,11 +69,15 @@ pub fn a_tree_stays_durable_in_order_if_fewer_files_must_be<D: Durability>()
 /// The files as read are among what a crash may leave, and so are those by each map that it may
 /// leave. A crash may undo or keep each change of names, whatever it does with the earlier ones.
 pub fn a_crash_may_undo_any_changes()
+    // The files as read are among those that a crash may leave.
     ensures read { (v : TreeState) → IsCrashImage v (files_of v) }
+    // The files under each map that a crash may leave are among those that it may leave.
     ensures by_map { (v : TreeState) (map : NameMap) → IsCrashMap v map
         → IsCrashImage v (files_under_map v map) }
+    // A crash may also undo the newest change of names.
     ensures undone { (v : TreeState) (names map : NameMap) → IsCrashMap v map
         → IsCrashMap (with_names v names) map }
+    // A crash may also keep the newest change of names.
     ensures kept { (v : TreeState) (names map : NameMap) → IsCrashMap v map
         → IsCrashMap (with_names v names) (with_change_replayed v.names names map) }
 {}
@@ -80,17 +86,22 @@ pub fn a_crash_may_undo_any_changes()
 /// since the last sync of the names may be left. So what holds after every crash that may undo any
 /// changes holds after it too.
 pub fn a_crash_may_undo_the_last_changes()
+    // Each map since the last sync of names is one that a crash may leave.
     ensures map { (v : TreeState) (map : NameMap) → IsCurrentOrOlderMap v map → IsCrashMap v map }
+    // Files that such a crash may leave are among those that any crash may leave.
     ensures image { (v : TreeState) (image : Files) → IsCrashImageIfUndoneNewestFirst v image
         → IsCrashImage v image }
+    // A tree after such a crash is one after a crash.
     ensures crash { (v w : TreeState) → IsAfterCrashIfUndoneNewestFirst v w → IsAfterCrash v w }
 {}
 
 /// Whatever a crash undoes, each name then leads where it led in one of the maps since the last
 /// sync of the names. If there is one map, it is the only one that a crash may leave.
 pub fn a_crash_leaves_each_name_where_it_led()
+    // Each name leads where it led in the current map or an older one.
     ensures leads { (v : TreeState) (map : NameMap) → IsCrashMap v map → (q : List ℕ)
         → (one : NameMap) × IsCurrentOrOlderMap v one × (map q ≡ one q) }
+    // Without an older map, a crash leaves the current one.
     ensures one_map { (v : TreeState) → v.older ≡ [] → (map : NameMap) → IsCrashMap v map
         → map ≡ v.names }
 {}
@@ -134,41 +145,53 @@ pub fn a_tree_stays_durable_if_fewer_files_must_be<D: Durability>()
 /// A listing can always be answered: each folder of a whole state has exactly one, and all its
 /// elements are names.
 pub fn a_folder_has_one_listing()
+    // There is a listing of each folder, and it has only names below the folder.
     ensures exists { (v : TreeState) → IsWellFormed v → (folder : List ℕ)
-        → (names : List (List ℕ)) × IsListOf folder v names × AreNamesBelow folder names }
+        → (names : List (List ℕ)) × IsSortedListingOfFolder folder v names
+        × AreSortedNamesBelowFolder folder names }
+    // Two listings of one folder are equal.
     ensures one { (v : TreeState) (folder : List ℕ) (a b : List (List ℕ))
-        → IsListOf folder v a → IsListOf folder v b → a ≡ b }
+        → IsSortedListingOfFolder folder v a → IsSortedListingOfFolder folder v b → a ≡ b }
 {}
 
 /// A map with finitely many names has exactly one list of them. Each map of a whole state is such a
 /// map.
 pub fn a_map_has_one_list_of_names()
+    // There is a list of the names in the map.
     ensures exists { (map : NameMap) (within : List (List ℕ)) → HasNamesAmong within map
-        → (names : List (List ℕ)) × IsNamesOf map names }
-    ensures one { (map : NameMap) (a b : List (List ℕ)) → IsNamesOf map a → IsNamesOf map b
+        → (names : List (List ℕ)) × AreSortedNamesInMap map names }
+    // Two lists of the names in one map are equal.
+    ensures one { (map : NameMap) (a b : List (List ℕ)) → AreSortedNamesInMap map a
+        → AreSortedNamesInMap map b
         → a ≡ b }
 {}
 
 /// Files under finitely many names have exactly one list of their names.
 pub fn files_have_one_list_of_names()
+    // There is a list of the files' names.
     ensures exists { (files : Files) (within : List (List ℕ)) → HasNamesAmong within files
-        → (names : List (List ℕ)) × IsNamesOf files names }
-    ensures one { (files : Files) (a b : List (List ℕ)) → IsNamesOf files a → IsNamesOf files b
+        → (names : List (List ℕ)) × AreSortedNamesInMap files names }
+    // Two lists of the names of the same files are equal.
+    ensures one { (files : Files) (a b : List (List ℕ)) → AreSortedNamesInMap files a
+        → AreSortedNamesInMap files b
         → a ≡ b }
 {}
 
 /// The files as read are under exactly the names as read.
 pub fn the_files_as_read_have_the_names_as_read()
-    ensures { (v : TreeState) (names : List (List ℕ)) → IsNamesOf v.names names
-        → IsNamesOf (files_of v) names }
+    ensures { (v : TreeState) (names : List (List ℕ)) → AreSortedNamesInMap v.names names
+        → AreSortedNamesInMap (files_of v) names }
 {}
 
 /// The files of a whole state, by each of its maps, are finitely many, and each is under a name and
 /// has fewer than 2^64 bytes.
 pub fn the_files_of_a_well_formed_state_are_named_files()
+    // Under each map, files have valid names and a possible length.
     ensures named { (v : TreeState) → IsWellFormed v → (map : NameMap) → IsCurrentOrOlderMap v map
-        → AreNamedFiles (files_under_map v map) }
-    ensures read { (v : TreeState) → IsWellFormed v → AreNamedFiles (files_of v) }
+        → HaveValidNamesAndBytes (files_under_map v map) }
+    // The files as read have valid names and a possible length.
+    ensures read { (v : TreeState) → IsWellFormed v → HaveValidNamesAndBytes (files_of v) }
+    // The files as read are finitely many.
     ensures finite { (v : TreeState) → IsWellFormed v → (names : List (List ℕ))
         × HasNamesAmong names (files_of v) }
 {}
@@ -178,33 +201,43 @@ pub fn the_files_of_a_well_formed_state_are_named_files()
 /// What holds of the counts over each of two successive calls holds over the two together. If there
 /// is no call, no count changes.
 pub fn counts_of_consecutive_calls_compose()
+    // If no count fell from a to b, and none from b to c, none fell from a to c.
     ensures goes_on { (a b c : Counts) → CountsOnlyRise a b → CountsOnlyRise b c
         → CountsOnlyRise a c }
+    // A fault counted from a to b is counted from a to c.
     ensures cause_before { (a b c : Counts) → IsFaultCountedWithCause a b → CountsOnlyRise b c
         → IsFaultCountedWithCause a c }
+    // A fault counted from b to c is counted from a to c.
     ensures cause_after { (a b c : Counts) → CountsOnlyRise a b → IsFaultCountedWithCause b c
         → IsFaultCountedWithCause a c }
+    // Without new faults from a to b and from b to c there are none from a to c.
     ensures no_fault { (a b c : Counts) → CountsNoNewFault a b → CountsNoNewFault b c
         → CountsNoNewFault a c }
+    // If no call is made, no count falls, and no fault is counted.
     ensures stays { (a : Counts) → CountsOnlyRise a a × CountsNoNewFault a a }
 {}
 
 /// A sequence of calls that only read only reads, if all but the last succeeded.
 pub fn consecutive_reads_compose<A, B, E>()
+    // A run without a call only reads.
     ensures none { (disk_fault : E) (h : List TreeState) (a : Counts) (value : A)
         → OnlyReads disk_fault h h a a (Ok value) }
+    // If the first of two calls succeeded, and both only read, so do both together.
     ensures two { (disk_fault : E) (h0 h1 h2 : List TreeState) (a b c : Counts) (value : A)
         (then : Result B E)
         → OnlyReads disk_fault h0 h1 a b (Ok value) → OnlyReads disk_fault h1 h2 b c then
         → OnlyReads disk_fault h0 h2 a c then }
 {}
 
-/// `HasNamedNewFile name b moments` says that at one of these moments the name led to a file whose
+/// `HasNameLedToFileFromNumber name b moments` says that at one of these moments the name led to a file whose
 /// number is `b` or larger. Then this also holds for each smaller number (`begun`), and for a
 /// longer list of moments (`later`).
 pub fn a_file_made_in_a_run_was_made_in_an_earlier_one()
+    // A file made as number b or later was made as number a or later, if a is at most b.
     ensures begun { (name : List ℕ) (a b : ℕ) (moments : List TreeState) → a ≤ b
-        → HasNamedNewFile name b moments → HasNamedNewFile name a moments }
+        → HasNameLedToFileFromNumber name b moments → HasNameLedToFileFromNumber name a moments }
+    // What holds of some moments also holds of these with further moments.
     ensures later { (name : List ℕ) (made : ℕ) (later moments : List TreeState)
-        → HasNamedNewFile name made moments → HasNamedNewFile name made (later ++ moments) }
+        → HasNameLedToFileFromNumber name made moments
+        → HasNameLedToFileFromNumber name made (later ++ moments) }
 {}

@@ -14,6 +14,7 @@ use std::str;
 /// `..`, no zero byte. It is relative to the tree's root.
 #[derive(Drop)]
 pub struct Name {
+    /// The bytes of the name, UTF-8 text.
     bytes: Vec<u8>,
 }
 
@@ -31,7 +32,9 @@ impl Model for Name {
 impl Name {
     /// The bytes as a name, or None exactly if they are not a name.
     pub fn read(alloc: Global, bytes: &[u8]) -> Result<Option<Name>, AllocError>
+        // On Ok, a name is returned exactly if the bytes are valid as a name.
         ensures when { IfOk result (λ found. is_some found ≡ is_name bytes.now) }
+        // A returned name has these bytes.
         ensures value { IfOk result (λ found. IfSome found (λ name. name ≡ bytes.now)) }
     {
         if !is_name(bytes) {
@@ -43,6 +46,7 @@ impl Name {
 
     /// The bytes as a name, if they are known to be one.
     pub fn of(alloc: Global, bytes: &[u8]) -> Result<Name, AllocError>
+        // The bytes are a valid name.
         requires { IsName bytes.now }
         ensures { IfOk result (λ name. name ≡ bytes.now) }
     {
@@ -118,6 +122,7 @@ pub fn is_folder_of(folder: &[u8], name: &[u8]) -> bool
 /// A list of names, as a listing returns it.
 #[derive(Drop)]
 pub struct Names {
+    /// The names, in the order in which they were added.
     names: Vec<Name>,
 }
 
@@ -145,6 +150,7 @@ impl Names {
     /// Adds a name at the end. A refused push drops it and leaves the list as it was.
     pub fn push(&mut self, name: Name) -> Result<(), AllocError>
         ensures ok { OnOk result (self.new ≡ self.old ++ name ∷ []) }
+        // An error leaves the value unchanged.
         ensures err { OnErr result (self.new ≡ self.old) }
     {
         self.names.push(name)?;
@@ -174,6 +180,7 @@ impl Names {
 
     /// The name at a place, counted from 0.
     pub fn get(&self, i: usize) -> &Name
+        // The index is that of an element.
         requires { i < length self.now }
         ensures { slice_get self.now i ≡ Some result.now }
     {

@@ -13,7 +13,9 @@ ghost use Rattle.std.specs.Prelude.{◌≡◌, ℕ, List, slice_get};
 
 /// Sorting texts by their bytes keeps the texts, and no text is before a smaller one.
 pub fn sorted_texts_are_in_order()
+    // Sorting keeps the texts, each as often as before.
     ensures same { (texts : List (List ℕ)) → IsPermutation texts (sorted_by bytes_cmp texts) }
+    // No text of the sorted list is before a smaller one.
     ensures sorted { (texts : List (List ℕ)) → IsSorted bytes_cmp (sorted_by bytes_cmp texts) }
 {}
 

@@ -3,7 +3,7 @@
 //! `Sink` and `write_all` in the README of this crate.
 ghost use Rattle.std.specs.Prelude.{◌≡◌, [], List, ℕ, Option, take, IsOk, IfOk, OnOk, OnErr};
 ghost use Rattle.base_core.specs.Faults.{Counts, FailsWithCause};
-ghost use Rattle.base_core.specs.Sink.{Adds, AddsPrefixToSink, IsWriteCount};
+ghost use Rattle.base_core.specs.Sink.{AddsBytesToSink, AddsPrefixToSink, IsWriteCount};
 
 use thiserror::Error;
 
@@ -29,9 +29,12 @@ pub trait Sink {
     fn write(&mut self, piece: &[u8]) -> Result<usize, SinkFault>
         ensures taken { IfOk result (λ n. IsWriteCount n piece.now) }
         ensures empty { piece.now ≡ [] → IsOk result }
+        // On Ok, exactly the first n bytes of the piece are added, where n is the result.
         ensures added { IfOk result (λ n.
-            Adds (bytes self.old) (bytes self.new) (take n piece.now)) }
+            AddsBytesToSink (bytes self.old) (bytes self.new) (take n piece.now)) }
+        // On an error, no byte is added.
         ensures unchanged { OnErr result (bytes self.new ≡ bytes self.old) }
+        // An error is counted with its cause, and Ok counts no fault.
         ensures cause { FailsWithCause (counts self.old) (counts self.new) result };
 }
 
@@ -41,8 +44,11 @@ pub trait Sink {
 ///
 /// `SinkFault` if the sink failed; then a prefix of the bytes was added.
 pub fn write_all<S: Sink>(sink: &mut S, bytes: &[u8]) -> Result<(), SinkFault>
-    ensures ok { OnOk result (Adds (S.bytes sink.old) (S.bytes sink.new) bytes.now) }
+    // On Ok, exactly these bytes are added.
+    ensures ok { OnOk result (AddsBytesToSink (S.bytes sink.old) (S.bytes sink.new) bytes.now) }
+    // On an error, a prefix of the bytes was added.
     ensures err { OnErr result (AddsPrefixToSink (S.bytes sink.old) (S.bytes sink.new) bytes.now) }
+    // An error is counted with its cause, and Ok counts no fault.
     ensures cause { FailsWithCause (S.counts sink.old) (S.counts sink.new) result }
 {
     let mut rest = bytes;

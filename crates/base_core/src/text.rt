@@ -9,6 +9,7 @@ use std::marker::Model;
 /// Owned bytes of any values, such as a word, an option or a line.
 #[derive(Drop)]
 pub struct Text {
+    /// The bytes of the text, in memory of its own.
     bytes: Vec<u8>,
 }
 
@@ -47,7 +48,9 @@ impl Text {
 /// that places, counted from 1, and the place after the last one are u32 numbers.
 #[derive(Drop)]
 pub struct Words {
+    /// The allocator for further texts.
     alloc: Global,
+    /// The texts, in the order in which they were added.
     words: Vec<Text>,
 }
 
@@ -75,7 +78,9 @@ impl Words {
     /// Adds a copy of the word. A refused push changes nothing.
     pub fn push(&mut self, word: &[u8]) -> Result<(), AllocError>
         requires { length self.old < 4294967294 }
+        // On Ok, the word is added at the end.
         ensures ok { OnOk result (self.new ≡ self.old ++ word.now ∷ []) }
+        // An error leaves the value unchanged.
         ensures err { OnErr result (self.new ≡ self.old) }
     {
         let text = Text::of(self.alloc, word)?;
@@ -100,6 +105,7 @@ impl Words {
 
     /// The word at an index, counted from 0 (the places in usage errors count from 1).
     pub fn word(&self, i: usize) -> &[u8]
+        // The index is that of an element.
         requires { i < length self.now }
         ensures { slice_get self.now i ≡ Some result.now }
     {

@@ -6,7 +6,7 @@ ghost use Rattle.std.specs.Option.{option_map, option_copied};
 ghost use Rattle.base_core.specs.Tree.{TreeState, files_of, after_create, after_append, after_failed_append, after_sync, after_rename, after_remove, after_sync_names, unchanged_after_failed_call, IsAlwaysAllowed, HasName, CanRead, CanCreate, CanRename, IsWellFormed};
 ghost use Rattle.base_core.specs.Faults.{Counts, CountsOnlyRise, IsFaultCountedWithCause, CountsNoNewFault};
 ghost use Rattle.base_core.specs.Calls.{IsCounted, ChangesHistory, IfObservable};
-ghost use Rattle.base_core.specs.Listed.{AreNamesBelow, IsListOf};
+ghost use Rattle.base_core.specs.Listed.{AreSortedNamesBelowFolder, IsSortedListingOfFolder};
 ghost use Rattle.base_core.specs.Read.{AppendsReadBytes, OnlyReads, bytes_in};
 ghost use Rattle.base_core.specs.declared.tree.TreeFault.TheVariants.{Memory, Disk as DiskFault};
 
@@ -171,12 +171,13 @@ pub trait Tree {
         // Out of memory is no fault of the tree.
         ensures memory { IsErrOf result Memory
             → CountsNoNewFault (counts self.old) (counts self.new) }
+        // No call is a misuse.
         ensures proper { (counts self.new).misuses ≡ (counts self.old).misuses }
         // What is returned, if the history is observable.
         ensures value { IfOk result (λ names.
-            IfObservable (history self.old) (λ v. IsListOf folder.now v names)) }
+            IfObservable (history self.old) (λ v. IsSortedListingOfFolder folder.now v names)) }
         // In any case these are names below the folder, in byte order, each once.
-        ensures order { IfOk result (λ names. AreNamesBelow folder.now names) };
+        ensures order { IfOk result (λ names. AreSortedNamesBelowFolder folder.now names) };
 
     /// Asks, before a change is committed, whether the tree could later rename a file from the
     /// source to the name, or, without a source, remove the name. The source need not exist yet. A
@@ -208,8 +209,10 @@ pub fn read_all<T: Tree>(
     tree: &mut T,
     name: &Name,
 ) -> Result<Option<Vec<u8>>, TreeFault>
+    // On Ok, if the tree is observable, the result has the file's bytes, or None if it is absent.
     ensures answer { IfOk result (λ found. IfObservable (T.history tree.old) (λ v.
         bytes_in found ≡ files_of v name.now)) }
+    // The tree is only read: no file changes, no I/O error is hidden, and no call is a misuse.
     ensures tree { OnlyReads TreeFault.Disk (T.history tree.old) (T.history tree.new)
         (T.counts tree.old) (T.counts tree.new) result }
 {
@@ -239,10 +242,13 @@ pub fn append_file_to<T: Tree>(
     size: u64,
     bytes: &mut Vec<u8>,
 ) -> Result<(), TreeFault>
+    // If the tree is observable, the file has this length.
     requires { IfObservable (T.history tree.old) (λ v.
         Some size ≡ option_map length (files_of v name.now)) }
+    // On Ok, the bytes of the whole file are added at the end.
     ensures added { OnOk result (AppendsReadBytes (T.history tree.old) name.now 0 size
         bytes.old.items bytes.new.items) }
+    // The tree is only read: no file changes, no I/O error is hidden, and no call is a misuse.
     ensures tree { OnlyReads TreeFault.Disk (T.history tree.old) (T.history tree.new)
         (T.counts tree.old) (T.counts tree.new) result }
 {
@@ -264,9 +270,12 @@ fn read_some<T: Tree>(
     len: u64,
     bytes: &mut Vec<u8>,
 ) -> Result<(), TreeFault>
+    // If the tree is observable, the file exists and has these bytes.
     requires { IfObservable (T.history tree.old) (CanRead name.now at len) }
+    // On Ok, the bytes of the file from the offset on are added at the end.
     ensures added { OnOk result (AppendsReadBytes (T.history tree.old) name.now at len
         bytes.old.items bytes.new.items) }
+    // The tree is only read: no file changes, no I/O error is hidden, and no call is a misuse.
     ensures tree { OnlyReads TreeFault.Disk (T.history tree.old) (T.history tree.new)
         (T.counts tree.old) (T.counts tree.new) result }
 {

@@ -13,16 +13,16 @@ use std::process::ExitCode;
 /// The most blocks of a row's container that are printed.
 const MOST_BLOCKS: usize = 100;
 
-/// The kinds of questions; the README of this crate has their answers.
+/// The kinds of questions, with what is answered; the README of this crate says more.
 #[derive(Clone, Copy)]
 enum Question {
-    /// `blocks BYTES`.
+    /// `blocks BYTES`: the blocks of a container.
     Blocks,
-    /// `cuts BYTES`.
+    /// `cuts BYTES`: the first result for each prefix of a container.
     Cuts,
-    /// `head KIND LEN`.
+    /// `head KIND LEN`: the written header of a block.
     Head,
-    /// `frame KIND LEFT HEAD`.
+    /// `frame KIND LEFT HEAD`: the kind and the lengths that a header states.
     Frame,
 }
 
@@ -43,7 +43,7 @@ const KINDS: [(&[u8], BlockKind); 3] = [
     (b"contents", BlockKind::Contents),
 ];
 
-/// The blocks of containers.
+/// The crate that the questions are about. Nothing is kept from one row to the next.
 #[derive(Drop)]
 struct FramedBlocks;
 
@@ -65,8 +65,8 @@ impl Subject for FramedBlocks {
     }
 }
 
-/// Adds the schema of a container, its blocks, and the result of two calls after them, which must
-/// be the same.
+/// Answers `blocks BYTES`: the schema of a container, its blocks, and the result after the last
+/// block, which a second call must repeat.
 fn add_blocks(alloc: Global, file: &[u8], answer: &mut Vec<u8>) -> Result<(), AllocError> {
     let mut blocks = match Blocks::new(file) {
         Ok(blocks) => blocks,
@@ -76,17 +76,20 @@ fn add_blocks(alloc: Global, file: &[u8], answer: &mut Vec<u8>) -> Result<(), Al
     let text = format!(in alloc; "{schema:08x}")?;
     add_word(answer, text.as_bytes())?;
     for _ in 0..MOST_BLOCKS {
+        // The offset that is announced for the next block.
         let at = blocks.next_at();
         let next = blocks.next();
         match next {
             Ok(Some(block)) => add_block(alloc, at, &block, answer)?,
+            // The end of the container, or an error.
             _ => return add_end(alloc, &mut blocks, fault_of(next), answer),
         }
     }
     Ok(())
 }
 
-/// Adds a block: its kind, its offset, and its payload.
+/// Adds the kind of a block, its offset and its payload. `at` is the offset that was announced for
+/// it: `elsewhere` is added if its own offset is another one.
 fn add_block(
     alloc: Global,
     at: Option<u64>,
@@ -111,13 +114,13 @@ fn kind_name(kind: BlockKind) -> &'static [u8] {
     }
 }
 
-/// The fault of a result that is no block.
+/// Why the result of a call for the next block is an error; None if there is a block, or the end.
 fn fault_of(answer: Result<Option<Block<'_>>, Cause>) -> Option<Cause> {
     answer.err()
 }
 
-/// Adds the result after the last block, which a second call must repeat, and the offset of the
-/// next block.
+/// Adds the result `fault` after the last block, which one more call must repeat, and the offset of
+/// the next block, if there is one.
 fn add_end(
     alloc: Global,
     blocks: &mut Blocks<'_>,
@@ -140,14 +143,14 @@ fn add_end(
     }
 }
 
-/// Adds a cause, as its variant and its fields.
+/// Adds why a container is refused: the name of the cause and its fields.
 fn add_cause(alloc: Global, cause: Cause, answer: &mut Vec<u8>) -> Result<(), AllocError> {
     let text = format!(in alloc; "{cause:?}")?;
     add_word(answer, text.as_bytes())
 }
 
-/// Adds the first result for a file that is cut at each length, and each length at which it differs
-/// from the one before.
+/// Answers `cuts BYTES`: for the prefixes of a file, the length of each prefix whose first result
+/// differs from that of the prefix before, with this result.
 fn add_cuts(alloc: Global, file: &[u8], answer: &mut Vec<u8>) -> Result<(), AllocError> {
     let mut last = None;
     for len in 0..=file.len() {
@@ -162,7 +165,7 @@ fn add_cuts(alloc: Global, file: &[u8], answer: &mut Vec<u8>) -> Result<(), Allo
     Ok(())
 }
 
-/// Adds a fault, or that there is a block.
+/// Adds why there is no first block, or that there is one.
 fn add_fault(alloc: Global, fault: Option<Cause>, answer: &mut Vec<u8>) -> Result<(), AllocError> {
     match fault {
         Some(cause) => add_cause(alloc, cause, answer),
@@ -170,7 +173,7 @@ fn add_fault(alloc: Global, fault: Option<Cause>, answer: &mut Vec<u8>) -> Resul
     }
 }
 
-/// Why a file has no first block; None if it has one.
+/// Why a file has no first block; None if it has one, or ends after its header.
 fn first_fault(file: &[u8]) -> Option<Cause> {
     match Blocks::new(file) {
         Ok(mut blocks) => fault_of(blocks.next()),
@@ -178,7 +181,7 @@ fn first_fault(file: &[u8]) -> Option<Cause> {
     }
 }
 
-/// Adds the header of `head KIND LEN`, a block whose payload has this length.
+/// Answers `head KIND LEN`: the header of a block of this kind whose payload has this length.
 fn add_head(words: &Words, answer: &mut Vec<u8>) -> Result<(), AllocError> {
     let kind = value_named(&KINDS, word_at(words, 1)).unwrap_or(BlockKind::Adb);
     let len = number_of(word_at(words, 2)).unwrap_or(0);
@@ -187,8 +190,9 @@ fn add_head(words: &Words, answer: &mut Vec<u8>) -> Result<(), AllocError> {
     answer.extend_from_slice(block_head(kind, len).bytes())
 }
 
-/// Adds how a header frames a block at the offset 8: `frame KIND LEFT HEAD`, after a block of the
-/// kind or after none, with LEFT bytes left.
+/// Answers `frame KIND LEFT HEAD`: the kind and the lengths of the block at the offset 8 that has
+/// the header HEAD. The block before it has this kind, or there is none, and LEFT bytes of the file
+/// are left.
 fn add_frame(alloc: Global, words: &Words, answer: &mut Vec<u8>) -> Result<(), AllocError> {
     let last = value_named(&KINDS, word_at(words, 1));
     let left = number_of(word_at(words, 2)).unwrap_or(0);
@@ -205,7 +209,7 @@ fn add_frame(alloc: Global, words: &Words, answer: &mut Vec<u8>) -> Result<(), A
     }
 }
 
-/// Adds the kind of a block, and how long its header and its payload are.
+/// Adds the kind of a block, and the lengths of its header and its payload in bytes.
 fn add_lengths(alloc: Global, frame: Frame, answer: &mut Vec<u8>) -> Result<(), AllocError> {
     add_word(answer, kind_name(frame.kind))?;
     add_word(answer, b"of ")?;
@@ -214,7 +218,7 @@ fn add_lengths(alloc: Global, frame: Frame, answer: &mut Vec<u8>) -> Result<(), 
     add_number(alloc, answer, u128::from(frame.payload_len))
 }
 
-/// Answers the rows of standard input.
+/// Runs the rows of standard input, and returns the exit status.
 fn main(rt: HostRuntime) -> io::Result<ExitCode> {
     run_program(&rt, rt.alloc(), &mut FramedBlocks)
 }

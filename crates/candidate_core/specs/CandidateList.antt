@@ -13,7 +13,9 @@ use Rattle.candidate_core.specs.Table.{HasPlacesOfEachName}
 -- the list is one of candidates: the table has for each name the candidates that offer it, and the
 -- candidates are not too many
 pub record IsCandidateList (list : CandidateList) : Type 0 where
+  -- the table leads from each name to the places of the candidates that offer it
   pub leads : HasPlacesOfEachName list.table (candidates_of_packages list.packages)
+  -- there are no more candidates than a list may have
   pub fits : length (candidates_of_packages list.packages) ≤ MOST_CANDIDATES
 
 -- the candidates of a pool; none after an error, which drops the list

@@ -18,16 +18,22 @@ pub use Rattle.adb_schema.specs.Dependencies.{dependency_in}
 -- parts are read from it. The version is None only if the text is no version, which never happens in a
 -- tested container. Repositories count from 1; an installed package that no index has is from none
 pub record Candidate : Type 0 where
+  -- its information, as a plain value of its index or of the database
   pub info : Plain
+  -- its name, the text of its version (None: no version), and its id, which may be empty or a prefix
   pub name : List ℕ
   pub version : Option (List ℕ)
   pub id : List ℕ
+  -- its lists of dependencies, as `docs/formats.md` names these fields
   pub depends : List Dependency
   pub provides : List Dependency
   pub install_if : List Dependency
+  -- its `provider-priority`
   pub priority : ℕ
+  -- its repository, counted from 1, and the tag of this repository, if there are such
   pub repository : Option ℕ
   pub tag : Option (List ℕ)
+  -- whether it is installed
   pub installed : Bool
 
 -- ---- the parts of a package's information
@@ -90,7 +96,7 @@ is_same_id a b =
     nat_lt 0 (length a)
     && (nat_lt 0 (length b) && (starts_with nat_eq a b || starts_with nat_eq b a))
 
--- whether two versions have the same text, or neither is one
+-- whether two versions have the same text, or both are absent
 abbrev pub is_same_version : Option (List ℕ) → Option (List ℕ) → Bool
 is_same_version None None = true
 is_same_version None (Some b) = false
@@ -126,7 +132,9 @@ with_installed cs installed =
 
 -- what must be met: a dependency, or the name of a package whose install-if applies
 pub data Need : Type 0 where
+  -- a dependency
   entry : Dependency → Need
+  -- the name of a package whose install-if applies
   named : List ℕ → Need
 
 -- the name of a need
@@ -184,22 +192,23 @@ abbrev pub positive_entries_of : List Dependency → List Dependency
 positive_entries_of world = filter (λ (d : Dependency). not d.conflict) world
 
 -- whether an entry of world uses the tag
-abbrev pub uses_tag : List Dependency → List ℕ → Bool
-uses_tag world tag = list_any (λ (d : Dependency). option_map_or (bytes_eq tag) d.tag false) world
+abbrev pub is_tag_used_in_world : List Dependency → List ℕ → Bool
+is_tag_used_in_world world tag =
+    list_any (λ (d : Dependency). option_map_or (bytes_eq tag) d.tag false) world
 
 -- whether a candidate is allowed: it is installed, or from no repository or an untagged one, or from
 -- one whose tag an entry of world uses
-abbrev pub is_allowed : List Dependency → Candidate → Bool
-is_allowed world c =
-    c.installed || (not (is_some c.repository) || option_map_or (uses_tag world) c.tag true)
+abbrev pub is_allowed_by_tags_of_world : List Dependency → Candidate → Bool
+is_allowed_by_tags_of_world world c =
+    c.installed || (not (is_some c.repository) || option_map_or (is_tag_used_in_world world) c.tag true)
 
 -- whether a candidate is barred: it meets a conflict of world
-abbrev pub is_barred_by : List Dependency → Candidate → Bool
-is_barred_by world c = list_any (λ (d : Dependency). d.conflict && meets_dependency d c) world
+abbrev pub is_barred_by_world : List Dependency → Candidate → Bool
+is_barred_by_world world c = list_any (λ (d : Dependency). d.conflict && meets_dependency d c) world
 
 -- whether a candidate may be selected: it is allowed and not barred
 abbrev pub is_eligible : List Dependency → Candidate → Bool
-is_eligible world c = is_allowed world c && not (is_barred_by world c)
+is_eligible world c = is_allowed_by_tags_of_world world c && not (is_barred_by_world world c)
 
 -- whether a candidate has an install-if that can apply: it may be selected itself, and its install-if
 -- is not empty and has no conflict

@@ -13,7 +13,7 @@ use Rattle.candidate_core.specs.Candidates.{Need, entry, named}
 use Rattle.candidate_core.specs.declared.matches.KnownMatches.{KnownMatches}
 use Rattle.candidate_core.specs.declared.packages.Source.{Source}
 
--- whether a dependency accepts a version, if there is one
+-- whether a dependency accepts a version, or the absence of a version (None)
 abbrev pub dependency_accepts : Dependency → Option (List ℕ) → Bool
 dependency_accepts d version = constraint_accepts d.version d.bits version
 

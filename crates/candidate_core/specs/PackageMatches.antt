@@ -19,8 +19,8 @@ abbrev pub IsDepOfPackageAt : List Candidate → PackageDep → Type 0
 IsDepOfPackageAt candidates held = (c : Candidate) → slice_get candidates held.package ≡ Some c
     → slice_get c.depends held.index ≡ Some (dependency held.dep.now)
 
--- the order of versions that are wanted: by their sources, their words there, and the match bits of
--- the operators
+-- the order of the versions in dependencies: by the index of the source, the word (32-bit value) of the text
+-- there, and the match bits of the operator
 abbrev pub wanted_version_cmp : ℕ × ℕ × ℕ → ℕ × ℕ × ℕ → Ordering
 wanted_version_cmp one other = ordering_then
     (ordering_then (nat_cmp one.0 other.0) (nat_cmp one.1 other.1)) (nat_cmp one.2 other.2)

@@ -18,12 +18,16 @@ info_in_source source word = value_at (payload_of source.adb) (Obj PkgInfo) word
 -- the word is that of a package of the source: it can be read as a package's information, whose texts
 -- obey their rules if those of the source do
 pub record IsPackageWordOf (source : Source) (word : ℕ) : Type 0 where
+  -- the word refers to a sound value of the kind package information
   pub sound : is_sound (payload_of source.adb) (Obj PkgInfo) word ≡ true
+  -- if the texts of the source are known to obey their rules, so do those of the package
   pub texts : source.has_sound_texts ≡ true → HasSoundTexts (info_in_source source word)
 
 -- there is a source at the index, and the word is that of a package of it
 pub record IsPackageWordAt (sources : List Source) (place word : ℕ) : Type 0 where
+  -- the index is below the number of sources
   pub within : place < length sources
+  -- the word is that of a package of the source at the index
   pub of_source : (source : Source) → slice_get sources place ≡ Some source
       → IsPackageWordOf source word
 

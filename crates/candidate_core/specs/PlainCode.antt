@@ -88,7 +88,7 @@ mutual
       (steps_build_value v (steps_of_all vs steps)
       ∙ ap (λ (z : List Plain). v ∷ z) (steps_build_array vs steps))
 
--- the first of some values; Null if there is none
+-- the first value of a list; null if the list is empty
 abbrev pub first_or_null : List Plain → Plain
 first_or_null [] = null
 first_or_null (v ∷ vs) = v

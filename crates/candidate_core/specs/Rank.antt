@@ -21,8 +21,11 @@ pub data UpgradedNames : Type 0 where
 -- the candidates that a selection is made of, the world that it is to satisfy, and the names that
 -- the command upgrades
 pub record SealedPool : Type 0 where
+  -- the packages to choose from
   pub candidates : List Candidate
+  -- the dependencies that a selection has to satisfy
   pub world : List Dependency
+  -- the names that the command upgrades
   pub upgraded : UpgradedNames
 
 -- a sealed pool from its parts
@@ -67,36 +70,39 @@ abbrev pub quality_first : (Candidate → Bool) → Candidate → Candidate → 
 quality_first quality = on quality (flip_args bool_cmp)
 
 -- the greater of two versions is first, and none last
-abbrev pub greater_version : Option (List ℕ) → Option (List ℕ) → Ordering
-greater_version = flip_args (option_cmp version_cmp)
+abbrev pub greater_version_first_cmp : Option (List ℕ) → Option (List ℕ) → Ordering
+greater_version_first_cmp = flip_args (option_cmp version_cmp)
 
 -- the repository with the smaller number is first, and none last
-abbrev pub earlier_repository : Option ℕ → Option ℕ → Ordering
-earlier_repository = flip_args (option_cmp (flip_args nat_cmp))
+abbrev pub earlier_repository_first_cmp : Option ℕ → Option ℕ → Ordering
+earlier_repository_first_cmp = flip_args (option_cmp (flip_args nat_cmp))
 
--- keys 2 to 4: the tag of a candidate's repository, its name, and whether it is installed and kept
+-- Keys 2 to 4. A candidate of a repository without tag is first; then one with the needed name; and then
+-- one that is installed and kept.
 abbrev pub tag_name_kept_cmp : UpgradedNames → Need → Candidate → Candidate → Ordering
 tag_name_kept_cmp upgraded need =
     then_cmp (quality_first is_untagged)
     (then_cmp (quality_first (has_needed_name need))
     (quality_first (is_kept_installed upgraded)))
 
--- keys 5 to 8: the greater version under which the need is met, the greater provider-priority, the
--- byte-lesser name, the greater version of its own
+-- Keys 5 to 8. The candidate that meets the need under the greater version is first; at equal versions
+-- the one with the greater provider-priority, then the one whose name is less in byte order, and then the
+-- one whose own version is greater.
 abbrev pub version_and_priority_cmp : Need → Candidate → Candidate → Ordering
 version_and_priority_cmp need =
-    then_cmp (on (version_meeting_need need) greater_version)
+    then_cmp (on (version_meeting_need need) greater_version_first_cmp)
     (then_cmp (on (λ (c : Candidate). c.priority) (flip_args nat_cmp))
     (then_cmp (on (λ (c : Candidate). c.name) bytes_cmp)
-    (on (λ (c : Candidate). c.version) greater_version)))
+    (on (λ (c : Candidate). c.version) greater_version_first_cmp)))
 
--- keys 9 and 10: the byte-lesser text of the version, and the earlier repository
+-- Keys 9 and 10. The candidate whose version text is less in byte order is first; then the one of the
+-- earlier repository.
 abbrev pub version_text_and_repository_cmp : Candidate → Candidate → Ordering
 version_text_and_repository_cmp =
     then_cmp (on (λ (c : Candidate). c.version) (option_cmp bytes_cmp))
-    (on (λ (c : Candidate). c.repository) earlier_repository)
+    (on (λ (c : Candidate). c.repository) earlier_repository_first_cmp)
 
--- keys 2 to 10, of two candidates that world pins both, or neither
+-- the order of two candidates by keys 2 to 10, if world pins both of them, or neither of them
 abbrev pub candidate_cmp_after_pinning : UpgradedNames → Need → Candidate → Candidate → Ordering
 candidate_cmp_after_pinning upgraded need =
     then_cmp (tag_name_kept_cmp upgraded need)

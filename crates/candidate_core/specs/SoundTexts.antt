@@ -16,7 +16,9 @@ HasSoundEntries list = (i : ℕ) → i < count_of (entries_in list)
 -- the texts of a package's information obey their rules: the version is one, and each entry of its
 -- `depends`, its `provides` and its `install-if` is a dependency
 pub record HasSoundTexts (info : Plain) : Type 0 where
+  -- the text of the version is a version
   pub version : is_version (text_in (entry_in info INFO_VERSION)) ≡ true
+  -- each entry of these three lists is a dependency
   pub depends : HasSoundEntries (entry_in info INFO_DEPENDS)
   pub provides : HasSoundEntries (entry_in info INFO_PROVIDES)
   pub install_if : HasSoundEntries (entry_in info INFO_INSTALL_IF)

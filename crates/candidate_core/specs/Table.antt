@@ -13,7 +13,9 @@ use Rattle.candidate_core.specs.Options.{places_offering}
 -- names, each with the places of its candidates: in `lists` those of names that several offer, in
 -- `singles` the first of each name
 pub record Offered : Type 0 where
+  -- for each name, the place of the first candidate that offers it
   pub singles : List (List ℕ × List ℕ)
+  -- for each name that several candidates offer, the places of all of them
   pub lists : List (List ℕ × List ℕ)
 
 -- the table of two maps: of names with the place of one candidate, and of names with a list of places
@@ -34,11 +36,11 @@ abbrev pub places_of_name : Offered → List ℕ → List ℕ
 places_of_name table name = unwrap_or (first_entry_under_name table.lists name)
     (unwrap_or (first_entry_under_name table.singles name) [])
 
--- whether the last of some places is this one
+-- whether this place is the last of the list
 abbrev pub is_last_place : ℕ → List ℕ → Bool
 is_last_place id ids = option_map_or (λ last. last == id) (last_or None ids) false
 
--- places with one more after the others, unless it is the last of them
+-- the list with this place appended, unless the place is the last one already
 abbrev pub with_place_unless_last : List ℕ → ℕ → List ℕ
 with_place_unless_last ids id = if is_last_place id ids then ids else ids ++ id ∷ []
 

@@ -22,20 +22,27 @@ entry_in_source source word = value_at (payload_of source.adb) (Obj Dep) word
 -- the word is that of an entry of a list of dependencies: it can be read as one, and obeys the rules of a
 -- dependency if the texts of the source obey theirs
 pub record IsDependencyEntryWordOf (source : Source) (word : ℕ) : Type 0 where
+  -- the word refers to a sound value of the kind dependency
   pub sound : is_sound (payload_of source.adb) (Obj Dep) word ≡ true
+  -- if the texts of the source are known to obey their rules, the entry is a dependency
   pub texts : source.has_sound_texts ≡ true → IsSoundDependency (entry_in_source source word)
 
 -- the word is that of an entry which is this dependency
 pub record IsDependencyWordOf (source : Source) (word : ℕ) (d : Dependency) : Type 0 where
+  -- the word refers to a sound value of the kind dependency
   pub sound : is_sound (payload_of source.adb) (Obj Dep) word ≡ true
+  -- the value is this dependency
   pub found : Some d ≡ dependency_in (entry_in_source source word)
 
 -- The version is the expected one, with the index of its source. If there is one, it is the text that its
 -- word refers to in the source.
 pub record IsVersionReadFrom (origin : Source) (place : ℕ) (expected : Option (List ℕ))
     (ranked : RankedVersion) : Type 0 where
+  -- the version is the expected one
   pub version : ranked.version ≡ expected
+  -- the source that is stored with the version is the one at this index
   pub source : ranked.source ≡ place
+  -- if there is a version, it is the text to which its word refers
   pub text : IfSome ranked.version (λ version. version
       ≡ text_in (value_at (payload_of origin.adb) Text ranked.word))
 

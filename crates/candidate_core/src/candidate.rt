@@ -36,6 +36,7 @@ impl Model for CandId {
 
     ghost view = { λ id. id.place };
 
+    // Each number is the view of exactly one id.
     ghost inverse = { λ place. record { place = place } };
 }
 
@@ -82,10 +83,14 @@ impl<'a> Model for Details<'a> {
 
     ghost Value = { CandidateValue };
 
+    // Candidates with equal codes are equal (`Coded`).
     ghost coded = { Prim.hlevel (codes, plain_code) };
 
+    // The candidate that the definition makes of the information, the repository, its tag and the
+    // mark.
     ghost view = { λ d. candidate_of (info_value d.info) d.repo (option_copied d.tag) d.installed };
 
+    // If the mark is set, the texts obey their rules.
     ghost invariant = { λ d. d.has_sound_texts ≡ true → HasSoundTexts (info_value d.info) };
 }
 
@@ -283,7 +288,7 @@ impl<'a> Details<'a> {
     }
 }
 
-// Whether two versions have the same text, or neither is one. Equal versions with different texts,
+// Whether two versions have the same text, or both are absent. Equal versions with different texts,
 // such as `1` and `01`, are not the same.
 fn is_same_version(one: Option<Version<'_>>, other: Option<Version<'_>>) -> bool
     ensures { result ≡ is_same_version one.entry other.entry }
@@ -307,7 +312,7 @@ pub fn is_same_id(one: &[u8], other: &[u8]) -> bool
     one.starts_with(other) || other.starts_with(one)
 }
 
-// Whether there are dependencies, none of them a conflict: then an install-if of these can apply.
+// Whether the list is not empty and has no conflict. An install-if with these entries can apply.
 fn are_some_and_positive(deps: &Deps<'_>) -> bool
     ensures { result ≡ (not (length deps.now == 0)
         && list_all (λ (d : Dependency). not d.conflict) deps.now) }
@@ -318,7 +323,7 @@ fn are_some_and_positive(deps: &Deps<'_>) -> bool
     are_positive(deps)
 }
 
-/// Whether none of some dependencies is a conflict.
+/// Whether the list has no conflict.
 fn are_positive(deps: &Deps<'_>) -> bool
     ensures { result ≡ list_all (λ (d : Dependency). not d.conflict) deps.now }
 {
@@ -378,7 +383,7 @@ pub(crate) fn is_met_by_provides_entry(dep: &Dep<'_>, entry: &Dep<'_>) -> bool
     dep.met_by(entry.name, entry.version.as_ref())
 }
 
-// Whether one of some dependencies is no conflict and is met by a candidate.
+// Whether an entry of the list is no conflict, and the candidate meets it.
 fn any_met_by(deps: &Deps<'_>, candidate: &Details<'_>) -> bool
     ensures { result ≡ list_any (λ (d : Dependency). not d.conflict
         && meets_dependency d candidate.now) deps.now }

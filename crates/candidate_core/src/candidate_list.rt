@@ -87,6 +87,7 @@ impl<'a> CandidateList<'a> {
         requires word { IsPackageWordOf source.now word }
         ensures list { OnOk result (IsCandidateList self.new) }
         ensures sources { OnOk result (self.new.packages.sources ≡ self.old.packages.sources) }
+        // The candidate of this word in the source is appended.
         ensures pushed { OnOk result (candidates_of_packages self.new.packages
             ≡ candidates_of_packages self.old.packages
             ++ candidate_in_source (Some source.now) word installed ∷ []) }
@@ -121,10 +122,12 @@ impl<'a> CandidateList<'a> {
             (entry_in (array_at (payload_of source.adb) (Kinds.Obj Tables.PkgInfo)
             (array_entries packages)) i) }
         ensures list { OnOk result (IsCandidateList self.new) }
+        // The packages of the array are appended, in their order.
         ensures pushed { OnOk result (candidates_of_packages self.new.packages
             ≡ candidates_of_packages self.old.packages ++ candidates_of_source source.entry
             (entries_in (array_at (payload_of source.entry.adb) (Kinds.Obj Tables.PkgInfo)
             (array_entries packages.entry)))) }
+        // Too many candidates are refused by the number that the list would have.
         ensures fault { IfErr result (λ fault. IsPoolFault fault
             (length (candidates_of_packages self.old.packages) + count_of (entries_in
             (array_at (payload_of source.entry.adb) (Kinds.Obj Tables.PkgInfo)
@@ -145,9 +148,11 @@ impl<'a> CandidateList<'a> {
     pub fn push_installed(&mut self, alloc: Global, info: PkgInfo<'a>) -> Result<(), PoolFault>
         requires { IsCandidateList self.old }
         ensures list { OnOk result (IsCandidateList self.new) }
+        // The list has the installed package: as a mark, or as a candidate of its own.
         ensures pushed { OnOk result (candidates_of_packages self.new.packages ≡ with_installed
             (candidates_of_packages self.old.packages)
             (candidate_of (info_value info.entry) None None true)) }
+        // Too many candidates are refused by the number that the list would have.
         ensures fault { IfErr result (λ fault. IsPoolFault fault (length (with_installed
             (candidates_of_packages self.old.packages)
             (candidate_of (info_value info.entry) None None true)))) }
@@ -183,8 +188,8 @@ impl<'a> CandidateList<'a> {
     }
 }
 
-// Marks each of some candidates as installed if it is the installed package, and returns whether
-// one is.
+// Of the candidates at these places, marks as installed each one that is the installed package.
+// Returns whether there is one.
 fn mark_among<'a>(packages: &mut Packages<'a>, ids: &[CandId], installed: &Details<'a>) -> bool
     requires { ids.now
         ≡ places_offering installed.now.name (candidates_of_packages packages.old) }

@@ -72,6 +72,7 @@ pub fn has_sound_texts(alloc: Global, info: PkgInfo<'_>) -> Result<bool, AllocEr
 fn has_sound_entries(judged: &mut Judged<'_>, word: Val, field: usize) -> Result<bool, AllocError>
     requires sound { is_sound (payload_of judged.old.adb) (Kinds.Obj Tables.PkgInfo) word ≡ true }
     requires kind { kind_at Tables.PkgInfo field ≡ Some (Kinds.ObjArr Tables.Dep) }
+    // If the result is true, each entry of the list in the field is a dependency.
     ensures entries { IfOk result (λ sound. sound ≡ true → HasSoundEntries (entry_in
         (value_at (payload_of judged.old.adb) (Kinds.Obj Tables.PkgInfo) word) field)) }
     ensures payload { judged.new.adb ≡ judged.old.adb }
@@ -80,11 +81,12 @@ fn has_sound_entries(judged: &mut Judged<'_>, word: Val, field: usize) -> Result
     are_dependencies(judged, words)
 }
 
-// Whether each of some words is that of a dependency.
+// Whether each of these words (32-bit values) refers to a dependency.
 #[tactic(auto, using(adb_fields::proofs::FieldReads::entry_sound))]
 fn are_dependencies<'a>(judged: &mut Judged<'a>, words: Arr<'a>) -> Result<bool, AllocError>
     requires { are_all_sound (payload_of judged.old.adb) (Kinds.Obj Tables.Dep)
         (array_entries words) ≡ true }
+    // If the result is true, each entry of the array is a dependency.
     ensures entries { IfOk result (λ sound. sound ≡ true → HasSoundEntries (array_at
         (payload_of judged.old.adb) (Kinds.Obj Tables.Dep) (array_entries words.entry))) }
     ensures payload { judged.new.adb ≡ judged.old.adb }
@@ -98,10 +100,11 @@ fn are_dependencies<'a>(judged: &mut Judged<'a>, words: Arr<'a>) -> Result<bool,
     Ok(true)
 }
 
-// The dependency of the object with a word, if it is one.
+// The dependency to which a word (32-bit value) refers, if the object there is a dependency.
 #[tactic(auto, unfolding(dep_core::specs::ValueReading::dependency_of_value))]
 fn read_entry<'a>(judged: &mut Judged<'a>, word: Val) -> Result<Option<Dep<'a>>, AllocError>
     requires { is_sound (payload_of judged.old.adb) (Kinds.Obj Tables.Dep) word ≡ true }
+    // The dependency that the word refers to, if it is one.
     ensures found { IfOk result (λ found. option_map dependency found ≡ dependency_in
         (value_at (payload_of judged.old.adb) (Kinds.Obj Tables.Dep) word)) }
     ensures payload { judged.new.adb ≡ judged.old.adb }
@@ -127,10 +130,12 @@ fn text_if_kept<'a>(
 ) -> Result<Option<&'a [u8]>, AllocError>
     requires sound { is_sound (payload_of judged.old.adb) (Kinds.Obj which) object ≡ true }
     requires kind { kind_at which field ≡ Some Kinds.Text }
+    // If a text is returned, it is that of the field.
     ensures text { IfOk result (λ found. IfSome found (λ text. text.now ≡ text_in (entry_in
         (value_at (payload_of judged.old.adb) (Kinds.Obj which) object) field))) }
     ensures kept { IfOk result (λ found. IfSome found (λ text.
         keeps_text_rule rule text.now ≡ true)) }
+    // If none is returned, the text of the field breaks its rule.
     ensures none { IfOk result (λ found. IfNone found (keeps_text_rule rule (text_in (entry_in
         (value_at (payload_of judged.old.adb) (Kinds.Obj which) object) field)) ≡ false)) }
     ensures payload { judged.new.adb ≡ judged.old.adb }

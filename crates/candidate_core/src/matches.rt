@@ -49,6 +49,7 @@ impl KnownMatches {
         dep: &Dep<'_>,
         found: &RankedVersion<'_>,
     ) -> Result<bool, AllocError>
+        // The answer is whether the dependency accepts the version, and it is remembered.
         ensures { AnswersAndRemembers (λ text. HasVersionTextFrom text found.now)
             (entry (dependency dep.now)) (dependency_accepts (dependency dep.now) found.now.version)
             self.old self.new result }
@@ -65,6 +66,7 @@ impl KnownMatches {
     /// Whether a dependency accepts a version; a long one is compared only if no result is
     /// remembered.
     pub(crate) fn is_wanted_as_known(&self, dep: &Dep<'_>, found: &RankedVersion<'_>) -> bool
+        // If the remembered results are right, so is the answer.
         ensures { (text : ℕ → ℕ → List ℕ) → HasVersionTextFrom text found.now
             → AreRememberedMatchesOf text (dependency dep.now) self.now
             → result ≡ dependency_accepts (dependency dep.now) found.now.version }
@@ -89,6 +91,7 @@ impl KnownMatches {
     // remembered.
     fn answer(&mut self, dep: &Dep<'_>, found: &RankedVersion<'_>) -> Result<bool, AllocError>
         requires { is_some found.now.version ≡ true }
+        // The answer is whether the dependency accepts the version, and it is remembered.
         ensures { AnswersAndRemembers (λ text. HasVersionTextFrom text found.now)
             (entry (dependency dep.now)) (dependency_accepts (dependency dep.now) found.now.version)
             self.old self.new result }

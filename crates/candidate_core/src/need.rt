@@ -50,7 +50,8 @@ impl<'a> NeedRef<'a> {
     }
 }
 
-/// The names that a command upgrades: of these, an installed candidate is not preferred.
+/// The names that a command upgrades. An installed candidate of such a name is not preferred to the
+/// others.
 #[derive(Clone, Copy)]
 pub enum Upgrade<'a> {
     /// No name: the command is `add`, `del` or `fix`.

@@ -68,6 +68,7 @@ impl<'p> PackageMatches<'p> {
         requires held { IsDepOfPackageAt (candidates_of_packages self.old.packages.now) held.now }
         requires matches { AreMatchesAmong (candidates_of_packages self.old.packages.now)
             self.old }
+        // The result says whether the candidate at the place meets the dependency.
         ensures meets { IfOk result (λ meets. (c : Candidate)
             → slice_get (candidates_of_packages self.old.packages.now) place ≡ Some c
             → meets ≡ meets_dependency (dependency held.now.dep.now) c) }
@@ -96,6 +97,7 @@ impl<'p> PackageMatches<'p> {
             (source_text self.old.packages.now.sources.items version.source version.word) }
         requires matches { AreMatchesByVersion (source_text self.old.packages.now.sources.items)
             self.old.by_version }
+        // The result says whether the candidate at the place meets the dependency.
         ensures meets { IfOk result (λ meets. (c : Candidate)
             → slice_get (candidates_of_packages self.old.packages.now) place ≡ Some c
             → meets ≡ meets_dependency (dependency dep.now) c) }
@@ -118,6 +120,7 @@ fn take_known(
     by_version: &mut BTreeMap<(u32, u32, u8), KnownMatches>,
     key: (u32, u32, u8),
 ) -> KnownMatches
+    // The results returned are those that are remembered for this version and these match bits.
     ensures taken { (text : ℕ → ℕ → List ℕ) (d : Dependency)
         → AreMatchesByVersion text by_version.old → d.version ≡ Some (text key.0 key.1)
         → d.bits ≡ key.2 → AreRememberedMatchesOf text d result }

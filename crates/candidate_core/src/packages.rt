@@ -115,6 +115,7 @@ impl<'a> Packages<'a> {
         requires within { place < length (candidates_of_packages self.now) }
         requires known { AreMatchesFor (source_text self.now.sources.items) (need_of_ref need.now)
             known.now }
+        // It is the version under which the candidate at the place meets the need.
         ensures version { (c : Candidate)
             → slice_get (candidates_of_packages self.now) place ≡ Some c
             → result.version ≡ version_meeting_need (need_of_ref need.now) c }
@@ -140,6 +141,7 @@ impl<'a> Packages<'a> {
         requires within { place < length (candidates_of_packages self.now) }
         requires known { AreMatchesFor (source_text self.now.sources.items) (need_of_ref need.now)
             known.old }
+        // The result says whether the candidate at the place meets the need.
         ensures meets { IfOk result (λ meets. (c : Candidate)
             → slice_get (candidates_of_packages self.now) place ≡ Some c
             → meets ≡ meets_need (need_of_ref need.now) c) }
@@ -155,6 +157,7 @@ impl<'a> Packages<'a> {
     /// is not known.
     pub(crate) fn version_place(&self, held: &PackageDep<'_>) -> Option<VersionPlace>
         requires { IsDepOfPackageAt (candidates_of_packages self.now) held.now }
+        // If a place is returned, the text there is the version of the dependency.
         ensures { IfSome result (λ place. IfSome (dependency held.now.dep.now).version
             (λ version. version
             ≡ source_text self.now.sources.items place.source place.word)) }
@@ -187,6 +190,7 @@ impl<'a> Packages<'a> {
     pub fn push(&mut self, source: u32, word: Val, installed: bool) -> Result<(), AllocError>
         requires { IsPackageWordAt self.old.sources.items source word }
         ensures sources { self.new.sources ≡ self.old.sources }
+        // The package of this word in the source is appended as a candidate.
         ensures pushed { OnOk result (candidates_of_packages self.new
             ≡ candidates_of_packages self.old ++ candidate_in_source
             (slice_get self.old.sources.items source) word installed ∷ []) }

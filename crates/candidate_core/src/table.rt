@@ -62,7 +62,7 @@ impl<'a> Table<'a> {
         }
     }
 
-    // The candidate of a name that one candidate at most offers.
+    // The places of the candidates of a name that at most one candidate offers.
     fn single(&self, name: &[u8]) -> &[CandId]
         ensures { result.now ≡ unwrap_or (first_entry_under_name self.now.singles name.now) [] }
     {
@@ -84,6 +84,8 @@ impl<'a> Table<'a> {
 
     // Adds a candidate to the name of each entry of its provides.
     fn add_provided(&mut self, provides: &Deps<'a>, id: CandId) -> Result<(), AllocError>
+        // The place is added to each name that an entry of these provides, which is no conflict,
+        // has.
         ensures { OnOk result (HasPlaceAdded (λ name. list_any
             (λ (p : Dependency). not p.conflict && bytes_eq name p.name) provides.now) id
             self.old self.new) }
@@ -96,6 +98,7 @@ impl<'a> Table<'a> {
 
     // Adds a candidate to the name of an entry of its provides, unless the entry is a conflict.
     fn add_entry(&mut self, entry: &Dep<'a>, id: CandId) -> Result<(), AllocError>
+        // The place is added to the name of the entry, unless the entry is a conflict.
         ensures { OnOk result (HasPlaceAdded (λ name. not (dependency entry.now).conflict
             && bytes_eq name (dependency entry.now).name) id self.old self.new) }
     {
@@ -121,6 +124,7 @@ impl<'a> Table<'a> {
     // Adds a candidate to those of a name that has no list: it has one candidate at most.
     fn add_to_single(&mut self, name: &'a [u8], id: CandId) -> Result<(), AllocError>
         requires { first_entry_under_name self.old.lists name.now ≡ None }
+        // The place is added to the places of this name, and to no other name.
         ensures { OnOk result (HasPlaceAdded (λ other. bytes_eq other name.entry.now) id
             self.old self.new) }
     {
@@ -196,7 +200,7 @@ fn push_once(ids: &mut Vec<CandId>, id: CandId) -> Result<(), AllocError>
     Ok(())
 }
 
-// Whether the last of some places is this one.
+// Whether this place is the last of the list.
 fn is_last_place(ids: &[CandId], id: CandId) -> bool
     ensures { result ≡ is_last_place id ids.now }
 {

@@ -58,8 +58,9 @@ pub enum VersionKind {
     Own,
 }
 
-/// The version of the package with a word in a source. In the clause, 1 is the index of the version
-/// among the fields of a package's information (`PACKAGE_VERSION`).
+/// The version of a package in a source; `kept` has the word (32-bit value) of the package. In the
+/// clause, 1 is the index of the version among the fields of a package's information
+/// (`PACKAGE_VERSION`).
 pub(crate) fn own_version<'a>(source: &Source<'a>, kept: PackageWord) -> RankedVersion<'a>
     requires { IsPackageWordOf source.now kept.word }
     ensures { IsVersionReadFrom source.now kept.source (version_of_text
@@ -74,15 +75,17 @@ pub(crate) fn own_version<'a>(source: &Source<'a>, kept: PackageWord) -> RankedV
     }
 }
 
-/// The version under which the package with a word in a source meets a need: its own, else that of
-/// the first entry of provides that meets the need. Remembered results for long versions are used.
+/// The version under which a package in a source meets a need: its own, else that of the first
+/// entry of provides that meets the need. Remembered results for long versions are used.
 pub(crate) fn version_meeting_need<'a>(
     source: &Source<'a>,
     kept: PackageWord,
     need: &NeedRef<'_>,
     known: &KnownMatches,
 ) -> RankedVersion<'a>
+    // The word refers to a package of the source.
     requires package { IsPackageWordOf source.now kept.word }
+    // The remembered results are right for this need.
     requires known { AreMatchesIn source.now kept.source (need_of_ref need.now) known.now }
     ensures { IsVersionReadFrom source.now kept.source (version_meeting_need (need_of_ref need.now)
         (candidate_in_source (Some source.now) kept.word kept.installed)) result }
@@ -100,7 +103,9 @@ fn version_meeting<'a>(
     dep: &Dep<'_>,
     known: &KnownMatches,
 ) -> RankedVersion<'a>
+    // The word refers to a package of the source.
     requires package { IsPackageWordOf source.now kept.word }
+    // The remembered results are right for this need.
     requires known { AreMatchesIn source.now kept.source (entry (dependency dep.now)) known.now }
     ensures { IsVersionReadFrom source.now kept.source
         (version_meeting_need (entry (dependency dep.now))
@@ -119,7 +124,9 @@ fn meets_by_own_name_as_known(
     dep: &Dep<'_>,
     known: &KnownMatches,
 ) -> bool
+    // The word refers to a package of the source.
     requires package { IsPackageWordOf source.now kept.word }
+    // The remembered results are right for this need.
     requires known { AreMatchesIn source.now kept.source (entry (dependency dep.now)) known.now }
     ensures { result ≡ meets_by_own_name (dependency dep.now)
         (candidate_in_source (Some source.now) kept.word kept.installed) }
@@ -139,7 +146,9 @@ fn provided_version<'a>(
     dep: &Dep<'_>,
     known: &KnownMatches,
 ) -> RankedVersion<'a>
+    // The word refers to a package of the source.
     requires package { IsPackageWordOf source.now kept.word }
+    // The remembered results are right for this need.
     requires known { AreMatchesIn source.now kept.source (entry (dependency dep.now)) known.now }
     ensures { IsVersionReadFrom source.now kept.source (option_and_then (λ
         (p : Dependency). p.version)
@@ -176,6 +185,7 @@ fn is_met_as_known<'a>(
     known: &KnownMatches,
 ) -> bool
     requires entry { IsDependencyWordOf source.now word (dependency found.now) }
+    // The remembered results are right for this need.
     requires known { AreMatchesIn source.now place (entry (dependency dep.now)) known.now }
     ensures { result ≡ is_met_by_provides_entry (dependency dep.now) (dependency found.now) }
 {
@@ -254,8 +264,8 @@ pub fn same_version<'a>(version: &Option<Version<'a>>) -> Option<Version<'a>>
     }
 }
 
-// The dependency of an entry of a list, if it is one; if the source's texts obey their rules, each
-// entry is.
+// The dependency that an entry of a list is; None if it is none. If the source's texts obey their
+// rules, each entry is a dependency.
 fn read_entry<'a>(source: &Source<'a>, entry: Val) -> Option<Dep<'a>>
     requires { IsDependencyEntryWordOf source.now entry }
     ensures { option_map dependency result ≡ dependency_in (entry_in_source source.now entry) }
@@ -397,7 +407,7 @@ fn found_entry_meets<'a>(
     known.constraint_accepts(dep, &version_of_entry(source, place, word, &found))
 }
 
-// Whether a dependency is one on this name.
+// Whether the dependency has this name.
 fn is_named_as(dep: &Dep<'_>, name: &[u8]) -> bool
     ensures { result ≡ bytes_eq (dependency dep.now).name name.now }
 {

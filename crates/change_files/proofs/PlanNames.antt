@@ -11,7 +11,7 @@ use Rattle.change_files.specs.Fate.{apk_new_name}
 use Rattle.change_files.specs.FileChange.{FileChange}
 use Rattle.change_files.specs.FilesAfter.{is_modified_file_kept, is_removed, is_written, apk_new_listing_at, listing_written_under_name}
 use Rattle.change_files.specs.NamesAfter.{added_paths}
-use Rattle.change_files.specs.PlanLists.{FileWrite, paths_with_apk_new_file, file_writes_of, kept_paths_of, sorted_distinct_names, old_paths, removals_of, write_to}
+use Rattle.change_files.specs.PlanLists.{FileWrite, paths_with_apk_new_file, file_writes_of, kept_paths_of, sorted_distinct_names, old_paths, removals_of, file_write_under_name}
 use Rattle.change_files.specs.Touched.{IsPlannedWrite}
 use Rattle.change_files.proofs.InOrder.{filter_rises, from_filter, in_filter, in_left, in_map, in_order, in_right, order_rises}
 use Rattle.change_files.proofs.Lists.{IsOneOf, any_is, contains_from_one, one_from_contains}
@@ -21,14 +21,14 @@ use Rattle.change_files.proofs.Untouched.{kept_is, removed_is}
 -- ---- what is written
 
 abbrev write_by : (List ℕ → Option Listing) → List ℕ → Option FileWrite
-write_by found name = option_map (write_to name) (found name)
+write_by found name = option_map (file_write_under_name name) (found name)
 
 names_written : (found : List ℕ → Option Listing) (names : List (List ℕ)) → map (λ w. w.name) (filter_map (write_by found) names) ≡ filter (λ name. is_some (found name)) names
 names_written found [] = refl
 names_written found (x ∷ names) = by_found (found x) (names_written found names)
   where
     by_found : (o : Option Listing) → map (λ w. w.name) (filter_map (write_by found) names) ≡ filter (λ name. is_some (found name)) names
-        → map (λ w. w.name) (cons_option (option_map (write_to x) o) (filter_map (write_by found) names)) ≡ cond (is_some o) (x ∷ filter (λ name. is_some (found name)) names) (filter (λ name. is_some (found name)) names)
+        → map (λ w. w.name) (cons_option (option_map (file_write_under_name x) o) (filter_map (write_by found) names)) ≡ cond (is_some o) (x ∷ filter (λ name. is_some (found name)) names) (filter (λ name. is_some (found name)) names)
     by_found None more = more
     by_found (Some l) more = ap (λ (rest : List (List ℕ)). x ∷ rest) more
 
@@ -88,10 +88,10 @@ writes_hold change files name = (
       (contains_from_in _ name (in_filter (is_written change files) (written_names change) name (among_written change files name found.0 found.1) written))),
 )
 
-write_is : (change : FileChange) (files : Files) (q : List ℕ) (w : FileWrite) (o : Option Listing) → listing_written_under_name change files q ≡ o → option_map (write_to q) o ≡ Some w → IsPlannedWrite change files w
+write_is : (change : FileChange) (files : Files) (q : List ℕ) (w : FileWrite) (o : Option Listing) → listing_written_under_name change files q ≡ o → option_map (file_write_under_name q) o ≡ Some w → IsPlannedWrite change files w
 write_is change files q w None is e = absurd (cc)
 write_is change files q w (Some l) is e =
-    let same : w ≡ write_to q l = (cc) in
+    let same : w ≡ file_write_under_name q l = (cc) in
     subst (IsPlannedWrite change files) (sym same) (record { listing = l; written = is; shown = refl })
 
 pub writes_are : (change : FileChange) (files : Files) (w : FileWrite) → Contains (file_writes_of change files) w ↔ IsPlannedWrite change files w
@@ -100,7 +100,7 @@ writes_are change files w = (
   λ here. (let found = one_written (listing_written_under_name change files) (written_names change) w (one_from_contains _ w here) in
       write_is change files found.0 w (listing_written_under_name change files found.0) refl found.1),
   λ is. contains_from_one _ w (written_one (listing_written_under_name change files) (written_names change) w.name w (among_written change files w.name is.listing is.written)
-      (ap (option_map (write_to w.name)) is.written ∙ ap (λ (v : FileWrite). Some v) (sym is.shown))),
+      (ap (option_map (file_write_under_name w.name)) is.written ∙ ap (λ (v : FileWrite). Some v) (sym is.shown))),
 )
 
 -- ---- what is removed, kept and laid aside

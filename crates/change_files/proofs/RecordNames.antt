@@ -5,7 +5,7 @@ use Rattle.std.specs.Str.{bytes_eq}
 use Rattle.base_core.specs.Files.{Files}
 use Rattle.file_owners.specs.db_core.Members.{Listing}
 use Rattle.change_files.specs.FileChange.{FileChange}
-use Rattle.change_files.specs.FilesAfter.{DatabaseAndWorldAfter, bytes_after, files_after_change, database_name, is_removed, text_database_name, world_bytes_after, world_name, listing_written_under_name}
+use Rattle.change_files.specs.FilesAfter.{DatabaseAndWorldAfter, bytes_after_write_or_removal, files_after_change, database_name, is_removed, text_database_name, world_bytes_after, world_name, listing_written_under_name}
 
 pub database_after : (change : FileChange) (bytes_of : Listing → List ℕ) (records : DatabaseAndWorldAfter) (files : Files) → files_after_change change bytes_of records files database_name ≡ Some records.database
 unfolding files_after_change
@@ -32,5 +32,5 @@ pub no_text_after : (change : FileChange) (bytes_of : Listing → List ℕ) (rec
     → files_after_change change bytes_of records files text_database_name ≡ None
 unfolding files_after_change
 no_text_after change bytes_of records files taken =
-    let after : Option (List ℕ) = bytes_after bytes_of (listing_written_under_name change files text_database_name) (is_removed change files text_database_name) (files text_database_name) in
+    let after : Option (List ℕ) = bytes_after_write_or_removal bytes_of (listing_written_under_name change files text_database_name) (is_removed change files text_database_name) (files text_database_name) in
     ap (λ (b : Bool). if b && bytes_eq text_database_name text_database_name then None else after) taken

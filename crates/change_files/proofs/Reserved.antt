@@ -15,7 +15,7 @@ use Rattle.change_files.specs.FileChange.{FileChange}
 use Rattle.change_files.specs.FilesAfter.{DatabaseAndWorldAfter, database_name, text_database_name, world_name, listing_written_under_name}
 use Rattle.change_files.specs.NamesAfter.{added_paths}
 use Rattle.change_files.specs.PlanLists.{first_reserved_path}
-use Rattle.change_files.specs.Touched.{is_record_name}
+use Rattle.change_files.specs.Touched.{is_database_or_world_name}
 use Rattle.change_files.proofs.InOrder.{in_filter}
 use Rattle.change_files.proofs.OwnedFiles.{in_coming_paths, written_is}
 
@@ -101,7 +101,7 @@ written_unreserved change files name l none e =
       | inr beside ↦ ap is_reserved beside.0 ∙ unreserved_beside l.path free
     ]
 
-pub records_reserved : (records : DatabaseAndWorldAfter) (name : List ℕ) → is_record_name records name ≡ true → is_reserved name ≡ true
+pub records_reserved : (records : DatabaseAndWorldAfter) (name : List ℕ) → is_database_or_world_name records name ≡ true → is_reserved name ≡ true
 records_reserved records name h =
     elim (or_cases (bytes_eq name database_name) (bytes_eq name world_name || (records.takes_text_over && bytes_eq name text_database_name)) h) [
       | inl database ↦ ap is_reserved ((bytes_eq-Decides name database_name).0 database)

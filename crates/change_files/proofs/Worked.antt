@@ -9,7 +9,7 @@ use Rattle.version_core.specs.Token.{later_component_lexeme, hash_lexeme, next_l
 use Rattle.file_owners.specs.path_claims.Contest.{winner}
 use Rattle.path_clashes.specs.Clash.{IsClash, NamePair, precedes_pair}
 use Rattle.file_owners.specs.Owners.{claims_in, member_beats, owner_of_path}
-use Rattle.file_owners.specs.Replaces.{is_preferred_replacer, replaces_names_package, takes_over}
+use Rattle.file_owners.specs.Replaces.{is_preferred_replacer, does_first_list_second_in_replaces, takes_over}
 use Rattle.change_files.specs.Fate.{fate_of}
 use Rattle.change_files.specs.FileChange.{FileChange, is_listed_after_change, old_entry, old_listings, owner_listing}
 use Rattle.change_files.specs.FilesAfter.{is_modified_file_kept, is_removed, listing_written_under_name}
@@ -38,17 +38,17 @@ change old members = record { old = old; members = members; purge = false }
 
 -- neither replaces the other: nobody owns it
 nobody : file_writes_of (change [] (member_of_added p1 [] ∷ member_of_added q1 [] ∷ [])) no_names ≡ []
-unfolding member_listings listings_of_path member_beats owner_of_path claims_in winner takes_over replaces_names_package is_preferred_replacer is_version tokens next_lexeme later_component_lexeme number_lexeme suffix_rank hash_lexeme revision_lexeme dependency_of_value old_listings old_entry is_listed_after_change owner_listing fate_of listing_written_under_name sorted_distinct_names file_writes_of
+unfolding member_listings listings_of_path member_beats owner_of_path claims_in winner takes_over does_first_list_second_in_replaces is_preferred_replacer is_version tokens next_lexeme later_component_lexeme number_lexeme suffix_rank hash_lexeme revision_lexeme dependency_of_value old_listings old_entry is_listed_after_change owner_listing fate_of listing_written_under_name sorted_distinct_names file_writes_of
 nobody = refl
 
 -- the second replaces the first
 one_write : file_writes_of (change [] (member_of_added p1 [] ∷ member_of_added q2 [] ∷ [])) no_names ≡ record { name = codes "usr/x"; member = 1; folder = 1; file = 1 } ∷ []
-unfolding member_listings listings_of_path member_beats owner_of_path claims_in winner takes_over replaces_names_package is_preferred_replacer is_version tokens next_lexeme later_component_lexeme number_lexeme suffix_rank hash_lexeme revision_lexeme dependency_of_value old_listings old_entry is_listed_after_change owner_listing fate_of listing_written_under_name sorted_distinct_names file_writes_of
+unfolding member_listings listings_of_path member_beats owner_of_path claims_in winner takes_over does_first_list_second_in_replaces is_preferred_replacer is_version tokens next_lexeme later_component_lexeme number_lexeme suffix_rank hash_lexeme revision_lexeme dependency_of_value old_listings old_entry is_listed_after_change owner_listing fate_of listing_written_under_name sorted_distinct_names file_writes_of
 one_write = refl
 
 -- the first one stays and keeps its file, which the second does not replace: nothing is written
 stays : file_writes_of (change (p1 ∷ []) (member_of_kept p1 ∷ [])) (with_file (codes "usr/x") (codes "1")) ≡ []
-unfolding member_listings listings_of_path member_beats owner_of_path claims_in winner takes_over replaces_names_package is_preferred_replacer is_version tokens next_lexeme later_component_lexeme number_lexeme suffix_rank hash_lexeme revision_lexeme dependency_of_value old_listings old_entry is_listed_after_change owner_listing fate_of listing_written_under_name sorted_distinct_names file_writes_of
+unfolding member_listings listings_of_path member_beats owner_of_path claims_in winner takes_over does_first_list_second_in_replaces is_preferred_replacer is_version tokens next_lexeme later_component_lexeme number_lexeme suffix_rank hash_lexeme revision_lexeme dependency_of_value old_listings old_entry is_listed_after_change owner_listing fate_of listing_written_under_name sorted_distinct_names file_writes_of
 stays = refl
 
 -- it goes: its file is removed

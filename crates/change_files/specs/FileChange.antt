@@ -9,8 +9,11 @@ use Rattle.file_owners.specs.Owners.{owner_of_path}
 -- a change of packages, for their files: the packages of the database before, those after, and whether
 -- configuration that the user changed is removed with its package (`--purge`)
 pub record FileChange : Type 0 where
+  -- the packages of the database before the change
   pub old : List Plain
+  -- the packages that are installed after the change
   pub members : List Member
+  -- whether configuration that the user changed is removed with its package
   pub purge : Bool
 
 -- ---- before
@@ -34,7 +37,7 @@ was_listed change path = is_some (old_entry change path)
 unfoldable pub is_listed_after_change : FileChange → List ℕ → Bool
 is_listed_after_change change path = list_any (λ l. bytes_eq l.path path) (member_listings change.members)
 
--- the file by which the member that owns a path lists it
+-- the listing of a path by the member that owns it; None if no member owns it
 unfoldable pub owner_listing : FileChange → List ℕ → Option Listing
 owner_listing change path =
     option_and_then (λ place. find (λ l. l.place == place) (listings_of_path change.members path))
@@ -46,6 +49,6 @@ abbrev pub if_member_added : Option Listing → Option Listing
 if_member_added None = None
 if_member_added (Some l) = if is_added l.member then Some l else None
 
--- the file by which the owner of a path lists it, if that member is added
+-- the listing of a path by its owner, if that member is added
 abbrev pub added_owner_listing : FileChange → List ℕ → Option Listing
 added_owner_listing change path = if_member_added (owner_listing change path)

@@ -107,16 +107,20 @@ world_bytes_after (b ∷ bytes) old = Some (b ∷ bytes)
 
 -- The bytes after a change under a name that is not the database, the world or the text database:
 -- those of the file that is written there; nothing if the file is removed; otherwise the old ones.
-abbrev pub bytes_after : (Listing → List ℕ) → Option Listing → Bool → Option (List ℕ) → Option (List ℕ)
-bytes_after bytes_of (Some l) is_gone old = Some (bytes_of l)
-bytes_after bytes_of None true old = None
-bytes_after bytes_of None false old = old
+abbrev pub bytes_after_write_or_removal : (Listing → List ℕ) → Option Listing → Bool → Option (List ℕ)
+    → Option (List ℕ)
+bytes_after_write_or_removal bytes_of (Some l) is_gone old = Some (bytes_of l)
+bytes_after_write_or_removal bytes_of None true old = None
+bytes_after_write_or_removal bytes_of None false old = old
 
 -- the results of a change apart from the files of packages: the bytes of the new database and of
 -- the new world, and whether a text database was converted
 pub record DatabaseAndWorldAfter : Type 0 where
+  -- the bytes of the new database
   pub database : List ℕ
+  -- the bytes of the new world
   pub world : List ℕ
+  -- whether a text database was converted
   pub takes_text_over : Bool
 
 -- The files after a change: the new database and world; no converted text database; the added files; no
@@ -126,5 +130,6 @@ files_after_change change bytes_of records files name =
     if bytes_eq name database_name then Some records.database
     else if bytes_eq name world_name then world_bytes_after records.world (files name)
     else if records.takes_text_over && bytes_eq name text_database_name then None
-    else bytes_after bytes_of (listing_written_under_name change files name) (is_removed change files name)
+    else bytes_after_write_or_removal bytes_of (listing_written_under_name change files name)
+    (is_removed change files name)
     (files name)

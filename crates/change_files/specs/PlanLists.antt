@@ -38,19 +38,24 @@ old_paths change = map (λ l. l.path) (old_listings change)
 -- a write of a change: a name, and the file whose contents it gets. The place of the file's member
 -- counts from 0, those of the folder and of the file in it from 1
 pub record FileWrite : Type 0 where
+  -- the name under which the file is written
   pub name : List ℕ
+  -- the place of the package among the members, counted from 0
   pub member : ℕ
+  -- the place of the folder in the package, counted from 1
   pub folder : ℕ
+  -- the place of the file in the folder, counted from 1
   pub file : ℕ
 
 -- the write of a listed file under a name, which is its path or its `.apk-new` name
-abbrev pub write_to : List ℕ → Listing → FileWrite
-write_to name l = record { name = name; member = l.place; folder = l.folder; file = l.file }
+abbrev pub file_write_under_name : List ℕ → Listing → FileWrite
+file_write_under_name name l = record { name = name; member = l.place; folder = l.folder; file = l.file }
 
 -- the writes of a change, in byte order of their names
 unfoldable pub file_writes_of : FileChange → Files → List FileWrite
 file_writes_of change files =
-    filter_map (λ name. option_map (write_to name) (listing_written_under_name change files name))
+    filter_map (λ name. option_map (file_write_under_name name)
+    (listing_written_under_name change files name))
     (sorted_distinct_names (added_paths change.members ++ map apk_new_name (added_paths change.members)))
 
 -- the names that are removed, in byte order

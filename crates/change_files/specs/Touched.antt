@@ -11,11 +11,11 @@ use Rattle.change_files.specs.Fate.{is_protected_path}
 use Rattle.change_files.specs.FileChange.{FileChange, added_owner_listing, old_entry}
 use Rattle.change_files.specs.FilesAfter.{DatabaseAndWorldAfter, database_name, apk_new_listing_at, path_of_apk_new_name, text_database_name, world_name, listing_written_under_name}
 use Rattle.change_files.specs.NamesAfter.{added_paths}
-use Rattle.change_files.specs.PlanLists.{FileWrite, write_to}
+use Rattle.change_files.specs.PlanLists.{FileWrite, file_write_under_name}
 
 -- whether a name is that of the database, of the world, or of a converted text database
-abbrev pub is_record_name : DatabaseAndWorldAfter → List ℕ → Bool
-is_record_name records name =
+abbrev pub is_database_or_world_name : DatabaseAndWorldAfter → List ℕ → Bool
+is_database_or_world_name records name =
     bytes_eq name database_name
     || (bytes_eq name world_name || (records.takes_text_over && bytes_eq name text_database_name))
 
@@ -49,8 +49,9 @@ DiffersFromOldEntry change path entry =
 
 -- a write is an element of the plan: a listed file is written under its name
 pub record IsPlannedWrite (change : FileChange) (files : Files) (write : FileWrite) : Type 0 where
+  -- the file as a member lists it
   pub listing : Listing
   -- this listing is written under the name of the write
   pub written : listing_written_under_name change files write.name ≡ Some listing
   -- the write is that of this listing
-  pub shown : write ≡ write_to write.name listing
+  pub shown : write ≡ file_write_under_name write.name listing

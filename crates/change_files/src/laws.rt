@@ -18,7 +18,7 @@ ghost use Rattle.change_files.specs.FileChange.{FileChange, added_owner_listing,
 ghost use Rattle.change_files.specs.FilesAfter.{DatabaseAndWorldAfter, files_after_change, database_name, is_modified_file_kept, is_no_longer_listed, is_removed, is_written, apk_new_listing_at, listing_bytes, text_database_name, world_name, listing_written_under_name};
 ghost use Rattle.change_files.specs.NamesAfter.{is_released, name_change};
 ghost use Rattle.change_files.specs.PlanLists.{FileWrite, paths_with_apk_new_file, file_writes_of, first_reserved_path, kept_paths_of, removals_of};
-ghost use Rattle.change_files.specs.Touched.{DiffersFromOldEntry, IsModifiedConfigFile, IsPlannedWrite, is_apk_new_name, is_added_path, is_record_name};
+ghost use Rattle.change_files.specs.Touched.{DiffersFromOldEntry, IsModifiedConfigFile, IsPlannedWrite, is_apk_new_name, is_added_path, is_database_or_world_name};
 
 // ---- what is written
 
@@ -85,19 +85,21 @@ pub fn what_is_written_takes_its_name()
     ensures { (change : FileChange) (bytes_of : Listing → List ℕ) (records : DatabaseAndWorldAfter)
         (files : Files) (name : List ℕ) (l : Listing)
         → listing_written_under_name change files name ≡ Some l
-        → is_record_name records name ≡ false
+        → is_database_or_world_name records name ≡ false
         → files_after_change change bytes_of records files name ≡ Some (bytes_of l) }
 {}
 
 /// No written name is reserved if no added package lists a reserved path; and the database, the
 /// world and a text database have reserved names.
 pub fn what_is_written_is_not_reserved()
+    // A name of a listed file that is written is not reserved.
     ensures written { (change : FileChange) (files : Files) (name : List ℕ) (l : Listing)
         → first_reserved_path change.members ≡ None
         → listing_written_under_name change files name ≡ Some l
         → is_reserved name ≡ false }
+    // The names of the database, of world and of a text database are reserved.
     ensures records { (records : DatabaseAndWorldAfter) (name : List ℕ) →
-        is_record_name records name ≡ true
+        is_database_or_world_name records name ≡ true
         → is_reserved name ≡ true }
 {}
 
@@ -105,13 +107,15 @@ pub fn what_is_written_is_not_reserved()
 
 /// A removed path was listed before, and no package lists it after the change; then it is absent.
 pub fn what_is_removed_was_listed_before()
+    // A removed path was listed before, and is not listed after.
     ensures listed { (change : FileChange) (files : Files) (path : List ℕ)
         → is_removed change files path ≡ true
         → (was_listed change path ≡ true) × (is_listed_after_change change path ≡ false) }
+    // A removed path is absent after the change.
     ensures gone { (change : FileChange) (bytes_of : Listing
         → List ℕ) (records : DatabaseAndWorldAfter)
         (files : Files) (path : List ℕ) → is_removed change files path ≡ true
-        → is_record_name records path ≡ false
+        → is_database_or_world_name records path ≡ false
         → files_after_change change bytes_of records files path ≡ None }
 {}
 
@@ -126,11 +130,14 @@ pub fn what_is_removed_is_not_reserved()
 /// there, unless the user changed its file. Each file that is kept so was changed by the user and
 /// is not to be purged.
 pub fn what_is_left_over_is_removed_unless_it_is_the_users()
+    // A path that is no longer listed is removed, unless the user changed its file and it is not
+    // purged.
     ensures goes { (change : FileChange) (files : Files) (path : List ℕ)
         → is_no_longer_listed change files path ≡ true
         → ((bytes : List ℕ) → IsModifiedConfigFile change files path bytes → ⊥) ⊎ (change.purge
         ≡ true)
         → is_removed change files path ≡ true }
+    // A file that is kept was changed by the user, and the change does not purge.
     ensures kept { (change : FileChange) (files : Files) (path : List ℕ)
         → is_modified_file_kept change files path ≡ true
         → ((bytes : List ℕ) × IsModifiedConfigFile change files path bytes) × (change.purge
@@ -146,12 +153,12 @@ pub fn the_file_of_a_kept_package_is_not_touched()
         → owner_listing change path ≡ Some l → is_added l.member ≡ false
         → (listing_written_under_name change files path ≡ None) × (is_removed change files path
         ≡ false) }
-    // So it is as before.
+    // So this file is unchanged after the change.
     ensures file { (change : FileChange) (bytes_of : Listing
         → List ℕ) (records : DatabaseAndWorldAfter)
         (files : Files) (path : List ℕ) (l : Listing)
         → owner_listing change path ≡ Some l → is_added l.member ≡ false
-        → is_record_name records path ≡ false
+        → is_database_or_world_name records path ≡ false
         → files_after_change change bytes_of records files path ≡ files path }
 {}
 
@@ -162,7 +169,7 @@ pub fn configuration_that_the_user_changed_is_kept()
         (files : Files) (path bytes : List ℕ)
         → (change.purge ≡ false) ⊎ (is_listed_after_change change path ≡ true)
         → IsModifiedConfigFile change files path bytes
-        → is_apk_new_name change files path ≡ false → is_record_name records path ≡ false
+        → is_apk_new_name change files path ≡ false → is_database_or_world_name records path ≡ false
         → files_after_change change bytes_of records files path ≡ Some bytes }
 {}
 
@@ -170,7 +177,7 @@ pub fn configuration_that_the_user_changed_is_kept()
 pub fn what_is_kept_is_unchanged()
     ensures { (change : FileChange) (bytes_of : Listing → List ℕ) (records : DatabaseAndWorldAfter)
         (files : Files) (path : List ℕ) → is_modified_file_kept change files path ≡ true
-        → is_record_name records path ≡ false
+        → is_database_or_world_name records path ≡ false
         → files_after_change change bytes_of records files path ≡ files path }
 {}
 
@@ -180,7 +187,7 @@ pub fn a_name_that_nobody_lists_is_not_touched()
     ensures { (change : FileChange) (bytes_of : Listing → List ℕ) (records : DatabaseAndWorldAfter)
         (files : Files) (name : List ℕ) → was_listed change name ≡ false
         → is_added_path change name ≡ false
-        → is_apk_new_name change files name ≡ false → is_record_name records name ≡ false
+        → is_apk_new_name change files name ≡ false → is_database_or_world_name records name ≡ false
         → files_after_change change bytes_of records files name ≡ files name }
 {}
 
@@ -197,17 +204,19 @@ pub fn the_files_after_a_change_are_under_its_names()
 /// A file from before is present after a change that does not release its name. If the change
 /// releases the name and writes nothing there, the file is absent.
 pub fn the_names_after_a_change_are_those_of_its_files()
+    // A file from before whose name is not released is present after the change.
     ensures located { (change : FileChange) (bytes_of : Listing
         → List ℕ) (records : DatabaseAndWorldAfter)
         (files : Files) (name : List ℕ)
         → is_some (files name) ≡ true → is_released change files name ≡ false
-        → is_record_name records name ≡ false
+        → is_database_or_world_name records name ≡ false
         → is_some (files_after_change change bytes_of records files name) ≡ true }
+    // A released name that is not written is absent after the change.
     ensures gone { (change : FileChange) (bytes_of : Listing
         → List ℕ) (records : DatabaseAndWorldAfter)
         (files : Files) (name : List ℕ)
         → is_released change files name ≡ true → is_written change files name ≡ false
-        → is_record_name records name ≡ false
+        → is_database_or_world_name records name ≡ false
         → files_after_change change bytes_of records files name ≡ None }
 {}
 
@@ -216,10 +225,12 @@ pub fn the_names_after_a_change_are_those_of_its_files()
 /// The new database and the new world are under their names. An absent world that would be empty
 /// stays absent, and a converted text database is absent.
 pub fn the_records_of_a_change_are_under_their_names()
+    // The database is under its name.
     ensures database { (change : FileChange) (bytes_of : Listing → List ℕ)
         (records : DatabaseAndWorldAfter)
         (files : Files)
         → files_after_change change bytes_of records files database_name ≡ Some records.database }
+    // The new world is under its name, unless it is empty and was absent.
     ensures world { (change : FileChange) (bytes_of : Listing
         → List ℕ) (records : DatabaseAndWorldAfter)
         (files : Files) → (records.world ≢ []) ⊎ IsSome (files world_name)
@@ -244,14 +255,18 @@ pub fn the_lists_of_a_plan_hold_just_its_names()
     // A write is in the list if something is written under its name, with that file.
     ensures writes { (change : FileChange) (files : Files) (write : FileWrite)
         → Contains (file_writes_of change files) write ↔ IsPlannedWrite change files write }
+    // The list of writes has exactly the written names.
     ensures written { (change : FileChange) (files : Files) (name : List ℕ)
         → Contains (map (λ write. write.name) (file_writes_of change files)) name
         ↔ (is_written change files name ≡ true) }
+    // The list of removals has exactly the removed paths.
     ensures removed { (change : FileChange) (files : Files) (path : List ℕ)
         → Contains (removals_of change files) path ↔ (is_removed change files path ≡ true) }
+    // The list of kept paths has exactly those whose modified file is kept.
     ensures kept { (change : FileChange) (files : Files) (path : List ℕ)
         → Contains (kept_paths_of change files) path ↔ (is_modified_file_kept change files path
         ≡ true) }
+    // The last list has exactly the paths beside which an `.apk-new` file is written.
     ensures aside { (change : FileChange) (files : Files) (path : List ℕ)
         → Contains (paths_with_apk_new_file change files) path
         ↔ (is_some (apk_new_listing_at change files path) ≡ true) }
@@ -259,20 +274,26 @@ pub fn the_lists_of_a_plan_hold_just_its_names()
 
 /// Each list of a plan is in byte order, and no name is repeated.
 pub fn the_lists_of_a_plan_rise()
+    // The writes are in byte order of their names.
     ensures writes { (change : FileChange) (files : Files)
         → AreSortedDistinctNames (map (λ write. write.name) (file_writes_of change files)) }
+    // The removed paths are in byte order.
     ensures removals { (change : FileChange) (files : Files)
         → AreSortedDistinctNames (removals_of change files) }
+    // The kept paths are in byte order.
     ensures kept { (change : FileChange) (files : Files)
         → AreSortedDistinctNames (kept_paths_of change files) }
+    // The paths with an `.apk-new` file are in byte order.
     ensures aside { (change : FileChange) (files : Files)
         → AreSortedDistinctNames (paths_with_apk_new_file change files) }
 {}
 
 /// No name is both written and removed, and no kept name is either.
 pub fn a_name_has_one_place_in_a_plan()
+    // A written name is not removed.
     ensures removed { (change : FileChange) (files : Files) (name : List ℕ)
         → is_written change files name ≡ true → is_removed change files name ≡ false }
+    // A kept name is neither written nor removed.
     ensures kept { (change : FileChange) (files : Files) (name : List ℕ)
         → is_modified_file_kept change files name ≡ true
         → (is_written change files name ≡ false) × (is_removed change files name ≡ false) }

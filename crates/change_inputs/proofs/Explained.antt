@@ -13,11 +13,11 @@ use Rattle.root_names.specs.RootNames.{database_name, repositories_name, text_da
 use Rattle.adb_view.specs.Plain.{Plain}
 use Rattle.change_inputs.proofs.Handed.{failure_agrees, handed_on_disk, refused_part, refused_part_disk, unless_disk}
 use Rattle.change_inputs.proofs.IndexSteps.{unread, unread_stands}
-use Rattle.change_inputs.specs.Answers.{Agrees, AgreesUnlessDisk, IsDiskOrMemoryFailure, AreFilesFoundInTree, IsFileFoundInTree}
+use Rattle.change_inputs.specs.Answers.{Agrees, AgreesUnlessDiskOrMemory, IsDiskOrMemoryFailure, AreFilesFoundInTree, IsFileFoundInTree}
 use Rattle.change_inputs.specs.Chains.{and_then}
 use Rattle.change_inputs.specs.Database.{Database, root_database}
 use Rattle.change_inputs.specs.Indexes.{index_files_from, indexes_in_files, root_indexes}
-use Rattle.change_inputs.specs.Inputs.{Inputs, Root, database_for, index_reads_from, indexes_of, inputs_from_parts, inputs_of, root_for, root_found}
+use Rattle.change_inputs.specs.Inputs.{Inputs, Root, database_for, index_reads_from, indexes_of, inputs_from_parts, inputs_of, root_for, root_from_files_found}
 use Rattle.change_inputs.specs.RootFiles.{AreRootFilesInTree}
 use Rattle.change_inputs.specs.declared.root.Refused.{Refused}
 use Rattle.change_inputs.specs.declared.root.RootFiles.{RootFiles}
@@ -112,7 +112,7 @@ unfolding text_or
 same_database may_begin history text None = refl
 same_database may_begin history text (Some file) = refl
 
-same_root : (command : CommandLine) (history : List TreeState) (text file world repositories : Option (List ℕ)) → root_found command file (text_or history text file) world repositories ≡ root_found command file text world repositories
+same_root : (command : CommandLine) (history : List TreeState) (text file world repositories : Option (List ℕ)) → root_from_files_found command file (text_or history text file) world repositories ≡ root_from_files_found command file text world repositories
 unfolding text_or
 same_root command history text None world repositories = refl
 same_root command history text (Some file) world repositories = refl
@@ -129,11 +129,11 @@ explained_database history command file text located text_stand =
     }
 
 pub database_failed : {A : Type 0} (view : A → Database) (history : List TreeState) (command : CommandLine) (r : Result A Refused) (fault : Refused) → IsErrAnd r (λ e. e ≡ fault) → IsDiskOrMemoryFailure fault
-    → IsExplainedBySomeReads history (λ read. AgreesUnlessDisk view r (database_for command read))
-database_failed view history command r fault is failed = explained history (λ read. AgreesUnlessDisk view r (database_for command read)) (λ read. failure_agrees view (database_for command read) r fault is failed)
+    → IsExplainedBySomeReads history (λ read. AgreesUnlessDiskOrMemory view r (database_for command read))
+database_failed view history command r fault is failed = explained history (λ read. AgreesUnlessDiskOrMemory view r (database_for command read)) (λ read. failure_agrees view (database_for command read) r fault is failed)
 
 pub database_refused : {A B : Type 0} (view : A → Database) (seen : B → Database) (history : List TreeState) (command : CommandLine) (file text : Option (List ℕ)) (r : Result A Refused) (fault : Refused) → IsFileFoundInTree history database_name file → (file ≡ None → IsFileFoundInTree history text_database_name text)
-    → IsErrAnd r (λ e. e ≡ fault) → Agrees seen (Err fault) (root_database command.flags.initdb file text) → IsExplainedBySomeReads history (λ read. AgreesUnlessDisk view r (database_for command read))
+    → IsErrAnd r (λ e. e ≡ fault) → Agrees seen (Err fault) (root_database command.flags.initdb file text) → IsExplainedBySomeReads history (λ read. AgreesUnlessDiskOrMemory view r (database_for command read))
 database_refused view seen history command file text r fault located text_stand is h =
     let e = explained_database history command file text located text_stand in
     record {
@@ -149,7 +149,7 @@ database_given history command file text database located text_stand is =
     record { read = e.read; observed = e.observed; is = e.is ∙ is }
 
 pub explained_files : (history : List TreeState) (command : CommandLine) (files : RootFiles) (rs : List Repository) (fs : List (Option (List ℕ))) → AreRootFilesInTree history files → AreFilesFoundInTree history rs fs
-    → IsExplainedBySomeReads history (λ read. (root_for command read ≡ root_found command (bytes_in files.database) (bytes_in files.text_database) (bytes_in files.world) (bytes_in files.repositories)) × (index_reads_from read 4 rs ≡ fs))
+    → IsExplainedBySomeReads history (λ read. (root_for command read ≡ root_from_files_found command (bytes_in files.database) (bytes_in files.text_database) (bytes_in files.world) (bytes_in files.repositories)) × (index_reads_from read 4 rs ≡ fs))
 explained_files history command files rs fs stand indexes =
     let file = bytes_in files.database in
     let e = explained_root history file (text_or history (bytes_in files.text_database) file) (bytes_in files.world) (bytes_in files.repositories) rs fs stand.database (text_stands history (bytes_in files.text_database) file stand.text_database) stand.world stand.repositories indexes in
@@ -157,7 +157,7 @@ explained_files history command files rs fs stand indexes =
       read = e.read;
       observed = e.observed;
       is = (
-        (λ i. root_found command (e.is.file_is i) (e.is.text_is i) (e.is.world_is i) (e.is.repositories_is i)) ∙ same_root command history (bytes_in files.text_database) file (bytes_in files.world) (bytes_in files.repositories),
+        (λ i. root_from_files_found command (e.is.file_is i) (e.is.text_is i) (e.is.world_is i) (e.is.repositories_is i)) ∙ same_root command history (bytes_in files.text_database) file (bytes_in files.world) (bytes_in files.repositories),
         e.is.indexes_are,
       );
     }
@@ -166,16 +166,16 @@ explained_files history command files rs fs stand indexes =
 
 -- nothing is said if the tree failed or no memory was found
 pub explained_failure : {A : Type 0} (view : A → Inputs) (history : List TreeState) (command : CommandLine) (r : Result A Refused) (fault : Refused) → IsErrAnd r (λ e. e ≡ fault) → IsDiskOrMemoryFailure fault
-    → IsExplainedBySomeReads history (λ read. AgreesUnlessDisk view r (inputs_of command read))
-explained_failure view history command r fault is failed = explained history (λ read. AgreesUnlessDisk view r (inputs_of command read)) (λ read. failure_agrees view (inputs_of command read) r fault is failed)
+    → IsExplainedBySomeReads history (λ read. AgreesUnlessDiskOrMemory view r (inputs_of command read))
+explained_failure view history command r fault is failed = explained history (λ read. AgreesUnlessDiskOrMemory view r (inputs_of command read)) (λ read. failure_agrees view (inputs_of command read) r fault is failed)
 
 abbrev then_indexes : Reads → Root → Result Inputs Refusals.Refusal
 then_indexes read root = and_then (indexes_of read root.repositories) (λ indexes. Ok (inputs_from_parts root indexes))
 
 -- a root that is refused
 pub explained_refusal : {A B : Type 0} (view : A → Inputs) (seen : B → Root) (history : List TreeState) (command : CommandLine) (files : RootFiles) (r : Result A Refused) (fault : Refused) → AreRootFilesInTree history files → IsErrAnd r (λ e. e ≡ fault)
-    → Agrees seen (Err fault) (root_found command (bytes_in files.database) (bytes_in files.text_database) (bytes_in files.world) (bytes_in files.repositories))
-    → IsExplainedBySomeReads history (λ read. AgreesUnlessDisk view r (inputs_of command read))
+    → Agrees seen (Err fault) (root_from_files_found command (bytes_in files.database) (bytes_in files.text_database) (bytes_in files.world) (bytes_in files.repositories))
+    → IsExplainedBySomeReads history (λ read. AgreesUnlessDiskOrMemory view r (inputs_of command read))
 unfolding inputs_of
 explained_refusal view seen history command files r fault stand is h =
     let e = explained_files history command files [] [] stand tt in
@@ -189,9 +189,9 @@ explained_refusal view seen history command files r fault stand is h =
 
 -- a root that is good, and what comes of its indexes
 pub explained_indexes : {A : Type 0} (view : A → Inputs) (history : List TreeState) (command : CommandLine) (files : RootFiles) (root : Root) (fs : List (Option (List ℕ))) (r : Result A Refused) → AreRootFilesInTree history files
-    → root_found command (bytes_in files.database) (bytes_in files.text_database) (bytes_in files.world) (bytes_in files.repositories) ≡ Ok root
-    → AreFilesFoundInTree history root.repositories fs → AgreesUnlessDisk view r (and_then (root_indexes fs) (λ indexes. Ok (inputs_from_parts root indexes)))
-    → IsExplainedBySomeReads history (λ read. AgreesUnlessDisk view r (inputs_of command read))
+    → root_from_files_found command (bytes_in files.database) (bytes_in files.text_database) (bytes_in files.world) (bytes_in files.repositories) ≡ Ok root
+    → AreFilesFoundInTree history root.repositories fs → AgreesUnlessDiskOrMemory view r (and_then (root_indexes fs) (λ indexes. Ok (inputs_from_parts root indexes)))
+    → IsExplainedBySomeReads history (λ read. AgreesUnlessDiskOrMemory view r (inputs_of command read))
 unfolding inputs_of
 explained_indexes view history command files root fs r stand good indexes h =
     let e = explained_files history command files root.repositories fs stand indexes in
@@ -199,13 +199,13 @@ explained_indexes view history command files root fs r stand good indexes h =
       read = e.read;
       observed = e.observed;
       is =
-          subst (λ x. AgreesUnlessDisk view r (and_then x (then_indexes e.read))) (sym (e.is.0 ∙ good))
-          (subst (λ (x : List (Option (List ℕ))). AgreesUnlessDisk view r (and_then (root_indexes x) (λ indexes. Ok (inputs_from_parts root indexes)))) (sym e.is.1) h);
+          subst (λ x. AgreesUnlessDiskOrMemory view r (and_then x (then_indexes e.read))) (sym (e.is.0 ∙ good))
+          (subst (λ (x : List (Option (List ℕ))). AgreesUnlessDiskOrMemory view r (and_then (root_indexes x) (λ indexes. Ok (inputs_from_parts root indexes)))) (sym e.is.1) h);
     }
 
 -- the files of the indexes are not all there
-pub indexes_absent : {A B : Type 0} (view : A → Inputs) (seen : B → List (List ℕ)) (root : Root) (fs : List (Option (List ℕ))) (r : Result A Refused) (fault : Refused) → IsErrAnd r (λ e. e ≡ fault) → AgreesUnlessDisk seen (Err fault) (index_files_from 1 fs)
-    → AgreesUnlessDisk view r (and_then (root_indexes fs) (λ indexes. Ok (inputs_from_parts root indexes)))
+pub indexes_absent : {A B : Type 0} (view : A → Inputs) (seen : B → List (List ℕ)) (root : Root) (fs : List (Option (List ℕ))) (r : Result A Refused) (fault : Refused) → IsErrAnd r (λ e. e ≡ fault) → AgreesUnlessDiskOrMemory seen (Err fault) (index_files_from 1 fs)
+    → AgreesUnlessDiskOrMemory view r (and_then (root_indexes fs) (λ indexes. Ok (inputs_from_parts root indexes)))
 indexes_absent {A} {B} view seen root fs r fault is h =
     handed_on_disk view _ r fault is
     (refused_part_disk (λ (x : List Plain). x) view (λ indexes. Ok (inputs_from_parts root indexes)) fault (root_indexes fs)
@@ -213,7 +213,7 @@ indexes_absent {A} {B} view seen root fs r fault is h =
 
 -- one of them is no index
 pub indexes_bad : {A B : Type 0} (view : A → Inputs) (seen : B → List Plain) (root : Root) (fs : List (Option (List ℕ))) (files : List (List ℕ)) (r : Result A Refused) (fault : Refused) → IsErrAnd r (λ e. e ≡ fault) → index_files_from 1 fs ≡ Ok files → Agrees seen (Err fault) (indexes_in_files 1 files)
-    → AgreesUnlessDisk view r (and_then (root_indexes fs) (λ indexes. Ok (inputs_from_parts root indexes)))
+    → AgreesUnlessDiskOrMemory view r (and_then (root_indexes fs) (λ indexes. Ok (inputs_from_parts root indexes)))
 indexes_bad view seen root fs files r fault is there h =
     handed_on_disk view _ r fault is
     (unless_disk view _ (Err fault)
@@ -228,7 +228,7 @@ indexes_good root fs files indexes there good =
     ∙ ap (λ (x : Result (List Plain) Refusals.Refusal). and_then x (λ indexes. Ok (inputs_from_parts root indexes))) good
 
 pub explained_good : (history : List TreeState) (command : CommandLine) (files : RootFiles) (root : Root) (fs : List (Option (List ℕ))) (found : List (List ℕ)) (indexes : List Plain) → AreRootFilesInTree history files
-    → root_found command (bytes_in files.database) (bytes_in files.text_database) (bytes_in files.world) (bytes_in files.repositories) ≡ Ok root
+    → root_from_files_found command (bytes_in files.database) (bytes_in files.text_database) (bytes_in files.world) (bytes_in files.repositories) ≡ Ok root
     → AreFilesFoundInTree history root.repositories fs → index_files_from 1 fs ≡ Ok found → indexes_in_files 1 found ≡ Ok indexes
     → IsExplainedBySomeReads history (λ read. inputs_of command read ≡ Ok (inputs_from_parts root indexes))
 explained_good history command files root fs found indexes stand good those there are =

@@ -3,7 +3,7 @@ use Rattle.std.proofs.Common.{◌≡◌, Result, Ok, Err, ap, sym, subst}
 use Rattle.std.specs.Result.{IsErrAnd}
 use Rattle.report_core.specs.declared.refusal.Refusal as Refusals
 use Rattle.change_inputs.specs.Chains.{and_then}
-use Rattle.change_inputs.specs.Answers.{Agrees, AgreesUnlessDisk, IsDiskOrMemoryFailure}
+use Rattle.change_inputs.specs.Answers.{Agrees, AgreesUnlessDiskOrMemory, IsDiskOrMemoryFailure}
 use Rattle.change_inputs.specs.declared.root.Refused.{Refused}
 use Rattle.change_inputs.specs.declared.root.Refused.TheVariants.{Disk, Memory, Refusal}
 
@@ -17,24 +17,24 @@ module _ {A B : Type 0} (view : A → B) (wanted : Result B Refusals.Refusal) wh
   handed_on (Err e) fault h agrees = let P : Refused → Type 0 = λ f. Agrees view (Err f) wanted in subst P (sym h) agrees
 
   -- a failure says nothing
-  pub failure_agrees : (r : Result A Refused) (fault : Refused) → IsErrAnd r (λ e. e ≡ fault) → IsDiskOrMemoryFailure fault → AgreesUnlessDisk view r wanted
+  pub failure_agrees : (r : Result A Refused) (fault : Refused) → IsErrAnd r (λ e. e ≡ fault) → IsDiskOrMemoryFailure fault → AgreesUnlessDiskOrMemory view r wanted
   failure_agrees (Ok a) fault h f = absurd h
-  failure_agrees (Err e) fault h f = let P : Refused → Type 0 = λ x. AgreesUnlessDisk view (Err x) wanted in subst P (sym h) (go fault f)
+  failure_agrees (Err e) fault h f = let P : Refused → Type 0 = λ x. AgreesUnlessDiskOrMemory view (Err x) wanted in subst P (sym h) (go fault f)
     where
-      go : (x : Refused) → IsDiskOrMemoryFailure x → AgreesUnlessDisk view (Err x) wanted
+      go : (x : Refused) → IsDiskOrMemoryFailure x → AgreesUnlessDiskOrMemory view (Err x) wanted
       go (Refusal r) f = absurd f
       go Disk f = tt
       go Memory f = tt
 
-  pub unless_disk : (r : Result A Refused) → Agrees view r wanted → AgreesUnlessDisk view r wanted
+  pub unless_disk : (r : Result A Refused) → Agrees view r wanted → AgreesUnlessDiskOrMemory view r wanted
   unless_disk (Ok a) h = h
   unless_disk (Err (Refusal r)) h = h
   unless_disk (Err Disk) h = tt
   unless_disk (Err Memory) h = tt
 
-  pub handed_on_disk : (r : Result A Refused) (fault : Refused) → IsErrAnd r (λ e. e ≡ fault) → AgreesUnlessDisk view (Err fault) wanted → AgreesUnlessDisk view r wanted
+  pub handed_on_disk : (r : Result A Refused) (fault : Refused) → IsErrAnd r (λ e. e ≡ fault) → AgreesUnlessDiskOrMemory view (Err fault) wanted → AgreesUnlessDiskOrMemory view r wanted
   handed_on_disk (Ok a) fault h agrees = absurd h
-  handed_on_disk (Err e) fault h agrees = let P : Refused → Type 0 = λ f. AgreesUnlessDisk view (Err f) wanted in subst P (sym h) agrees
+  handed_on_disk (Err e) fault h agrees = let P : Refused → Type 0 = λ f. AgreesUnlessDiskOrMemory view (Err f) wanted in subst P (sym h) agrees
 
 -- a refusal of a part is that of the whole
 module _ {A B C D : Type 0} (view : A → B) (whole : C → D) (next : B → Result D Refusals.Refusal) where
@@ -43,7 +43,7 @@ module _ {A B C D : Type 0} (view : A → B) (whole : C → D) (next : B → Res
   refused_part Disk part h = h
   refused_part Memory part h = tt
 
-  pub refused_part_disk : (fault : Refused) (part : Result B Refusals.Refusal) → AgreesUnlessDisk view (Err fault) part → AgreesUnlessDisk whole (Err fault) (and_then part next)
+  pub refused_part_disk : (fault : Refused) (part : Result B Refusals.Refusal) → AgreesUnlessDiskOrMemory view (Err fault) part → AgreesUnlessDiskOrMemory whole (Err fault) (and_then part next)
   refused_part_disk (Refusal r) part h = ap (λ x. and_then x next) h
   refused_part_disk Disk part h = tt
   refused_part_disk Memory part h = tt

@@ -19,10 +19,10 @@ use Rattle.report_core.specs.declared.refusal.Refusal as Refusals
 use Rattle.report_core.specs.declared.refusal.Refusal.TheVariants.{IndexBad}
 use Rattle.change_inputs.proofs.Handed.{failure_agrees, handed_on_disk}
 use Rattle.db_core.proofs.adb_schema.SoundPayload.{none_of}
-use Rattle.change_inputs.specs.Answers.{Agrees, AgreesUnlessDisk, IsDiskOrMemoryFailure, AreFilesFoundInTree, IsFileFoundInTree}
+use Rattle.change_inputs.specs.Answers.{Agrees, AgreesUnlessDiskOrMemory, IsDiskOrMemoryFailure, AreFilesFoundInTree, IsFileFoundInTree}
 use Rattle.change_inputs.specs.Chains.{and_then, unless_cause}
 use Rattle.change_inputs.specs.IndexFiles.{are_indexes, bytes_of_each, index_of_file, is_index}
-use Rattle.change_inputs.specs.Indexes.{index_file, index_files_from, index_in_file, indexes_in_files}
+use Rattle.change_inputs.specs.Indexes.{file_or_index_missing, index_files_from, index_in_file, indexes_in_files}
 use Rattle.change_inputs.specs.declared.root.Refused.{Refused}
 use Rattle.change_inputs.specs.declared.root.Refused.TheVariants.{Disk, Memory, Refusal}
 
@@ -80,13 +80,13 @@ read_none history rs files none rest stand =
 module _ (history : List TreeState) (rs : List Repository) (i : ℕ) (r : Repository) (path : List ℕ) (files : List (List ℕ)) (at : slice_get rs i ≡ Some r) (named : r.path ≡ path) (so_far : IsReadTo history rs i files) where
   here : (f : Option (List ℕ)) (rest : List (Option (List ℕ))) → IsFileFoundInTree history path f → AreFilesFoundInTree history (drop (i + 1) rs) rest
       → (found : List (Option (List ℕ))) × AreFilesFoundInTree history rs found
-      × (index_files_from 1 found ≡ in_front files (and_then (index_file (i + 1) f) (λ file. and_then (index_files_from (i + 1 + 1) rest) (λ others. Ok (file ∷ others)))))
+      × (index_files_from 1 found ≡ in_front files (and_then (file_or_index_missing (i + 1) f) (λ file. and_then (index_files_from (i + 1 + 1) rest) (λ others. Ok (file ∷ others)))))
   here f rest located stand =
       so_far (f ∷ rest)
       (subst (λ (l : List Repository). AreFilesFoundInTree history l (f ∷ rest)) (sym (left_at rs i r at))
       (subst (λ (p : List ℕ). IsFileFoundInTree history p f) (sym named) located, stand))
 
-  pub read_more : (f : Option (List ℕ)) (file : List ℕ) (next : List (List ℕ)) → IsFileFoundInTree history path f → index_file (i + 1) f ≡ Ok file → next ≡ files ++ file ∷ [] → IsReadTo history rs (i + 1) next
+  pub read_more : (f : Option (List ℕ)) (file : List ℕ) (next : List (List ℕ)) → IsFileFoundInTree history path f → file_or_index_missing (i + 1) f ≡ Ok file → next ≡ files ++ file ∷ [] → IsReadTo history rs (i + 1) next
   read_more f file next located is pushed rest stand =
       let h = here f rest located stand in (
         h.0,
@@ -96,7 +96,7 @@ module _ (history : List TreeState) (rs : List Repository) (i : ℕ) (r : Reposi
             ∙ (front_more files file (index_files_from (i + 1 + 1) rest) ∙ ap (λ (fs : List (List ℕ)). in_front fs (index_files_from (i + 1 + 1) rest)) (sym pushed))),
       )
 
-  pub read_refused : (f : Option (List ℕ)) (refusal : Refusals.Refusal) → IsFileFoundInTree history path f → index_file (i + 1) f ≡ Err refusal
+  pub read_refused : (f : Option (List ℕ)) (refusal : Refusals.Refusal) → IsFileFoundInTree history path f → file_or_index_missing (i + 1) f ≡ Err refusal
       → (found : List (Option (List ℕ))) × AreFilesFoundInTree history rs found × (index_files_from 1 found ≡ Err refusal)
   read_refused f refusal located is =
       let rest = all_unread history (drop (i + 1) rs) in
@@ -114,8 +114,8 @@ read_all_is history rs i files past so_far =
 
 -- a fault of the next one is that of all
 pub read_fault : {A B : Type 0} (view : A → List ℕ) (whole : B → List (List ℕ)) (old now : List TreeState) (rs : List Repository) (i : ℕ) (path : List ℕ) (files : List (List ℕ)) (fault : Refused) → now ≡ old → option_map (λ (r : Repository). r.path) (slice_get rs i) ≡ Some path → IsReadTo old rs i files
-    → (f : Option (List ℕ)) × IsFileFoundInTree now path f × AgreesUnlessDisk view (Err fault) (index_file (i + 1) f)
-    → (found : List (Option (List ℕ))) × AreFilesFoundInTree old rs found × AgreesUnlessDisk whole (Err fault) (index_files_from 1 found)
+    → (f : Option (List ℕ)) × IsFileFoundInTree now path f × AgreesUnlessDiskOrMemory view (Err fault) (file_or_index_missing (i + 1) f)
+    → (found : List (Option (List ℕ))) × AreFilesFoundInTree old rs found × AgreesUnlessDiskOrMemory whole (Err fault) (index_files_from 1 found)
 read_fault view whole old now rs i path files fault same at so_far one = go fault one.2
   where
     r : (r : Repository) × (slice_get rs i ≡ Some r) × (r.path ≡ path)
@@ -127,13 +127,13 @@ read_fault view whole old now rs i path files fault same at so_far one = go faul
     nothing : (found : List (Option (List ℕ))) × AreFilesFoundInTree old rs found
     nothing = (all_unread old rs, all_unread_stand old rs)
 
-    go : (e : Refused) → AgreesUnlessDisk view (Err e) (index_file (i + 1) one.0) → (found : List (Option (List ℕ))) × AreFilesFoundInTree old rs found × AgreesUnlessDisk whole (Err e) (index_files_from 1 found)
+    go : (e : Refused) → AgreesUnlessDiskOrMemory view (Err e) (file_or_index_missing (i + 1) one.0) → (found : List (Option (List ℕ))) × AreFilesFoundInTree old rs found × AgreesUnlessDiskOrMemory whole (Err e) (index_files_from 1 found)
     go (Refusal refusal) h = read_refused old rs i r.0 path files r.1 r.2 so_far one.0 refusal located h
     go Disk h = (nothing.0, nothing.1, tt)
     go Memory h = (nothing.0, nothing.1, tt)
 
 pub read_step : {A : Type 0} (view : A → List ℕ) (a : A) (old now : List TreeState) (rs : List Repository) (i : ℕ) (path : List ℕ) (files next : List (List ℕ)) → now ≡ old → option_map (λ (r : Repository). r.path) (slice_get rs i) ≡ Some path → IsReadTo old rs i files
-    → (f : Option (List ℕ)) × IsFileFoundInTree now path f × AgreesUnlessDisk view (Ok a) (index_file (i + 1) f) → next ≡ files ++ view a ∷ []
+    → (f : Option (List ℕ)) × IsFileFoundInTree now path f × AgreesUnlessDiskOrMemory view (Ok a) (file_or_index_missing (i + 1) f) → next ≡ files ++ view a ∷ []
     → IsReadTo old rs (i + 1) next
 read_step view a old now rs i path files next same at so_far one pushed =
     let r = repository_at rs i path at in
@@ -141,17 +141,17 @@ read_step view a old now rs i path files next same at so_far one pushed =
 
 -- an answer that is handed on
 pub found_handed : {B : Type 0} (whole : B → List (List ℕ)) (history : List TreeState) (rs : List Repository) (r : Result B Refused) (fault : Refused) → IsErrAnd r (λ e. e ≡ fault)
-    → (found : List (Option (List ℕ))) × AreFilesFoundInTree history rs found × AgreesUnlessDisk whole (Err fault) (index_files_from 1 found)
-    → (found : List (Option (List ℕ))) × AreFilesFoundInTree history rs found × AgreesUnlessDisk whole r (index_files_from 1 found)
+    → (found : List (Option (List ℕ))) × AreFilesFoundInTree history rs found × AgreesUnlessDiskOrMemory whole (Err fault) (index_files_from 1 found)
+    → (found : List (Option (List ℕ))) × AreFilesFoundInTree history rs found × AgreesUnlessDiskOrMemory whole r (index_files_from 1 found)
 found_handed whole history rs r fault is h = (h.0, h.1, handed_on_disk whole (index_files_from 1 h.0) r fault is h.2)
 
 pub found_failed : {B : Type 0} (whole : B → List (List ℕ)) (history : List TreeState) (rs : List Repository) (r : Result B Refused) → IsErrAnd r (λ e. e ≡ Memory)
-    → (found : List (Option (List ℕ))) × AreFilesFoundInTree history rs found × AgreesUnlessDisk whole r (index_files_from 1 found)
+    → (found : List (Option (List ℕ))) × AreFilesFoundInTree history rs found × AgreesUnlessDiskOrMemory whole r (index_files_from 1 found)
 found_failed whole history rs r is = (all_unread history rs, all_unread_stand history rs, failure_agrees whole (index_files_from 1 (all_unread history rs)) r Memory is tt)
 
 pub one_found : {A : Type 0} (view : A → List ℕ) (history : List TreeState) (n : ℕ) (name : List ℕ) (r : Result A Refused) (fault : Refused) → IsErrAnd r (λ e. e ≡ fault) → IsDiskOrMemoryFailure fault
-    → (f : Option (List ℕ)) × IsFileFoundInTree history name f × AgreesUnlessDisk view r (index_file n f)
-one_found view history n name r fault is failed = (unread history name, unread_stands history name, failure_agrees view (index_file n (unread history name)) r fault is failed)
+    → (f : Option (List ℕ)) × IsFileFoundInTree history name f × AgreesUnlessDiskOrMemory view r (file_or_index_missing n f)
+one_found view history n name r fault is failed = (unread history name, unread_stands history name, failure_agrees view (file_or_index_missing n (unread history name)) r fault is failed)
 
 -- ---- their tests
 

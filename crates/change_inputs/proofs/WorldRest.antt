@@ -15,7 +15,7 @@ use Rattle.command_core.specs.declared.operands.Operand.{Operand}
 use Rattle.command_core.proofs.Entries.{left_at}
 use Rattle.dep_core.specs.Dependency.{Dependency}
 use Rattle.dep_core.specs.DependencyText.{is_dependency}
-use Rattle.dep_core.specs.World.{IsWorld, is_in_order, with_entry, without_name}
+use Rattle.dep_core.specs.World.{IsWorld, is_in_order, world_with_dependency_set, world_without_name}
 use Rattle.dep_core.proofs.Worlds.{IsWorld-without, cmp-back, is_behind}
 use Rattle.dep_core.proofs.WorldText.{behind-at}
 use Rattle.change_inputs.specs.World.{operand_texts, world_without_operands}
@@ -27,19 +27,19 @@ without_none : (w : List Dependency) → world_without_names [] w ≡ w
 without_none [] = refl
 without_none (d ∷ w) = ap (λ (ds : List Dependency). d ∷ ds) (without_none w)
 
-without_one_more : (name : List ℕ) (names : List (List ℕ)) (w : List Dependency) → world_without_names names (without_name name w) ≡ world_without_names (name ∷ names) w
+without_one_more : (name : List ℕ) (names : List (List ℕ)) (w : List Dependency) → world_without_names names (world_without_name name w) ≡ world_without_names (name ∷ names) w
 without_one_more name names [] = refl
 without_one_more name names (d ∷ w) = by (bytes_eq d.name name) (without_one_more name names w)
   where
-    by : (b : Bool) → world_without_names names (without_name name w) ≡ world_without_names (name ∷ names) w
-        → world_without_names names (cond (not b) (d ∷ without_name name w) (without_name name w))
+    by : (b : Bool) → world_without_names names (world_without_name name w) ≡ world_without_names (name ∷ names) w
+        → world_without_names names (cond (not b) (d ∷ world_without_name name w) (world_without_name name w))
         ≡ cond (not (b || list_any (bytes_eq d.name) names)) (d ∷ world_without_names (name ∷ names) w) (world_without_names (name ∷ names) w)
     by true e = e
     by false e = ap (λ (ds : List Dependency). cond (not (list_any (bytes_eq d.name) names)) (d ∷ ds) ds) e
 
 without_operands : (os : List Operand) (w : List Dependency) → world_without_names (operand_texts os) w ≡ world_without_operands os w
 without_operands [] w = without_none w
-without_operands (o ∷ os) w = sym (without_one_more o.text (operand_texts os) w) ∙ without_operands os (without_name o.text w)
+without_operands (o ∷ os) w = sym (without_one_more o.text (operand_texts os) w) ∙ without_operands os (world_without_name o.text w)
 
 -- the order of the names does not matter
 without_sorted : (names sorted : List (List ℕ)) (w : List Dependency) → IsPermutation names sorted → world_without_names sorted w ≡ world_without_names names w
@@ -55,18 +55,18 @@ taken_out os texts sorted w rest are same is =
 rest_is_world : (names : List (List ℕ)) (w : List Dependency) → IsWorld w → IsWorld (world_without_names names w)
 rest_is_world [] w h = subst IsWorld (sym (without_none w)) h
 rest_is_world (name ∷ names) w h =
-    subst IsWorld (without_one_more name names w) (rest_is_world names (without_name name w) (IsWorld-without name w h))
+    subst IsWorld (without_one_more name names w) (rest_is_world names (world_without_name name w) (IsWorld-without name w h))
 
 -- ---- entry by entry
 
 -- the entry that is after all others is inserted at the end
-last_entry : (w : List Dependency) (d : Dependency) (rest : List Dependency) → is_in_order (w ++ (d ∷ rest)) ≡ true → with_entry d w ≡ w ++ (d ∷ [])
+last_entry : (w : List Dependency) (d : Dependency) (rest : List Dependency) → is_in_order (w ++ (d ∷ rest)) ≡ true → world_with_dependency_set d w ≡ w ++ (d ∷ [])
 last_entry [] d rest h = refl
 last_entry (e ∷ w) d rest h =
     let parts : (list_all (is_behind e.name) (w ++ (d ∷ rest)) ≡ true) × (is_in_order (w ++ (d ∷ rest)) ≡ true) =
     and_parts (list_all (is_behind e.name) (w ++ (d ∷ rest))) (is_in_order (w ++ (d ∷ rest))) h in
     let before : bytes_cmp e.name d.name ≡ Less = is_less (bytes_cmp e.name d.name) (behind-at (is_behind e.name) w d rest parts.0) in
-    ap (λ o. match_ordering o (d ∷ (e ∷ w)) (d ∷ w) (e ∷ with_entry d w)) (cmp-back e.name d.name Less before)
+    ap (λ o. match_ordering o (d ∷ (e ∷ w)) (d ∷ w) (e ∷ world_with_dependency_set d w)) (cmp-back e.name d.name Less before)
     ∙ ap (λ (ds : List Dependency). e ∷ ds) (last_entry w d rest parts.1)
 
 -- the entries found so far, and those that are still to be looked at
@@ -84,7 +84,7 @@ module _ (names : List (List ℕ)) (w : List Dependency) (i : ℕ) (rest : List 
   entry_removed d b at is found =
       sym (ap (λ (t : Bool). rest ++ cond (not t) (d ∷ world_without_names names (drop (i + 1) w)) (world_without_names names (drop (i + 1) w))) found) ∙ looked_at d b at is
 
-  pub entry_kept : (d : Dependency) (b : Bool) (more : List Dependency) → IsWorld w → slice_get w i ≡ Some d → b ≡ list_any (bytes_eq d.name) names → b ≡ false → more ≡ with_entry d rest
+  pub entry_kept : (d : Dependency) (b : Bool) (more : List Dependency) → IsWorld w → slice_get w i ≡ Some d → b ≡ list_any (bytes_eq d.name) names → b ≡ false → more ≡ world_with_dependency_set d rest
       → IsRestSoFar names w (i + 1) more
   entry_kept d b more is_world at is none added =
       let later : List Dependency = world_without_names names (drop (i + 1) w) in

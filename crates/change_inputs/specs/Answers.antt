@@ -18,12 +18,12 @@ Agrees view (Err Disk) wanted = ⊥
 Agrees view (Err Memory) wanted = Unit {0}
 
 -- *Agrees* for a call that reads a tree: an I/O error says nothing of what is wanted either
-abbrev pub AgreesUnlessDisk :
+abbrev pub AgreesUnlessDiskOrMemory :
     {A B : Type 0} → (A → B) → Result A Refused → Result B Refusals.Refusal → Type 0
-AgreesUnlessDisk view (Ok x) wanted = wanted ≡ Ok (view x)
-AgreesUnlessDisk view (Err (Refusal refusal)) wanted = wanted ≡ Err refusal
-AgreesUnlessDisk view (Err Disk) wanted = Unit {0}
-AgreesUnlessDisk view (Err Memory) wanted = Unit {0}
+AgreesUnlessDiskOrMemory view (Ok x) wanted = wanted ≡ Ok (view x)
+AgreesUnlessDiskOrMemory view (Err (Refusal refusal)) wanted = wanted ≡ Err refusal
+AgreesUnlessDiskOrMemory view (Err Disk) wanted = Unit {0}
+AgreesUnlessDiskOrMemory view (Err Memory) wanted = Unit {0}
 
 -- why a call ends without a refusal: an I/O error of the tree, or out of memory
 abbrev pub IsDiskOrMemoryFailure : Refused → Type 0

@@ -6,9 +6,9 @@ use Rattle.base_core.specs.declared.cause.Cause.{Cause}
 use Rattle.report_core.specs.declared.refusal.Refusal.{Refusal}
 
 -- a value, or the refusal for an error
-abbrev pub refused_as : {A E : Type 0} → (E → Refusal) → Result A E → Result A Refusal
-refused_as refusal (Ok a) = Ok a
-refused_as refusal (Err e) = Err (refusal e)
+abbrev pub with_error_as_refusal : {A E : Type 0} → (E → Refusal) → Result A E → Result A Refusal
+with_error_as_refusal refusal (Ok a) = Ok a
+with_error_as_refusal refusal (Err e) = Err (refusal e)
 
 -- a value, unless a test failed
 abbrev pub unless_cause : {A : Type 0} → (Cause → Refusal) → Option Cause → A → Result A Refusal

@@ -17,8 +17,11 @@ use Rattle.change_inputs.specs.Chains.{unless_cause}
 -- what is installed: the packages, the bytes of their container, if there is one, and whether they are
 -- from a text database
 pub record Database : Type 0 where
+  -- the installed packages, each as a plain value
   pub packages : List Plain
+  -- the bytes of the container with the packages, if there is one
   pub file : Option (List ℕ)
+  -- whether the packages are from a text database
   pub from_text : Bool
 
 -- a database by its packages, by the bytes of the container, and by whether they are from a text

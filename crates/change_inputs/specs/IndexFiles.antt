@@ -7,7 +7,7 @@ use Rattle.db_core.specs.adb_schema.Soundness.{container_fault_except_contents, 
 use Rattle.adb_view.specs.declared.tables.Which.TheVariants.{Index}
 use Rattle.adb_view.specs.Plain.{Plain}
 
--- the bytes of each of some files
+-- the bytes of each file, in the same order
 abbrev pub bytes_of_each : List (Vec ℕ Global) → List (List ℕ)
 bytes_of_each files = map (λ file. file.items) files
 

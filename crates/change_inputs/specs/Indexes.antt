@@ -10,16 +10,16 @@ use Rattle.report_core.specs.declared.refusal.Refusal.TheVariants.{IndexBad, Ind
 use Rattle.change_inputs.specs.Chains.{and_then, unless_cause}
 
 -- the index file of repository n, or the refusal of an absent one
-abbrev pub index_file : ℕ → Option (List ℕ) → Result (List ℕ) Refusal
-index_file n None = Err (IndexMissing n)
-index_file n (Some file) = Ok file
+abbrev pub file_or_index_missing : ℕ → Option (List ℕ) → Result (List ℕ) Refusal
+file_or_index_missing n None = Err (IndexMissing n)
+file_or_index_missing n (Some file) = Ok file
 
 -- the files of all indexes, or the first that is absent; the first of these repositories has this
 -- number
 abbrev pub index_files_from : ℕ → List (Option (List ℕ)) → Result (List (List ℕ)) Refusal
 index_files_from n [] = Ok []
 index_files_from n (f ∷ found) =
-    and_then (index_file n f) (λ file.
+    and_then (file_or_index_missing n f) (λ file.
     and_then (index_files_from (n + 1) found) (λ files. Ok (file ∷ files)))
 
 -- the value of the index of repository n, or why its file is none

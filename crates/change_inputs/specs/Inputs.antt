@@ -17,11 +17,15 @@ use Rattle.change_inputs.specs.World.{new_world, root_world, found_text_or_empty
 
 -- the contents of a root's files for a command
 pub record Root : Type 0 where
+  -- what is installed
   pub database : Database
   -- the text of world's file, world before the command, and the one that it asks for
   pub world_text : List ℕ
+  -- world before the command
   pub world : List Dependency
+  -- world with the entries that the command adds, and without those that it removes
   pub new_world : List Dependency
+  -- the listed repositories, in the order of the list
   pub repositories : List Repository
 
 -- a root by the contents of its files; the new world is what the command makes of the world
@@ -38,10 +42,10 @@ root_from_parts command database text world repositories = record {
 -- a root, given what is found under the names of the database, the text database, world and the
 -- repositories, or its first refusal; `--initdb`, which `add` alone has, lets a command begin a
 -- database
-abbrev pub root_found :
+abbrev pub root_from_files_found :
     CommandLine → Option (List ℕ) → Option (List ℕ) → Option (List ℕ) → Option (List ℕ)
     → Result Root Refusal
-root_found command file text world_file repositories_file =
+root_from_files_found command file text world_file repositories_file =
     and_then (root_database command.flags.initdb file text) (λ database.
     and_then (root_world (found_text_or_empty world_file)) (λ world.
     and_then
@@ -51,7 +55,9 @@ root_found command file text world_file repositories_file =
 
 -- all that a change reads: the contents of a root's files, and the value of each repository's index
 pub record Inputs : Type 0 where
+  -- what the files of the root say
   pub root : Root
+  -- the value of the index of each repository, in the same order
   pub indexes : List Plain
 
 -- inputs by their two parts
@@ -98,7 +104,7 @@ database_for command read =
 -- a root, given what reads find, for a command
 abbrev pub root_for : CommandLine → Reads → Result Root Refusal
 root_for command read =
-    root_found command (read database_read_number database_name)
+    root_from_files_found command (read database_read_number database_name)
     (read text_database_read_number text_database_name) (read world_read_number world_name)
     (read repositories_read_number repositories_name)
 

@@ -8,8 +8,11 @@ use Rattle.change_inputs.specs.declared.root.RootFiles.{RootFiles}
 
 -- the files of a root are those under their names; the text database is read only if there is no other
 pub record AreRootFilesInTree (history : List TreeState) (files : RootFiles) : Type 0 where
+  -- the database is the file under its name in the tree, or absent there
   pub database : IsFileFoundInTree history database_name (bytes_in files.database)
+  -- without a database, the text database is the file under its name
   pub text_database : bytes_in files.database ≡ None
       → IsFileFoundInTree history text_database_name (bytes_in files.text_database)
+  -- the same for world and for the list of repositories
   pub world : IsFileFoundInTree history world_name (bytes_in files.world)
   pub repositories : IsFileFoundInTree history repositories_name (bytes_in files.repositories)

@@ -7,10 +7,10 @@ use Rattle.command_core.specs.declared.command.Applet.TheVariants.{Add, Del}
 use Rattle.command_core.specs.declared.operands.Operand.{Operand}
 use Rattle.dep_core.specs.Dependency.{Dependency}
 use Rattle.dep_core.specs.Reading.{dependency_of}
-use Rattle.dep_core.specs.World.{with_entry, without_name, world_of}
+use Rattle.dep_core.specs.World.{world_with_dependency_set, world_without_name, world_of}
 use Rattle.report_core.specs.declared.refusal.Refusal.{Refusal}
 use Rattle.report_core.specs.declared.refusal.Refusal.TheVariants.{WorldBad}
-use Rattle.change_inputs.specs.Chains.{refused_as}
+use Rattle.change_inputs.specs.Chains.{with_error_as_refusal}
 
 -- the text of world or of the repositories, given what is found: an absent file counts as empty
 abbrev pub found_text_or_empty : Option (List ℕ) → List ℕ
@@ -18,7 +18,7 @@ found_text_or_empty found = unwrap_or found []
 
 -- world before a command, by the text of its file, or its first bad line
 abbrev pub root_world : List ℕ → Result (List Dependency) Refusal
-root_world text = refused_as WorldBad (world_of text)
+root_world text = with_error_as_refusal WorldBad (world_of text)
 
 -- ---- after the operands
 
@@ -28,7 +28,8 @@ operand_texts operands = map (λ o. o.text) operands
 
 -- world with the dependency of an operand, which replaces the one of its name
 abbrev pub world_with_operand : Operand → List Dependency → List Dependency
-world_with_operand o world = option_map_or (λ d. with_entry d world) (dependency_of o.text) world
+world_with_operand o world =
+    option_map_or (λ d. world_with_dependency_set d world) (dependency_of o.text) world
 
 -- world after each operand of `add` is inserted; of two with one name the later one is kept
 abbrev pub world_with_operands : List Operand → List Dependency → List Dependency
@@ -39,7 +40,7 @@ world_with_operands (o ∷ operands) world = world_with_operands operands (world
 abbrev pub world_without_operands : List Operand → List Dependency → List Dependency
 world_without_operands [] world = world
 world_without_operands (o ∷ operands) world =
-    world_without_operands operands (without_name o.text world)
+    world_without_operands operands (world_without_name o.text world)
 
 -- world after a command: `add` inserts its operands, `del` removes theirs, and the others leave world
 -- as it is

@@ -30,7 +30,8 @@ use v2_core::{V2Fault, read_v2};
 pub(crate) struct DatabaseContainer {
     /// The bytes of the whole file.
     pub(crate) file: Vec<u8>,
-    // No test of the file as a database fails, so its payload is sound too.
+    // The file passes each test of a database, except those of contents of files; its payload
+    // passes each test.
     ghost passed: { is_none (container_fault_except_contents Tables.Idb file.items) ≡ true },
     ghost sound: { is_none (payload_fault Tables.Idb (payload_in file.items)) ≡ true },
 }
@@ -40,18 +41,19 @@ pub(crate) struct DatabaseContainer {
 pub(crate) struct DatabasePayload {
     /// The bytes of the payload, which is in no file.
     pub(crate) payload: Vec<u8>,
-    // No test of the payload as that of a database fails.
+    // The payload passes each test of the payload of a database.
     ghost sound: { is_none (payload_fault Tables.Idb payload.items) ≡ true },
 }
 
 /// The database of a root.
 #[derive(Drop)]
 pub(crate) enum DatabaseFile {
-    /// The database's file exists.
+    /// The root has a database file, which has these bytes.
     Container(DatabaseContainer),
-    /// There is no such file, and a text database is converted.
+    /// The root has no database file. Its text database was converted to this payload.
     Payload(DatabasePayload),
-    /// There is neither, and a database without packages is begun.
+    /// The root has neither a database file nor a text database. A database without packages is
+    /// begun.
     New,
 }
 
@@ -81,7 +83,7 @@ impl DatabaseFile {
         }
     }
 
-    // The database in a container's bytes, which are tested and kept.
+    // The database in the bytes of a container. The bytes are tested as a database, and kept.
     fn in_container(alloc: Global, file: Vec<u8>) -> Result<DatabaseFile, Refused>
         ensures { Agrees database_seen result (container_database file.items) }
     {
@@ -92,7 +94,8 @@ impl DatabaseFile {
         }
     }
 
-    // The database if it has no file: that of a text, or one that is begun.
+    // The database of a root without a database file: the text database if there is one, or a new
+    // one.
     fn taken_over(
         alloc: Global,
         may_begin: bool,
@@ -106,7 +109,7 @@ impl DatabaseFile {
         }
     }
 
-    // The database of a text, which is tested as any other.
+    // The database that a text database is converted to. It is tested as any other database.
     fn in_text(alloc: Global, text: &[u8]) -> Result<DatabaseFile, Refused>
         ensures { Agrees database_seen result (text_database text.now) }
     {
@@ -120,7 +123,7 @@ impl DatabaseFile {
         }
     }
 
-    // A database without packages, if one may be begun.
+    // A database without packages, if `may_begin` is true; otherwise `NoDatabase` is refused.
     fn begun(may_begin: bool) -> Result<DatabaseFile, Refused>
         ensures { Agrees database_seen result (empty_database_if_allowed may_begin) }
     {
@@ -148,12 +151,12 @@ impl DatabaseFile {
     /// `TooMany` if there are more candidates than a pool can have, or `Memory`.
     pub(crate) fn add_to<'a>(&'a self, pool: &mut Pool<'a>) -> Result<(), PoolFault>
         requires { length pool.old ≤ MOST_CANDIDATES }
-        // The pool still has no more than it may.
+        // The pool still has no more candidates than it may have.
         ensures fits { OnOk result (length pool.new ≤ MOST_CANDIDATES) }
-        // It has the installed packages then, each once.
+        // The installed packages are then in the pool: each is marked or appended as a candidate.
         ensures ok { OnOk result (pool.new
             ≡ with_all_installed pool.old (database_seen self.entry.now).packages) }
-        // It is refused only for its count, or if out of memory.
+        // The only errors are too many candidates, and a lack of memory.
         ensures fault { IfErr result (λ fault. IsPoolFault fault (length
             (with_all_installed pool.old (database_seen self.entry.now).packages))) }
     {
@@ -217,12 +220,12 @@ fn add_packages<'a>(
     packages: &List<'a, PackageView<'a>>,
 ) -> Result<(), PoolFault>
     requires { length pool.old ≤ MOST_CANDIDATES }
-    // The pool still has no more than it may.
+    // The pool still has no more candidates than it may have.
     ensures fits { OnOk result (length pool.new ≤ MOST_CANDIDATES) }
     // It has these packages then, each once.
     ensures ok { OnOk result (pool.new
         ≡ with_all_installed pool.old (list_of (entries_in (list_value packages.now)))) }
-    // It is refused only for its count, or if out of memory.
+    // The only errors are too many candidates, and a lack of memory.
     ensures fault { IfErr result (λ fault. IsPoolFault fault (length
         (with_all_installed pool.old (list_of (entries_in (list_value packages.now)))))) }
 {

@@ -2,7 +2,7 @@
 //! tested. The rules are in `docs/commands.md`, "`add` and `del`" (what is read and refused), and
 //! in `docs/formats.md`, "Repositories".
 
-ghost use Rattle.db_core.specs.adb_schema.Texts.{text_fault};
+ghost use Rattle.db_core.specs.adb_schema.Texts.{text_or_number_fault};
 ghost use Rattle.db_core.specs.adb_schema.Soundness.{root_value};
 ghost use Rattle.db_core.specs.adb_schema.Views.{index_value};
 ghost use Rattle.adb_view.specs.Values.{is_sound};
@@ -10,11 +10,11 @@ ghost use Rattle.adb_view.specs.declared.tables.Kind.TheVariants as Kinds;
 ghost use Rattle.adb_view.specs.declared.tables.Which.TheVariants as Tables;
 ghost use Rattle.adb_view.specs.Head.{payload_head_fault, root_word_of_payload};
 ghost use Rattle.base_core.specs.Read.{OnlyReads, bytes_in};
-ghost use Rattle.change_inputs.specs.Answers.{Agrees, AgreesUnlessDisk, AreFilesFoundInTree, IsFileFoundInTree};
+ghost use Rattle.change_inputs.specs.Answers.{Agrees, AgreesUnlessDiskOrMemory, AreFilesFoundInTree, IsFileFoundInTree};
 ghost use Rattle.change_inputs.specs.IndexFiles.{are_indexes, bytes_of_each, index_of_file, is_index};
-ghost use Rattle.change_inputs.specs.Indexes.{index_file, index_files_from, index_in_file, indexes_in_files};
+ghost use Rattle.change_inputs.specs.Indexes.{file_or_index_missing, index_files_from, index_in_file, indexes_in_files};
 ghost use Rattle.std.specs.Prelude.{◌≡◌, ◌<◌, ◌++◌, ◌∷◌, [], true, ℕ, List, Option, Some, IfOk, OnOk, is_none, length, slice_get};
-ghost use Rattle.change_inputs.specs.Repositories.{if_untrusted_allowed, root_repositories};
+ghost use Rattle.change_inputs.specs.Repositories.{repositories_if_untrusted_allowed, root_repositories};
 ghost use Rattle.change_inputs.specs.World.{found_text_or_empty};
 
 use crate::root::{Refused, read_file, test_file};
@@ -31,7 +31,7 @@ use std::alloc::{AllocError, Global};
 pub(crate) struct IndexFiles {
     /// The bytes of each file, in the order of the repositories.
     pub(crate) files: Vec<Vec<u8>>,
-    // No test of a file as an index fails.
+    // Each file passes each test of an index.
     ghost sound: { are_indexes (bytes_of_each files.items) ≡ true },
 }
 
@@ -77,7 +77,8 @@ fn open_payload(payload: &[u8]) -> IndexView<'_>
     requires head { is_none (payload_head_fault payload.now) ≡ true }
     requires sound { is_sound payload.now (Kinds.Obj Tables.Index)
         (root_word_of_payload payload.now) ≡ true }
-    requires texts { is_none (text_fault Tables.Index (root_value Tables.Index payload.now))
+    requires texts { is_none (text_or_number_fault Tables.Index
+        (root_value Tables.Index payload.now))
         ≡ true }
     ensures { index_value result ≡ root_value Tables.Index payload.now }
 {
@@ -97,7 +98,8 @@ pub(crate) fn read_index_files<T: Tree>(
     // first absent one is refused.
     ensures found { (found : List (Option (List ℕ)))
         × AreFilesFoundInTree (T.history tree.old) repositories.now found
-        × AgreesUnlessDisk (λ files. bytes_of_each files.items) result (index_files_from 1 found) }
+        × AgreesUnlessDiskOrMemory (λ files. bytes_of_each files.items) result
+        (index_files_from 1 found) }
     // There is one file for each repository.
     ensures count { IfOk result (λ files. length files.items ≡ length repositories.now) }
     // The tree is only read, and `Disk` has a counted fault of the tree as its cause.
@@ -112,7 +114,7 @@ pub(crate) fn read_index_files<T: Tree>(
     Ok(files)
 }
 
-// Adds a file's bytes after those of the earlier repositories.
+// Appends the bytes of an index to those of the earlier repositories.
 fn push_file(files: &mut Vec<Vec<u8>>, file: Vec<u8>) -> Result<(), AllocError>
     ensures { OnOk result (bytes_of_each files.new.items
         ≡ bytes_of_each files.old.items ++ file.items ∷ []) }
@@ -128,9 +130,11 @@ fn read_index_file<T: Tree>(
     path: &Name,
     tree: &mut T,
 ) -> Result<Vec<u8>, Refused>
+    // The result is that of the file which is found under the path.
     ensures found { (found : Option (List ℕ))
         × IsFileFoundInTree (T.history tree.old) path.now found
-        × AgreesUnlessDisk (λ file. file.items) result (index_file number found) }
+        × AgreesUnlessDiskOrMemory (λ file. file.items) result
+        (file_or_index_missing number found) }
     ensures tree { OnlyReads Refused.Disk (T.history tree.old) (T.history tree.new)
         (T.counts tree.old) (T.counts tree.new) result }
 {
@@ -172,16 +176,19 @@ pub(crate) fn repositories_of(
 {
     let text = found_text_or_empty(alloc, found);
     match Repos::read(alloc, &text) {
-        Ok(repositories) => if_untrusted_allowed(is_allowed, repositories),
+        Ok(repositories) => repositories_if_untrusted_allowed(is_allowed, repositories),
         Err(ReposFault::Bad { line }) => Err(Refused::Refusal(Refusal::RepositoriesBad { line })),
         Err(ReposFault::Memory) => Err(Refused::Memory),
     }
 }
 
 // Refuses repositories that may not be read, if there are any.
-fn if_untrusted_allowed(is_allowed: bool, repositories: Repos) -> Result<Repos, Refused>
+fn repositories_if_untrusted_allowed(
+    is_allowed: bool,
+    repositories: Repos,
+) -> Result<Repos, Refused>
     ensures { Agrees (λ repositories. repositories) result
-        (if_untrusted_allowed is_allowed repositories) }
+        (repositories_if_untrusted_allowed is_allowed repositories) }
 {
     if !is_allowed && !repositories.is_empty() {
         return Err(Refused::Refusal(Refusal::Untrusted));

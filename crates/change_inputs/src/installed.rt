@@ -1,7 +1,7 @@
 //! The database of a root alone, as `info` reads it. The rules are in `docs/commands.md`,
 //! "`info`" and "A root of version 2".
 ghost use Rattle.base_core.specs.Read.{OnlyReads};
-ghost use Rattle.change_inputs.specs.Answers.{AgreesUnlessDisk};
+ghost use Rattle.change_inputs.specs.Answers.{AgreesUnlessDiskOrMemory};
 ghost use Rattle.change_inputs.specs.Inputs.{database_for};
 ghost use Rattle.change_inputs.specs.Seen.{installed_seen};
 ghost use Rattle.db_core.specs.Seen.{packages_of};
@@ -18,7 +18,7 @@ use std::alloc::{AllocError, Global};
 /// The database of a root, which passed its tests. Its bytes are kept.
 #[derive(Drop)]
 pub struct Installed {
-    /// The database, or that one is begun.
+    /// The database of the root, or the mark that the command begins a new one.
     database: DatabaseFile,
 }
 
@@ -39,7 +39,7 @@ impl Installed {
         // The result is that of some contents at each read: of the tree's, if its files are
         // observable.
         ensures found { IsExplainedBySomeReads (T.history tree.old) (λ read.
-            AgreesUnlessDisk installed_seen result (database_for command.now read)) }
+            AgreesUnlessDiskOrMemory installed_seen result (database_for command.now read)) }
         // The tree is only read; a fault of it has its cause.
         ensures tree { OnlyReads Refused.Disk (T.history tree.old) (T.history tree.new)
             (T.counts tree.old) (T.counts tree.new) result }

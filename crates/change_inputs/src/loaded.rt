@@ -2,7 +2,7 @@
 //! `docs/commands.md`, "`add` and `del`": what is read, and the refusals in their order; of the
 //! candidates in `docs/selection.md`, "What there is to choose from".
 ghost use Rattle.base_core.specs.Read.{OnlyReads};
-ghost use Rattle.change_inputs.specs.Answers.{Agrees, AgreesUnlessDisk};
+ghost use Rattle.change_inputs.specs.Answers.{Agrees, AgreesUnlessDiskOrMemory};
 ghost use Rattle.change_inputs.specs.Candidates.{candidates_of_repositories_from, candidates_of, root_pool};
 ghost use Rattle.change_inputs.specs.Inputs.{inputs_of};
 ghost use Rattle.change_inputs.specs.RootFiles.{AreRootFilesInTree};
@@ -51,7 +51,7 @@ impl Loaded {
         // The inputs are those of some contents at each read: of the tree's, if its files are
         // observable.
         ensures found { IsExplainedBySomeReads (T.history tree.old) (λ read.
-            AgreesUnlessDisk inputs_seen result (inputs_of command.now read)) }
+            AgreesUnlessDiskOrMemory inputs_seen result (inputs_of command.now read)) }
         // The tree is only read; a fault of it has its cause.
         ensures tree { OnlyReads Refused.Disk (T.history tree.old) (T.history tree.new)
             (T.counts tree.old) (T.counts tree.new) result }
@@ -71,7 +71,7 @@ impl Loaded {
     ) -> Result<Loaded, Refused>
         requires { AreRootFilesInTree (T.history tree.old) files }
         ensures found { IsExplainedBySomeReads (T.history tree.old) (λ read.
-            AgreesUnlessDisk inputs_seen result (inputs_of command.now read)) }
+            AgreesUnlessDiskOrMemory inputs_seen result (inputs_of command.now read)) }
         ensures tree { OnlyReads Refused.Disk (T.history tree.old) (T.history tree.new)
             (T.counts tree.old) (T.counts tree.new) result }
     {
@@ -117,7 +117,7 @@ impl Loaded {
         &self.root.worlds.before
     }
 
-    /// World as the command asks for it.
+    /// World after the command has added or removed its entries.
     pub fn new_world(&self) -> &World
         ensures { result.now ≡ (inputs_seen self.now).root.new_world }
     {
@@ -174,6 +174,7 @@ impl Loaded {
         ensures ok { OnOk result (pool.new
             ≡ candidates_of_repositories_from 1 self.entry.now.root.repositories
             (indexes_seen self.entry.now.indexes)) }
+        // Too many candidates are refused by the number that the list would have.
         ensures fault { IfErr result (λ fault. IsPoolFault fault (length
             (candidates_of_repositories_from 1 self.entry.now.root.repositories
             (indexes_seen self.entry.now.indexes)))) }

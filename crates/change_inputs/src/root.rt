@@ -4,7 +4,7 @@
 
 ghost use Rattle.base_core.specs.Read.{OnlyReads, bytes_in};
 ghost use Rattle.change_inputs.specs.Answers.{Agrees, IsDiskOrMemoryFailure, IsFileFoundInTree};
-ghost use Rattle.change_inputs.specs.Inputs.{root_found, Inputs, first_index_read_number, inputs_of};
+ghost use Rattle.change_inputs.specs.Inputs.{root_from_files_found, Inputs, first_index_read_number, inputs_of};
 ghost use Rattle.change_inputs.specs.RootFiles.{AreRootFilesInTree};
 ghost use Rattle.change_inputs.specs.Seen.{root_seen};
 ghost use Rattle.root_names.specs.RootNames.{database_name, text_database_name};
@@ -44,7 +44,7 @@ pub(crate) struct RootFiles {
 pub(crate) struct TestedRoot {
     /// What is installed before the command.
     pub(crate) database: DatabaseFile,
-    /// World before the command, and the one that it asks for.
+    /// World before the command, and world after the command has added or removed its entries.
     pub(crate) worlds: Worlds,
     /// The repositories that may be read.
     pub(crate) repositories: Repos,
@@ -114,7 +114,7 @@ pub(crate) fn test_root(
     command: &Command,
     files: RootFiles,
 ) -> Result<TestedRoot, Refused>
-    ensures { Agrees root_seen result (root_found command.now (bytes_in files.database)
+    ensures { Agrees root_seen result (root_from_files_found command.now (bytes_in files.database)
         (bytes_in files.text_database) (bytes_in files.world) (bytes_in files.repositories)) }
 {
     let RootFiles {

@@ -23,9 +23,9 @@ const MOST_TEXTS: usize = 4294967294;
 pub(crate) struct Worlds {
     /// The text of world's file, and nothing if it is absent.
     pub(crate) text: Vec<u8>,
-    /// World by the text.
+    /// The entries of world before the command, as the text has them.
     pub(crate) before: World,
-    /// World as the command changes it.
+    /// The entries of world after the command has added or removed some.
     pub(crate) after: World,
 }
 
@@ -45,7 +45,7 @@ pub(crate) fn worlds_of(
     // The file's text is kept: with it a change finds out whether world differs.
     ensures text { IfOk result (λ worlds. worlds.text.items
         ≡ found_text_or_empty (bytes_in found)) }
-    // World after is what the command makes of it.
+    // World after the command is the definition *new_world* of world before.
     ensures after { IfOk result (λ worlds.
         worlds.after ≡ new_world command.now.applet command.now.operands worlds.before) }
 {
@@ -60,7 +60,8 @@ pub(crate) fn worlds_of(
     })
 }
 
-/// The bytes of world's file or of the repositories'; one that is absent counts as empty.
+/// The bytes of world's file, or of the list of repositories. A file that is absent counts as
+/// empty.
 pub(crate) fn found_text_or_empty(alloc: Global, found: Option<Vec<u8>>) -> Vec<u8>
     ensures { result.items ≡ found_text_or_empty (bytes_in found) }
 {
@@ -70,7 +71,7 @@ pub(crate) fn found_text_or_empty(alloc: Global, found: Option<Vec<u8>>) -> Vec<
     }
 }
 
-// World as a text says it, or its first bad line.
+// The entries of world that a text has, or the number of its first bad line.
 fn read_world(alloc: Global, text: &[u8]) -> Result<World, Refused>
     ensures { Agrees (λ world. world) result (root_world text.now) }
 {

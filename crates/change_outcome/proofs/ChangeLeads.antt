@@ -11,21 +11,21 @@ use Rattle.base_core.proofs.Rising.{IsIn}
 use Rattle.base_core.proofs.Listed.{in_both}
 use Rattle.base_core.proofs.AtName.{name_cases}
 use Rattle.package_changes.specs.change_files.FileChange.{FileChange}
-use Rattle.package_changes.specs.change_files.FilesAfter.{DatabaseAndWorldAfter, bytes_after, files_after_change, database_name, is_removed, is_written, text_database_name, world_bytes_after, world_name, listing_written_under_name}
-use Rattle.package_changes.specs.change_files.Touched.{is_record_name}
+use Rattle.package_changes.specs.change_files.FilesAfter.{DatabaseAndWorldAfter, bytes_after_write_or_removal, files_after_change, database_name, is_removed, is_written, text_database_name, world_bytes_after, world_name, listing_written_under_name}
+use Rattle.package_changes.specs.change_files.Touched.{is_database_or_world_name}
 use Rattle.package_changes.proofs.change_files.InOrder.{in_left, in_right}
 use Rattle.package_changes.proofs.change_files.RecordNames.{database_after, no_text_after, world_after}
 use Rattle.package_changes.proofs.change_files.Reserved.{records_reserved}
 use Rattle.package_changes.proofs.change_files.Untouched.{changed_so, is_gone, takes_its_path, not_some}
 use Rattle.change_inputs.specs.Inputs.{Inputs}
 use Rattle.change_inputs.specs.World.{found_text_or_empty}
-use Rattle.change_outcome.specs.ChangeOutcome.{intent_of_change, has_actions, is_absent_or_different, name_if_needed, new_records, names_of_written_database_and_world}
+use Rattle.change_outcome.specs.ChangeOutcome.{intent_of_change, has_actions, is_absent_or_different, name_if_needed, database_and_world_after_change, names_of_written_database_and_world}
 use Rattle.db_write.specs.db_core.Members.{Listing}
-use Rattle.journal_core.specs.Staged.{IsEmptyStage}
+use Rattle.journal_core.specs.Staged.{HasNoStagedNames}
 use Rattle.journal_core.specs.journal_intent.FreeNames.{IsNoneOf, IsOneOf}
 use Rattle.journal_core.specs.journal_intent.Intent.{Intent}
 use Rattle.change_outcome.specs.Leading.{ActionsLeadToFiles}
-use Rattle.change_outcome.specs.Premises.{HasNoReservedPath, IsRootOfFiles}
+use Rattle.change_outcome.specs.Premises.{HasNoReservedPath, AreDatabaseAndWorldReadFromFiles}
 use Rattle.change_outcome.proofs.ActionNames.{free_names, from_removals, from_writes, if_needed, needed, none_removed, none_written, removed_free, written_free}
 
 some_there : (o : Option (List ℕ)) (bytes : List ℕ) → o ≡ Some bytes → IsSome o
@@ -49,9 +49,9 @@ other_world None [] text is other = absurd (true≢false (sym other ∙ ap (λ (
 other_world None (b ∷ world) text is other = inl (λ e. cc (e))
 other_world (Some old) world text is other = inr refl
 
-module _ (inputs : Inputs) (change : FileChange) (bytes_of : Listing → List ℕ) (database : List ℕ) (files : Files) (root : IsRootOfFiles files inputs.root) where
+module _ (inputs : Inputs) (change : FileChange) (bytes_of : Listing → List ℕ) (database : List ℕ) (files : Files) (root : AreDatabaseAndWorldReadFromFiles files inputs.root) where
   abbrev records : DatabaseAndWorldAfter
-  records = new_records inputs database
+  records = database_and_world_after_change inputs database
 
   abbrev actions : Intent
   actions = intent_of_change inputs change files records
@@ -87,13 +87,13 @@ module _ (inputs : Inputs) (change : FileChange) (bytes_of : Listing → List �
       same true e = refl
       same false e = absurd (none (in_right q database_write world_write (if_needed (not (bytes_eq inputs.root.world_text records.world)) world_name q is (ap not e))))
 
-  kept_other : (q : List ℕ) → is_record_name records q ≡ false → is_written change files q ≡ false → is_removed change files q ≡ false → after q ≡ files q
+  kept_other : (q : List ℕ) → is_database_or_world_name records q ≡ false → is_written change files q ≡ false → is_removed change files q ≡ false → after q ≡ files q
   kept_other q other unwritten stays =
       changed_so change bytes_of records files q other
-      ∙ (ap (λ (o : Option Listing). bytes_after bytes_of o (is_removed change files q) (files q)) (not_some (listing_written_under_name change files q) unwritten)
-      ∙ ap (λ (b : Bool). bytes_after bytes_of None b (files q)) stays)
+      ∙ (ap (λ (o : Option Listing). bytes_after_write_or_removal bytes_of o (is_removed change files q) (files q)) (not_some (listing_written_under_name change files q) unwritten)
+      ∙ ap (λ (b : Bool). bytes_after_write_or_removal bytes_of None b (files q)) stays)
 
-  kept_by : (q : List ℕ) → (q ≡ text_database_name → records.takes_text_over ≡ true → ⊥) → bytes_eq q database_name ≡ false → bytes_eq q world_name ≡ false → is_record_name records q ≡ false
+  kept_by : (q : List ℕ) → (q ≡ text_database_name → records.takes_text_over ≡ true → ⊥) → bytes_eq q database_name ≡ false → bytes_eq q world_name ≡ false → is_database_or_world_name records q ≡ false
   kept_by q no_text database world =
       or_from (bytes_eq q database_name) (bytes_eq q world_name || (records.takes_text_over && bytes_eq q text_database_name)) database
       (or_from (bytes_eq q world_name) (records.takes_text_over && bytes_eq q text_database_name) world
@@ -124,8 +124,8 @@ module _ (inputs : Inputs) (change : FileChange) (bytes_of : Listing → List �
       keeps q (ap (λ (names : List (List ℕ)). list_any (bytes_eq q) names) (no_names actions.removals parts.0)) (ap (λ (names : List (List ℕ)). list_any (bytes_eq q) names) (no_names actions.writes parts.1)) i
 
   module _ (free : HasNoReservedPath change) where
-    unreserved_no_record : (q : List ℕ) → is_reserved q ≡ false → is_record_name records q ≡ false
-    unreserved_no_record q unreserved = false_from_ne_true (is_record_name records q) (λ is. true≢false (sym (records_reserved records q is) ∙ unreserved))
+    unreserved_no_record : (q : List ℕ) → is_reserved q ≡ false → is_database_or_world_name records q ≡ false
+    unreserved_no_record q unreserved = false_from_ne_true (is_database_or_world_name records q) (λ is. true≢false (sym (records_reserved records q is) ∙ unreserved))
 
     -- ---- what is written is there
 
@@ -157,7 +157,7 @@ module _ (inputs : Inputs) (change : FileChange) (bytes_of : Listing → List �
           | inr text ↦ ap after text.0 ∙ no_text_after change bytes_of records files text.1
         ]
 
-    pub leads : IsEmptyStage files → length actions.writes < 2 ^ 63 → ActionsLeadToFiles actions.removals actions.writes files after
+    pub leads : HasNoStagedNames files → length actions.writes < 2 ^ 63 → ActionsLeadToFiles actions.removals actions.writes files after
     leads empty few = record {
       free = free_names inputs change files records free;
       few = few;

@@ -15,7 +15,7 @@ use Rattle.package_changes.proofs.change_files.InOrder.{order_rises}
 use Rattle.package_changes.proofs.change_files.Lists.{any_name}
 use Rattle.change_inputs.specs.Inputs.{Inputs}
 use Rattle.change_outcome.specs.ChangeOutcome.{intent_of_change}
-use Rattle.journal_core.specs.journal_intent.Intent.{AreChangeNames, Intent}
+use Rattle.journal_core.specs.journal_intent.Intent.{AreDistinctNamesAllowedInIntent, Intent}
 use Rattle.change_outcome.specs.Premises.{HasNoReservedPath}
 use Rattle.change_outcome.proofs.ActionNames.{never_both, removal_outside, write_outside}
 
@@ -78,7 +78,7 @@ module _ (inputs : Inputs) (change : FileChange) (files : Files) (records : Data
           | inr wrote ↦ both_true (is_name q) (is_intent_or_stage_name q) (in_all IsName actions.writes writes_named q wrote) (write_outside inputs change files records free q (any_name q actions.writes wrote))
         ]
 
-    pub change_names : AreChangeNames (actions.removals ++ actions.writes)
+    pub change_names : AreDistinctNamesAllowedInIntent (actions.removals ++ actions.writes)
     change_names = record {
       each = all_by (λ name. is_name_allowed_in_intent name ≡ true) (actions.removals ++ actions.writes) one_change_name;
       once = pairs_apart (actions.removals ++ actions.writes)

@@ -4,7 +4,7 @@ use Rattle.std.specs.Str.{bytes_eq}
 use Rattle.std.specs.List.{list_any}
 use Rattle.base_core.specs.Files.{Files, drop_name, put_name}
 use Rattle.base_core.proofs.AtName.{name_cases, off_name}
-use Rattle.journal_core.specs.Recovery.{files_after_actions, files_after_moves, is_staged, move_if_present, stage_name, without_names}
+use Rattle.journal_core.specs.Recovery.{files_after_actions, files_after_staged_moves_from, is_staged, move_if_present, stage_name, files_without_names}
 use Rattle.journal_core.specs.Staged.{files_with_staged}
 use Rattle.journal_core.proofs.Acts.{dropped_none}
 use Rattle.journal_core.proofs.journal_intent.AtName.{drop_name-at, put_name-off}
@@ -49,7 +49,7 @@ moved_away : (F : Files) (place name q : List ℕ) (o : Option (List ℕ)) → q
 moved_away F place name q None off is at = at
 moved_away F place name q (Some bytes) off is at = put_name-off (drop_name F place) name bytes q off ∙ drop_name-at F place q is
 
-pub moves_empty : (names : List (List ℕ)) (k : ℕ) (F : Files) (q : List ℕ) → is_staged q ≡ true → AreFreeNames names → (F q ≡ None) ⊎ WaitsAmong k (length names) q → files_after_moves k names F q ≡ None
+pub moves_empty : (names : List (List ℕ)) (k : ℕ) (F : Files) (q : List ℕ) → is_staged q ≡ true → AreFreeNames names → (F q ≡ None) ⊎ WaitsAmong k (length names) q → files_after_staged_moves_from k names F q ≡ None
 moves_empty [] k F q staged free (inl none) = none
 moves_empty [] k F q staged free (inr (i, less, is)) = absurd (omega (arith, less))
 moves_empty (name ∷ names) k F q staged free where_it_is =
@@ -67,15 +67,15 @@ moves_empty (name ∷ names) k F q staged free where_it_is =
 pub acted_empty : (removals writes contents : List (List ℕ)) (base : Files) (q : List ℕ) → HasFreeDistinctNames (intent_of_lists removals writes) → length contents ≡ length writes → is_staged q ≡ true → base q ≡ None
     → files_after_actions (intent_of_lists removals writes) (files_with_staged 1 contents base) q ≡ None
 acted_empty removals writes contents base q free count staged none =
-    moves_empty writes 1 (without_names removals (files_with_staged 1 contents base)) q staged free.writes (before (staged_where contents 1 base q none))
+    moves_empty writes 1 (files_without_names removals (files_with_staged 1 contents base)) q staged free.writes (before (staged_where contents 1 base q none))
   where
-    kept : files_with_staged 1 contents base q ≡ None → without_names removals (files_with_staged 1 contents base) q ≡ None
+    kept : files_with_staged 1 contents base q ≡ None → files_without_names removals (files_with_staged 1 contents base) q ≡ None
     kept absent = by_test (list_any (bytes_eq q) removals)
       where
         by_test : (b : Bool) → cond b None (files_with_staged 1 contents base q) ≡ None
         by_test true = refl
         by_test false = absent
 
-    before : (files_with_staged 1 contents base q ≡ None) ⊎ WaitsAmong 1 (length contents) q → (without_names removals (files_with_staged 1 contents base) q ≡ None) ⊎ WaitsAmong 1 (length writes) q
+    before : (files_with_staged 1 contents base q ≡ None) ⊎ WaitsAmong 1 (length contents) q → (files_without_names removals (files_with_staged 1 contents base) q ≡ None) ⊎ WaitsAmong 1 (length writes) q
     before (inl absent) = inl (kept absent)
     before (inr (i, less, is)) = inr (i, omega (arith, less, count), is)

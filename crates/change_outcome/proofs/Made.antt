@@ -7,7 +7,7 @@ use Rattle.package_changes.specs.change_files.NamesAfter.{name_change}
 use Rattle.package_changes.specs.change_files.PlanLists.{first_reserved_path}
 use Rattle.change_inputs.specs.Chains.{and_then}
 use Rattle.change_inputs.specs.Inputs.{Inputs}
-use Rattle.change_outcome.specs.ChangeOutcome.{ChangeDone, ChangeWishes, IsClashFound, IsClashOfChange, intent_of_change, change_done, members_after_change, change_or_refusal, change_with_members, file_change, new_records, touched_paths, unless_clash, unless_contested, or_result_too_large, unless_overflow, unless_reserved_path, unless_too_large}
+use Rattle.change_outcome.specs.ChangeOutcome.{ChangeDone, ChangeWishes, IsClashFound, IsClashOfChange, intent_of_change, change_done, members_after_change, change_or_refusal, change_with_members, file_change, database_and_world_after_change, touched_paths, unless_clash, unless_contested, or_result_too_large, unless_overflow, unless_reserved_path, change_done_unless_too_large}
 use Rattle.change_outcome.specs.MembersAfter.{MemberFound}
 use Rattle.change_outcome.specs.Triggers.{unless_trigger_due}
 use Rattle.db_write.specs.db_core.Members.{Member}
@@ -24,7 +24,7 @@ use Rattle.package_changes.specs.path_clashes.FirstClash.{IsFirstClashOrNone}
 use Rattle.package_changes.proofs.path_clashes.OneFirst.{one_first}
 use Rattle.report_core.specs.declared.refusal.Refusal.{Refusal}
 use Rattle.change_outcome.specs.Made.{IsChangeMade}
-use Rattle.change_outcome.specs.Premises.{IsRootOfFiles}
+use Rattle.change_outcome.specs.Premises.{AreDatabaseAndWorldReadFromFiles}
 use Rattle.change_outcome.proofs.ChangeLeads.{does_nothing}
 use Rattle.change_outcome.proofs.ClashExists.{clash_exists}
 use Rattle.change_outcome.proofs.Room.{no_intent, room}
@@ -60,17 +60,17 @@ module _ (inputs : Inputs) (r : Replacement) (wishes : ChangeWishes) (read : Rea
   with_found found are e =
       let change : FileChange = file_change inputs wishes found in
       let reserved = unreserved_ok (first_reserved_path change.members) (unless_clash clash (unless_contested change.members (first_contested_path_of_members change.members)
-      (and_then (unless_trigger_due wishes.no_scripts (touched_paths change files) change.members) (λ is_allowed. unless_too_large inputs r wishes found files)))) done e in
+      (and_then (unless_trigger_due wishes.no_scripts (touched_paths change files) change.members) (λ is_allowed. change_done_unless_too_large inputs r wishes found files)))) done e in
       let clashes = no_clash_ok clash (unless_contested change.members (first_contested_path_of_members change.members)
-      (and_then (unless_trigger_due wishes.no_scripts (touched_paths change files) change.members) (λ is_allowed. unless_too_large inputs r wishes found files))) done reserved.1 in
+      (and_then (unless_trigger_due wishes.no_scripts (touched_paths change files) change.members) (λ is_allowed. change_done_unless_too_large inputs r wishes found files))) done reserved.1 in
       let contested = uncontested_ok change.members (first_contested_path_of_members change.members)
-      (and_then (unless_trigger_due wishes.no_scripts (touched_paths change files) change.members) (λ is_allowed. unless_too_large inputs r wishes found files)) done clashes.1 in
-      let triggers = and_then_ok (unless_trigger_due wishes.no_scripts (touched_paths change files) change.members) (λ is_allowed. unless_too_large inputs r wishes found files) done contested.1 in
+      (and_then (unless_trigger_due wishes.no_scripts (touched_paths change files) change.members) (λ is_allowed. change_done_unless_too_large inputs r wishes found files)) done clashes.1 in
+      let triggers = and_then_ok (unless_trigger_due wishes.no_scripts (touched_paths change files) change.members) (λ is_allowed. change_done_unless_too_large inputs r wishes found files) done contested.1 in
       let large = and_then_ok (or_result_too_large (database_of change.members (owned_flags_of change.members))) (λ database.
-      unless_overflow (overflow_of (value_of_intent (intent_of_change inputs change files (new_records inputs database))))
-      (change_done inputs r wishes found files (new_records inputs database))) done triggers.2 in
-      let over = overflow_ok (overflow_of (value_of_intent (intent_of_change inputs change files (new_records inputs large.0))))
-      (change_done inputs r wishes found files (new_records inputs large.0)) done large.2 in
+      unless_overflow (overflow_of (value_of_intent (intent_of_change inputs change files (database_and_world_after_change inputs database))))
+      (change_done inputs r wishes found files (database_and_world_after_change inputs database))) done triggers.2 in
+      let over = overflow_ok (overflow_of (value_of_intent (intent_of_change inputs change files (database_and_world_after_change inputs large.0))))
+      (change_done inputs r wishes found files (database_and_world_after_change inputs large.0)) done large.2 in
       record {
         found = found;
         members = are;
@@ -89,7 +89,7 @@ module _ (inputs : Inputs) (r : Replacement) (wishes : ChangeWishes) (read : Rea
       let found = and_then_ok (members_after_change inputs r wishes read) (change_with_members inputs r wishes clash files) done e in
       with_found found.0 found.1 found.2
 
-  pub leaves_files : IsChangeMade inputs r wishes read clash files done → IsRootOfFiles files inputs.root → done.commits ≡ false → done.files ≡ files
+  pub leaves_files : IsChangeMade inputs r wishes read clash files done → AreDatabaseAndWorldReadFromFiles files inputs.root → done.commits ≡ false → done.files ≡ files
   leaves_files m root nothing =
       ap (λ (d : ChangeDone). d.files) m.is
       ∙ does_nothing inputs (file_change inputs wishes m.found) _ m.database files root (sym (ap (λ (d : ChangeDone). d.commits) m.is) ∙ nothing)
@@ -102,12 +102,12 @@ module _ (inputs : Inputs) (r : Replacement) (wishes : ChangeWishes) (read : Rea
   pub keeps_room : IsChangeMade inputs r wishes read clash files done → IsClashOfChange inputs r wishes read files clash → AreStagingPathsFree files → AreStagingPathsFree done.files
   keeps_room m clashes stage =
       subst (λ (d : ChangeDone). AreStagingPathsFree d.files) (sym m.is)
-      (room (file_change inputs wishes m.found) _ (new_records inputs m.database) files m.unreserved stage (no_clash_found m clashes))
+      (room (file_change inputs wishes m.found) _ (database_and_world_after_change inputs m.database) files m.unreserved stage (no_clash_found m clashes))
 
   pub brings_no_intent : IsChangeMade inputs r wishes read clash files done → files intent_name ≡ None → done.files intent_name ≡ None
   brings_no_intent m absent =
       ap (λ (d : ChangeDone). d.files intent_name) m.is
-      ∙ no_intent (file_change inputs wishes m.found) _ (new_records inputs m.database) files m.unreserved absent
+      ∙ no_intent (file_change inputs wishes m.found) _ (database_and_world_after_change inputs m.database) files m.unreserved absent
 
 -- ---- the first clash
 

@@ -6,7 +6,7 @@ use Rattle.base_core.specs.Files.{Files}
 use Rattle.base_core.specs.declared.cause.Cause.{Cause}
 use Rattle.change_inputs.specs.Chains.{and_then, unless_cause}
 use Rattle.change_inputs.specs.Database.{Database, payload_database, root_database}
-use Rattle.change_inputs.specs.Inputs.{Inputs, Root, database_read_number, indexes_of, inputs_from_parts, inputs_of, repositories_read_number, root_from_parts, root_found, root_for, text_database_read_number, world_read_number}
+use Rattle.change_inputs.specs.Inputs.{Inputs, Root, database_read_number, indexes_of, inputs_from_parts, inputs_of, repositories_read_number, root_from_parts, root_from_files_found, root_for, text_database_read_number, world_read_number}
 use Rattle.change_inputs.specs.Repositories.{root_repositories}
 use Rattle.change_inputs.specs.World.{root_world, found_text_or_empty}
 use Rattle.command_core.specs.Command.{CommandLine}
@@ -19,7 +19,7 @@ use Rattle.root_names.specs.RootNames.{database_name, repositories_name, text_da
 use Rattle.change_inputs.specs.v2_core.Payload.{payload_of_text}
 use Rattle.change_inputs.specs.v2_core.declared.read.V2Fault.{V2Fault}
 use Rattle.change_inputs.specs.v2_core.declared.read.V2Fault.TheVariants.{Bad, Memory, TooLarge}
-use Rattle.change_outcome.specs.Premises.{IsRootOfFiles}
+use Rattle.change_outcome.specs.Premises.{AreDatabaseAndWorldReadFromFiles}
 use Rattle.change_outcome.proofs.Made.{and_then_ok}
 
 container_file : (fault : Option Cause) (file : List ℕ) (d database : Database) → d.file ≡ Some file → unless_cause DatabaseBad fault d ≡ Ok database → database.file ≡ Some file
@@ -44,7 +44,7 @@ database_file may_begin None (Some text) database e = payload_file (payload_of_t
 database_file true None None database e = one_file _ database e
 database_file false None None database e = absurd (cc (e))
 
-module _ (command : CommandLine) (file text world_file repositories_file : Option (List ℕ)) (root : Root) (e : root_found command file text world_file repositories_file ≡ Ok root) where
+module _ (command : CommandLine) (file text world_file repositories_file : Option (List ℕ)) (root : Root) (e : root_from_files_found command file text world_file repositories_file ≡ Ok root) where
   pub root_records : (root.database.file ≡ file) × (root.world_text ≡ found_text_or_empty world_file)
   root_records =
       let after_database : Database → Result Root Refusal = λ database.
@@ -63,7 +63,7 @@ module _ (command : CommandLine) (file text world_file repositories_file : Optio
         ap (λ (x : Root). x.world_text) (sym same),
       )
 
-pub root_read : (command : CommandLine) (read : Reads) (inputs : Inputs) (files : Files) → ((n : ℕ) (name : List ℕ) → read n name ≡ files name) → inputs_of command read ≡ Ok inputs → IsRootOfFiles files inputs.root
+pub root_read : (command : CommandLine) (read : Reads) (inputs : Inputs) (files : Files) → ((n : ℕ) (name : List ℕ) → read n name ≡ files name) → inputs_of command read ≡ Ok inputs → AreDatabaseAndWorldReadFromFiles files inputs.root
 unfolding inputs_of
 root_read command read inputs files reads e =
     let root = and_then_ok (root_for command read) (λ root. and_then (indexes_of read root.repositories) (λ indexes. Ok (inputs_from_parts root indexes))) inputs e in

@@ -10,16 +10,16 @@ use Rattle.db_write.specs.adb_schema.Reserved.{is_at_or_below, is_reserved}
 use Rattle.base_core.specs.Files.{Files, IsFolderOf}
 use Rattle.base_core.proofs.Rising.{IsIn}
 use Rattle.package_changes.specs.change_files.FileChange.{FileChange}
-use Rattle.package_changes.specs.change_files.FilesAfter.{DatabaseAndWorldAfter, bytes_after, files_after_change, database_name, is_removed, apk_new_listing_at, path_of_apk_new_name, text_database_name, world_name, listing_written_under_name, listing_written_in_place}
+use Rattle.package_changes.specs.change_files.FilesAfter.{DatabaseAndWorldAfter, bytes_after_write_or_removal, files_after_change, database_name, is_removed, apk_new_listing_at, path_of_apk_new_name, text_database_name, world_name, listing_written_under_name, listing_written_in_place}
 use Rattle.std.specs.Option.{option_or}
 use Rattle.package_changes.specs.change_files.NamesAfter.{added_paths, counts_as_written, name_change}
 use Rattle.package_changes.specs.change_files.PlanLists.{first_reserved_path}
-use Rattle.package_changes.specs.change_files.Touched.{is_record_name}
+use Rattle.package_changes.specs.change_files.Touched.{is_database_or_world_name}
 use Rattle.package_changes.proofs.change_files.AfterNames.{names_after}
 use Rattle.package_changes.proofs.change_files.Reserved.{unreserved_path, written_unreserved}
 use Rattle.package_changes.proofs.change_files.Untouched.{changed_so}
 use Rattle.db_write.specs.db_core.Members.{Listing}
-use Rattle.journal_core.specs.Staged.{AreJournalPathsFree, AreStagingPathsFree, IsEmptyStage, IsPresentOrOfJournal}
+use Rattle.journal_core.specs.Staged.{AreJournalPathsFree, AreStagingPathsFree, HasNoStagedNames, IsPresentOrOfJournal}
 use Rattle.journal_core.specs.journal_intent.FreeNames.{IsUsedByJournal}
 use Rattle.journal_core.specs.journal_intent.Intent.{intent_name, is_staged, stage_name}
 use Rattle.package_changes.specs.path_clashes.Clash.{HasNoClash, is_present_after_change}
@@ -139,8 +139,8 @@ staged_reserved q staged = third (is_at_or_below (codes "etc/apk/world") q) (is_
     third false false false false e t = absurd (true≢false (sym t))
 
 -- a name of which a test is true that is false of the three is none of them
-unlike_records : (test : List ℕ → Bool) (records : DatabaseAndWorldAfter) (q : List ℕ) → test database_name ≡ false → test world_name ≡ false → test text_database_name ≡ false → test q ≡ true → is_record_name records q ≡ false
-unlike_records test records q database world text passes = false_from_ne_true (is_record_name records q) (λ is. by_name (or_cases (bytes_eq q database_name) (bytes_eq q world_name || (records.takes_text_over && bytes_eq q text_database_name)) is))
+unlike_records : (test : List ℕ → Bool) (records : DatabaseAndWorldAfter) (q : List ℕ) → test database_name ≡ false → test world_name ≡ false → test text_database_name ≡ false → test q ≡ true → is_database_or_world_name records q ≡ false
+unlike_records test records q database world text passes = false_from_ne_true (is_database_or_world_name records q) (λ is. by_name (or_cases (bytes_eq q database_name) (bytes_eq q world_name || (records.takes_text_over && bytes_eq q text_database_name)) is))
   where
     never : (name : List ℕ) → test name ≡ false → bytes_eq q name ≡ true → ⊥
     never name fails same = true≢false (sym passes ∙ (ap test ((bytes_eq-Decides q name).0 same) ∙ fails))
@@ -153,10 +153,10 @@ unlike_records test records q database world text passes = false_from_ne_true (i
           | inr both ↦ never text_database_name text (and_parts records.takes_text_over (bytes_eq q text_database_name) both).1
         ]
 
-no_record : (records : DatabaseAndWorldAfter) (q : List ℕ) → is_staged q ≡ true → is_record_name records q ≡ false
+no_record : (records : DatabaseAndWorldAfter) (q : List ℕ) → is_staged q ≡ true → is_database_or_world_name records q ≡ false
 no_record records q staged = unlike_records is_staged records q refl refl refl staged
 
-intent_no_record : (records : DatabaseAndWorldAfter) → is_record_name records intent_name ≡ false
+intent_no_record : (records : DatabaseAndWorldAfter) → is_database_or_world_name records intent_name ≡ false
 intent_no_record records = unlike_records (λ q. bytes_eq q intent_name) records intent_name refl refl refl refl
 
 -- a reserved name that is absent stays so
@@ -165,14 +165,14 @@ module _ (change : FileChange) (bytes_of : Listing → List ℕ) (records : Data
   unwritten q reserved None is = refl
   unwritten q reserved (Some l) is = absurd (true≢false (sym reserved ∙ written_unreserved change files q l none is))
 
-  stays_absent : (b : Bool) (o : Option (List ℕ)) → o ≡ None → bytes_after bytes_of None b o ≡ None
+  stays_absent : (b : Bool) (o : Option (List ℕ)) → o ≡ None → bytes_after_write_or_removal bytes_of None b o ≡ None
   stays_absent true o absent = refl
   stays_absent false o absent = absent
 
-  reserved_absent : (q : List ℕ) → is_reserved q ≡ true → is_record_name records q ≡ false → files q ≡ None → files_after_change change bytes_of records files q ≡ None
+  reserved_absent : (q : List ℕ) → is_reserved q ≡ true → is_database_or_world_name records q ≡ false → files q ≡ None → files_after_change change bytes_of records files q ≡ None
   reserved_absent q reserved other absent =
       changed_so change bytes_of records files q other
-      ∙ (ap (λ (o : Option Listing). bytes_after bytes_of o (is_removed change files q) (files q)) (unwritten q reserved (listing_written_under_name change files q) refl)
+      ∙ (ap (λ (o : Option Listing). bytes_after_write_or_removal bytes_of o (is_removed change files q) (files q)) (unwritten q reserved (listing_written_under_name change files q) refl)
       ∙ stays_absent (is_removed change files q) (files q) absent)
 
   pub no_intent : files intent_name ≡ None → files_after_change change bytes_of records files intent_name ≡ None
@@ -236,7 +236,7 @@ module _ (change : FileChange) (bytes_of : Listing → List ℕ) (records : Data
       apart_names p q above (inr taken) (inl there) = nothing_below p q above taken there
       apart_names p q above (inr taken_p) (inr taken_q) = stage.beside.folders p q above (inr taken_p) (inr taken_q)
 
-  empty : IsEmptyStage after
+  empty : HasNoStagedNames after
   empty q staged = reserved_absent change bytes_of records files none q (staged_reserved q staged) (no_record records q staged) (stage.empty q staged)
 
   pub room : AreStagingPathsFree after

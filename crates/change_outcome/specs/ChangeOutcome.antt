@@ -32,16 +32,18 @@ use Rattle.change_outcome.specs.ConfigurationLines.{configuration_lines}
 use Rattle.change_outcome.specs.MembersAfter.{MemberFound, found_package_contents, members_after, found_members}
 use Rattle.change_outcome.specs.Triggers.{trigger_lines, unless_trigger_due}
 
--- the wishes of a command beside its world: whether changed configuration is removed too (`--purge`),
--- whether scripts are left out (`--no-scripts`), and the names to be removed
+-- what a command asks for besides its new world
 pub record ChangeWishes : Type 0 where
+  -- whether changed configuration is removed too (`--purge`)
   pub purge : Bool
+  -- whether scripts are left out (`--no-scripts`)
   pub no_scripts : Bool
+  -- the names to be removed
   pub to_remove : List (List ℕ)
 
 -- ---- the files
 
--- what a change does with files, given the packages after it that were found
+-- what decides a change of files: the packages before, those after that were found, and `--purge`
 abbrev pub file_change : Inputs → ChangeWishes → List MemberFound → FileChange
 file_change inputs wishes found = record {
   old = inputs.root.database.packages;
@@ -49,21 +51,21 @@ file_change inputs wishes found = record {
   purge = wishes.purge;
 }
 
--- the result that follows, unless an added package lists a reserved path, which refuses the change
+-- the result `next`, unless there is a reserved path that an added package lists: it refuses the change
 abbrev pub unless_reserved_path : {A : Type 0} → Option (List ℕ) → Result A Refusal → Result A Refusal
 unless_reserved_path None next = next
 unless_reserved_path (Some path) next = Err (Reserved path)
 
--- the result that follows, unless a name after the change is a folder of another
+-- the result `next`, unless there are two names of which one would be a folder of the other after the change
 abbrev pub unless_clash : {A : Type 0} → Option NamePair → Result A Refusal → Result A Refusal
 unless_clash None next = next
 unless_clash (Some pair) next = Err (PathClash pair.path pair.other)
 
--- the name of the member at a place
+-- the name of the member at a place in the list, counted from 0; empty if there is none
 abbrev pub member_name_at_place : List Member → ℕ → List ℕ
 member_name_at_place members place = option_map_or member_name (slice_get members place) []
 
--- the result that follows, unless a path has no owner; the refusal names two packages that list it
+-- the result `next`, unless there is a path without an owner; the refusal names two packages that list it
 abbrev pub unless_contested :
     {A : Type 0} → List Member → Option ContestedPath → Result A Refusal → Result A Refusal
 unless_contested members None next = next
@@ -83,20 +85,20 @@ abbrev pub unless_overflow : {A : Type 0} → Option PayloadCounts → A → Res
 unless_overflow None a = Ok a
 unless_overflow (Some counts) a = Err (ResultTooLarge counts.0 counts.1)
 
--- whether a file is absent or has other bytes, so that these are written
+-- whether the file is absent or has other bytes than these, so that these bytes must be written
 abbrev pub is_absent_or_different : Option (List ℕ) → List ℕ → Bool
 is_absent_or_different None bytes = true
 is_absent_or_different (Some old) bytes = not (bytes_eq old bytes)
 
 -- the database and world after a change, given the bytes of the new database
-abbrev pub new_records : Inputs → List ℕ → DatabaseAndWorldAfter
-new_records inputs database = record {
+abbrev pub database_and_world_after_change : Inputs → List ℕ → DatabaseAndWorldAfter
+database_and_world_after_change inputs database = record {
   database = database;
   world = world_text inputs.root.new_world;
   takes_text_over = inputs.root.database.from_text;
 }
 
--- the name of a file of the root, in a list, if it has to be written or removed
+-- the list of this name alone if the test is true, and otherwise no names
 abbrev pub name_if_needed : Bool → List ℕ → List (List ℕ)
 name_if_needed true name = name ∷ []
 name_if_needed false name = []
@@ -121,8 +123,8 @@ intent_of_change inputs change files records = record {
       ++ names_of_written_database_and_world inputs records);
 }
 
--- The bytes of a file, or none. For each write, the bytes are staged that the files afterwards have
--- under its name.
+-- The bytes of the file under a name, or no bytes if there is no file. For each name that a change writes, the
+-- staged bytes are those that the files after the change have under it.
 abbrev pub bytes_or_empty_under : Files → List ℕ → List ℕ
 bytes_or_empty_under files name = unwrap_or (files name) []
 
@@ -141,7 +143,7 @@ abbrev pub member_sum_line : List Member → List ℕ
 member_sum_line members =
     report_line (bytes_and_package_count_text (sum_by member_installed_size members) (length members))
 
--- the files whose folders may have a trigger: those of packages that a change has written and removed
+-- the names that a change writes or removes below its packages: a trigger may watch their folders
 abbrev pub touched_paths : FileChange → Files → List (List ℕ)
 touched_paths change files = map (λ w. w.name) (file_writes_of change files) ++ removals_of change files
 
@@ -154,10 +156,13 @@ change_report r wishes change files =
 
 -- ---- the change
 
--- the result of a change: its files and its report, and whether it writes or removes anything
+-- the result of a change
 pub record ChangeDone : Type 0 where
+  -- the bytes that are printed
   pub report : List ℕ
+  -- the files that the change leaves
   pub files : Files
+  -- whether the change writes or removes anything
   pub commits : Bool
 
 -- the result of a change that is made: the report, and the files that it leaves
@@ -173,12 +178,12 @@ change_done inputs r wishes found files records =
 
 -- a change that is made, unless a limit of the writer is exceeded, first by the database and then by
 -- the intent
-abbrev pub unless_too_large :
+abbrev pub change_done_unless_too_large :
     Inputs → Replacement → ChangeWishes → List MemberFound → Files → Result ChangeDone Refusal
-unless_too_large inputs r wishes found files =
+change_done_unless_too_large inputs r wishes found files =
     let change = file_change inputs wishes found in
     and_then (or_result_too_large (database_of change.members (owned_flags_of change.members))) (λ database.
-    let records = new_records inputs database in
+    let records = database_and_world_after_change inputs database in
     let actions = intent_of_change inputs change files records in
     unless_overflow (overflow_of (value_of_intent actions))
     (change_done inputs r wishes found files records))
@@ -194,7 +199,7 @@ change_with_members inputs r wishes clash files found =
     (unless_clash clash
     (unless_contested change.members (first_contested_path_of_members change.members)
     (and_then (unless_trigger_due wishes.no_scripts (touched_paths change files) change.members)
-    (λ is_allowed. unless_too_large inputs r wishes found files))))
+    (λ is_allowed. change_done_unless_too_large inputs r wishes found files))))
 
 -- the packages after a change, or the first refusal of one
 abbrev pub members_after_change :

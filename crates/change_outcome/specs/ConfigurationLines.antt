@@ -20,7 +20,9 @@ kept_config_line path = report_line (path ++ codes " kept; it was changed")
 
 -- a path, and the line about it
 pub record PathLine : Type 0 where
+  -- the path of the file
   pub path : List ℕ
+  -- the line of the report about this file
   pub line : List ℕ
 
 -- a line with the path by which it is sorted

@@ -2,21 +2,27 @@
 -- `actions_lead_to_given_files`; the rules are in `docs/crash-safety.md`, "A change of several files".
 use Rattle.std.specs.Prelude.{◌≡◌, ℕ, ◌<◌, ◌^◌, List, length, None, IsSome}
 use Rattle.base_core.specs.Files.{Files}
-use Rattle.journal_core.specs.Staged.{IsEmptyStage}
+use Rattle.journal_core.specs.Staged.{HasNoStagedNames}
 use Rattle.journal_core.specs.journal_intent.FreeNames.{HasFreeDistinctNames, IsNoneOf, IsOneOf}
 use Rattle.journal_core.specs.journal_intent.IntentValue.{intent_of_lists}
 
 -- a change has fewer writes than this limit, so that their number plus 1 fits into 64 bits
-abbrev pub write_limit : ℕ
-write_limit = 2 ^ 63
+abbrev pub write_count_limit : ℕ
+write_count_limit = 2 ^ 63
 
 -- if these names are removed and written, and the others are unchanged, the files are `after`; the
 -- names are free, nothing is staged before, and the writes are below their limit
 pub record ActionsLeadToFiles (removals writes : List (List ℕ)) (files after : Files) : Type 0 where
+  -- the names are free; none is written twice, and none is both written and removed
   pub free : HasFreeDistinctNames (intent_of_lists removals writes)
-  pub few : length writes < write_limit
-  pub empty : IsEmptyStage files
+  -- there are less writes than a stage can have
+  pub few : length writes < write_count_limit
+  -- nothing is staged in the files before
+  pub empty : HasNoStagedNames files
+  -- each written name has a file afterwards
   pub gives : (name : List ℕ) → IsOneOf name writes → IsSome (after name)
+  -- each removed name has no file afterwards
   pub removes : (name : List ℕ) → IsOneOf name removals → after name ≡ None
+  -- each other name has the same file, or none, as before
   pub keeps : (name : List ℕ) → IsNoneOf name removals → IsNoneOf name writes
       → after name ≡ files name

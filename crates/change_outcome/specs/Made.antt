@@ -5,7 +5,7 @@ use Rattle.db_write.specs.adb_write.Canonical.{overflow_of}
 use Rattle.base_core.specs.Files.{Files}
 use Rattle.package_changes.specs.change_files.PlanLists.{first_reserved_path}
 use Rattle.change_inputs.specs.Inputs.{Inputs}
-use Rattle.change_outcome.specs.ChangeOutcome.{ChangeDone, ChangeWishes, intent_of_change, change_done, members_after_change, file_change, new_records}
+use Rattle.change_outcome.specs.ChangeOutcome.{ChangeDone, ChangeWishes, intent_of_change, change_done, members_after_change, file_change, database_and_world_after_change}
 use Rattle.change_outcome.specs.MembersAfter.{MemberFound, found_members}
 use Rattle.db_write.specs.NewDatabase.{database_of}
 use Rattle.package_changes.specs.file_owners.Owners.{first_contested_path_of_members, owned_flags_of}
@@ -19,6 +19,7 @@ pub record IsChangeMade (inputs : Inputs) (r : Replacement) (wishes : ChangeWish
     (clash : Option NamePair) (files : Files) (done : ChangeDone) : Type 0 where
   -- the packages after the change
   pub found : List MemberFound
+  -- the packages after the change are found
   pub members : members_after_change inputs r wishes read ≡ Ok found
   -- no added package lists a reserved path
   pub unreserved : first_reserved_path (found_members found) ≡ None
@@ -28,11 +29,12 @@ pub record IsChangeMade (inputs : Inputs) (r : Replacement) (wishes : ChangeWish
   pub uncontested : first_contested_path_of_members (found_members found) ≡ None
   -- the bytes of the new database, which exceeds no limit of the writer
   pub database : List ℕ
+  -- the database of these packages has these bytes
   pub new_database : database_of (found_members found) (owned_flags_of (found_members found))
       ≡ Ok database
   -- the journal entry (intent) exceeds no limit of the writer
   pub fits : (let actions = intent_of_change inputs (file_change inputs wishes found) files
-      (new_records inputs database) in
+      (database_and_world_after_change inputs database) in
       overflow_of (value_of_intent actions) ≡ None)
   -- the result
-  pub is : done ≡ change_done inputs r wishes found files (new_records inputs database)
+  pub is : done ≡ change_done inputs r wishes found files (database_and_world_after_change inputs database)

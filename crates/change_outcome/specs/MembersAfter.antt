@@ -15,12 +15,15 @@ use Rattle.db_write.specs.pkg_core.Contents.{Contents}
 use Rattle.change_inputs.specs.candidate_core.Candidates.{Candidate}
 use Rattle.report_core.specs.Reports.{Change}
 use Rattle.report_core.specs.declared.refusal.Refusal.{Refusal}
-use Rattle.change_outcome.specs.PackageFiles.{AddedPackage, package_file_of, added_package_or_refusal, scripts_of_change, unless_script_needed}
+use Rattle.change_outcome.specs.PackageFiles.{AddedPackage, package_file_path_of_candidate, added_package_or_refusal, scripts_of_change, unless_script_needed}
 
 -- a package after the change; and for an added one its file, and the contents of its files
 pub record MemberFound : Type 0 where
+  -- the package, as one that is installed after the change
   pub member : Member
+  -- the bytes of an added package's file
   pub file : Option (List ℕ)
+  -- the contents of an added package's files
   pub contents : List Contents
 
 -- a kept package, whose files are not read
@@ -46,7 +49,7 @@ abbrev pub member_of_added_name :
     Reads → List Repository → Bool → ℕ → List ℕ → Change → Candidate
     → Result (Option MemberFound) Refusal
 member_of_added_name read repositories no_scripts n name change c =
-    and_then (added_package_by_path read n c (package_file_of repositories c)) (λ pkg.
+    and_then (added_package_by_path read n c (package_file_path_of_candidate repositories c)) (λ pkg.
     unless_script_needed no_scripts name pkg.value (scripts_of_change change)
     (Some (added_member_found pkg)))
 
@@ -88,20 +91,20 @@ member_of_name_after r read repositories no_scripts n name =
 
 -- the members of names in byte order, or the first refusal; each name has a read of its own, and `n` is
 -- the number of the read of the first name
-abbrev pub names_after :
+abbrev pub members_of_names_after :
     Replacement → Reads → List Repository → Bool → ℕ → List (List ℕ)
     → Result (List MemberFound) Refusal
-names_after r read repositories no_scripts n [] = Ok []
-names_after r read repositories no_scripts n (name ∷ names) =
+members_of_names_after r read repositories no_scripts n [] = Ok []
+members_of_names_after r read repositories no_scripts n (name ∷ names) =
     and_then (member_of_name_after r read repositories no_scripts n name) (λ first.
-    and_then (names_after r read repositories no_scripts (suc n) names) (λ others.
+    and_then (members_of_names_after r read repositories no_scripts (suc n) names) (λ others.
     Ok (cons_option first others)))
 
 -- the packages after a change, in byte order of names, or the first refusal of one
 unfoldable pub members_after :
     Replacement → Reads → List Repository → Bool → Result (List MemberFound) Refusal
 members_after r read repositories no_scripts =
-    names_after r read repositories no_scripts (first_index_read_number + length repositories)
+    members_of_names_after r read repositories no_scripts (first_index_read_number + length repositories)
     (names_before_and_selected r)
 
 -- the members alone of the packages that are found

@@ -25,28 +25,32 @@ use Rattle.root_names.specs.PackagePath.{path_if_valid_name, package_path}
 
 -- the name of a package's file in the folder of the repository's index; None if there is no such
 -- repository
-abbrev pub path_beside_index : List ℕ → List ℕ → Option Repository → Option (List ℕ)
-path_beside_index name version None = None
-path_beside_index name version (Some repository) =
+abbrev pub path_of_name_version_beside_index : List ℕ → List ℕ → Option Repository → Option (List ℕ)
+path_of_name_version_beside_index name version None = None
+path_of_name_version_beside_index name version (Some repository) =
     path_if_valid_name (package_path repository.path name version)
 
 -- The name of a candidate's file. Repositories count from 1. A candidate of no repository has no file.
-abbrev pub package_file_of : List Repository → Candidate → Option (List ℕ)
-package_file_of repositories c = by_number c.repository
+abbrev pub package_file_path_of_candidate : List Repository → Candidate → Option (List ℕ)
+package_file_path_of_candidate repositories c = by_number c.repository
   where
     by_number : Option ℕ → Option (List ℕ)
     by_number None = None
     by_number (Some n) =
-        path_beside_index c.name (candidate_version_text c) (slice_get repositories (n - 1))
+        path_of_name_version_beside_index c.name (candidate_version_text c) (slice_get repositories (n - 1))
 
 -- ---- its tests
 
 -- an added package, as its file has it: the file's bytes, its value, its identity, and the contents of
 -- its files
 pub record AddedPackage : Type 0 where
+  -- the bytes of the package's file
   pub file : List ℕ
+  -- the package as a plain value
   pub value : Plain
+  -- the identity (hash) of the package
   pub id : List ℕ
+  -- the contents of its files
   pub contents : List Contents
 
 -- the package in a container
@@ -60,8 +64,8 @@ package_in_file file = record {
 
 -- a package, unless it is not the candidate's: first its identity is compared, then its name, then
 -- its version
-abbrev pub unless_different : Candidate → AddedPackage → Result AddedPackage Refusal
-unless_different c pkg =
+abbrev pub package_unless_other_than_candidate : Candidate → AddedPackage → Result AddedPackage Refusal
+package_unless_other_than_candidate c pkg =
     if not (is_same_id c.id pkg.id)
     then Err (PackageDiffers c.name (candidate_version_text c) HASHES_FIELD c.id pkg.id)
     else if not (bytes_eq c.name (package_name pkg.value))
@@ -74,7 +78,7 @@ unless_different c pkg =
 -- the package, unless a test of its file fails
 abbrev pub unless_package_bad :
     Candidate → Option Cause → AddedPackage → Result AddedPackage Refusal
-unless_package_bad c None pkg = unless_different c pkg
+unless_package_bad c None pkg = package_unless_other_than_candidate c pkg
 unless_package_bad c (Some cause) pkg = Err (PackageBad c.name (candidate_version_text c) cause)
 
 -- the package of a candidate, given what is found under the name of its file, or why it is refused
@@ -92,7 +96,7 @@ script_of pkg number = text_in (entry_in (entry_in pkg PACKAGE_SCRIPTS) (number 
 abbrev pub has_script_of : Plain → ℕ → Bool
 has_script_of pkg number = not (length (script_of pkg number) == 0)
 
--- the first of some scripts that the package has
+-- of the scripts with these numbers, the first that the package has
 abbrev pub first_script_of : Plain → List ℕ → Option ℕ
 first_script_of pkg [] = None
 first_script_of pkg (number ∷ numbers) =

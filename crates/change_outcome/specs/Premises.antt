@@ -12,10 +12,14 @@ use Rattle.root_names.specs.RootNames.{database_name, world_name}
 
 -- no path is reserved that a package before or an added package lists
 pub record HasNoReservedPath (change : FileChange) : Type 0 where
+  -- no package before lists a reserved path
   pub before : All (λ l. is_reserved l.path ≡ false) (old_listings change)
+  -- no added package lists a reserved path
   pub coming : first_reserved_path change.members ≡ None
 
 -- the database and world were read from these files
-pub record IsRootOfFiles (files : Files) (root : Root) : Type 0 where
+pub record AreDatabaseAndWorldReadFromFiles (files : Files) (root : Root) : Type 0 where
+  -- the bytes of the database are those of its file
   pub database : root.database.file ≡ files database_name
+  -- the text of world is that of its file, and empty if there is no file
   pub world : root.world_text ≡ found_text_or_empty (files world_name)

@@ -21,29 +21,29 @@ use Rattle.report_core.specs.Numbers.{TRIGGER_SCRIPT}
 -- ---- patterns
 
 -- whether the parts of a pattern match those of a folder, part by part, and there are equally many
-abbrev pub are_parts_matched : List (List ℕ) → List (List ℕ) → Bool
-are_parts_matched [] [] = true
-are_parts_matched [] (part ∷ parts) = false
-are_parts_matched (p ∷ patterns) [] = false
-are_parts_matched (p ∷ patterns) (part ∷ parts) =
-    is_whole_text_matched p part && are_parts_matched patterns parts
+abbrev pub do_patterns_match_parts : List (List ℕ) → List (List ℕ) → Bool
+do_patterns_match_parts [] [] = true
+do_patterns_match_parts [] (part ∷ parts) = false
+do_patterns_match_parts (p ∷ patterns) [] = false
+do_patterns_match_parts (p ∷ patterns) (part ∷ parts) =
+    is_whole_text_matched p part && do_patterns_match_parts patterns parts
 
 -- Whether a pattern matches a folder. One leading `/` of a pattern is dropped. Only the pattern `/`
 -- matches the root folder, which has the empty name.
-unfoldable pub is_folder_matched : List ℕ → List ℕ → Bool
-is_folder_matched folder pattern =
+unfoldable pub is_folder_matched_by_pattern : List ℕ → List ℕ → Bool
+is_folder_matched_by_pattern folder pattern =
     if length folder == 0 then bytes_eq pattern (codes "/")
-    else are_parts_matched (path_parts_of (without_slash pattern)) (path_parts_of folder)
+    else do_patterns_match_parts (path_parts_of (without_slash pattern)) (path_parts_of folder)
 
 -- the patterns of the folders that a package watches
-abbrev pub patterns_of : Plain → List (List ℕ)
-patterns_of pkg = map text_in (entries_at PACKAGE_TRIGGERS pkg)
+abbrev pub trigger_patterns_of_package : Plain → List (List ℕ)
+trigger_patterns_of_package pkg = map text_in (entries_at PACKAGE_TRIGGERS pkg)
 
 -- ---- what is due
 
 -- whether one of the package's patterns matches the folder
 abbrev pub watches_folder : Plain → List ℕ → Bool
-watches_folder pkg folder = list_any (is_folder_matched folder) (patterns_of pkg)
+watches_folder pkg folder = list_any (is_folder_matched_by_pattern folder) (trigger_patterns_of_package pkg)
 
 -- whether the trigger of a package is due for a folder: it watches the folder and has a trigger
 -- script

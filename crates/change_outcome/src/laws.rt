@@ -7,19 +7,19 @@ ghost use Rattle.base_core.specs.Name.{IsName};
 ghost use Rattle.package_changes.specs.change_files.FileChange.{FileChange};
 ghost use Rattle.package_changes.specs.change_files.FilesAfter.{DatabaseAndWorldAfter, files_after_change};
 ghost use Rattle.change_inputs.specs.Inputs.{Inputs, inputs_of};
-ghost use Rattle.change_outcome.specs.ChangeOutcome.{ChangeDone, ChangeWishes, IsClashOfChange, intent_of_change, bytes_or_empty_under, change_or_refusal, has_actions, new_records};
+ghost use Rattle.change_outcome.specs.ChangeOutcome.{ChangeDone, ChangeWishes, IsClashOfChange, intent_of_change, bytes_or_empty_under, change_or_refusal, has_actions, database_and_world_after_change};
 ghost use Rattle.command_core.specs.Command.{CommandLine};
 ghost use Rattle.db_write.specs.db_core.Members.{Listing};
 ghost use Rattle.journal_core.specs.Recovery.{files_after_actions};
-ghost use Rattle.journal_core.specs.Staged.{AreStagingPathsFree, IsEmptyStage, files_with_staged};
-ghost use Rattle.journal_core.specs.journal_intent.Intent.{AreChangeNames, intent_name};
+ghost use Rattle.journal_core.specs.Staged.{AreStagingPathsFree, HasNoStagedNames, files_with_staged};
+ghost use Rattle.journal_core.specs.journal_intent.Intent.{AreDistinctNamesAllowedInIntent, intent_name};
 ghost use Rattle.journal_core.specs.journal_intent.IntentValue.{intent_of_lists};
 ghost use Rattle.change_inputs.specs.make_info.Reads.{Reads};
 ghost use Rattle.package_changes.specs.Changes.{Replacement};
 ghost use Rattle.package_changes.specs.path_clashes.Clash.{NamePair};
-ghost use Rattle.change_outcome.specs.Leading.{ActionsLeadToFiles, write_limit};
+ghost use Rattle.change_outcome.specs.Leading.{ActionsLeadToFiles, write_count_limit};
 ghost use Rattle.change_outcome.specs.Made.{IsChangeMade};
-ghost use Rattle.change_outcome.specs.Premises.{HasNoReservedPath, IsRootOfFiles};
+ghost use Rattle.change_outcome.specs.Premises.{HasNoReservedPath, AreDatabaseAndWorldReadFromFiles};
 
 // ---- what is read
 
@@ -27,7 +27,7 @@ ghost use Rattle.change_outcome.specs.Premises.{HasNoReservedPath, IsRootOfFiles
 pub fn what_is_read_of_a_root_is_in_the_tree()
     ensures { (command : CommandLine) (read : Reads) (inputs : Inputs) (files : Files)
         → ((n : ℕ) (name : List ℕ) → read n name ≡ files name)
-        → inputs_of command read ≡ Ok inputs → IsRootOfFiles files inputs.root }
+        → inputs_of command read ≡ Ok inputs → AreDatabaseAndWorldReadFromFiles files inputs.root }
 {}
 
 // ---- what is done
@@ -47,11 +47,12 @@ pub fn actions_lead_to_given_files()
 pub fn the_actions_of_a_change_lead_to_its_files()
     ensures { (inputs : Inputs) (change : FileChange) (bytes_of : Listing → List ℕ)
         (database : List ℕ) (files : Files)
-        → HasNoReservedPath change → IsRootOfFiles files inputs.root → IsEmptyStage files
-        → let records = new_records inputs database in
+        → HasNoReservedPath change → AreDatabaseAndWorldReadFromFiles files inputs.root
+        → HasNoStagedNames files
+        → let records = database_and_world_after_change inputs database in
         let actions = intent_of_change inputs change files records in
         let after = files_after_change change bytes_of records files in
-        length actions.writes < write_limit
+        length actions.writes < write_count_limit
         → files_after_actions actions
         (files_with_staged 1 (map (bytes_or_empty_under after) actions.writes) files) ≡ after }
 {}
@@ -64,21 +65,24 @@ pub fn the_names_of_a_change_may_be_changed()
         → HasNoReservedPath change
         → let actions = intent_of_change inputs change files records in
         All IsName actions.removals → All IsName actions.writes
-        → AreChangeNames (actions.removals ++ actions.writes) }
+        → AreDistinctNamesAllowedInIntent (actions.removals ++ actions.writes) }
 {}
 
 /// A change that removes and writes nothing leaves the files as they are.
 pub fn a_change_that_writes_nothing_leaves_the_files()
     // Of the files of its definition.
     ensures actions { (inputs : Inputs) (change : FileChange) (bytes_of : Listing → List ℕ)
-        (database : List ℕ) (files : Files) → IsRootOfFiles files inputs.root
-        → has_actions (intent_of_change inputs change files (new_records inputs database)) ≡ false
-        → files_after_change change bytes_of (new_records inputs database) files ≡ files }
+        (database : List ℕ) (files : Files) → AreDatabaseAndWorldReadFromFiles files inputs.root
+        → has_actions (intent_of_change inputs change files
+        (database_and_world_after_change inputs database)) ≡ false
+        → files_after_change change bytes_of
+        (database_and_world_after_change inputs database) files ≡ files }
     // Of the change's result.
     ensures done { (inputs : Inputs) (r : Replacement) (wishes : ChangeWishes) (read : Reads)
         (clash : Option NamePair) (files : Files) (done : ChangeDone)
         → change_or_refusal inputs r wishes read clash files ≡ Ok done
-        → IsRootOfFiles files inputs.root → done.commits ≡ false → done.files ≡ files }
+        → AreDatabaseAndWorldReadFromFiles files inputs.root → done.commits ≡ false → done.files
+        ≡ files }
 {}
 
 // ---- tests
@@ -95,11 +99,13 @@ pub fn a_change_that_is_made_passes_each_test()
 /// If the paths of the journal entry (intent) and of staged files are free before a change, they are
 /// free after it, for each later change. And a change leaves no new journal entry.
 pub fn a_change_keeps_paths_free()
+    // The paths of the next stage are free after the change, if they were before it.
     ensures room { (inputs : Inputs) (r : Replacement) (wishes : ChangeWishes) (read : Reads)
         (clash : Option NamePair) (files : Files) (done : ChangeDone)
         → change_or_refusal inputs r wishes read clash files ≡ Ok done
         → IsClashOfChange inputs r wishes read files clash
         → AreStagingPathsFree files → AreStagingPathsFree done.files }
+    // If there was no intent before the change, there is none after it.
     ensures intent { (inputs : Inputs) (r : Replacement) (wishes : ChangeWishes) (read : Reads)
         (clash : Option NamePair) (files : Files) (done : ChangeDone)
         → change_or_refusal inputs r wishes read clash files ≡ Ok done

@@ -11,7 +11,7 @@ use Rattle.change_outcome.proofs.adb_fields.NameLists.{count-listed}
 use Rattle.change_outcome.proofs.adb_fields.Listed.{next_listed}
 use Rattle.change_outcome.specs.db_core.Members.{Member, member_name}
 use Rattle.report_core.specs.declared.refusal.Refusal.TheVariants.{TriggerNeeded}
-use Rattle.change_outcome.specs.Triggers.{folders_of_paths, has_due_trigger, is_trigger_due, is_folder_matched, watches_folder, unless_trigger_due}
+use Rattle.change_outcome.specs.Triggers.{folders_of_paths, has_due_trigger, is_trigger_due, is_folder_matched_by_pattern, watches_folder, unless_trigger_due}
 use Rattle.change_outcome.specs.PackageFiles.{has_script_of}
 use Rattle.report_core.specs.Numbers.{TRIGGER_SCRIPT}
 use Rattle.change_report.specs.Due.{refusal_if_trigger_due}
@@ -20,16 +20,16 @@ use Rattle.change_report.proofs.Loops.{any_here, any_later, any_mapped, any_none
 -- ---- patterns
 
 abbrev pub matches : List ℕ → Plain → Bool
-matches folder v = is_folder_matched folder (text_in v)
+matches folder v = is_folder_matched_by_pattern folder (text_in v)
 
 -- the patterns are those of a package
 watched_by : (folder : List ℕ) (pkg patterns : Plain) → patterns ≡ entry_in pkg 3 → list_any (matches folder) (list_of (entries_in patterns)) ≡ watches_folder pkg folder
 watched_by folder pkg patterns are =
-    any_mapped (is_folder_matched folder) text_in (list_of (entries_in patterns))
-    ∙ ap (λ z. list_any (is_folder_matched folder) (map text_in (list_of (entries_in z)))) are
+    any_mapped (is_folder_matched_by_pattern folder) text_in (list_of (entries_in patterns))
+    ∙ ap (λ z. list_any (is_folder_matched_by_pattern folder) (map text_in (list_of (entries_in z)))) are
 
 pub pattern_matches : (folder : List ℕ) (pkg patterns : Plain) (i : ℕ) (t : Bool) → patterns ≡ entry_in pkg 3 → i < count_of (entries_in patterns)
-    → t ≡ is_folder_matched folder (text_in (entry_in patterns i)) → t ≡ true
+    → t ≡ is_folder_matched_by_pattern folder (text_in (entry_in patterns i)) → t ≡ true
     → list_any (matches folder) (drop i (list_of (entries_in patterns))) ≡ list_any (matches folder) (list_of (entries_in patterns))
     → true ≡ watches_folder pkg folder
 pattern_matches folder pkg patterns i t are within is e inv =
@@ -37,7 +37,7 @@ pattern_matches folder pkg patterns i t are within is e inv =
     ∙ watched_by folder pkg patterns are
 
 pub pattern_fails : (folder : List ℕ) (patterns : Plain) (i : ℕ) (t : Bool) → i < count_of (entries_in patterns)
-    → t ≡ is_folder_matched folder (text_in (entry_in patterns i)) → t ≡ false
+    → t ≡ is_folder_matched_by_pattern folder (text_in (entry_in patterns i)) → t ≡ false
     → list_any (matches folder) (drop i (list_of (entries_in patterns))) ≡ list_any (matches folder) (list_of (entries_in patterns))
     → list_any (matches folder) (drop (i + 1) (list_of (entries_in patterns))) ≡ list_any (matches folder) (list_of (entries_in patterns))
 pattern_fails folder patterns i t within is e inv =

@@ -21,8 +21,12 @@ replacement_reported c again =
 -- change over these files
 pub record IsReportedOf (c : ReportedChange) (again : List (List ℕ)) (wishes : ChangeWishes)
     (change : FileChange) (files : Files) : Type 0 where
+  -- the changes of packages are those of the replacement
   pub changes : map (λ (p : PlacedChange). p.change) (changes_seen c.changes.now)
       ≡ changes_of (replacement_reported c again)
+  -- the names to be removed are those of the wishes
   pub to_remove : wishes.to_remove ≡ c.to_remove.now
+  -- the packages after the change are the members of the report
   pub members : change.members ≡ members_of c.members.now
+  -- the plan lists the files of the change
   pub plan : ArePlanLists change files c.plan.now

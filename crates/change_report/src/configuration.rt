@@ -41,12 +41,14 @@ pub(crate) fn push_configuration_lines(
     Ok(())
 }
 
-/// Adds a notice for each of some paths, all kept or all with a file beside them.
+/// Adds a notice for each of these paths. `is_kept` says whether the user's file is kept there, or
+/// a new file is laid beside it.
 fn push_notices<'p>(
     notices: &mut Vec<Notice<'p>>,
     paths: &'p Names,
     is_kept: bool,
 ) -> Result<(), AllocError>
+    // A line for each of these paths is appended: the file was kept, or a new one lies beside it.
     ensures { OnOk result (map notice_seen notices.new.items ≡ map notice_seen notices.old.items
         ++ map (path_line (if is_kept then kept_config_line else apk_new_line)) paths.entry.now) }
 {

@@ -20,9 +20,10 @@ use std::alloc::{AllocError, Global};
 use std::marker::PhantomData;
 
 /// The place of the first package after a change whose trigger is due, counted from 0. `folders`
-/// are those of the files that the change writes and removes. A package without a trigger script
-/// costs a look at its scripts.
+/// are those of the files that the change writes and removes. Of a package without a trigger script
+/// only the scripts are read.
 pub fn first_due(members: &Members<'_>, folders: &[&[u8]]) -> Option<usize>
+    // The result is the first package whose trigger is due, by the folders of the touched paths.
     ensures needed { (paths : List (List ℕ)) → map (λ f. f.now) folders.now ≡ folders_of_paths paths
         → unless_trigger_due false paths (members_of members.now)
         ≡ refusal_if_trigger_due (members_of members.now) result }
@@ -46,6 +47,7 @@ pub fn push_trigger_lines(
     members: &Members<'_>,
     folders: &[&[u8]],
 ) -> Result<(), AllocError>
+    // The lines about due triggers are appended, by the folders of the touched paths.
     ensures { OnOk result ((paths : List (List ℕ))
         → map (λ f. f.now) folders.now ≡ folders_of_paths paths
         → report.new ≡ report.old ++ trigger_lines paths (members_of members.now)) }
@@ -56,7 +58,7 @@ pub fn push_trigger_lines(
     Ok(())
 }
 
-/// Whether the trigger of a package is due for one of some folders.
+/// Whether the trigger of a package is due for one of these folders.
 fn has_due_trigger(pkg: &PackageView<'_>, folders: &[&[u8]]) -> bool
     ensures { result ≡ has_due_trigger (map (λ f. f.now) folders.now) (package_value pkg.now) }
 {
@@ -71,7 +73,7 @@ fn has_due_trigger(pkg: &PackageView<'_>, folders: &[&[u8]]) -> bool
     false
 }
 
-/// Adds a line for each of some folders for which the trigger of a package is due.
+/// Adds a line for each of these folders for which the trigger of the package is due.
 fn push_due_lines(
     report: &mut Report,
     pkg: &PackageView<'_>,
@@ -95,6 +97,7 @@ fn push_line_if_watched(
     pkg: &PackageView<'_>,
     folder: &[u8],
 ) -> Result<(), AllocError>
+    // One line is appended if the package watches the folder.
     ensures { OnOk result (report.new
         ≡ report.old ++ (if watches_folder (package_value pkg.now) folder.now
         then due_trigger_line (package_value pkg.now) folder.now else [])) }
@@ -145,6 +148,7 @@ fn push_written_folders<'p>(
     folders: &mut Vec<&'p [u8]>,
     writes: &'p Writes,
 ) -> Result<(), AllocError>
+    // The folder of each written file is appended.
     ensures { OnOk result (map (λ f. f.now) folders.new.items ≡ map (λ f. f.now) folders.old.items
         ++ map folder_of (map (λ w. w.name) (writes_in writes.entry.now))) }
 {

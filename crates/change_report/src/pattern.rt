@@ -1,7 +1,7 @@
 //! Whether a pattern of a trigger matches a folder. The rule is in `docs/commands.md`,
 //! "`add` and `del`", which triggers are due: the sentences on patterns.
 ghost use Rattle.base_core.specs.Name.{path_parts_of};
-ghost use Rattle.change_outcome.specs.Triggers.{are_parts_matched, is_folder_matched};
+ghost use Rattle.change_outcome.specs.Triggers.{do_patterns_match_parts, is_folder_matched_by_pattern};
 ghost use Rattle.make_package.specs.package_files.Folders.{is_slash};
 ghost use Rattle.std.specs.Prelude.{◌≡◌, count_by};
 
@@ -10,19 +10,20 @@ use dep_core::without_slash;
 
 /// Whether a pattern matches a folder, whose name is empty for the root. It takes time in
 /// proportion to the lengths of both.
-#[tactic(auto, unfolding(change_outcome::specs::Triggers::is_folder_matched))]
-pub(crate) fn is_folder_matched(folder: &[u8], pattern: &[u8]) -> bool
-    ensures { result ≡ is_folder_matched folder.now pattern.now }
+#[tactic(auto, unfolding(change_outcome::specs::Triggers::is_folder_matched_by_pattern))]
+pub(crate) fn is_folder_matched_by_pattern(folder: &[u8], pattern: &[u8]) -> bool
+    ensures { result ≡ is_folder_matched_by_pattern folder.now pattern.now }
 {
     if folder.is_empty() {
         return pattern == b"/".as_slice();
     }
-    are_parts_matched(without_slash(pattern), folder)
+    do_patterns_match_parts(without_slash(pattern), folder)
 }
 
 /// Whether a pattern and a folder have as many parts, and each part of the folder is matched.
-fn are_parts_matched(pattern: &[u8], folder: &[u8]) -> bool
-    ensures { result ≡ are_parts_matched (path_parts_of pattern.now) (path_parts_of folder.now) }
+fn do_patterns_match_parts(pattern: &[u8], folder: &[u8]) -> bool
+    ensures { result ≡ do_patterns_match_parts (path_parts_of pattern.now)
+        (path_parts_of folder.now) }
 {
     if count_slashes(pattern) != count_slashes(folder) {
         return false;

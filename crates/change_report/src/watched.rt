@@ -9,10 +9,10 @@ ghost use Rattle.change_outcome.specs.adb_schema.Views.{package_value};
 ghost use Rattle.adb_view.specs.Values.{count_of, entries_in, entry_in, text_in};
 ghost use Rattle.change_outcome.specs.PackageFiles.{has_script_of};
 ghost use Rattle.report_core.specs.Numbers.{TRIGGER_SCRIPT};
-ghost use Rattle.change_outcome.specs.Triggers.{is_folder_matched, watches_folder};
+ghost use Rattle.change_outcome.specs.Triggers.{is_folder_matched_by_pattern, watches_folder};
 ghost use Rattle.std.specs.Prelude.{◌≡◌, ◌<◌};
 
-use crate::pattern::is_folder_matched;
+use crate::pattern::is_folder_matched_by_pattern;
 use change_outcome::{List, PackageView};
 use std::marker::PhantomData;
 
@@ -52,10 +52,10 @@ pub(crate) fn watches_folder(pkg: &PackageView<'_>, folder: &[u8]) -> bool
 fn is_matched_at<'a>(patterns: &List<'a, &'a [u8]>, i: usize, folder: &[u8]) -> bool
     requires { i < count_of (entries_in (list_value patterns.now)) }
     ensures { result
-        ≡ is_folder_matched folder.now (text_in (entry_in (list_value patterns.now) i)) }
+        ≡ is_folder_matched_by_pattern folder.now (text_in (entry_in (list_value patterns.now) i)) }
 {
     if i >= patterns.len() {
         unreachable!();
     }
-    is_folder_matched(folder, patterns.get(i + 1))
+    is_folder_matched_by_pattern(folder, patterns.get(i + 1))
 }

@@ -7,18 +7,18 @@ use Rattle.std.specs.Str.Parse.{ParsesUnsigned, digits_value}
 use Rattle.std.proofs.lemmas.Bool.{and_parts, ltb-true}
 use Rattle.std.proofs.lemmas.Bool.Decides.{nat_tests}
 use Rattle.std.proofs.lemmas.Str.Parse.{IsNumeralModel, numerals_by_value, parse_digits}
-use Rattle.command_core.specs.Operands.{has_zero_in_front, is_decimal, is_demo_number}
+use Rattle.command_core.specs.Operands.{has_superfluous_leading_zero, is_decimal, is_demo_number}
 
 pub digits_model : IsNumeralModel (λ ds. list_all is_ascii_digit ds ≡ true) (digits_value 10)
 digits_model = numerals_by_value _ (search rules)
 
 pub decimal_digits : (ds : List ℕ) → is_decimal ds ≡ true → list_all is_ascii_digit ds ≡ true
 decimal_digits ds h =
-    (and_parts (nat_lt 0 (length ds) && not (has_zero_in_front ds)) (list_all is_ascii_digit ds) h).1
+    (and_parts (nat_lt 0 (length ds) && not (has_superfluous_leading_zero ds)) (list_all is_ascii_digit ds) h).1
 
 pub decimal_some : (ds : List ℕ) → is_decimal ds ≡ true → 0 < length ds
 decimal_some ds h =
-    ltb-true 0 (length ds) (and_parts (nat_lt 0 (length ds)) (not (has_zero_in_front ds)) (and_parts (nat_lt 0 (length ds) && not (has_zero_in_front ds)) (list_all is_ascii_digit ds) h).0).0
+    ltb-true 0 (length ds) (and_parts (nat_lt 0 (length ds)) (not (has_superfluous_leading_zero ds)) (and_parts (nat_lt 0 (length ds) && not (has_superfluous_leading_zero ds)) (list_all is_ascii_digit ds) h).0).0
 
 pub digits_ascii : (ds : List ℕ) → list_all is_ascii_digit ds ≡ true → (i : ℕ) → get_or ds i 0 < 128
 digits_ascii [] h i = lit< tt

@@ -9,7 +9,7 @@ use Rattle.command_core.specs.declared.operands.OperandRule.{OperandRule}
 use Rattle.command_core.specs.declared.values.TheConstants.{OUTPUT}
 use Rattle.command_core.specs.Operands.{at_least, at_most, exactly}
 
--- the letter of the option that an applet needs, so that it must have a value, if there is one
+-- the letter of the option with a value that the applet requires, if there is such an option
 abbrev pub required_option_letter : Applet → Option ℕ
 required_option_letter Mkndx = Some OUTPUT
 required_option_letter applet = None

@@ -8,10 +8,15 @@ use Rattle.command_core.specs.declared.values.OptionValue.{OptionValue}
 -- an applet, the flags given, the operands, each with its place and its text as given, the values of
 -- options, and the place after the last word
 pub record CommandLine : Type 0 where
+  -- what the command does
   pub applet : Applet
+  -- the options without a value that were given
   pub flags : Flags
+  -- the operands after the name of the applet
   pub operands : List Operand
+  -- the values that options were given
   pub values : List OptionValue
+  -- the place after the last argument, counted from 1
   pub behind : ℕ
 
 -- a command by its parts

@@ -20,14 +20,14 @@ operand_at place word = record { place = place; text = word }
 -- ---- kinds
 
 -- whether a zero (48) precedes other bytes
-abbrev pub has_zero_in_front : List ℕ → Bool
-has_zero_in_front [] = false
-has_zero_in_front (d ∷ ds) = (d == 48) && nat_lt 0 (length ds)
+abbrev pub has_superfluous_leading_zero : List ℕ → Bool
+has_superfluous_leading_zero [] = false
+has_superfluous_leading_zero (d ∷ ds) = (d == 48) && nat_lt 0 (length ds)
 
 -- whether a text is a decimal number without leading zeros
 abbrev pub is_decimal : List ℕ → Bool
 is_decimal text =
-    nat_lt 0 (length text) && not (has_zero_in_front text) && list_all is_ascii_digit text
+    nat_lt 0 (length text) && not (has_superfluous_leading_zero text) && list_all is_ascii_digit text
 
 -- the largest number of packages of `demo`
 abbrev pub most_demo_packages : ℕ
@@ -68,13 +68,13 @@ abbrev pub exactly : ℕ → OperandKind → OperandRule
 exactly count kind = record { kind = kind; least = count; most = Some count }
 
 -- whether one more operand is allowed, by the limit (None: no limit) and the number of operands before it
-abbrev pub allows_one_more : Option ℕ → ℕ → Bool
-allows_one_more None before = true
-allows_one_more (Some most) before = nat_lt before most
+abbrev pub allows_one_more_operand : Option ℕ → ℕ → Bool
+allows_one_more_operand None before = true
+allows_one_more_operand (Some most) before = nat_lt before most
 
 -- whether a rule takes a text as an operand, by how many operands precede it
 abbrev pub takes : OperandRule → ℕ → List ℕ → Bool
-takes rule before text = allows_one_more rule.most before && is_operand_of_kind rule.kind text
+takes rule before text = allows_one_more_operand rule.most before && is_operand_of_kind rule.kind text
 
 -- the place of the first operand that a rule does not take, if this many precede it
 abbrev pub first_refused_operand : OperandRule → ℕ → List Operand → Option ℕ

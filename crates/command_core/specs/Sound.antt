@@ -25,7 +25,7 @@ all_flags =
     AllowUntrusted ∷ (NoScripts ∷ (Initdb ∷ (Simulate ∷ (Purge ∷
     (Installed ∷ (Contents ∷ (Depends ∷ (WhoOwns ∷ (Test ∷ (Check ∷ []))))))))))
 
--- whether of some flags at most one was given
+-- whether at most one of these flags was given
 abbrev pub has_at_most_one : List Flag → Flags → Bool
 has_at_most_one [] flags = true
 has_at_most_one (flag ∷ others) flags =
@@ -94,7 +94,7 @@ abbrev pub is_allowed_value : Option ValueRule → List ℕ → Bool
 is_allowed_value None text = false
 is_allowed_value (Some rule) text = is_value_of_kind rule.kind text
 
--- whether two values of one option exclude each other, by the option's rule
+-- whether two values of one option exclude each other, by the option's rule; None: there is no such option
 abbrev pub are_exclusive_values : Option ValueRule → List ℕ → List ℕ → Bool
 are_exclusive_values None a b = false
 are_exclusive_values (Some rule) a b = rule.single || excludes rule.kind a b

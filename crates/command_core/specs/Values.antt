@@ -86,7 +86,7 @@ files_rule = record { letter = FILES; single = true; kind = File }
 abbrev pub output_rule : ValueRule
 output_rule = record { letter = OUTPUT; single = true; kind = Output }
 
--- the rule of `-c`: it may only ask for no compression, once
+-- the rule of `-c`: its only value is `none` (no compression), and it may be given once
 abbrev pub compression_rule : ValueRule
 compression_rule = record { letter = COMPRESSION; single = true; kind = Uncompressed }
 

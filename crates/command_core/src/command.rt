@@ -180,7 +180,7 @@ impl Flags {
 }
 
 impl Applet {
-    /// The letter of the option that must have a value, if there is one.
+    /// The letter of the option with a value that the applet requires, if there is one.
     pub fn required_option_letter(self) -> Option<u8>
         ensures { result ≡ required_option_letter self }
     {
@@ -248,11 +248,15 @@ fn version_operand_rule(flags: Flags) -> Option<OperandRule>
 /// What a command line asks for.
 #[derive(Drop)]
 pub struct Command {
+    /// What the command does.
     applet: Applet,
+    /// The options without a value that were given.
     flags: Flags,
+    /// The operands after the name of the applet.
     operands: Operands,
+    /// The values that options were given.
     values: Values,
-    // The place after the last word.
+    // The place after the last argument of the command line, counted from 1.
     behind: u32,
 }
 
@@ -263,8 +267,10 @@ impl Model for Command {
 
     ghost Value = { CommandLine };
 
+    // The five parts as one value.
     ghost view = { λ c. command_from_parts c.applet c.flags c.operands c.values c.behind };
 
+    // The command is valid: it has what the rules of its applet require.
     ghost invariant = { λ c.
         IsTrue (is_valid_command
         (command_from_parts c.applet c.flags c.operands c.values c.behind)) };
@@ -295,6 +301,7 @@ impl Command {
     /// The applet that the first operand names.
     pub fn applet(&self) -> Applet
         ensures value { result ≡ self.now.applet }
+        // The command obeys the rules of its applet.
         ensures command { IsValidCommand self.now }
     {
         self.applet
@@ -303,6 +310,7 @@ impl Command {
     /// The options without a value that were given.
     pub fn flags(&self) -> Flags
         ensures value { result ≡ self.now.flags }
+        // The command obeys the rules of its applet.
         ensures command { IsValidCommand self.now }
     {
         self.flags
@@ -311,6 +319,7 @@ impl Command {
     /// The operands after the applet.
     pub fn operands(&self) -> &Operands
         ensures value { result.now ≡ self.now.operands }
+        // The command obeys the rules of its applet.
         ensures command { IsValidCommand self.now }
     {
         &self.operands
@@ -319,6 +328,7 @@ impl Command {
     /// The values that its options were given.
     pub fn values(&self) -> &Values
         ensures value { result.now ≡ self.now.values }
+        // The command obeys the rules of its applet.
         ensures command { IsValidCommand self.now }
     {
         &self.values

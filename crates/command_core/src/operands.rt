@@ -6,7 +6,7 @@ ghost use Rattle.std.specs.Prelude.{◌≡◌, ◌<◌, ◌==◌, ◌++◌, ◌�
 ghost use Rattle.std.specs.Option.{option_map};
 ghost use Rattle.command_core.specs.Files.{without_dot_slash, is_file_argument, is_output_argument};
 ghost use Rattle.command_core.specs.Named.{file_name, are_files, operand_file};
-ghost use Rattle.command_core.specs.Operands.{at_least, at_most, exactly, first_refused_operand, allows_one_more, is_operand_of_kind, operand_at, takes};
+ghost use Rattle.command_core.specs.Operands.{at_least, at_most, exactly, first_refused_operand, allows_one_more_operand, is_operand_of_kind, operand_at, takes};
 ghost use Rattle.command_core.specs.Applets.{required_option_letter, operand_rule};
 ghost use Rattle.command_core.specs.Sound.{value_rules, IsValidCommand, are_allowed_operands, are_allowed_values, is_allowed_value, rule_for};
 ghost use Rattle.command_core.specs.Command.{CommandLine};
@@ -63,16 +63,16 @@ impl OperandKind {
 /// Which operands an applet takes, and how many.
 #[derive(Clone, Copy)]
 pub struct OperandRule {
-    /// What each of them is.
+    /// The kind of text that each operand has to be.
     pub kind: OperandKind,
-    /// How many there are at least.
+    /// The least number of operands.
     pub least: usize,
-    /// How many there are at most. None: any number.
+    /// The greatest number of operands; None if there is no limit.
     pub most: Option<usize>,
 }
 
 impl OperandRule {
-    /// The rule of a number of operands of a kind, or more.
+    /// The rule that takes `least` operands of this kind, or more.
     pub fn at_least(least: usize, kind: OperandKind) -> OperandRule
         ensures { result ≡ at_least least kind }
     {
@@ -83,7 +83,7 @@ impl OperandRule {
         }
     }
 
-    /// The rule of no more than a number of operands of a kind.
+    /// The rule that takes at most `most` operands of this kind.
     pub fn at_most(most: usize, kind: OperandKind) -> OperandRule
         ensures { result ≡ at_most most kind }
     {
@@ -94,7 +94,7 @@ impl OperandRule {
         }
     }
 
-    /// The rule of just a number of operands of a kind.
+    /// The rule that takes exactly `count` operands of this kind.
     pub fn exactly(count: usize, kind: OperandKind) -> OperandRule
         ensures { result ≡ exactly count kind }
     {
@@ -123,15 +123,15 @@ impl OperandRule {
     fn takes(&self, before: usize, text: &[u8]) -> bool
         ensures { result ≡ takes self.now before text.now }
     {
-        if !self.allows_one_more(before) {
+        if !self.allows_one_more_operand(before) {
             return false;
         }
         self.kind.has(text)
     }
 
-    // Whether there may be one more operand, by how many precede it.
-    fn allows_one_more(&self, before: usize) -> bool
-        ensures { result ≡ allows_one_more self.now.most before }
+    // Whether one more operand is allowed, given how many precede it.
+    fn allows_one_more_operand(&self, before: usize) -> bool
+        ensures { result ≡ allows_one_more_operand self.now.most before }
     {
         match self.most {
             Some(most) => before < most,
@@ -140,18 +140,19 @@ impl OperandRule {
     }
 }
 
-/// A word that is an operand.
+/// An argument of a command line that is an operand.
 #[derive(Drop)]
 pub struct Operand {
-    /// Its place among the words, counted from 1.
+    /// The place of the argument in the command line, counted from 1.
     pub place: u32,
-    /// The word as given.
+    /// The text of the argument, as given.
     pub text: Text,
 }
 
-// An operand, with its name if it is a file.
+// An operand, with the name of the file that its text is, if it is one.
 #[derive(Drop)]
 struct OperandEntry {
+    /// The operand.
     operand: Operand,
     // Read when the operand is added, so that lending it allocates no memory.
     file: Option<Name>,
@@ -160,7 +161,9 @@ struct OperandEntry {
 /// The operands of a command, in the order given.
 #[derive(Drop)]
 pub struct Operands {
+    /// The allocator.
     alloc: Global,
+    /// The operands, each with the name of its file, if it is one.
     entries: Vec<OperandEntry>,
 }
 
@@ -190,7 +193,8 @@ impl Operands {
         }
     }
 
-    /// Adds the word at a place as an operand. A call that fails changes nothing.
+    /// Adds the argument at a place of the command line as an operand. A call that fails changes
+    /// nothing.
     pub fn push(&mut self, place: u32, word: &[u8]) -> Result<(), AllocError>
         ensures ok { OnOk result (self.new ≡ self.old ++ operand_at place word.now ∷ []) }
         ensures err { OnErr result (self.new ≡ self.old) }
@@ -248,6 +252,7 @@ pub fn a_command_has_what_its_applet_may_have()
         IsTrue (are_allowed_operands (operand_rule c.applet c.flags) c.operands) }
     ensures values { (c : CommandLine) → IsValidCommand c →
         IsTrue (are_allowed_values (value_rules c.applet) c.values) }
+    // The option that the applet requires is given.
     ensures needed { (c : CommandLine) (letter : ℕ) → IsValidCommand c →
         required_option_letter c.applet ≡ Some letter → IsTrue (is_given letter c.values) }
 {}
@@ -262,6 +267,7 @@ pub fn file_operands_are_files()
 /// Each value is one of its option's kind: that of `--output` is a file of at most 1,016 bytes,
 /// that of `--files` a file, and each of `--script` is TYPE:FILE.
 pub fn values_are_of_their_kind()
+    // Each value is one that its option may have.
     ensures each { (c : CommandLine) (i : ℕ) (v : OptionValue) → IsValidCommand c →
         slice_get c.values i ≡ Some v →
         IsTrue (is_allowed_value (rule_for (value_rules c.applet) v.letter) v.text) }
@@ -269,6 +275,7 @@ pub fn values_are_of_their_kind()
         first_value OUTPUT c.values ≡ Some v → IsTrue (is_output_argument v.text) }
     ensures folder { (c : CommandLine) (v : OptionValue) → IsValidCommand c →
         first_value FILES c.values ≡ Some v → IsTrue (is_file_argument v.text) }
+    // Each value of `--script` is TYPE:FILE.
     ensures script { (c : CommandLine) (i : ℕ) (v : OptionValue) → IsValidCommand c →
         slice_get c.values i ≡ Some v → v.letter ≡ SCRIPT → IsTrue (is_script_argument v.text) }
 {}

@@ -7,7 +7,7 @@ ghost use Rattle.std.specs.List.{list_all, list_any, position};
 ghost use Rattle.std.specs.Str.{bytes_eq};
 ghost use Rattle.command_core.specs.Files.{is_file_argument, is_output_argument, is_path_argument, without_dot_slash};
 ghost use Rattle.command_core.specs.Named.{file_name};
-ghost use Rattle.command_core.specs.Operands.{has_zero_in_front, is_decimal, is_demo_number, is_pattern};
+ghost use Rattle.command_core.specs.Operands.{has_superfluous_leading_zero, is_decimal, is_demo_number, is_pattern};
 ghost use Rattle.command_core.specs.Values.{colon, is_script_argument, script_file, script_type, script_types};
 
 use base_core::{Name, is_name};
@@ -92,7 +92,7 @@ fn is_script_type(text: &[u8]) -> bool
     is_among(&SCRIPT_TYPES, text)
 }
 
-/// Whether a text is one of some.
+/// Whether the text is one of the texts in the list.
 pub fn is_among(texts: &[&[u8]], text: &[u8]) -> bool
     ensures { result ≡ list_any (λ one. bytes_eq one.now text.now) texts.now }
 {
@@ -164,15 +164,15 @@ pub(crate) fn is_demo_number(text: &[u8]) -> bool
 pub fn is_decimal(text: &[u8]) -> bool
     ensures { result ≡ is_decimal text.now }
 {
-    if text.is_empty() || has_zero_in_front(text) {
+    if text.is_empty() || has_superfluous_leading_zero(text) {
         return false;
     }
     are_digits(text)
 }
 
 /// Whether a number has a zero in front of other digits.
-fn has_zero_in_front(text: &[u8]) -> bool
-    ensures { result ≡ has_zero_in_front text.now }
+fn has_superfluous_leading_zero(text: &[u8]) -> bool
+    ensures { result ≡ has_superfluous_leading_zero text.now }
 {
     match text.split_first() {
         Some((b'0', rest)) => !rest.is_empty(),

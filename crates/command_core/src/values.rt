@@ -108,15 +108,19 @@ impl OptionValue {
 // A value, with the name of the file in it if there is one.
 #[derive(Drop)]
 struct ValueEntry {
+    /// The value that the option was given.
     value: OptionValue,
-    // Read when the value is added, so that lending it allocates no memory.
+    // The name of the file in the value. It is read when the value is added, so that lending it
+    // allocates no memory.
     file: Option<Name>,
 }
 
 /// The values that the options of a command were given, in the order given.
 #[derive(Drop)]
 pub struct Values {
+    /// The allocator.
     alloc: Global,
+    /// The values, each with the name of the file in it, if there is one.
     entries: Vec<ValueEntry>,
 }
 
@@ -128,8 +132,10 @@ impl Model for Values {
 
     ghost Value = { List OptionValue };
 
+    // The values, without the names of files.
     ghost view = { λ values. map (λ (e : ValueEntry). e.value) values.entries.items };
 
+    // The name stored beside each value is that of the file in the value.
     ghost invariant = { λ values.
         map (λ (e : ValueEntry). e.file) values.entries.items
         ≡ map (λ (e : ValueEntry). file_in e.value) values.entries.items };
@@ -226,9 +232,12 @@ impl Values {
     /// The name of the first file that the option with a letter was given, without one leading
     /// `./`, if there is one. The option's values are files.
     pub fn first_file(&self, letter: u8) -> Option<&Name>
+        // The option is not `--script`.
         requires letter { IsTrue (not (letter == SCRIPT)) }
+        // If the option has a value, its first value is a file.
         requires file { IfSome (first_value letter self.now)
             (λ value. IsTrue (is_file_argument value.text)) }
+        // The name in the first value, without one leading `./`; None if there is no value.
         ensures { option_map (λ name. name.now) result
             ≡ option_map (λ value. without_dot_slash value.text)
             (first_value letter self.entry.now) }
@@ -243,6 +252,7 @@ impl Values {
     /// leading `./`.
     pub fn script_file(&self, i: usize) -> &Name
         requires here { i < length self.now }
+        // The value is one of `--script`, and has a file.
         requires script { IfSome (slice_get self.now i)
             (λ value. value.letter ≡ SCRIPT × IsTrue (is_file_argument (script_file value.text))) }
         ensures { option_map (λ value. without_dot_slash (script_file value.text))

@@ -1,7 +1,8 @@
-//! Runs the rows on standard input through `apk`, and prints a line for each. `tests/rows.md`
-//! describes their form.
+//! Runs the command lines of the rows on standard input with `apk`, over trees in memory, and
+//! prints a line for each row. `tests/rows.md` describes the form of rows.
 //!
-//! Its stored run has all rows. It ends with 0 if no row failed, and with 1 otherwise.
+//! The stored run of this program has all rows. The exit status is 0 if no row failed, and 1
+//! otherwise.
 #![tactic(auto)]
 
 use apk_front::{apk, status};
@@ -14,11 +15,11 @@ use std::io::{Read, Write};
 use std::process::ExitCode;
 use tree_memory::{MemorySink, MemoryTree};
 
-/// The status of a run that was refused (`docs/commands.md`, "Answers and statuses"), as `info` is
-/// if a root has no database, a bad one, or a bad intent.
+/// The status of a refused run (`docs/commands.md`, "Answers and statuses"). `info` is refused if
+/// the root has no database, a bad database, or a bad journal entry.
 const REFUSED: u8 = 1;
 
-/// The package keeper.
+/// The program `apk`, as rows run it.
 struct Apk;
 
 impl Program for Apk {
@@ -46,7 +47,7 @@ impl Program for Apk {
         self.run(alloc, &words, tree, &mut out, &mut err) <= REFUSED
     }
 
-    /// The container of a dump text; none if the text is no dump.
+    /// The container that is written of a dump text, or None if the text is no dump text.
     fn container_of(&self, alloc: Global, text: &[u8]) -> Result<Option<Vec<u8>>, AllocError> {
         match gen_(alloc, text) {
             Ok(bytes) => Ok(Some(bytes)),
@@ -56,7 +57,7 @@ impl Program for Apk {
     }
 }
 
-/// Runs the rows of standard input; the status is 1 if one fails.
+/// Runs the rows of standard input. The exit status is 1 if a row fails.
 fn main(rt: HostRuntime) -> io::Result<ExitCode> {
     let alloc = rt.alloc();
     let mut text = Vec::new(alloc);

@@ -4,7 +4,7 @@ use Rattle.std.specs.Prelude.{slice_get, if◌then◌else◌, ◌||◌, nat_lt, 
 use Rattle.std.specs.Option.{option_or}
 use Rattle.std.proofs.lemmas.Bool.{eqb-true}
 use Rattle.adb_block.specs.Framing.{HeadFields, Step, block, ended, failed, block_head_fields, kind_of_number, next_step, step_by_head, step_by_order, step_by_size}
-use Rattle.adb_block.specs.Header.{header_of}
+use Rattle.adb_block.specs.Header.{schema_of_header}
 use Rattle.adb_block.specs.Piece.{Piece, may_be_next_kind, least_payload_len}
 use Rattle.adb_block.specs.Reading.{Reading, done, fault, more, block_stream_after_step, block_stream_from_offset, block_stream_from}
 use Rattle.adb_block.specs.ReaderPosition.{first_block_position}
@@ -12,7 +12,7 @@ use Rattle.adb_block.specs.declared.block.BlockKind.{BlockKind}
 use Rattle.pkg_core.specs.adb_schema.Soundness.{blocks_fault, file_fault_after_header, is_schema_wanted, payload_fault, root_value, schema_fault, schema_word}
 use Rattle.pkg_core.specs.adb_schema.declared.read.TheConstants.{PACKAGE_WORD, INDEX_WORD, IDB_WORD, INTENT_WORD}
 use Rattle.pkg_core.specs.adb_fields.Repeated.{repeated_fault}
-use Rattle.pkg_core.specs.adb_schema.Texts.{text_fault}
+use Rattle.pkg_core.specs.adb_schema.Texts.{text_or_number_fault}
 use Rattle.adb_view.specs.Head.{payload_head_fault, root_word_of_payload}
 use Rattle.adb_view.specs.Schema.{shape_of}
 use Rattle.adb_view.specs.Walk.{shape_fault}
@@ -22,7 +22,7 @@ use Rattle.adb_view.specs.declared.tables.Which.TheVariants.{Package, Index, Idb
 use Rattle.base_core.specs.declared.cause.Cause.{Cause}
 use Rattle.base_core.specs.declared.cause.Cause.TheVariants.{WrongSchema}
 use Rattle.base_core.proofs.Causes.{both_none}
-use Rattle.container_laws.specs.TestsInOrder.{PassesEveryTest, tests_of_values}
+use Rattle.container_laws.specs.TestsInOrder.{PassesEveryContainerTest, tests_of_values}
 use Rattle.container_laws.proofs.FirstTests.{chain, five}
 use Rattle.pkg_core.specs.Whole.{fault_of_further_blocks, container_fault, container_fault_after_header, container_fault_after_schema, table_of_schema, container_fault_of_table}
 
@@ -123,9 +123,9 @@ by_reading : (which : Which) (r : Reading) → (r ≡ done → ⊥) → blocks_f
 by_reading which done on e = absurd (on refl)
 by_reading which (fault c) on e = absurd cc
 by_reading which (more b at r) on e =
-    (b, at, r, refl, none_fails (tests_of_values which b.payload r) (sym (five (payload_head_fault b.payload) (shape_fault b.payload (shape_of (Obj which)) (root_word_of_payload b.payload)) (text_fault which (root_value which b.payload)) (repeated_fault which (root_value which b.payload)) (fault_of_further_blocks which (root_value which b.payload) r)) ∙ e))
+    (b, at, r, refl, none_fails (tests_of_values which b.payload r) (sym (five (payload_head_fault b.payload) (shape_fault b.payload (shape_of (Obj which)) (root_word_of_payload b.payload)) (text_or_number_fault which (root_value which b.payload)) (repeated_fault which (root_value which b.payload)) (fault_of_further_blocks which (root_value which b.payload) r)) ∙ e))
 
-by_table : (file : List ℕ) (schema : ℕ) (which : Which) → header_of file ≡ Ok schema → table_of_schema schema ≡ Some which → container_fault_of_table which file ≡ None → PassesEveryTest file
+by_table : (file : List ℕ) (schema : ℕ) (which : Which) → schema_of_header file ≡ Ok schema → table_of_schema schema ≡ Some which → container_fault_of_table which file ≡ None → PassesEveryContainerTest file
 unfolding container_fault_of_table
 by_table file schema which header root e =
     let all : file_fault_after_header (fault_of_further_blocks which) which file (Ok schema) ≡ None = sym (ap (file_fault_after_header (fault_of_further_blocks which) which file) header) ∙ e in
@@ -143,25 +143,25 @@ by_table file schema which header root e =
       each = each;
     }
 
-by_root : (file : List ℕ) (schema : ℕ) (root : Option Which) → header_of file ≡ Ok schema → table_of_schema schema ≡ root → container_fault_after_schema file schema root ≡ None → PassesEveryTest file
+by_root : (file : List ℕ) (schema : ℕ) (root : Option Which) → schema_of_header file ≡ Ok schema → table_of_schema schema ≡ root → container_fault_after_schema file schema root ≡ None → PassesEveryContainerTest file
 by_root file schema None header root e = absurd cc
 by_root file schema (Some which) header root e = by_table file schema which header root e
 
-by_header : (file : List ℕ) (h : Result ℕ Cause) → header_of file ≡ h → container_fault_after_header file h ≡ None → PassesEveryTest file
+by_header : (file : List ℕ) (h : Result ℕ Cause) → schema_of_header file ≡ h → container_fault_after_header file h ≡ None → PassesEveryContainerTest file
 by_header file (Err c) header e = absurd cc
 by_header file (Ok schema) header e = by_root file schema (table_of_schema schema) header refl e
 
-passes : (file : List ℕ) → container_fault file ≡ None → PassesEveryTest file
+passes : (file : List ℕ) → container_fault file ≡ None → PassesEveryContainerTest file
 unfolding container_fault
-passes file e = by_header file (header_of file) refl e
+passes file e = by_header file (schema_of_header file) refl e
 
-accepted : (file : List ℕ) → PassesEveryTest file → container_fault file ≡ None
+accepted : (file : List ℕ) → PassesEveryContainerTest file → container_fault file ≡ None
 unfolding container_fault container_fault_of_table
 accepted file p =
     let values = tests_of_values p.which p.first.payload p.behind in
     let blocks : blocks_fault (fault_of_further_blocks p.which) p.which (block_stream_from (first_block_position p.schema file)) ≡ None =
     ap (blocks_fault (fault_of_further_blocks p.which) p.which) p.blocks
-    ∙ five (payload_head_fault p.first.payload) (shape_fault p.first.payload (shape_of (Obj p.which)) (root_word_of_payload p.first.payload)) (text_fault p.which (root_value p.which p.first.payload)) (repeated_fault p.which (root_value p.which p.first.payload))
+    ∙ five (payload_head_fault p.first.payload) (shape_fault p.first.payload (shape_of (Obj p.which)) (root_word_of_payload p.first.payload)) (text_or_number_fault p.which (root_value p.which p.first.payload)) (repeated_fault p.which (root_value p.which p.first.payload))
     (fault_of_further_blocks p.which (root_value p.which p.first.payload) p.behind)
     ∙ each_holds values p.each in
     ap (container_fault_after_header file) p.header
@@ -170,5 +170,5 @@ accepted file p =
     ∙ ap (λ (b : Bool). option_or (if b then None else Some (WrongSchema p.schema)) (blocks_fault (fault_of_further_blocks p.which) p.which (block_stream_from (first_block_position p.schema file)))) (wanted p.schema p.which p.root)
     ∙ blocks
 
-pub every_test : (file : List ℕ) → (container_fault file ≡ None) ↔ PassesEveryTest file
+pub every_test : (file : List ℕ) → (container_fault file ≡ None) ↔ PassesEveryContainerTest file
 every_test file = (passes file, accepted file)

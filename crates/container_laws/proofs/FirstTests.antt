@@ -2,14 +2,14 @@
 use Rattle.std.proofs.Common.{◌≡◌, inl, inr, ℕ, zero, suc, ◌<◌, Bool, true, false, if◌then◌else◌, List, [], ◌∷◌, Option, Some, None, Result, Ok, Err, refl, ap, sym, ◌∙◌, arith}
 use Rattle.std.specs.Prelude.{slice_get}
 use Rattle.std.specs.Option.{option_or}
-use Rattle.adb_block.specs.Header.{header_of}
+use Rattle.adb_block.specs.Header.{schema_of_header}
 use Rattle.adb_block.specs.Reading.{Reading, done, fault, more, block_stream_from}
 use Rattle.adb_block.specs.ReaderPosition.{first_block_position}
 use Rattle.pkg_core.specs.adb_schema.Soundness.{blocks_fault, file_fault_after_header, is_schema_wanted, root_value, schema_word}
 use Rattle.adb_view.specs.declared.tables.Which.{Which}
 use Rattle.base_core.specs.declared.cause.Cause.{Cause}
 use Rattle.base_core.specs.declared.cause.Cause.TheVariants.{WrongSchema}
-use Rattle.container_laws.specs.TestsInOrder.{IsBlocksFault, IsContainerFault, IsFaultOfTable, IsFirstFailing, tests_of_values}
+use Rattle.container_laws.specs.TestsInOrder.{IsBlocksFault, IsContainerFault, IsContainerFaultForTable, IsFirstFailing, tests_of_values}
 use Rattle.container_laws.proofs.FirstHeader.{header_told}
 use Rattle.pkg_core.specs.Whole.{fault_of_further_blocks, container_fault, container_fault_after_header, container_fault_after_schema, table_of_schema, container_fault_of_table}
 use Rattle.pkg_core.proofs.WholeTests.{or_none}
@@ -50,30 +50,30 @@ blocks_told which (fault d) c e = let same : d ≡ c = cc (e) in inl (ap fault s
 blocks_told which (more b at r) c e =
     inr (b, at, r, refl, first_of (tests_of_values which b.payload r) c (sym (five _ _ _ _ (fault_of_further_blocks which (root_value which b.payload) r)) ∙ e))
 
-table_by : (which : Which) (file : List ℕ) (c : Cause) (schema : ℕ) (b : Bool) → header_of file ≡ Ok schema → is_schema_wanted (schema_word which) schema ≡ b
-    → option_or (if b then None else Some (WrongSchema schema)) (blocks_fault (fault_of_further_blocks which) which (block_stream_from (first_block_position schema file))) ≡ Some c → IsFaultOfTable which file c
+table_by : (which : Which) (file : List ℕ) (c : Cause) (schema : ℕ) (b : Bool) → schema_of_header file ≡ Ok schema → is_schema_wanted (schema_word which) schema ≡ b
+    → option_or (if b then None else Some (WrongSchema schema)) (blocks_fault (fault_of_further_blocks which) which (block_stream_from (first_block_position schema file))) ≡ Some c → IsContainerFaultForTable which file c
 table_by which file c schema true header wanted e = inr (schema, header, inr (wanted, blocks_told which (block_stream_from (first_block_position schema file)) c e))
 table_by which file c schema false header wanted e =
     let same : WrongSchema schema ≡ c = cc (e) in
     inr (schema, header, inl (wanted, sym same))
 
-by_header : (which : Which) (file : List ℕ) (c : Cause) (h : Result ℕ Cause) → header_of file ≡ h → file_fault_after_header (fault_of_further_blocks which) which file h ≡ Some c → IsFaultOfTable which file c
+by_header : (which : Which) (file : List ℕ) (c : Cause) (h : Result ℕ Cause) → schema_of_header file ≡ h → file_fault_after_header (fault_of_further_blocks which) which file h ≡ Some c → IsContainerFaultForTable which file c
 by_header which file c (Err d) header e =
     let same : d ≡ c = cc (e) in
     inl (header_told file c (header ∙ ap Err same))
 by_header which file c (Ok schema) header e = table_by which file c schema (is_schema_wanted (schema_word which) schema) header refl e
 
-pub table_told : (which : Which) (file : List ℕ) (c : Cause) → container_fault_of_table which file ≡ Some c → IsFaultOfTable which file c
+pub table_told : (which : Which) (file : List ℕ) (c : Cause) → container_fault_of_table which file ≡ Some c → IsContainerFaultForTable which file c
 unfolding container_fault_of_table
-table_told which file c e = by_header which file c (header_of file) refl e
+table_told which file c e = by_header which file c (schema_of_header file) refl e
 
-by_schema : (file : List ℕ) (c : Cause) (schema : ℕ) (root : Option Which) → header_of file ≡ Ok schema → table_of_schema schema ≡ root → container_fault_after_schema file schema root ≡ Some c → IsContainerFault file c
+by_schema : (file : List ℕ) (c : Cause) (schema : ℕ) (root : Option Which) → schema_of_header file ≡ Ok schema → table_of_schema schema ≡ root → container_fault_after_schema file schema root ≡ Some c → IsContainerFault file c
 by_schema file c schema None header root e =
     let same : WrongSchema schema ≡ c = cc (e) in
     inr (schema, header, inl (root, sym same))
 by_schema file c schema (Some which) header root e = inr (schema, header, inr (which, root, table_told which file c e))
 
-any_by : (file : List ℕ) (c : Cause) (h : Result ℕ Cause) → header_of file ≡ h → container_fault_after_header file h ≡ Some c → IsContainerFault file c
+any_by : (file : List ℕ) (c : Cause) (h : Result ℕ Cause) → schema_of_header file ≡ h → container_fault_after_header file h ≡ Some c → IsContainerFault file c
 any_by file c (Err d) header e =
     let same : d ≡ c = cc (e) in
     inl (header_told file c (header ∙ ap Err same))
@@ -81,4 +81,4 @@ any_by file c (Ok schema) header e = by_schema file c schema (table_of_schema sc
 
 pub any_told : (file : List ℕ) (c : Cause) → container_fault file ≡ Some c → IsContainerFault file c
 unfolding container_fault
-any_told file c e = any_by file c (header_of file) refl e
+any_told file c e = any_by file c (schema_of_header file) refl e

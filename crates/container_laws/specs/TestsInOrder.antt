@@ -3,12 +3,12 @@
 use Rattle.std.specs.Prelude.{◌≡◌, ◌⊎◌, ◌<◌, ℕ, true, false, List, [], ◌∷◌, Option, Some, None, Ok, slice_get}
 use Rattle.base_core.specs.declared.cause.Cause.{Cause}
 use Rattle.base_core.specs.declared.cause.Cause.TheVariants.{WrongSchema}
-use Rattle.adb_block.specs.Header.{header_of}
+use Rattle.adb_block.specs.Header.{schema_of_header}
 use Rattle.adb_block.specs.Piece.{Piece}
 use Rattle.adb_block.specs.Reading.{Reading, fault, more, block_stream_from}
 use Rattle.adb_block.specs.ReaderPosition.{first_block_position}
 use Rattle.pkg_core.specs.adb_fields.Repeated.{repeated_fault}
-use Rattle.pkg_core.specs.adb_schema.Texts.{text_fault}
+use Rattle.pkg_core.specs.adb_schema.Texts.{text_or_number_fault}
 use Rattle.pkg_core.specs.adb_schema.Soundness.{is_schema_wanted, root_value, schema_word}
 use Rattle.adb_view.specs.Schema.{shape_of}
 use Rattle.adb_view.specs.Walk.{shape_fault}
@@ -34,7 +34,7 @@ abbrev pub tests_of_values : Which → List ℕ → Reading → List (Option Cau
 tests_of_values which payload behind =
     payload_head_fault payload
     ∷ (shape_fault payload (shape_of (Obj which)) (root_word_of_payload payload)
-    ∷ (text_fault which (root_value which payload)
+    ∷ (text_or_number_fault which (root_value which payload)
     ∷ (repeated_fault which (root_value which payload)
     ∷ (fault_of_further_blocks which (root_value which payload) behind ∷ []))))
 
@@ -48,10 +48,10 @@ IsBlocksFault which r c =
 
 -- the fault of a file that must have one table at its root: first of the header, then of the schema,
 -- then of the blocks
-abbrev pub IsFaultOfTable : Which → List ℕ → Cause → Type 0
-IsFaultOfTable which file c =
+abbrev pub IsContainerFaultForTable : Which → List ℕ → Cause → Type 0
+IsContainerFaultForTable which file c =
     IsHeaderFault file c
-    ⊎ ((schema : ℕ) × (header_of file ≡ Ok schema)
+    ⊎ ((schema : ℕ) × (schema_of_header file ≡ Ok schema)
     × (((is_schema_wanted (schema_word which) schema ≡ false) × (c ≡ WrongSchema schema))
     ⊎ ((is_schema_wanted (schema_word which) schema ≡ true)
     × IsBlocksFault which (block_stream_from (first_block_position schema file)) c)))
@@ -61,17 +61,17 @@ IsFaultOfTable which file c =
 abbrev pub IsContainerFault : List ℕ → Cause → Type 0
 IsContainerFault file c =
     IsHeaderFault file c
-    ⊎ ((schema : ℕ) × (header_of file ≡ Ok schema)
+    ⊎ ((schema : ℕ) × (schema_of_header file ≡ Ok schema)
     × (((table_of_schema schema ≡ None) × (c ≡ WrongSchema schema))
-    ⊎ ((which : Which) × (table_of_schema schema ≡ Some which) × IsFaultOfTable which file c)))
+    ⊎ ((which : Which) × (table_of_schema schema ≡ Some which) × IsContainerFaultForTable which file c)))
 
 -- A file passes every test of a container: it has a header with one of the four schemas, and a first
 -- block; no test of the values and of the blocks after them fails
-pub record PassesEveryTest (file : List ℕ) : Type 0 where
+pub record PassesEveryContainerTest (file : List ℕ) : Type 0 where
   -- the schema of the file
   pub schema : ℕ
   -- the header has this schema
-  pub header : header_of file ≡ Ok schema
+  pub header : schema_of_header file ≡ Ok schema
   -- the table of its root
   pub which : Which
   -- it is the table of the schema

@@ -1,11 +1,11 @@
-//! The contents of a package's files. The order and the tests are in `docs/formats.md`, "The other
-//! blocks".
+//! Answers questions about the files of a package, whose contents are in blocks. The order and the
+//! tests are in `docs/formats.md`, "The other blocks".
 use base_core::Cause;
 use pkg_core::{FileContents, Package, PackageFault};
 use row_lines::{add_number, add_word};
 use std::alloc::{AllocError, Global};
 
-/// How many calls for the next file are made, even after the end or an error.
+/// How many times the next file of a package is requested, even after the end or an error.
 const CALLS: u32 = 3;
 
 /// Answers `package BYTES`: the identity of a package, how many folders it has, and the results of
@@ -22,7 +22,8 @@ pub(crate) fn add_files(
     }
 }
 
-/// Adds the results of a package.
+/// Adds the identity of a package, its number of folders, and the results of the requests for its
+/// next file.
 fn add_calls(alloc: Global, package: Package<'_>, answer: &mut Vec<u8>) -> Result<(), AllocError> {
     let mut package = package;
     add_word(answer, &package.id())?;
@@ -38,7 +39,7 @@ fn add_calls(alloc: Global, package: Package<'_>, answer: &mut Vec<u8>) -> Resul
     Ok(())
 }
 
-/// Adds the positions of a file and its bytes.
+/// Adds the positions of a file in its package (that of its folder and its own), and its bytes.
 fn add_contents(
     alloc: Global,
     contents: &FileContents<'_>,
@@ -49,7 +50,7 @@ fn add_contents(
     add_word(answer, contents.bytes)
 }
 
-/// Adds a cause, as its variant and its fields.
+/// Adds why a package is refused: the name of the cause and its fields.
 fn add_cause(alloc: Global, cause: Cause, answer: &mut Vec<u8>) -> Result<(), AllocError> {
     let text = format!(in alloc; "{cause:?}")?;
     add_word(answer, text.as_bytes())

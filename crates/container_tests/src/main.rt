@@ -1,6 +1,7 @@
-//! Answers questions about `adb_write`, `adb_values` and `pkg_core`: the words and the payloads of
-//! values, whose counts may pass a limit, and the files of a package. Its stored run has all rows;
-//! `tests/lines.md` describes their form. The README of this crate has a row for each question.
+//! Answers questions about `adb_write`, `adb_values` and `pkg_core`: the words (32-bit references)
+//! and the payloads of written values, which may exceed a limit, and the files of a package. The
+//! stored run of this program has all rows; `tests/lines.md` describes their form. The README of
+//! this crate has a row for each question.
 #![tactic(auto)]
 
 mod files;
@@ -16,20 +17,20 @@ use std::io;
 use std::process::ExitCode;
 use values::{add_draft, add_file, add_repeated, add_written};
 
-/// The kinds of questions; the README of this crate has their answers.
+/// The kinds of questions, with what is answered; the README of this crate says more.
 #[derive(Clone, Copy)]
 enum Question {
-    /// `write VALUE ..`.
+    /// `write VALUE ..`: the words of the values, and the payload whose root is the last value.
     Write,
-    /// `file VALUE ..`.
+    /// `file VALUE ..`: a container with the payload whose root is the last value.
     File,
-    /// `draft VALUE ..`.
+    /// `draft VALUE ..`: the payload of a draft of these values.
     Draft,
-    /// `repeated N VALUE ..`.
+    /// `repeated N VALUE ..`: the length of the payload of an array with N times these values.
     Repeated,
-    /// `numbers ORDER`.
+    /// `numbers ORDER`: whether 5,000 blobs get the same words if they are written twice.
     Numbers,
-    /// `package BYTES`.
+    /// `package BYTES`: the identity of a package, and the contents of its files.
     Package,
 }
 
@@ -44,7 +45,7 @@ const QUESTIONS: [(&[u8], Question); 6] = [
     (b"package", Question::Package),
 ];
 
-/// Each row has values of its own.
+/// The crates that the questions are about. Nothing is kept from one row to the next.
 #[derive(Drop)]
 struct Containers;
 
@@ -68,7 +69,7 @@ impl Subject for Containers {
     }
 }
 
-/// Runs the rows of standard input.
+/// Runs the rows of standard input, and returns the exit status.
 fn main(rt: HostRuntime) -> io::Result<ExitCode> {
     run_program(&rt, rt.alloc(), &mut Containers)
 }

@@ -1,5 +1,6 @@
-//! Many blobs that are written in some order and then again; they take many pages of the writer's
-//! table. That equal values are stored once is stated in `docs/formats.md`, "Canonical layout".
+//! Answers `numbers ORDER`: many blobs are written in some order, and then again. The writer's
+//! table needs many pages for them. That equal values are stored once is stated in
+//! `docs/formats.md`, "Canonical layout".
 use crate::values::add_len;
 use adb_view::Val;
 use adb_write::Writer;
@@ -9,14 +10,14 @@ use std::alloc::{AllocError, Global};
 /// How many blobs are written.
 const BLOBS: u32 = 5000;
 
-/// The order of the numbers of the blobs.
+/// The order in which the numbers are written as blobs.
 #[derive(Clone, Copy)]
 enum Order {
     /// From 0 on.
     Rising,
     /// Down from the count of blobs.
     Falling,
-    /// By multiples of an odd number, modulo 65,536.
+    /// Multiples of an odd number, modulo 65,536.
     Scattered,
 }
 
@@ -28,8 +29,8 @@ const ORDERS: [(&[u8], Order); 3] = [
     (b"scattered", Order::Scattered),
 ];
 
-/// The number of the blob at an index, counted from 0. 7919 is odd, so no two of the scattered ones
-/// have the same number.
+/// The number that the blob with the index `i` has, counted from 0. 7919 is odd, so that no two of
+/// the scattered numbers are equal.
 fn number_at(order: Order, i: u32) -> u32 {
     match order {
         Order::Rising => i,
@@ -38,7 +39,7 @@ fn number_at(order: Order, i: u32) -> u32 {
     }
 }
 
-/// Writes the numbers as blobs of four bytes, and returns their words.
+/// Writes the numbers as blobs of four bytes, and returns their words (32-bit references).
 fn words_of(alloc: Global, writer: &mut Writer, order: Order) -> Result<Vec<Val>, AllocError> {
     let mut words = Vec::new(alloc);
     for i in 0..BLOBS {
@@ -47,8 +48,8 @@ fn words_of(alloc: Global, writer: &mut Writer, order: Order) -> Result<Vec<Val>
     Ok(words)
 }
 
-/// Answers `numbers ORDER`: whether each blob has the same word again, and how many bytes the
-/// payload has.
+/// Answers `numbers ORDER`: whether each blob has the same word when it is written again, and how
+/// many bytes the payload has.
 pub(crate) fn add_numbers(
     alloc: Global,
     order: &[u8],

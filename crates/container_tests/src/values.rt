@@ -1,7 +1,8 @@
-//! Values for a writer or a draft, from the words of a row: `.` is null, `#` and a number an
-//! integer, `'` and bytes a blob; `[` and `]` enclose an array, `{` and `}` an object. `*` and a
-//! number repeat a value, and `~` leaves out the words of the values before it. The layout is in
-//! `docs/formats.md`, "Canonical layout"; the words in the README of this crate.
+//! Writes values, given as words of a row, with a writer or a draft. `.` is null, `#` and a number
+//! is an integer, `'` and bytes is a blob. `[` and `]` enclose an array, `{` and `}` an object. `*`
+//! and a number repeat a value, and after `~` the answer leaves out the words of the values before
+//! it. The layout is in `docs/formats.md`, "Canonical layout"; the words in the README of this
+//! crate.
 use adb_schema::PACKAGE_WORD;
 use adb_values::Draft;
 use adb_view::Val;
@@ -13,26 +14,26 @@ use std::alloc::{AllocError, Global};
 /// The most bytes of a payload (`docs/formats.md`, "Canonical layout").
 const MOST_BYTES: usize = 268_435_455;
 
-/// A word of a row.
+/// What a word of a row says about the values to be written.
 #[derive(Clone, Copy)]
 enum Part<'a> {
-    /// NULL.
+    /// The value null.
     Null,
     /// An integer.
     Int(u64),
     /// A blob.
     Blob(&'a [u8]),
-    /// A list begins, of either kind.
+    /// A list begins, which may be an array or an object.
     Open,
     /// The list that was opened last ends as an array.
     Array,
     /// The list that was opened last ends as an object.
     Object,
-    /// The words of the values before are left out.
+    /// The words of the values before this are left out of the answer.
     LeaveOut,
 }
 
-/// A word of a row, and how often it is written.
+/// What a word of a row says, and how often its value is written: the number after `*`, or once.
 fn part_of(word: &[u8]) -> (Part<'_>, u64) {
     match word.iter().position(|byte| *byte == b'*') {
         Some(at) => (part_named(&word[..at]), long_of(&word[at + 1..])),
@@ -40,7 +41,7 @@ fn part_of(word: &[u8]) -> (Part<'_>, u64) {
     }
 }
 
-/// A word of a row, without the number of its repetitions.
+/// What a word of a row says, given without `*` and the number after it.
 fn part_named(word: &[u8]) -> Part<'_> {
     match word {
         [b'\'', bytes @ ..] => Part::Blob(bytes),
@@ -67,14 +68,14 @@ fn long_of(word: &[u8]) -> u64 {
 struct Written {
     /// The writer.
     writer: Writer,
-    /// The entries of each list that is open.
+    /// The entries so far of each list that has begun and not ended, the outermost list first.
     open: Vec<Vec<Val>>,
-    /// The words of the values that are in no list.
+    /// The words (32-bit references) of the values that are in no list.
     words: Vec<Val>,
 }
 
 impl Written {
-    /// Writes a word of a row.
+    /// Writes `times` times the value of a word of a row, or begins or ends a list.
     fn add(&mut self, alloc: Global, part: Part<'_>, times: u64) -> Result<(), AllocError> {
         match part {
             Part::Open => self.open.push(Vec::new(alloc))?,
@@ -85,7 +86,8 @@ impl Written {
         Ok(())
     }
 
-    /// Closes the list that was opened last.
+    /// Ends the list that was begun last, and writes it `times` times. Without such a list nothing
+    /// is written.
     fn close(&mut self, part: Part<'_>, times: u64) -> Result<(), AllocError> {
         match self.open.pop() {
             Some(entries) => self.add_times(part, &entries, times),
@@ -93,7 +95,8 @@ impl Written {
         }
     }
 
-    /// Writes a value this many times, each time as an entry of the open list.
+    /// Writes a value `times` times. Each time it is an entry of the list that was begun last, or
+    /// in no list if none has begun. `entries` are those of an array or an object.
     fn add_times(&mut self, part: Part<'_>, entries: &[Val], times: u64) -> Result<(), AllocError> {
         for _ in 0..times {
             let word = self.word_of(part, entries)?;
@@ -105,7 +108,7 @@ impl Written {
         Ok(())
     }
 
-    /// Writes a value; a list has these entries.
+    /// Writes a value, and returns its word. `entries` are those of an array or an object.
     fn word_of(&mut self, part: Part<'_>, entries: &[Val]) -> Result<Val, AllocError> {
         match part {
             Part::Null | Part::Open | Part::LeaveOut => Ok(Val::of(0)),
@@ -117,7 +120,7 @@ impl Written {
     }
 }
 
-/// Writes the words of a row from the second on.
+/// Writes the values that the words of a row say, from the second word on.
 fn write_values(alloc: Global, words: &Words) -> Result<Written, AllocError> {
     let mut written = Written {
         writer: Writer::new(alloc),
@@ -131,7 +134,7 @@ fn write_values(alloc: Global, words: &Words) -> Result<Written, AllocError> {
     Ok(written)
 }
 
-/// The payload of the written values, whose root is the last one.
+/// The payload of the written values. Its root is the last value, or null if there is none.
 fn payload_of(written: Written) -> Result<Vec<u8>, WriteFault> {
     let root = match written.words.last() {
         Some(word) => *word,
@@ -140,7 +143,7 @@ fn payload_of(written: Written) -> Result<Vec<u8>, WriteFault> {
     written.writer.finish(root)
 }
 
-/// Answers `write VALUES`: the words of the values, and the payload whose root is the last.
+/// Answers `write VALUE ..`: the words of the values, and the payload whose root is the last value.
 pub(crate) fn add_written(
     alloc: Global,
     words: &Words,
@@ -158,7 +161,8 @@ pub(crate) fn add_written(
     }
 }
 
-/// Answers `file VALUES`: the file of the payload, as one of a package.
+/// Answers `file VALUE ..`: the container, with the schema of a package, of the payload of the
+/// values.
 pub(crate) fn add_file(
     alloc: Global,
     words: &Words,
@@ -170,7 +174,7 @@ pub(crate) fn add_file(
     }
 }
 
-/// Adds the file of a payload.
+/// Adds the container of a payload, with the schema of a package.
 fn add_file_of(alloc: Global, payload: &[u8], answer: &mut Vec<u8>) -> Result<(), AllocError> {
     if payload.len() > MOST_BYTES {
         return add_word(answer, b"too many bytes");
@@ -178,7 +182,8 @@ fn add_file_of(alloc: Global, payload: &[u8], answer: &mut Vec<u8>) -> Result<()
     add_word(answer, &file_of(alloc, PACKAGE_WORD, payload)?)
 }
 
-/// Adds the counts just after the first value at which one passes its limit.
+/// Adds the counts of bytes and values after the first value with which a count exceeds its limit.
+/// Out of memory is returned.
 fn add_fault(alloc: Global, fault: WriteFault, answer: &mut Vec<u8>) -> Result<(), AllocError> {
     match fault {
         WriteFault::TooLarge { bytes, values } => {
@@ -191,7 +196,7 @@ fn add_fault(alloc: Global, fault: WriteFault, answer: &mut Vec<u8>) -> Result<(
 
 // ---- a draft
 
-/// Adds to a draft the values of the words from a place on.
+/// Adds to a draft the values that the words say from the index `first` on, counted from 0.
 fn add_values(draft: &mut Draft, words: &Words, first: usize) -> Result<(), AllocError> {
     for i in first..words.len() {
         let (part, times) = part_of(words.word(i));
@@ -202,7 +207,7 @@ fn add_values(draft: &mut Draft, words: &Words, first: usize) -> Result<(), Allo
     Ok(())
 }
 
-/// Adds a word of a row to a draft.
+/// Adds to a draft the value of a word of a row, or begins or ends a list.
 fn add_part(draft: &mut Draft, part: Part<'_>) -> Result<(), AllocError> {
     match part {
         Part::Null => draft.null(),
@@ -215,7 +220,7 @@ fn add_part(draft: &mut Draft, part: Part<'_>) -> Result<(), AllocError> {
     }
 }
 
-/// Answers `draft VALUES`: the payload of a draft of these values.
+/// Answers `draft VALUE ..`: the payload of a draft of these values.
 pub(crate) fn add_draft(
     alloc: Global,
     words: &Words,
@@ -229,8 +234,8 @@ pub(crate) fn add_draft(
     }
 }
 
-/// Answers `repeated N VALUES`: the length of a draft's payload that is an array of N times these
-/// values.
+/// Answers `repeated N VALUE ..`: the length of the payload of a draft that has one array, with N
+/// times these values.
 pub(crate) fn add_repeated(
     alloc: Global,
     words: &Words,

@@ -1,8 +1,9 @@
-//! Sweeps over small containers: each byte is set to each value, each word to each other word, and
-//! the file is cut at each length. Results are counted by their kinds, and a digest over all of
-//! them pins each one. Its stored run has all rows, whose expected answers `tests/model/verify.py`
-//! computes; `tests/lines.md` describes their form. A container is kept from one row to the next.
-//! The README of this crate has a row for each question.
+//! Sweeps over small containers: each byte is set to each value, each word (four bytes) to each
+//! other word, and the file is cut at each length. An answer counts the results by their kinds, and
+//! has a digest over all results, which shows a change of any single one. Its stored run has all
+//! rows, whose expected answers `tests/model/verify.py` computes; `tests/lines.md` describes their
+//! form. A container is kept from one row to the next. The README of this crate has a row for each
+//! question.
 #![tactic(auto)]
 
 ghost use Rattle.std.specs.Prelude.{◌+◌, ◌≤◌, length};
@@ -18,22 +19,22 @@ use std::io;
 use std::process::ExitCode;
 use tally::Tally;
 
-/// The kinds of questions: a container is set, it is read itself, or changes of it are read.
+/// The kinds of questions, each with the way in which files are tested.
 #[derive(Clone, Copy)]
 enum Question {
-    /// A container is set.
+    /// `container BYTES`: later questions are about the container BYTES.
     Container,
-    /// It is read itself.
+    /// The container is tested as it is.
     Itself(Test),
-    /// Each file is read that differs from it in one byte.
+    /// Each file is tested that differs from the container in one byte.
     Changes(Test),
-    /// Each file in which one of its words replaces another is read.
+    /// Each file is tested in which one word of the container replaces another one.
     Words(Test),
-    /// Each front of it is read.
+    /// The container is tested, cut off at each length.
     Cuts(Test),
 }
 
-// The words that questions begin with.
+// The first word of each question.
 #[rattlefmt::skip]
 const QUESTIONS: [(&[u8], Question); 13] = [
     (b"container", Question::Container),
@@ -51,7 +52,7 @@ const QUESTIONS: [(&[u8], Question); 13] = [
     (b"dump_cuts", Question::Cuts(Test::Dump)),
 ];
 
-/// The container that rows speak of.
+/// The container of the last question `container`.
 #[derive(Drop)]
 struct CurrentContainer {
     /// Its bytes; empty before the first `container`.
@@ -59,8 +60,7 @@ struct CurrentContainer {
 }
 
 impl Subject for CurrentContainer {
-    /// Answers a question by its first word. `container` keeps bytes, about which the later
-    /// questions are.
+    /// Answers a question by its first word. `container` keeps the bytes that later questions test.
     fn answer(
         &mut self,
         alloc: Global,
@@ -99,7 +99,8 @@ fn add_changes(
     tally.add_to(alloc, answer)
 }
 
-/// Reads the file with each value of the byte at an offset.
+/// Tests the file with each of the 256 values of the byte at an offset, and counts the results. A
+/// line of the digest has the offset, the value and the result.
 fn read_values_at(
     alloc: Global,
     test: Test,
@@ -120,8 +121,8 @@ fn read_values_at(
 }
 
 /// Adds the result of a test for each file in which one word is replaced by another of the file:
-/// offset by offset, and for each by the first word to the last. A word is the four bytes at a
-/// multiple of four.
+/// offset by offset, and at each offset by each word, from the first to the last. A word is the
+/// four bytes at a multiple of four.
 fn add_words(
     alloc: Global,
     test: Test,
@@ -129,13 +130,14 @@ fn add_words(
     answer: &mut Vec<u8>,
 ) -> Result<(), AllocError> {
     let mut tally = Tally::new();
-    for place in 0..file.len() / 4 {
-        read_words_at(alloc, test, file, 4 * place, &mut tally)?;
+    for index in 0..file.len() / 4 {
+        read_words_at(alloc, test, file, 4 * index, &mut tally)?;
     }
     tally.add_to(alloc, answer)
 }
 
-/// Reads the file with each of its words at an offset.
+/// Tests the file with the word at an offset, which must end within the file, replaced by each of
+/// its words. A line of the digest has both offsets and the result.
 fn read_words_at(
     alloc: Global,
     test: Test,
@@ -145,8 +147,8 @@ fn read_words_at(
 ) -> Result<(), AllocError>
     requires { at + 4 ≤ length file.now }
 {
-    for place in 0..file.len() / 4 {
-        let from = 4 * place;
+    for index in 0..file.len() / 4 {
+        let from = 4 * index;
         let mut changed = file.to_vec(alloc)?;
         changed[at..at + 4].copy_from_slice(&file[from..from + 4]);
         let mut line = format!(in alloc; "{at} {from} ")?.into_bytes();
@@ -156,7 +158,8 @@ fn read_words_at(
     Ok(())
 }
 
-/// Adds the result of a test for each front of a file, from the empty one to the whole.
+/// Adds the result of a test for the file cut off at each length, from 0 to the whole length. A
+/// line of the digest has the length and the result.
 fn add_cuts(
     alloc: Global,
     test: Test,

@@ -1,5 +1,5 @@
-//! The results of the tests of a container, and its dump. The tests are in `docs/formats.md`,
-//! "Tests of a container", and the text in "Dump text".
+//! Tests a container or prints it as text, and gives the result as a line. The tests are in
+//! `docs/formats.md`, "Tests of a container", and the printed text in "Dump text".
 
 ghost use Rattle.std.specs.Prelude.{IsTrue, is_some};
 ghost use Rattle.adb_schema.specs.Soundness.{schema_word};
@@ -16,7 +16,7 @@ use report_core::{Refusal, write_error};
 use std::alloc::{AllocError, Global};
 use tree_memory::{MemorySink, MemoryTree};
 
-/// How a file is read.
+/// The ways to test a file.
 #[derive(Clone, Copy)]
 pub(crate) enum Test {
     /// All tests, on a file in memory.
@@ -56,7 +56,7 @@ impl Test {
     }
 }
 
-/// The first failed test of a file in memory.
+/// The first failed test of a file in memory; None if all tests succeed.
 fn fault_of(alloc: Global, file: &[u8]) -> Result<Option<Cause>, AllocError> {
     match verify(alloc, file) {
         Ok(()) => Ok(None),
@@ -65,7 +65,8 @@ fn fault_of(alloc: Global, file: &[u8]) -> Result<Option<Cause>, AllocError> {
     }
 }
 
-/// The first failed test of a file of a tree, which is read in pieces if it is a package.
+/// The first failed test of a file (named `p`) of a tree, which is read in pieces if it is a
+/// package; None if all tests succeed.
 fn fault_in_pieces(alloc: Global, file: &[u8]) -> Result<Option<Cause>, AllocError> {
     let Some(name) = Name::read(alloc, b"p")? else {
         return Err(AllocError);
@@ -78,12 +79,13 @@ fn fault_in_pieces(alloc: Global, file: &[u8]) -> Result<Option<Cause>, AllocErr
         Ok(PackageTest::Sound) => Ok(None),
         Ok(PackageTest::Bad(cause)) => Ok(Some(cause)),
         Ok(PackageTest::OtherSchema) => fault_of(alloc, file),
+        // Not reached, as the tree has the file.
         Ok(PackageTest::Absent) => Err(AllocError),
         Err(TreeFault::Disk | TreeFault::Memory) => Err(AllocError),
     }
 }
 
-/// The text of a container, or its first failed test.
+/// The dump text of a container, or its first failed test.
 fn text_of(alloc: Global, file: &[u8]) -> Result<Text, ReadFault> {
     let mut blocks = Blocks::new(file)?;
     let found = blocks.schema();
@@ -93,7 +95,8 @@ fn text_of(alloc: Global, file: &[u8]) -> Result<Text, ReadFault> {
     }
 }
 
-/// The text of the blocks of a file with this table at its root.
+/// The dump text of the blocks of a file whose root value has this table. It must be the table of
+/// one of the kinds of containers.
 fn text_of_blocks(alloc: Global, blocks: &mut Blocks<'_>, which: Which) -> Result<Text, ReadFault>
     requires { IsTrue (is_some (schema_word which)) }
 {
@@ -106,8 +109,9 @@ fn text_of_blocks(alloc: Global, blocks: &mut Blocks<'_>, which: Which) -> Resul
     Ok(text)
 }
 
-/// Tests the framing of the blocks after the first.
+/// Tests the kinds and lengths in the headers of the blocks after the first.
 fn check_framing(blocks: &mut Blocks<'_>) -> Result<(), Cause> {
+    // A bound that is never reached: no file has so many blocks.
     for _ in 0..u64::MAX {
         if blocks.next()?.is_none() {
             break;
@@ -116,7 +120,8 @@ fn check_framing(blocks: &mut Blocks<'_>) -> Result<(), Cause> {
     Ok(())
 }
 
-/// Adds the text of a cause, with a line end, as `verify` prints it for the first word.
+/// Adds the text of a cause, with a line end, as `apk verify` prints it for its first argument, but
+/// without `ERROR: word 1: `.
 fn add_cause(alloc: Global, cause: Cause, line: &mut Vec<u8>) -> Result<(), AllocError> {
     let mut page = MemorySink::new(alloc);
     if write_error(&Refusal::FileBad { place: 1, cause }, &mut page).is_err() {

@@ -1,12 +1,12 @@
-//! Results are counted by their kinds, and a digest over their lines is computed. The kinds are the
-//! rows of causes in `docs/commands.md`, "Error lines".
+//! Counts results by their kinds, and computes a digest over their lines. The kinds are the rows of
+//! causes in `docs/commands.md`, "Error lines".
 
 use base_core::Cause;
 use row_lines::{add_number, add_word};
 use sha2::{Digest, Sha256};
 use std::alloc::{AllocError, Global};
 
-/// A result without its numbers: that the file is sound, or which cause.
+/// The kind of a result: the file is sound, or the kind of its first failed test.
 #[derive(Clone, Copy, PartialEq, Eq)]
 pub(crate) enum AnswerKind {
     Sound,
@@ -30,7 +30,7 @@ pub(crate) enum AnswerKind {
 /// How many kinds of results there are.
 const KINDS: usize = 16;
 
-/// The kinds in the order in which their counts are printed.
+/// The kinds with their texts, in the order in which the counts are printed.
 #[rattlefmt::skip]
 const KIND_NAMES: [(AnswerKind, &[u8]); KINDS] = [
     (AnswerKind::Sound, b"sound"),
@@ -51,7 +51,7 @@ const KIND_NAMES: [(AnswerKind, &[u8]); KINDS] = [
     (AnswerKind::TextLine, b"bad line"),
 ];
 
-/// The kind of a result with this fault, or with none.
+/// The kind of the result of a file with this failed test, or with none.
 pub(crate) fn kind_of(fault: Option<Cause>) -> AnswerKind {
     match fault {
         None => AnswerKind::Sound,
@@ -83,7 +83,7 @@ pub(crate) struct Tally {
 }
 
 impl Tally {
-    /// No results.
+    /// A tally before the first result.
     pub(crate) fn new() -> Tally {
         Tally {
             counts: [0; KINDS],
@@ -91,7 +91,7 @@ impl Tally {
         }
     }
 
-    /// Counts a result with this line.
+    /// Counts a result of this kind, and adds its line to the digest.
     pub(crate) fn count(&mut self, kind: AnswerKind, line: &[u8]) {
         self.lines.update(line);
         for i in 0..KINDS {
@@ -101,7 +101,7 @@ impl Tally {
         }
     }
 
-    /// Adds each kind with results and their number, and then the digest.
+    /// Adds each kind that has results, with their number, and then the digest in hexadecimal.
     pub(crate) fn add_to(self, alloc: Global, text: &mut Vec<u8>) -> Result<(), AllocError> {
         for i in 0..KINDS {
             if self.counts[i] > 0 {

@@ -1,5 +1,5 @@
-//! Changes of a database, from the words of a row. The rules are in `docs/formats.md`,
-//! "The database after a change".
+//! Computes the database after a change that the words of a row describe. The rules are in
+//! `docs/formats.md`, "The database after a change".
 use adb_schema::ReadFault;
 use adb_write::WriteFault;
 use base_core::Words;
@@ -11,9 +11,10 @@ use row_members::{add_coming, add_installed, front_of, name_at};
 use std::alloc::{AllocError, Global};
 use std::marker::PhantomData;
 
-/// The database after `change FLAGS NAME ..`: the packages of the database without those of these
-/// names, and after them those that come, with the files whose flag is 1. A file that is none has
-/// no packages. None: they are not in order, one that comes is bad, or the database is too large.
+/// The database after `change FLAGS NAME ..`: the packages of the database in `file` without those
+/// of these names, then the added packages, with the files whose flag is 1. A `file` that is no
+/// database has no packages. None if the names are not in order, or an added package is bad, or the
+/// database is too large. `coming` has the files of the added packages.
 pub(crate) fn changed_database(
     alloc: Global,
     file: &[u8],
@@ -30,8 +31,8 @@ pub(crate) fn changed_database(
     changed_over(alloc, file, &fronts, words)
 }
 
-/// The database after a change of the one that these bytes are, or of an empty one, with the fronts
-/// of the added packages.
+/// The database after a change of the database in `file`, or of an empty one if `file` is no
+/// database. `coming` has the fronts (headers and first blocks) of the added packages.
 fn changed_over<'a>(
     alloc: Global,
     file: &'a [u8],
@@ -45,7 +46,7 @@ fn changed_over<'a>(
     }
 }
 
-/// The database after a change of one that was read.
+/// The database after a change of the database `db`.
 fn change_of<'a>(
     alloc: Global,
     db: &Db<'a>,
@@ -54,6 +55,7 @@ fn change_of<'a>(
 ) -> Result<Option<Vec<u8>>, AllocError> {
     let mut members = Members::new(alloc, db);
     for i in 0..db.len() {
+        // The words after the flags are the names of the removed packages.
         let stays = !is_among(words, name_at(db, i, PhantomData));
         if stays && !add_installed(&mut members, i)? {
             return Ok(None);
@@ -64,10 +66,11 @@ fn change_of<'a>(
             return Ok(None);
         }
     }
+    // The word 1 has the flags.
     written(alloc, &members, word_at(words, 1))
 }
 
-/// Whether a database is written again as it was read.
+/// Whether the database in `file` has the same bytes if it is read and written again.
 pub(crate) fn unchanged_database(alloc: Global, file: &[u8]) -> Result<bool, AllocError> {
     match Db::read(alloc, file) {
         Ok(db) => is_written_again(alloc, &db, file),
@@ -76,8 +79,8 @@ pub(crate) fn unchanged_database(alloc: Global, file: &[u8]) -> Result<bool, All
     }
 }
 
-/// Whether the database with the same packages is the same bytes; it may list 100 files, each of
-/// which is owned.
+/// Whether the database with the packages of `db` has the bytes of `file`. It may list up to 100
+/// files, each of which its package owns.
 fn is_written_again(alloc: Global, db: &Db<'_>, file: &[u8]) -> Result<bool, AllocError> {
     let mut members = Members::new(alloc, db);
     for i in 0..db.len() {
@@ -91,7 +94,7 @@ fn is_written_again(alloc: Global, db: &Db<'_>, file: &[u8]) -> Result<bool, All
     }
 }
 
-/// Whether a name is one of the words after the flags.
+/// Whether a name is one of the words after the flags: one of the names of `change FLAGS NAME ..`.
 fn is_among(words: &Words, name: &[u8]) -> bool {
     for i in 2..words.len() {
         if words.word(i) == name {
@@ -101,8 +104,8 @@ fn is_among(words: &Words, name: &[u8]) -> bool {
     false
 }
 
-/// The database of members with these flags, one for each file that they list; none if it is too
-/// large.
+/// The database with these members, or None if it is too large. `flags` has one byte for each file
+/// that the members list: `1` if the member owns the file.
 fn written(
     alloc: Global,
     members: &Members<'_>,

@@ -1,7 +1,7 @@
-//! Answers questions to `db_core` and `db_write`: packages come into a database and leave it, and
-//! what is then found in it. Its stored run has all rows; `tests/lines.md` describes their form.
-//! The database stays from one row to the next, and so do the packages that are to come. The README
-//! of this crate has a row for each question.
+//! Answers questions about `db_core` and `db_write`: packages are added to a database and removed
+//! from it, and then packages and paths are looked up. The stored run of this program has all rows;
+//! `tests/lines.md` describes their form. Each row has the database, and the packages to be added,
+//! that the rows before it left. The README of this crate has a row for each question.
 #![tactic(auto)]
 
 mod change;
@@ -17,20 +17,21 @@ use std::alloc::{AllocError, Global};
 use std::io;
 use std::process::ExitCode;
 
-/// What is asked; the README of this crate says what each question answers.
+/// The kinds of questions, with what is answered; the README of this crate says more.
 #[derive(Clone, Copy)]
 enum Question {
-    /// `start`.
+    /// `start`: begins again with an empty database.
     Start,
-    /// `package NAME VERSION FOLDER/ FILE ..`.
+    /// `package NAME VERSION FOLDER/ FILE ..`: a package that the next `change` adds.
     Package,
-    /// `change FLAGS NAME ..`.
+    /// `change FLAGS NAME ..`: adds packages, removes those of these names, and counts the
+    /// packages.
     Change,
-    /// `again`.
+    /// `again`: whether the database has the same bytes if it is written again.
     Again,
-    /// `find NAME`.
+    /// `find NAME`: the index of the package with this name.
     Find,
-    /// `owner PATH`.
+    /// `owner PATH`: the index of the package that lists this path.
     Owner,
 }
 
@@ -45,12 +46,12 @@ const QUESTIONS: [(&[u8], Question); 6] = [
     (b"owner", Question::Owner),
 ];
 
-/// A database, and the files of packages that are to come.
+/// A database, and the packages that the next change adds.
 #[derive(Drop)]
 struct Installed {
-    /// The database's file, as the last change wrote it; no bytes at first.
+    /// The bytes of the database, as the last change wrote it; no bytes at first.
     file: Vec<u8>,
-    /// The files of the packages that are to come.
+    /// The files of the packages that the next change adds.
     coming: Vec<Vec<u8>>,
 }
 
@@ -81,14 +82,15 @@ impl Subject for Installed {
 }
 
 impl Installed {
-    /// Takes `package NAME ..`: a package that is to come.
+    /// Takes `package NAME ..`: a package that the next change adds.
     fn add_package(&mut self, alloc: Global, words: &Words) -> Result<(), AllocError> {
         let file = package_file(alloc, words)?;
         self.coming.push(file)?;
         Ok(())
     }
 
-    /// Writes the database after a change, and adds how many packages it has.
+    /// Takes `change FLAGS NAME ..`: writes the database after a change, and adds to the answer how
+    /// many packages it has.
     fn change(
         &mut self,
         alloc: Global,
@@ -106,14 +108,14 @@ impl Installed {
         }
     }
 
-    /// Adds whether the database stays the same where nothing changes.
+    /// Answers `again`: whether the database has the same bytes if it is written again.
     fn write_again(&mut self, alloc: Global, answer: &mut Vec<u8>) -> Result<(), AllocError> {
         let same = unchanged_database(alloc, &self.file)?;
         add_word(answer, if same { b"same" } else { b"other" })
     }
 }
 
-/// Adds how many packages the database in a file has.
+/// Adds to the answer how many packages the database in a file has.
 fn add_count(alloc: Global, file: &[u8], answer: &mut Vec<u8>) -> Result<(), AllocError> {
     match Db::read(alloc, file) {
         Ok(db) => add_number(alloc, answer, db.len() as u128),
@@ -122,7 +124,7 @@ fn add_count(alloc: Global, file: &[u8], answer: &mut Vec<u8>) -> Result<(), All
     }
 }
 
-/// Adds the place of the package with this name, counted from 0.
+/// Answers `find NAME`: the index of the package with this name in the database, counted from 0.
 fn add_found(
     alloc: Global,
     file: &[u8],
@@ -136,7 +138,7 @@ fn add_found(
     }
 }
 
-/// Adds the place of the package that lists this path, counted from 0.
+/// Answers `owner PATH`: the index of the package that lists this path, counted from 0.
 fn add_owner(
     alloc: Global,
     file: &[u8],
@@ -153,7 +155,7 @@ fn add_owner(
     }
 }
 
-/// Adds a place, or that there is none.
+/// Adds to the answer the index of a package, or `none`.
 fn add_place(alloc: Global, found: Option<usize>, answer: &mut Vec<u8>) -> Result<(), AllocError> {
     match found {
         Some(place) => add_number(alloc, answer, place as u128),
@@ -161,7 +163,7 @@ fn add_place(alloc: Global, found: Option<usize>, answer: &mut Vec<u8>) -> Resul
     }
 }
 
-/// Answers the rows of standard input.
+/// Runs the rows of standard input, and returns the exit status.
 fn main(rt: HostRuntime) -> io::Result<ExitCode> {
     let alloc = rt.alloc();
     let mut installed = Installed {

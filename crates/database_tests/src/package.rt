@@ -1,4 +1,5 @@
-//! Packages, from the words of a row, as the README of this crate says under `package`.
+//! Writes packages that the words of a row describe, as the README of this crate says under
+//! `package`.
 use adb_schema::PACKAGE_WORD;
 use adb_view::Val;
 use adb_write::{WriteFault, Writer, file_of};
@@ -9,8 +10,9 @@ use std::alloc::{AllocError, Global};
 /// The most bytes of a payload (`docs/formats.md`, "Canonical layout").
 const MOST_BYTES: usize = 268_435_455;
 
-/// The file of `package NAME VERSION ..`: a word that ends in a slash is a folder, another one a
-/// file in the folder before it. The root is a slash alone.
+/// The container of the package that `package NAME VERSION ..` describes. After these words, a word
+/// that ends in a slash is a folder, and any other word is a file in the folder before it. The root
+/// is a slash alone.
 pub(crate) fn package_file(alloc: Global, words: &Words) -> Result<Vec<u8>, AllocError> {
     let mut writer = Writer::new(alloc);
     let root = write_package(alloc, &mut writer, words)?;
@@ -20,7 +22,8 @@ pub(crate) fn package_file(alloc: Global, words: &Words) -> Result<Vec<u8>, Allo
     }
 }
 
-/// The container of a package; one that is too large counts as out of memory.
+/// The container of a package with this payload. A payload that is too large counts as out of
+/// memory.
 fn container(alloc: Global, payload: &[u8]) -> Result<Vec<u8>, AllocError> {
     if payload.len() > MOST_BYTES {
         return Err(AllocError);
@@ -28,7 +31,7 @@ fn container(alloc: Global, payload: &[u8]) -> Result<Vec<u8>, AllocError> {
     file_of(alloc, PACKAGE_WORD, payload)
 }
 
-/// Writes a package: its name, its version and its folders.
+/// Writes the value of a package: its name, its version and its folders.
 fn write_package(alloc: Global, writer: &mut Writer, words: &Words) -> Result<Val, AllocError> {
     let name = writer.blob(word_at(words, 1))?;
     let version = writer.blob(word_at(words, 2))?;
@@ -39,9 +42,10 @@ fn write_package(alloc: Global, writer: &mut Writer, words: &Words) -> Result<Va
     writer.obj(&fields)
 }
 
-/// Writes the folders, which are the words that end in `/`.
+/// Writes the list of the folders of a package, which are the words that end in `/`.
 fn write_folders(alloc: Global, writer: &mut Writer, words: &Words) -> Result<Val, AllocError> {
     let mut folders = Vec::new(alloc);
+    // The words 0 to 2 are `package`, the name and the version.
     for i in 3..words.len() {
         if let [name @ .., b'/'] = words.word(i) {
             folders.push(write_folder(alloc, writer, words, i, name)?)?;
@@ -50,8 +54,8 @@ fn write_folders(alloc: Global, writer: &mut Writer, words: &Words) -> Result<Va
     writer.arr(&folders)
 }
 
-/// Writes the folder whose word has this place; its files are the words after that, up to the next
-/// folder.
+/// Writes a folder. `place` is the index of its word, and its files are the words after that word,
+/// up to the next folder.
 fn write_folder(
     alloc: Global,
     writer: &mut Writer,
@@ -72,11 +76,12 @@ fn write_folder(
     }
     let name = writer.blob(name)?;
     let files = writer.arr(&files)?;
+    // The second field of a folder, mode and owner, is null.
     let fields = [name, Val::of(0), files];
     writer.obj(&fields)
 }
 
-/// Writes a file, of which only the name is known.
+/// Writes the value of a file, which has only a name.
 fn write_file(writer: &mut Writer, name: &[u8]) -> Result<Val, AllocError> {
     let name = writer.blob(name)?;
     let fields = [name];

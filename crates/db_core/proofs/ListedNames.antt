@@ -18,8 +18,8 @@ use Rattle.adb_view.specs.declared.tables.Which.TheVariants.{Idb}
 use Rattle.pkg_core.specs.adb_fields.Paths.{path_of}
 use Rattle.pkg_core.specs.adb_fields.Repeated.{files_in, folders_in, list_of, name_of, paths_of_package_files, paths_of_folder_files}
 use Rattle.pkg_core.specs.adb_schema.Reserved.{is_reserved}
-use Rattle.pkg_core.specs.adb_schema.Rules.{is_file_name_in_folder, is_folder_name, is_one_part}
-use Rattle.pkg_core.specs.adb_schema.SoundValues.{IsSoundFileOf, IsSoundFolder, IsSoundPackage}
+use Rattle.pkg_core.specs.adb_schema.Rules.{is_valid_file_name_in_folder, is_folder_name, is_one_part}
+use Rattle.pkg_core.specs.adb_schema.SoundValues.{IsSoundFileInFolder, IsSoundFolder, IsSoundPackage}
 use Rattle.db_core.specs.EntrySeen.{member_of_entry}
 use Rattle.db_core.specs.Members.{Member, is_added, listings_of_member, listings_of_members_from, listings_in_folder, listings_in_folders, member_listings, member_of_kept}
 use Rattle.db_core.specs.Packages.{is_added_or_lists_no_reserved, lists_only_valid_names, lists_no_reserved_path}
@@ -53,7 +53,7 @@ joined_name a b first second short =
     (utf8_joined a b a2.1 b2.1))
     (ap (list_all is_path_part) (split_slash a b) ∙ (list_all-append is_path_part (path_parts_of a) (path_parts_of b) ∙ and_from (list_all is_path_part (path_parts_of a)) (list_all is_path_part (path_parts_of b)) a1.1 b1.1))
 
-path_named : (folder name : List ℕ) → is_folder_name folder ≡ true → is_file_name_in_folder folder name ≡ true → is_name (path_of folder name) ≡ true
+path_named : (folder name : List ℕ) → is_folder_name folder ≡ true → is_valid_file_name_in_folder folder name ≡ true → is_name (path_of folder name) ≡ true
 path_named [] name h file = (and_parts (is_name name) (not (list_any (λ b. b == 47) name)) (and_parts (is_one_part name) (nat_le (length (path_of [] name)) 1024) file).0).0
 path_named (b ∷ folder) name h file =
     let parts = and_parts (is_one_part name) (nat_le (length (path_of (b ∷ folder) name)) 1024) file in
@@ -62,8 +62,8 @@ path_named (b ∷ folder) name h file =
 -- ---- the paths of a package that keeps the rules
 
 module _ (p : List ℕ → Bool) (root : Which)
-    (file_passes : (folder : List ℕ) (v : Plain) → is_folder_name folder ≡ true → IsSoundFileOf root folder v → p (path_of folder (name_of v)) ≡ true) where
-  files_pass : (folder : List ℕ) → is_folder_name folder ≡ true → (vs : Plains) → Each (IsSoundFileOf root folder) vs → list_all p (map (λ file. path_of folder (name_of file)) (list_of vs)) ≡ true
+    (file_passes : (folder : List ℕ) (v : Plain) → is_folder_name folder ≡ true → IsSoundFileInFolder root folder v → p (path_of folder (name_of v)) ≡ true) where
+  files_pass : (folder : List ℕ) → is_folder_name folder ≡ true → (vs : Plains) → Each (IsSoundFileInFolder root folder) vs → list_all p (map (λ file. path_of folder (name_of file)) (list_of vs)) ≡ true
   files_pass folder h none each = refl
   files_pass folder h (more v vs) each = and_from (p (path_of folder (name_of v))) _ (file_passes folder v h each.0) (files_pass folder h vs each.1)
 
@@ -82,7 +82,7 @@ module _ (p : List ℕ → Bool) (root : Which)
   packages_pass none each = refl
   packages_pass (more v vs) each = and_from (list_all p (paths_of_package_files v)) (list_all (λ v. list_all p (paths_of_package_files v)) (list_of vs)) (package_passes v each.0) (packages_pass vs each.1)
 
-file_named : (root : Which) (folder : List ℕ) (v : Plain) → is_folder_name folder ≡ true → IsSoundFileOf root folder v → is_name (path_of folder (name_of v)) ≡ true
+file_named : (root : Which) (folder : List ℕ) (v : Plain) → is_folder_name folder ≡ true → IsSoundFileInFolder root folder v → is_name (path_of folder (name_of v)) ≡ true
 file_named root folder v h file = path_named folder (name_of v) h file.name
 
 pub package_lists_names : (root : Which) (v : Plain) → IsSoundPackage root v → lists_only_valid_names v ≡ true

@@ -8,7 +8,7 @@ use Rattle.base_core.proofs.Rising.{IsIn, Rises, pairs_from_rises, rises_from_pa
 use Rattle.base_core.specs.ByteOrder.{bytes_cmp, precedes}
 use Rattle.base_core.proofs.Orderings.{is_less}
 use Rattle.db_core.specs.EntrySeen.{member_of_entry}
-use Rattle.db_core.specs.Members.{AreInOrder, Member, is_after_members, member_name}
+use Rattle.db_core.specs.Members.{AreMembersInNameOrder, Member, is_after_members, member_name}
 
 -- as is_after_members, of names
 abbrev pub IsBehind : List ℕ → List (List ℕ) → Type 0
@@ -50,7 +50,7 @@ after_names name [] h = tt
 after_names name (m ∷ []) h = is_less (bytes_cmp (member_name m) name) h
 after_names name (m ∷ n ∷ members) h = after_names name (n ∷ members) h
 
-pub in_order_more : (members : List Member) (m : Member) → AreInOrder members → is_after_members (member_name m) members ≡ true → AreInOrder (members ++ m ∷ [])
+pub in_order_more : (members : List Member) (m : Member) → AreMembersInNameOrder members → is_after_members (member_name m) members ≡ true → AreMembersInNameOrder (members ++ m ∷ [])
 in_order_more members m rising behind =
     let rises : Rises (map member_name members) = rises_from_pairs _ rising in
     subst AreSortedDistinctNames (sym (names_more members m))
@@ -72,14 +72,14 @@ members_more : (es : List Kept) (e : Kept) → map member_of_entry (es ++ e ∷ 
 members_more [] e = refl
 members_more (x ∷ es) e = ap (λ ms. member_of_entry x ∷ ms) (members_more es e)
 
-pub members_in_order : (es : List Kept) → AreSortedDistinctNames (kept_names es) → AreInOrder (map member_of_entry es)
+pub members_in_order : (es : List Kept) → AreSortedDistinctNames (kept_names es) → AreMembersInNameOrder (map member_of_entry es)
 members_in_order es h = subst AreSortedDistinctNames (names_are es) h
 
 pub kept_more : {A B : Type 0} (r : Result A B) (es new : List Kept) (e : Kept) → new ≡ (if is_ok r then es ++ e ∷ [] else es) → AreSortedDistinctNames (kept_names es)
     → is_after_members (member_name (member_of_entry e)) (map member_of_entry es) ≡ true → AreSortedDistinctNames (kept_names new)
 kept_more (Ok x) es new e is h behind =
-    let ordered : AreInOrder (map member_of_entry es ++ member_of_entry e ∷ []) = in_order_more (map member_of_entry es) (member_of_entry e) (members_in_order es h) behind in
-    subst AreSortedDistinctNames (sym (ap kept_names is ∙ names_are (es ++ e ∷ []))) (subst AreInOrder (sym (members_more es e)) ordered)
+    let ordered : AreMembersInNameOrder (map member_of_entry es ++ member_of_entry e ∷ []) = in_order_more (map member_of_entry es) (member_of_entry e) (members_in_order es h) behind in
+    subst AreSortedDistinctNames (sym (ap kept_names is ∙ names_are (es ++ e ∷ []))) (subst AreMembersInNameOrder (sym (members_more es e)) ordered)
 kept_more (Err x) es new e is h behind = subst AreSortedDistinctNames (sym (ap kept_names is)) h
 
 pub few_more : {A B : Type 0} (r : Result A B) (es new : List Kept) (e : Kept) (most : ℕ) → new ≡ (if is_ok r then es ++ e ∷ [] else es) → length es ≤ most

@@ -13,7 +13,7 @@ use Rattle.adb_view.specs.declared.tables.Which.TheVariants.{Idb, Package}
 use Rattle.db_core.specs.EntrySeen.{member_of_entry}
 use Rattle.db_core.specs.Members.{Member}
 use Rattle.db_core.specs.Packages.{packages_of_database_value}
-use Rattle.db_core.specs.SoundMembers.{AreOfSoundContainers, IsOfSoundContainer, IsOfSoundDatabase, IsSoundPackageAndDigest, IsSoundDatabaseIfAny}
+use Rattle.db_core.specs.SoundMembers.{AreMembersOfSoundContainers, IsPackageOfSoundContainer, IsOfSoundDatabase, IsSoundPackageAndDigest, IsSoundDatabaseIfAny}
 use Rattle.db_core.proofs.ListedNames.{Kept}
 
 no_some : {X : Type 0} (x : X) → None ≡ Some x → ⊥
@@ -34,16 +34,16 @@ listed_sound : (database : Option Plain) (i : ℕ) (pkg : Plain) → slice_get (
 listed_sound None i pkg at sound = absurd (no_some pkg at)
 listed_sound (Some v) i pkg at sound = record { database = v; sound = sound.0; normal = sound.1; listed = in_at (entries_at 0 v) i pkg at }
 
-pub stays_sound : (database : Option Plain) (i : ℕ) (pkg : Plain) → slice_get (packages_of_database_value database) i ≡ Some pkg → ∥ IsSoundDatabaseIfAny database ∥₁ → ∥ IsOfSoundContainer pkg None ∥₁
+pub stays_sound : (database : Option Plain) (i : ℕ) (pkg : Plain) → slice_get (packages_of_database_value database) i ≡ Some pkg → ∥ IsSoundDatabaseIfAny database ∥₁ → ∥ IsPackageOfSoundContainer pkg None ∥₁
 stays_sound database i pkg at sound = ∥∥₁_map {B = IsOfSoundDatabase pkg} sound (listed_sound database i pkg at)
 
-pub comes_sound : (pkg value : Plain) (id payload : List ℕ) → pkg ≡ value → id ≡ sha256 payload → IsSoundValue Package value → IsNormal value → ∥ IsOfSoundContainer pkg (Some id) ∥₁
+pub comes_sound : (pkg value : Plain) (id payload : List ℕ) → pkg ≡ value → id ≡ sha256 payload → IsSoundValue Package value → IsNormal value → ∥ IsPackageOfSoundContainer pkg (Some id) ∥₁
 comes_sound pkg value id payload is digest sound normal =
     ∣ subst (λ v. IsSoundPackageAndDigest v id) (sym is) (record { sound = sound; normal = normal; digest = ap is_digest_length (ap length digest ∙ length-sha256 payload) }) ∣₁
 
 -- ---- one more
 
-all_more : (ms : List Member) (m : Member) → AreOfSoundContainers ms → IsOfSoundContainer m.pkg m.id → AreOfSoundContainers (ms ++ m ∷ [])
+all_more : (ms : List Member) (m : Member) → AreMembersOfSoundContainers ms → IsPackageOfSoundContainer m.pkg m.id → AreMembersOfSoundContainers (ms ++ m ∷ [])
 all_more [] m all one = (one, tt)
 all_more (n ∷ ms) m all one = (all.0, all_more ms m all.1 one)
 
@@ -52,8 +52,8 @@ map_more [] e = refl
 map_more (x ∷ es) e = ap (λ ms. member_of_entry x ∷ ms) (map_more es e)
 
 pub sound_more : {A B : Type 0} (r : Result A B) (es new : List Kept) (e : Kept) → new ≡ (if is_ok r then es ++ e ∷ [] else es)
-    → ∥ AreOfSoundContainers (map member_of_entry es) ∥₁ → ∥ IsOfSoundContainer (member_of_entry e).pkg (member_of_entry e).id ∥₁ → ∥ AreOfSoundContainers (map member_of_entry new) ∥₁
+    → ∥ AreMembersOfSoundContainers (map member_of_entry es) ∥₁ → ∥ IsPackageOfSoundContainer (member_of_entry e).pkg (member_of_entry e).id ∥₁ → ∥ AreMembersOfSoundContainers (map member_of_entry new) ∥₁
 sound_more (Ok x) es new e is all one =
-    subst (λ ms. ∥ AreOfSoundContainers ms ∥₁) (sym (ap (map member_of_entry) is ∙ map_more es e))
-    (∥∥₁_map₂ {C = AreOfSoundContainers (map member_of_entry es ++ member_of_entry e ∷ [])} all one (all_more (map member_of_entry es) (member_of_entry e)))
-sound_more (Err x) es new e is all one = subst (λ (ks : List Kept). ∥ AreOfSoundContainers (map member_of_entry ks) ∥₁) (sym is) all
+    subst (λ ms. ∥ AreMembersOfSoundContainers ms ∥₁) (sym (ap (map member_of_entry) is ∙ map_more es e))
+    (∥∥₁_map₂ {C = AreMembersOfSoundContainers (map member_of_entry es ++ member_of_entry e ∷ [])} all one (all_more (map member_of_entry es) (member_of_entry e)))
+sound_more (Err x) es new e is all one = subst (λ (ks : List Kept). ∥ AreMembersOfSoundContainers (map member_of_entry ks) ∥₁) (sym is) all

@@ -11,7 +11,9 @@ use Rattle.pkg_core.specs.adb_fields.Repeated.{name_of, package_name, folders_in
 
 -- a member: a package after the change; an added one has an id, a kept one has none
 pub record Member : Type 0 where
+  -- the package
   pub pkg : Plain
+  -- the id of an added package; none for a kept one
   pub id : Option (List ℕ)
 
 -- the member of a kept package of the database
@@ -37,8 +39,8 @@ is_added m = is_some m.id
 -- ---- their order
 
 -- members are in byte order of their names, each name once
-abbrev pub AreInOrder : List Member → Type 0
-AreInOrder members = AreSortedDistinctNames (map member_name members)
+abbrev pub AreMembersInNameOrder : List Member → Type 0
+AreMembersInNameOrder members = AreSortedDistinctNames (map member_name members)
 
 -- whether a name is after the last of some members, and so after all of them
 abbrev pub is_after_members : List ℕ → List Member → Bool
@@ -56,11 +58,17 @@ is_found_place i (Some found) = found == i
 -- a listing: a file that a member lists, with its path, its entry and its member. The member's
 -- place counts from 0, those of the folder and of the file in it count from 1
 pub record Listing : Type 0 where
+  -- the path of the file
   pub path : List ℕ
+  -- the entry of the file in its folder
   pub entry : Plain
+  -- the member that lists the file
   pub member : Member
+  -- the place of the member, counted from 0
   pub place : ℕ
+  -- the place of the folder in the member's package, counted from 1
   pub folder : ℕ
+  -- the place of the file in the folder, counted from 1
   pub file : ℕ
 
 -- the listing of a file of a member, with its places; `above` is the folder's name

@@ -12,7 +12,9 @@ use Rattle.pkg_core.specs.adb_fields.Repeated.{package_name}
 
 -- the name of a package, and its place, which counts from 0
 pub record NameWithPlace : Type 0 where
+  -- the name of the package
   pub name : List ℕ
+  -- the place of the package in a list, counted from 0
   pub place : ℕ
 
 -- the names of packages with their places, the first of which is this one

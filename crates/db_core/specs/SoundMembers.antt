@@ -16,15 +16,22 @@ use Rattle.db_core.specs.OwnedListings.{HaveAtMostOneOwner}
 
 -- a package is one of the value of a sound database
 pub record IsOfSoundDatabase (pkg : Plain) : Type 0 where
+  -- the value of a database
   pub database : Plain
+  -- the value obeys the rules of a database
   pub sound : IsSoundValue Idb database
+  -- the value is normalised
   pub normal : IsNormal database
+  -- the package is one of the database's packages
   pub listed : IsIn pkg (entries_at IDB_PACKAGES database)
 
 -- a package is the value of a sound package, whose id is a digest
 pub record IsSoundPackageAndDigest (pkg : Plain) (id : List ℕ) : Type 0 where
+  -- the value obeys the rules of a package
   pub sound : IsSoundValue Package pkg
+  -- the value is normalised
   pub normal : IsNormal pkg
+  -- the id has the length of a digest
   pub digest : is_digest_length (length id) ≡ true
 
 -- the value of a database, if there is one, is sound
@@ -34,14 +41,15 @@ IsSoundDatabaseIfAny (Some database) = IsSoundValue Idb database × IsNormal dat
 
 -- a package is from a sound container: a kept one, without an id, from a database; an added one, with
 -- its id, from a container of its own
-abbrev pub IsOfSoundContainer : Plain → Option (List ℕ) → Type 0
-IsOfSoundContainer pkg None = IsOfSoundDatabase pkg
-IsOfSoundContainer pkg (Some id) = IsSoundPackageAndDigest pkg id
+abbrev pub IsPackageOfSoundContainer : Plain → Option (List ℕ) → Type 0
+IsPackageOfSoundContainer pkg None = IsOfSoundDatabase pkg
+IsPackageOfSoundContainer pkg (Some id) = IsSoundPackageAndDigest pkg id
 
 -- each of some members is from a sound container
-abbrev pub AreOfSoundContainers : List Member → Type 0
-AreOfSoundContainers [] = Unit {0}
-AreOfSoundContainers (m ∷ members) = IsOfSoundContainer m.pkg m.id × AreOfSoundContainers members
+abbrev pub AreMembersOfSoundContainers : List Member → Type 0
+AreMembersOfSoundContainers [] = Unit {0}
+AreMembersOfSoundContainers (m ∷ members) =
+    IsPackageOfSoundContainer m.pkg m.id × AreMembersOfSoundContainers members
 
 -- no path is reserved for the package keeper's own files
 abbrev pub NoneReserved : List (List ℕ) → Type 0
@@ -49,6 +57,8 @@ NoneReserved [] = Unit {0}
 NoneReserved (path ∷ paths) = (is_reserved path ≡ false) × NoneReserved paths
 
 -- listings that a database may have: each path has one owner, and none is reserved
-pub record MayBeInDatabase (listings : List Listing) : Type 0 where
+pub record HaveOneOwnerAndNoReservedPath (listings : List Listing) : Type 0 where
+  -- no path has more than one owner
   pub one_owner : HaveAtMostOneOwner listings
+  -- no path is one of the package manager's own files
   pub free : NoneReserved (map (λ l. l.path) listings)

@@ -75,11 +75,14 @@ impl<'a> Db<'a> {
     ///
     /// `Bad` with the cause of the first test that fails, or `Memory`.
     pub fn read(alloc: Global, bytes: &'a [u8]) -> Result<Db<'a>, ReadFault>
+        // The error is the first failed test, or out of memory.
         ensures bad { IfErr result
             (λ fault. IsReadFault fault
             (container_fault_except_contents Tables.Idb bytes.entry.now)) }
+        // On Ok, none of these tests failed.
         ensures sound { IfOk result
             (λ _. container_fault_except_contents Tables.Idb bytes.entry.now ≡ None) }
+        // The packages are those of the file's database.
         ensures packages { IfOk result (λ db. packages_of db
             ≡ entries_at IDB_PACKAGES (root_value Tables.Idb (payload_in bytes.entry.now))) }
     {
@@ -95,6 +98,7 @@ impl<'a> Db<'a> {
     ///
     /// Out of memory.
     pub fn open(alloc: Global, payload: &'a [u8]) -> Result<Db<'a>, AllocError>
+        // The payload passes all tests of a database.
         requires { payload_fault Tables.Idb payload.now ≡ None }
         ensures { IfOk result (λ db. packages_of db
             ≡ entries_at IDB_PACKAGES (root_value Tables.Idb payload.entry.now)) }
@@ -131,6 +135,7 @@ impl<'a> Db<'a> {
 
     /// The package at a place, counted from 0.
     pub fn package(&self, i: usize) -> PackageView<'a>
+        // The index is that of one of the packages.
         requires { i < length (packages_of self.now) }
         ensures { slice_get (packages_of self.now) i ≡ Some (package_value result) }
     {
@@ -140,8 +145,10 @@ impl<'a> Db<'a> {
     /// The place of the first package with this name, counted from 0, found by binary search. None
     /// is returned exactly if no package has the name.
     pub fn find(&self, name: &[u8]) -> Option<usize>
+        // The result is the index of the first package with this name, or none.
         ensures found { result
             ≡ position_from (is_package_named name.now) 0 (packages_of self.now) }
+        // An index that is returned is that of an element.
         ensures within { IfSome result (λ i. i < length (packages_of self.now)) }
     {
         place_of(&self.names, name)
@@ -150,7 +157,9 @@ impl<'a> Db<'a> {
     /// The place of the first package that lists this path, counted from 0. None is returned
     /// exactly if no package lists it. It searches all that the database lists.
     pub fn owner_of(&self, path: &Name) -> Option<usize>
+        // The result is the index of the first package that lists this path, or none.
         ensures found { result ≡ position_from (lists_path path.now) 0 (packages_of self.now) }
+        // An index that is returned is that of an element.
         ensures within { IfSome result (λ i. i < length (packages_of self.now)) }
     {
         match &self.idb {
@@ -176,9 +185,12 @@ impl<'a> Db<'a> {
 
 /// The package at a place of a database, counted from 0, which is read from the database's payload.
 pub(crate) fn package_of_database<'a>(idb: &Option<IdbView<'a>>, i: usize) -> PackageView<'a>
+    // The index is that of one of the packages.
     requires { i < length (packages_of_database_value (option_map idb_value idb.now)) }
+    // The result is the package at this index.
     ensures value { slice_get (packages_of_database_value (option_map idb_value idb.now)) i
         ≡ Some (package_value result) }
+    // The payload of the result is the one from which it was read.
     ensures lent { payload_of result.adb ≡ payload_of_database idb.now }
 {
     match idb {
@@ -191,6 +203,7 @@ pub(crate) fn package_of_database<'a>(idb: &Option<IdbView<'a>>, i: usize) -> Pa
 /// The payload of a file that passed its tests.
 #[tactic(auto, unfolding(adb_schema::specs::Soundness::container_fault_except_contents, adb_schema::specs::Soundness::payload_in))]
 pub fn payload_in(file: &[u8]) -> &[u8]
+    // The file passes all tests of a container, for some table.
     requires { (which : Which) × (container_fault_except_contents which file.now ≡ None) }
     ensures { result.now ≡ payload_in file.entry.now }
 {
@@ -206,6 +219,7 @@ pub fn payload_in(file: &[u8]) -> &[u8]
 
 /// A view of the database in a payload that passes all tests; they are not repeated.
 pub fn open_idb(payload: &[u8]) -> IdbView<'_>
+    // The payload passes all tests of a database.
     requires { payload_fault Tables.Idb payload.now ≡ None }
     ensures { idb_value result ≡ root_value Tables.Idb payload.now }
 {
@@ -216,7 +230,9 @@ pub fn open_idb(payload: &[u8]) -> IdbView<'_>
 
 /// The view of the database in a payload whose head and root pass their tests.
 fn open_root(payload: &[u8]) -> IdbView<'_>
+    // The head of the payload passes its tests.
     requires head { is_none (payload_head_fault payload.now) ≡ true }
+    // The root of the payload has the plain value of a database.
     requires sound { is_sound payload.now (Kinds.Obj Tables.Idb)
         (root_word_of_payload payload.now) ≡ true }
     ensures { idb_value result ≡ root_value Tables.Idb payload.now }
@@ -230,6 +246,7 @@ fn open_root(payload: &[u8]) -> IdbView<'_>
 
 /// The package at a place of a list, counted from 0.
 fn package_at<'a>(packages: &List<'a, PackageView<'a>>, i: usize) -> PackageView<'a>
+    // The index is that of an entry of the list.
     requires { i < count_of (entries_in (list_value packages.now)) }
     ensures { package_value result ≡ entry_in (list_value packages.now) i }
 {
@@ -243,6 +260,7 @@ fn package_at<'a>(packages: &List<'a, PackageView<'a>>, i: usize) -> PackageView
 
 /// Whether the package at a place of a list, counted from 0, lists this path.
 fn is_lister<'a>(packages: &List<'a, PackageView<'a>>, i: usize, path: &[u8]) -> bool
+    // The index is that of an entry of the list.
     requires { i < count_of (entries_in (list_value packages.now)) }
     ensures { result ≡ lists_path path.now (entry_in (list_value packages.now) i) }
 {
@@ -252,8 +270,10 @@ fn is_lister<'a>(packages: &List<'a, PackageView<'a>>, i: usize, path: &[u8]) ->
 
 /// The place in a list, counted from 0, of the first package that lists this path, if one does.
 fn find_lister<'a>(packages: &List<'a, PackageView<'a>>, path: &[u8]) -> Option<usize>
+    // The result is the index of the first package that lists this path, or none.
     ensures found { result ≡ position_from (lists_path path.now) 0
         (list_of (entries_in (list_value packages.now))) }
+    // An index that is returned is that of an element.
     ensures within { IfSome result (λ i. i < count_of (entries_in (list_value packages.now))) }
 {
     for i in 0..packages.len() {

@@ -27,6 +27,7 @@ pub(crate) fn is_path_listed<'a>(folders: &List<'a, DirInfo<'a>>, path: &[u8]) -
 
 /// Whether the folder at a place, counted from 0, lists a file with this path.
 fn is_path_in_folder<'a>(folders: &List<'a, DirInfo<'a>>, i: usize, path: &[u8]) -> bool
+    // The index is that of an entry of the list.
     requires { i < count_of (entries_in (list_value folders.now)) }
     ensures { result ≡ list_any (bytes_eq path.now)
         (paths_of_folder_files (entry_in (list_value folders.now) i)) }
@@ -54,6 +55,7 @@ fn is_path_of_any<'a>(files: &List<'a, FileInfo<'a>>, folder: &[u8], path: &[u8]
 
 /// Whether the file at a place of a folder, counted from 0, has this path.
 fn is_path_of_file<'a>(files: &List<'a, FileInfo<'a>>, i: usize, folder: &[u8], path: &[u8]) -> bool
+    // The index is that of an entry of the list.
     requires { i < count_of (entries_in (list_value files.now)) }
     ensures { result ≡ bytes_eq path.now
         (path_of folder.now (name_of (entry_in (list_value files.now) i))) }

@@ -13,7 +13,7 @@ ghost use Rattle.db_core.specs.Members.{Member, is_after_members, member_of_adde
 ghost use Rattle.base_core.specs.ByteOrder.{precedes};
 ghost use Rattle.std.specs.List.Sorted.{IsPartitionPoint};
 ghost use Rattle.db_core.specs.Packages.{is_added_or_lists_no_reserved, lists_only_valid_names};
-ghost use Rattle.db_core.specs.SoundMembers.{AreOfSoundContainers};
+ghost use Rattle.db_core.specs.SoundMembers.{AreMembersOfSoundContainers};
 ghost use Rattle.db_core.specs.declared.members.TheConstants.{MOST_MEMBERS};
 ghost use Rattle.pkg_core.specs.Values.{payload_of_contents, value_of_contents};
 ghost use Rattle.sha2.specs.Sha256.{sha256};
@@ -72,7 +72,7 @@ pub struct Members<'a> {
     ghost free: { list_all (λ e. is_added_or_lists_no_reserved (member_of_entry e)) entries.items
         ≡ true },
     // The packages are from sound containers.
-    ghost sound: { ∥ AreOfSoundContainers (map member_of_entry entries.items) ∥₁ },
+    ghost sound: { ∥ AreMembersOfSoundContainers (map member_of_entry entries.items) ∥₁ },
     // A kept package is read from the payload of the database.
     ghost lent: { list_all (is_added_or_has_payload (payload_of_database db.now.idb)) entries.items
         ≡ true },
@@ -89,12 +89,13 @@ fn is_before(entry: &PackageWithId<'_>, name: &[u8]) -> bool
 impl<'a> Members<'a> {
     ghost use Rattle.pkg_core.specs.adb_schema.Reserved.{is_reserved};
     ghost use Rattle.base_core.specs.Name.{IsName};
-    ghost use Rattle.db_core.specs.Members.{AreInOrder, member_listings};
+    ghost use Rattle.db_core.specs.Members.{AreMembersInNameOrder, member_listings};
     ghost use Rattle.db_core.specs.Seen.{members_of, packages_of_old_database, packages_of, payload_of_old_database};
 
     /// A list without packages, for kept packages of a database and added ones.
     pub fn new(alloc: Global, db: &'a Db<'a>) -> Members<'a>
         ensures none { members_of result ≡ [] }
+        // The old packages are those of the given database.
         ensures before { packages_of_old_database result ≡ packages_of db.entry.now }
     {
         Members {
@@ -117,14 +118,20 @@ impl<'a> Members<'a> {
     ///
     /// Out of memory.
     pub fn stays(&mut self, i: usize) -> Result<(), AllocError>
+        // The place is one of the packages of the old database.
         requires at { i < length (packages_of_old_database self.old) }
+        // The name is after those of all members so far.
         requires behind { (pkg : Plain) → slice_get (packages_of_old_database self.old) i ≡ Some pkg
             → is_after_members (package_name pkg) (members_of self.old) ≡ true }
+        // The greatest number of members is not reached.
         requires few { length (members_of self.old) < MOST_MEMBERS }
+        // On Ok, the package is the last member, a kept one.
         ensures ok { OnOk result ((pkg : Plain)
             → slice_get (packages_of_old_database self.old) i ≡ Some pkg
             → members_of self.new ≡ members_of self.old ++ member_of_kept pkg ∷ []) }
+        // An error leaves the members unchanged.
         ensures err { OnErr result (members_of self.new ≡ members_of self.old) }
+        // The packages of the old database are unchanged.
         ensures before { packages_of_old_database self.new ≡ packages_of_old_database self.old }
     {
         let view = package_of_database(&self.db.idb, i);
@@ -138,13 +145,18 @@ impl<'a> Members<'a> {
     ///
     /// Out of memory.
     pub fn push_added_in_pieces(&mut self, contents: &Contents<'a>) -> Result<(), AllocError>
+        // The name is after those of all members so far.
         requires behind { is_after_members (package_name (value_of_contents contents.now))
             (members_of self.old) ≡ true }
+        // The greatest number of members is not reached.
         requires few { length (members_of self.old) < MOST_MEMBERS }
+        // On Ok, the package is the last member, with the digest of its payload as id.
         ensures ok { OnOk result (members_of self.new ≡ members_of self.old
             ++ member_of_added (value_of_contents contents.now)
             (sha256 (payload_of_contents contents.now)) ∷ []) }
+        // An error leaves the members unchanged.
         ensures err { OnErr result (members_of self.new ≡ members_of self.old) }
+        // The packages of the old database are unchanged.
         ensures before { packages_of_old_database self.new ≡ packages_of_old_database self.old }
     {
         contents.values_keep_their_rules();
@@ -170,8 +182,10 @@ impl<'a> Members<'a> {
     /// The place of the package with this name, counted from 0, found by binary search. None is
     /// returned exactly if no package has the name.
     pub fn find(&self, name: &[u8]) -> Option<usize>
+        // The result is the place of a member exactly if the member has this name.
         ensures found { (i : ℕ) (m : Member) → slice_get (members_of self.now) i ≡ Some m
             → is_found_place i result ≡ bytes_eq (member_name m) name.now }
+        // An index that is returned is that of an element.
         ensures within { IfSome result (λ i. i < length (members_of self.now)) }
     {
         let at = self.count_before(name);
@@ -186,7 +200,9 @@ impl<'a> Members<'a> {
 
     /// How many packages have names before this one.
     fn count_before(&self, name: &[u8]) -> usize
+        // The result is at most the length.
         ensures within { result ≤ length self.now.entries.items }
+        // All elements before this index are before the wanted one, and none from it on.
         ensures point { IsPartitionPoint
             (λ e. precedes (member_name (member_of_entry e)) name.now ≡ true)
             (λ e. precedes (member_name (member_of_entry e)) name.now ≡ false)
@@ -212,9 +228,12 @@ impl<'a> Members<'a> {
 
     /// The package at a place, counted from 0. A kept one is read from the payload of the database.
     pub fn view(&self, i: usize) -> &PackageView<'a>
+        // The index is that of one of the members.
         requires { i < length (members_of self.now) }
+        // The value of the view is the member's package.
         ensures value { (m : Member) → slice_get (members_of self.now) i ≡ Some m
             → package_value result.now ≡ m.pkg }
+        // A kept package is in the payload of the old database.
         ensures stays { (m : Member) → slice_get (members_of self.now) i ≡ Some m
             → is_added m ≡ false → payload_of result.now.adb ≡ payload_of_old_database self.now }
     {
@@ -223,6 +242,7 @@ impl<'a> Members<'a> {
 
     /// The id of the package at a place, counted from 0; none if the package is kept.
     pub fn id(&self, i: usize) -> Option<[u8; 32]>
+        // The index is that of one of the members.
         requires { i < length (members_of self.now) }
         ensures { (m : Member) → slice_get (members_of self.now) i ≡ Some m → result ≡ m.id }
     {
@@ -232,7 +252,7 @@ impl<'a> Members<'a> {
     /// Members are in byte order of their names, each name once. The writer of a database requires
     /// this, since a database lists its packages in that order.
     pub fn members_are_in_order(&self)
-        ensures { AreInOrder (members_of self.now) }
+        ensures { AreMembersInNameOrder (members_of self.now) }
     {}
 
     /// Each path that a member lists is a name, so that a file may be written under it.
@@ -250,7 +270,7 @@ impl<'a> Members<'a> {
     /// The packages are from sound containers: what is read of them need not be tested again, and a
     /// database of them is sound.
     pub fn packages_are_sound(&self)
-        ensures { ∥ AreOfSoundContainers (members_of self.now) ∥₁ }
+        ensures { ∥ AreMembersOfSoundContainers (members_of self.now) ∥₁ }
     {}
 }
 

@@ -55,6 +55,7 @@ fn names_of<'a>(
 
 /// The name of the package at a place, counted from 0.
 fn name_at<'a>(packages: &List<'a, PackageView<'a>>, i: usize) -> &'a [u8]
+    // The index is that of an entry of the list.
     requires { i < count_of (entries_in (list_value packages.now)) }
     ensures { result.now ≡ package_name (entry_in (list_value packages.now) i) }
 {
@@ -77,8 +78,11 @@ fn sort_names(names: &mut Vec<NamePlace<'_>>) -> Result<(), AllocError>
 
 /// How many names are before this one; the names are in byte order.
 fn count_before(names: &[NamePlace<'_>], name: &[u8]) -> usize
+    // The names are in byte order.
     requires { IsSorted placed_name_cmp (map name_seen names.now) }
+    // The result is at most the length.
     ensures within { result ≤ length names.now }
+    // All elements before this index are before the wanted one, and none from it on.
     ensures point { IsPartitionPoint (λ n. precedes n.name name.now ≡ true)
         (λ n. precedes n.name name.now ≡ false) (map name_seen names.now) result }
 {
@@ -88,6 +92,7 @@ fn count_before(names: &[NamePlace<'_>], name: &[u8]) -> usize
 /// The place of the first of the packages with this name, if one has it; the names are in byte
 /// order.
 pub(crate) fn place_of(names: &[NamePlace<'_>], name: &[u8]) -> Option<usize>
+    // The names are in byte order.
     requires { IsSorted placed_name_cmp (map name_seen names.now) }
     ensures { result ≡ place_under_name name.now (map name_seen names.now) }
 {

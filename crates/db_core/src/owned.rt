@@ -46,7 +46,9 @@ impl Owned {
     ///
     /// Out of memory.
     pub fn push(&mut self, owned: bool) -> Result<(), AllocError>
+        // On Ok, the flag is added at the end.
         ensures ok { OnOk result (self.new ≡ self.old ++ owned ∷ []) }
+        // An error leaves the value unchanged.
         ensures err { OnErr result (self.new ≡ self.old) }
     {
         self.flags.push(owned)?;
@@ -69,6 +71,7 @@ impl Owned {
 
     /// Whether its member owns the file at a place, counted from 0.
     pub fn get(&self, i: usize) -> bool
+        // The index is that of an element.
         requires { i < length self.now }
         ensures { slice_get self.now i ≡ Some result }
     {

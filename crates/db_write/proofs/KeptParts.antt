@@ -8,7 +8,7 @@ use Rattle.adb_copy.specs.adb_fields.Repeated.{entries_at, files_in, folders_in,
 use Rattle.adb_sound.specs.adb_schema.Soundness.{payload_in, root_value}
 use Rattle.adb_sound.specs.adb_schema.declared.read.TheConstants.{IDB_WORD}
 use Rattle.adb_sound.specs.adb_write.Canonical.{payload_or_overflow}
-use Rattle.adb_sound.specs.Root.{IsRootOf}
+use Rattle.adb_sound.specs.Root.{IsValidRootValueOfTable}
 use Rattle.adb_copy.specs.Zeros.{all_without_zeros, info_with_id_and_size, int_or_null, with_value_at_index, without_zeros}
 use Rattle.adb_view.proofs.ValueEntries.{nth_obj}
 use Rattle.adb_copy.proofs.WithoutZeros.{int_zeros, text_zeros}
@@ -16,9 +16,9 @@ use Rattle.adb_copy.proofs.Zeros.{at_other, at_same, nth_zeros, zeros_arr, zeros
 use Rattle.db_core.specs.Members.{Member, members_of_kept}
 use Rattle.adb_view.specs.FieldIndexes.{INFO_FILE_SIZE, INFO_HASHES}
 use Rattle.db_core.specs.Packages.{installed_id}
-use Rattle.db_write.specs.Information.{file_size_of}
-use Rattle.db_write.specs.NewDatabase.{database_container, database_of, database_value, each_by_flags, file_count, folder_in_new_database, folders_in_new_database, info_in_new_database, member_file_count, owned_entries, package_in_new_database, packages_in_new_database}
-use Rattle.db_write.specs.Unchanged.{all_owned}
+use Rattle.db_write.specs.Information.{package_file_size_in_info}
+use Rattle.db_write.specs.NewDatabase.{database_container, database_of, database_value, values_by_successive_flags, file_count, folder_in_new_database, folders_in_new_database, info_in_new_database, member_file_count, owned_entries, package_in_new_database, packages_in_new_database}
+use Rattle.db_write.specs.Unchanged.{all_owned_flags}
 use Rattle.db_write.proofs.ReadBack.{Back, is_file}
 use Rattle.db_write.proofs.RootNames.{info_entry, package_folders, package_info}
 use Rattle.db_write.proofs.RootParts.{fields_of_folder, fields_of_package}
@@ -40,7 +40,7 @@ hashes_after m flags =
     ∙ (ap text_in (nth_obj (all_without_zeros vs) 2 ∙ (nth_zeros vs 2 ∙ ap without_zeros (at_other 12 2 size (with_value_at_index 2 hash (entries_in info)) (apart 12 refl) ∙ at_same 2 hash (entries_in info))))
     ∙ text_zeros hash)
 
-pub size_after : (m : Member) (flags : List Bool) → file_size_of (package_in_new_database m flags) ≡ file_size_of m.pkg
+pub size_after : (m : Member) (flags : List Bool) → package_file_size_in_info (package_in_new_database m flags) ≡ package_file_size_in_info m.pkg
 unfolding info_with_id_and_size without_zeros
 size_after m flags =
     let info : Plain = entry_in m.pkg 0 in
@@ -88,7 +88,7 @@ owned_free (d ∷ ds) (true ∷ flags) = λ j. more (zeros_twice d j) (owned_fre
 owned_free (d ∷ ds) (false ∷ flags) = owned_free ds flags
 
 each_free : {X : Type 0} (count : X → ℕ) (value : X → List Bool → Plain) → ((x : X) (flags : List Bool) → without_zeros (value x flags) ≡ value x flags)
-    → (xs : List X) (flags : List Bool) → all_without_zeros (each_by_flags count value xs flags) ≡ each_by_flags count value xs flags
+    → (xs : List X) (flags : List Bool) → all_without_zeros (values_by_successive_flags count value xs flags) ≡ values_by_successive_flags count value xs flags
 unfolding without_zeros
 each_free count value h [] flags = refl
 each_free count value h (x ∷ xs) flags = λ j. more (h x flags j) (each_free count value h xs (drop (count x) flags) j)
@@ -118,11 +118,11 @@ database_free members flags =
 
 -- ---- written again
 
-pub written_again : Back → (members : List Member) (flags : List Bool) (bytes : List ℕ) → IsRootOf Idb (database_value members flags) → database_of members flags ≡ Ok bytes
-    → database_of (members_of_kept (entries_at 0 (root_value Idb (payload_in bytes)))) (all_owned (members_of_kept (entries_at 0 (root_value Idb (payload_in bytes))))) ≡ Ok bytes
+pub written_again : Back → (members : List Member) (flags : List Bool) (bytes : List ℕ) → IsValidRootValueOfTable Idb (database_value members flags) → database_of members flags ≡ Ok bytes
+    → database_of (members_of_kept (entries_at 0 (root_value Idb (payload_in bytes)))) (all_owned_flags (members_of_kept (entries_at 0 (root_value Idb (payload_in bytes))))) ≡ Ok bytes
 unfolding database_of
 written_again law members flags bytes root h =
     let v : Plain = database_value members flags in
     let back : root_value Idb (payload_in bytes) ≡ v = ap (λ (file : List ℕ). root_value Idb (payload_in file)) (sym (is_file members flags bytes h)) ∙ law Idb IDB_WORD v refl root in
-    (λ j. database_of (members_of_kept (entries_at 0 (back j))) (all_owned (members_of_kept (entries_at 0 (back j)))))
+    (λ j. database_of (members_of_kept (entries_at 0 (back j))) (all_owned_flags (members_of_kept (entries_at 0 (back j)))))
     ∙ (ap (λ u. database_container (payload_or_overflow u)) (database_same v root.shaped ∙ database_free members flags) ∙ h)

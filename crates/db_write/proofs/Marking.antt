@@ -67,7 +67,7 @@ left_out vs flags i m old new whole h g t so same =
     ∙ ap (λ (d : DraftState). draft_with_all (owned_from vs flags (suc i)) d) same
     ∙ sym (ap (λ (us : Plains). draft_with_all us old) (marked_out vs flags i h (sym g ∙ t))) ∙ so
 
-pub all_owned : (vs : Plains) (flags : List Bool) (i : ℕ) (d opened before : DraftState) → count_of vs ≤ i → draft_with_all (owned_from vs flags i) d ≡ draft_with_all (owned_entries (list_of vs) flags) opened → opened ≡ draft_with_open_list before
+pub all_owned_flags : (vs : Plains) (flags : List Bool) (i : ℕ) (d opened before : DraftState) → count_of vs ≤ i → draft_with_all (owned_from vs flags i) d ≡ draft_with_all (owned_entries (list_of vs) flags) opened → opened ≡ draft_with_open_list before
     → d ≡ draft_with_all (owned_entries (list_of vs) flags) (draft_with_open_list before)
-all_owned vs flags i d opened before h so is =
+all_owned_flags vs flags i d opened before h so is =
     sym (ap (λ (us : Plains). draft_with_all us d) (none_left vs flags i h)) ∙ so ∙ ap (λ (e : DraftState). draft_with_all (owned_entries (list_of vs) flags) e) is

@@ -7,15 +7,15 @@ use Rattle.adb_view.specs.declared.tables.Which.{Which}
 use Rattle.adb_view.specs.declared.tables.Which.TheVariants.{Idb}
 use Rattle.adb_copy.specs.adb_fields.Once.{HasNoRepeatedName}
 use Rattle.adb_copy.specs.adb_fields.Repeated.{repeated_fault}
-use Rattle.adb_sound.specs.adb_schema.SoundValues.{KeepsRules}
-use Rattle.adb_sound.specs.adb_schema.Texts.{text_fault}
+use Rattle.adb_sound.specs.adb_schema.SoundValues.{ObeysFieldRulesOfTable}
+use Rattle.adb_sound.specs.adb_schema.Texts.{text_or_number_fault}
 use Rattle.adb_sound.specs.adb_write.Canonical.{PayloadCounts, canonical, or_overflow, overflow_of, exceeds_a_limit, payload_or_overflow, MOST_BYTES, MOST_VALUES}
-use Rattle.adb_sound.specs.adb_write.Size.{size_of, value_count}
-use Rattle.adb_sound.specs.Root.{IsRootOf}
-use Rattle.db_core.specs.Members.{AreInOrder, Member, member_listings}
+use Rattle.adb_sound.specs.adb_write.Size.{payload_size_of, value_count}
+use Rattle.adb_sound.specs.Root.{IsValidRootValueOfTable}
+use Rattle.db_core.specs.Members.{AreMembersInNameOrder, Member, member_listings}
 use Rattle.db_write.specs.NewDatabase.{database_container, database_of, database_value}
 use Rattle.db_core.specs.OwnedListings.{owned_listings}
-use Rattle.db_core.specs.SoundMembers.{AreOfSoundContainers, MayBeInDatabase}
+use Rattle.db_core.specs.SoundMembers.{AreMembersOfSoundContainers, HaveOneOwnerAndNoReservedPath}
 use Rattle.db_write.proofs.RootNames.{names_once}
 use Rattle.db_write.proofs.RootParts.{EachIn, database_normal, database_shape, members_enter}
 use Rattle.db_write.proofs.RootRules.{rules_kept}
@@ -34,16 +34,16 @@ within members flags bytes h = within_by (database_value members flags) (overflo
 -- ---- what the layers below say
 
 abbrev pub Exact : Type 0
-Exact = (v : Plain) → IsNormal v → is_some (overflow_of v) ≡ exceeds_a_limit (size_of v, value_count v)
+Exact = (v : Plain) → IsNormal v → is_some (overflow_of v) ≡ exceeds_a_limit (payload_size_of v, value_count v)
 
 abbrev pub Kept : Type 0
-Kept = (which : Which) (v : Plain) → (text_fault which v ≡ None) ↔ KeepsRules which v
+Kept = (which : Which) (v : Plain) → (text_or_number_fault which v ≡ None) ↔ ObeysFieldRulesOfTable which v
 
 abbrev pub Once : Type 0
 Once = (which : Which) (v : Plain) → (repeated_fault which v ≡ None) ↔ HasNoRepeatedName which v
 
-pub database_root : Exact → Kept → Once → (members : List Member) (flags : List Bool) (bytes : List ℕ) → AreOfSoundContainers members → AreInOrder members → MayBeInDatabase (owned_listings (member_listings members) flags)
-    → database_of members flags ≡ Ok bytes → IsRootOf Idb (database_value members flags)
+pub database_root : Exact → Kept → Once → (members : List Member) (flags : List Bool) (bytes : List ℕ) → AreMembersOfSoundContainers members → AreMembersInNameOrder members → HaveOneOwnerAndNoReservedPath (owned_listings (member_listings members) flags)
+    → database_of members flags ≡ Ok bytes → IsValidRootValueOfTable Idb (database_value members flags)
 database_root exact kept once members flags bytes sound order listed written =
     let v : Plain = database_value members flags in
     let enter : EachIn (λ (m : Member). MayEnter m.pkg) members = members_enter members sound in
@@ -52,7 +52,7 @@ database_root exact kept once members flags bytes sound order listed written =
     record {
       normal = normal;
       shaped = database_shape members flags enter;
-      fits = ltb-false MOST_BYTES (size_of v) limits.0;
+      fits = ltb-false MOST_BYTES (payload_size_of v) limits.0;
       few = ltb-false MOST_VALUES (value_count v) limits.1;
       texts = (kept Idb v).1 (rules_kept members flags sound listed.free);
       once = (once Idb v).1 (names_once members flags enter order listed.one_owner);

@@ -16,7 +16,7 @@ use Rattle.adb_copy.specs.Zeros.{info_with_id_and_size, with_value_at_index, wit
 use Rattle.adb_view.proofs.ValueEntries.{entries_arr, nth_obj, text_blob}
 use Rattle.adb_copy.proofs.WithoutZeros.{text_zeros}
 use Rattle.adb_copy.proofs.Zeros.{at_other, nth_zeros}
-use Rattle.db_core.specs.Members.{AreInOrder, Member, member_listings, member_name}
+use Rattle.db_core.specs.Members.{AreMembersInNameOrder, Member, member_listings, member_name}
 use Rattle.db_write.specs.NewDatabase.{database_value, file_count, folder_in_new_database, folders_in_new_database, info_in_new_database, member_file_count, owned_entries, package_in_new_database, packages_in_new_database}
 use Rattle.db_core.specs.OwnedListings.{owned_listings}
 use Rattle.db_core.specs.OwnedListings.{HaveAtMostOneOwner}
@@ -124,7 +124,7 @@ rising_distinct (x ∷ xs) pairs = (
 
 -- ---- the database
 
-pub names_once : (members : List Member) (flags : List Bool) → EachIn (λ (m : Member). MayEnter m.pkg) members → AreInOrder members → HaveAtMostOneOwner (owned_listings (member_listings members) flags)
+pub names_once : (members : List Member) (flags : List Bool) → EachIn (λ (m : Member). MayEnter m.pkg) members → AreMembersInNameOrder members → HaveAtMostOneOwner (owned_listings (member_listings members) flags)
     → HasNoRepeatedName Idb (database_value members flags)
 names_once members flags enter order owned =
     let packages : List Plain = list_of (packages_in_new_database members flags) in

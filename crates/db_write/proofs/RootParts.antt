@@ -15,8 +15,8 @@ use Rattle.adb_view.proofs.Normal.{arr_normal, blob_value_normal, obj_normal}
 use Rattle.adb_copy.proofs.Shapes.{entries_shape, nth_shape}
 use Rattle.adb_copy.proofs.WithoutZeros.{HasInts, HaveInts, each_ints, entries_ints, int_normal, int_shape, nth_ints, placed_normal, placed_shape, read_small, zeros_normal, zeros_shape}
 use Rattle.db_core.specs.Members.{Member}
-use Rattle.db_write.specs.NewDatabase.{database_value, each_by_flags, file_count, folder_in_new_database, folders_in_new_database, info_in_new_database, member_file_count, owned_entries, package_in_new_database, packages_in_new_database}
-use Rattle.db_core.specs.SoundMembers.{AreOfSoundContainers}
+use Rattle.db_write.specs.NewDatabase.{database_value, values_by_successive_flags, file_count, folder_in_new_database, folders_in_new_database, info_in_new_database, member_file_count, owned_entries, package_in_new_database, packages_in_new_database}
+use Rattle.db_core.specs.SoundMembers.{AreMembersOfSoundContainers}
 use Rattle.db_write.proofs.SoundPackages.{MayEnter, member_enters}
 use Rattle.db_write.proofs.Unchanged.{array_entries}
 
@@ -31,7 +31,7 @@ each_listed P none h = tt
 each_listed P (more v vs) h = (h.0, each_listed P vs h.1)
 
 pub each_made : {X : Type 0} (count : X → ℕ) (value : X → List Bool → Plain) (P : X → Type 0) (Q : Plain → Type 0) → ((x : X) (flags : List Bool) → P x → Q (value x flags))
-    → (xs : List X) (flags : List Bool) → EachIn P xs → Each Q (each_by_flags count value xs flags)
+    → (xs : List X) (flags : List Bool) → EachIn P xs → Each Q (values_by_successive_flags count value xs flags)
 each_made count value P Q f [] flags h = tt
 each_made count value P Q f (x ∷ xs) flags h = (f x flags h.0, each_made count value P Q f xs (drop (count x) flags) h.1)
 
@@ -46,7 +46,7 @@ unfolding AreNormal
 all_normal none h = tt
 all_normal (more v vs) h = (h.0, all_normal vs h.1)
 
-pub members_enter : (members : List Member) → AreOfSoundContainers members → EachIn (λ (m : Member). MayEnter m.pkg) members
+pub members_enter : (members : List Member) → AreMembersOfSoundContainers members → EachIn (λ (m : Member). MayEnter m.pkg) members
 members_enter [] h = tt
 members_enter (m ∷ members) h = (member_enters m.pkg m.id h.0, members_enter members h.1)
 

@@ -14,8 +14,8 @@ use Rattle.adb_view.specs.declared.tables.Which.TheVariants as Tables
 use Rattle.adb_copy.specs.adb_fields.Paths.{path_of}
 use Rattle.adb_copy.specs.adb_fields.Repeated.{files_in, folders_in, list_of, name_of, paths_of_package_files, paths_of_folder_files}
 use Rattle.adb_sound.specs.adb_schema.Reserved.{is_reserved}
-use Rattle.adb_sound.specs.adb_schema.Rules.{is_digest_length_or_none, is_file_name_in_folder, is_folder_name, is_link_target_or_none}
-use Rattle.adb_sound.specs.adb_schema.SoundValues.{IsSoundFileOf, IsSoundFolder, IsSoundInformation, IsSoundPackage, IsSoundDependency, KeepsRules}
+use Rattle.adb_sound.specs.adb_schema.Rules.{is_digest_length_or_none, is_valid_file_name_in_folder, is_folder_name, is_link_target_or_none}
+use Rattle.adb_sound.specs.adb_schema.SoundValues.{IsSoundFileInFolder, IsSoundFolder, IsSoundInformation, IsSoundPackage, IsSoundDependency, ObeysFieldRulesOfTable}
 use Rattle.adb_copy.specs.Zeros.{all_without_zeros, info_with_id_and_size, with_value_at_index, without_zeros}
 use Rattle.adb_copy.proofs.Shapes.{entries_shape, nth_shape}
 use Rattle.adb_view.proofs.ValueEntries.{entries_arr, nth_obj}
@@ -25,7 +25,7 @@ use Rattle.adb_copy.proofs.Entries.{entry_zeros}
 use Rattle.db_core.specs.Members.{Member}
 use Rattle.db_write.specs.NewDatabase.{database_value, file_count, folder_in_new_database, folders_in_new_database, info_in_new_database, member_file_count, owned_entries, package_in_new_database, packages_in_new_database}
 use Rattle.db_core.specs.OwnedListings.{owned_paths}
-use Rattle.db_core.specs.SoundMembers.{AreOfSoundContainers, IsOfSoundContainer, NoneReserved}
+use Rattle.db_core.specs.SoundMembers.{AreMembersOfSoundContainers, IsPackageOfSoundContainer, NoneReserved}
 use Rattle.db_write.proofs.OwnedPaths.{all_owned_listed, name_zeros}
 use Rattle.db_write.proofs.RootNames.{folder_files, folder_name, info_entry, package_folders, package_info}
 use Rattle.db_write.proofs.SoundPackages.{IsFileUnder, IsFolderAnywhere, MayEnter, digest_or_none, member_enters}
@@ -56,7 +56,7 @@ hash_after id info =
     ap text_in (nth_obj (all_without_zeros vs) 2 ∙ (nth_zeros vs 2 ∙ ap without_zeros (at_other 12 2 size (with_value_at_index 2 hash (entries_in info)) (λ e. omega (arith, e)) ∙ at_same 2 hash (entries_in info))))
     ∙ text_zeros hash
 
-hash_kept : (pkg info : Plain) (id : Option (List ℕ)) → IsOfSoundContainer pkg id → is_digest_length_or_none (length (text_in (entry_in info 2))) ≡ true
+hash_kept : (pkg info : Plain) (id : Option (List ℕ)) → IsPackageOfSoundContainer pkg id → is_digest_length_or_none (length (text_in (entry_in info 2))) ≡ true
     → is_digest_length_or_none (length (unwrap_or id (text_in (entry_in info 2)))) ≡ true
 hash_kept pkg info None h e = e
 hash_kept pkg info (Some id) h e = digest_or_none (length id) h.digest
@@ -74,7 +74,7 @@ module _ (id : Option (List ℕ)) (info : Plain) (shape : HasShape (shape_of (Ob
   dependencies : (i : ℕ) → Type 0
   dependencies i = IsArrayOrNullOf (HasShape (shape_of (Obj Tables.Dep))) (entry_in info i)
 
-  pub info_kept : (pkg : Plain) → IsOfSoundContainer pkg id → IsSoundInformation Tables.Idb info → IsSoundInformation Tables.Idb (info_in_new_database id info)
+  pub info_kept : (pkg : Plain) → IsPackageOfSoundContainer pkg id → IsSoundInformation Tables.Idb info → IsSoundInformation Tables.Idb (info_in_new_database id info)
   unfolding shape_of HasShape
   info_kept pkg from h =
       let fields = entries_shape 3 (shapes_of (table Tables.PkgInfo)) info shape in
@@ -101,16 +101,16 @@ free_back (x ∷ xs) ys h = free_back xs ys h.1
 
 -- ---- files and folders
 
-file_kept : (above : List ℕ) (v : Plain) → IsFileUnder above v → is_reserved (path_of above (name_of (without_zeros v))) ≡ false → IsSoundFileOf Tables.Idb above (without_zeros v)
+file_kept : (above : List ℕ) (v : Plain) → IsFileUnder above v → is_reserved (path_of above (name_of (without_zeros v))) ≡ false → IsSoundFileInFolder Tables.Idb above (without_zeros v)
 file_kept above v h free = record {
-  name = ap (is_file_name_in_folder above) (name_zeros v) ∙ h.name;
+  name = ap (is_valid_file_name_in_folder above) (name_zeros v) ∙ h.name;
   listed = ap not free;
   hash = ap (λ (t : List ℕ). is_digest_length_or_none (length t)) (ap text_in (entry_zeros v 4) ∙ text_zeros (entry_in v 4)) ∙ h.hash;
   target = ap is_link_target_or_none (ap text_in (entry_zeros v 5) ∙ text_zeros (entry_in v 5)) ∙ h.target;
 }
 
 files_kept : (above : List ℕ) (vs : Plains) (flags : List Bool) → Each (IsFileUnder above) vs → NoneReserved (map (λ file. path_of above (name_of file)) (list_of (owned_entries (list_of vs) flags)))
-    → Each (IsSoundFileOf Tables.Idb above) (owned_entries (list_of vs) flags)
+    → Each (IsSoundFileInFolder Tables.Idb above) (owned_entries (list_of vs) flags)
 files_kept above none flags h free = tt
 files_kept above (more v vs) [] h free = tt
 files_kept above (more v vs) (true ∷ flags) h free = (file_kept above v h.0 free.0, files_kept above vs flags h.1 free.1)
@@ -122,11 +122,11 @@ folder_kept d flags h free =
     let paths : NoneReserved (map (λ file. path_of (name_of d) (name_of file)) (list_of owned)) =
     subst (λ (above : List ℕ). NoneReserved (map (λ file. path_of above (name_of file)) (list_of owned))) (folder_name d flags)
     (subst (λ (vs : Plains). NoneReserved (map (λ file. path_of (name_of (folder_in_new_database d flags)) (name_of file)) (list_of vs))) (folder_files d flags) free) in
-    let files : Each (IsSoundFileOf Tables.Idb (name_of d)) owned = files_kept (name_of d) (entries_in (entry_in d 2)) flags h.files paths in
+    let files : Each (IsSoundFileInFolder Tables.Idb (name_of d)) owned = files_kept (name_of d) (entries_in (entry_in d 2)) flags h.files paths in
     record {
       name = ap is_folder_name (folder_name d flags) ∙ h.name;
-      files = subst (λ (above : List ℕ). Each (IsSoundFileOf Tables.Idb above) (entries_in (entry_in (folder_in_new_database d flags) 2))) (sym (folder_name d flags))
-          (subst (Each (IsSoundFileOf Tables.Idb (name_of d))) (sym (folder_files d flags)) files);
+      files = subst (λ (above : List ℕ). Each (IsSoundFileInFolder Tables.Idb above) (entries_in (entry_in (folder_in_new_database d flags) 2))) (sym (folder_name d flags))
+          (subst (Each (IsSoundFileInFolder Tables.Idb (name_of d))) (sym (folder_files d flags)) files);
     }
 
 folders_kept : (vs : Plains) (flags : List Bool) → Each IsFolderAnywhere vs → NoneReserved (flat_map paths_of_folder_files (list_of (folders_in_new_database (list_of vs) flags))) → Each (IsSoundFolder Tables.Idb) (folders_in_new_database (list_of vs) flags)
@@ -139,7 +139,7 @@ folders_kept (more d ds) flags h free =
 
 -- ---- packages
 
-package_kept : (m : Member) (flags : List Bool) → IsOfSoundContainer m.pkg m.id → NoneReserved (paths_of_package_files (package_in_new_database m flags)) → IsSoundPackage Tables.Idb (package_in_new_database m flags)
+package_kept : (m : Member) (flags : List Bool) → IsPackageOfSoundContainer m.pkg m.id → NoneReserved (paths_of_package_files (package_in_new_database m flags)) → IsSoundPackage Tables.Idb (package_in_new_database m flags)
 unfolding shape_of HasShape
 package_kept m flags from free =
     let h : MayEnter m.pkg = member_enters m.pkg m.id from in
@@ -152,7 +152,7 @@ package_kept m flags from free =
       folders = subst (Each (IsSoundFolder Tables.Idb)) (sym (package_folders m flags)) (folders_kept (entries_in (entry_in m.pkg 1)) flags h.folders paths);
     }
 
-packages_kept : (members : List Member) (flags : List Bool) → AreOfSoundContainers members → NoneReserved (flat_map paths_of_package_files (list_of (packages_in_new_database members flags))) → Each (IsSoundPackage Tables.Idb) (packages_in_new_database members flags)
+packages_kept : (members : List Member) (flags : List Bool) → AreMembersOfSoundContainers members → NoneReserved (flat_map paths_of_package_files (list_of (packages_in_new_database members flags))) → Each (IsSoundPackage Tables.Idb) (packages_in_new_database members flags)
 packages_kept [] flags h free = tt
 packages_kept (m ∷ members) flags h free =
     let others : List (List ℕ) = flat_map paths_of_package_files (list_of (packages_in_new_database members (drop (member_file_count m) flags))) in (
@@ -162,7 +162,7 @@ packages_kept (m ∷ members) flags h free =
 
 -- ---- the database
 
-pub rules_kept : (members : List Member) (flags : List Bool) → AreOfSoundContainers members → NoneReserved (owned_paths members flags) → KeepsRules Tables.Idb (database_value members flags)
+pub rules_kept : (members : List Member) (flags : List Bool) → AreMembersOfSoundContainers members → NoneReserved (owned_paths members flags) → ObeysFieldRulesOfTable Tables.Idb (database_value members flags)
 unfolding database_value
 rules_kept members flags h free =
     subst (Each (IsSoundPackage Tables.Idb)) (sym (ap entries_in (nth_obj (more (array_or_null (packages_in_new_database members flags)) none) 0) ∙ entries_arr (packages_in_new_database members flags)))

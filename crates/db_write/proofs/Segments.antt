@@ -4,7 +4,7 @@ use Rattle.std.specs.Prelude.{slice_get}
 use Rattle.adb_view.specs.Plain.{Plain}
 use Rattle.adb_copy.specs.adb_values.Drafts.{DraftState, draft_with_open_list, draft_with, draft_with_all}
 use Rattle.adb_copy.proofs.adb_values.Lists.{drop_all, drop_at}
-use Rattle.db_write.specs.NewDatabase.{each_by_flags, total_of}
+use Rattle.db_write.specs.NewDatabase.{values_by_successive_flags, total_of}
 
 -- the flags that are left for an element and those behind it
 abbrev pub left_flags : {X : Type 0} → (X → ℕ) → ℕ → List X → List Bool → List Bool
@@ -77,17 +77,17 @@ module _ {X : Type 0} (count : X → ℕ) (value : X → List Bool → Plain) wh
   -- one element more is given, with the flags from its first one on: those that are left, behind the
   -- draft so far, come to the whole
   pub given_more : (xs : List X) (i : ℕ) (x : X) (left further : List Bool) (old new whole : DraftState) → slice_get xs i ≡ Some x
-      → draft_with_all (each_by_flags count value (drop i xs) left) old ≡ whole → new ≡ draft_with (value x left) old → further ≡ drop (count x) left
-      → draft_with_all (each_by_flags count value (drop (i + 1) xs) further) new ≡ whole
+      → draft_with_all (values_by_successive_flags count value (drop i xs) left) old ≡ whole → new ≡ draft_with (value x left) old → further ≡ drop (count x) left
+      → draft_with_all (values_by_successive_flags count value (drop (i + 1) xs) further) new ≡ whole
   given_more xs i x left further old new whole at so one fe =
-      ap (λ (bs : List Bool). draft_with_all (each_by_flags count value (drop (i + 1) xs) bs) new) fe
-      ∙ ap (λ (d : DraftState). draft_with_all (each_by_flags count value (drop (i + 1) xs) (drop (count x) left)) d) one
-      ∙ sym (ap (λ (ys : List X). draft_with_all (each_by_flags count value ys left) old) (drop_at xs i x at)) ∙ so
+      ap (λ (bs : List Bool). draft_with_all (values_by_successive_flags count value (drop (i + 1) xs) bs) new) fe
+      ∙ ap (λ (d : DraftState). draft_with_all (values_by_successive_flags count value (drop (i + 1) xs) (drop (count x) left)) d) one
+      ∙ sym (ap (λ (ys : List X). draft_with_all (values_by_successive_flags count value ys left) old) (drop_at xs i x at)) ∙ so
 
   -- all are given to a list that was opened
   pub all_given : (xs : List X) (flags left : List Bool) (i : ℕ) (d opened before : DraftState) → length xs ≤ i
-      → draft_with_all (each_by_flags count value (drop i xs) left) d ≡ draft_with_all (each_by_flags count value xs flags) opened → opened ≡ draft_with_open_list before
-      → d ≡ draft_with_all (each_by_flags count value xs flags) (draft_with_open_list before)
+      → draft_with_all (values_by_successive_flags count value (drop i xs) left) d ≡ draft_with_all (values_by_successive_flags count value xs flags) opened → opened ≡ draft_with_open_list before
+      → d ≡ draft_with_all (values_by_successive_flags count value xs flags) (draft_with_open_list before)
   all_given xs flags left i d opened before h so is =
-      sym (ap (λ (ys : List X). draft_with_all (each_by_flags count value ys left) d) (drop_all xs i h))
-      ∙ so ∙ ap (λ (e : DraftState). draft_with_all (each_by_flags count value xs flags) e) is
+      sym (ap (λ (ys : List X). draft_with_all (values_by_successive_flags count value ys left) d) (drop_all xs i h))
+      ∙ so ∙ ap (λ (e : DraftState). draft_with_all (values_by_successive_flags count value xs flags) e) is

@@ -14,19 +14,19 @@ use Rattle.adb_copy.specs.adb_fields.FirstPair.{IsIn}
 use Rattle.adb_copy.specs.adb_fields.Once.{EachHasDistinctNames, AreDistinctNames, HaveNoRepeatInside}
 use Rattle.adb_copy.specs.adb_fields.Repeated.{entries_at, files_in, folders_in, list_of, name_of}
 use Rattle.adb_copy.proofs.adb_fields.Distinct.{distinct_front}
-use Rattle.adb_sound.specs.adb_schema.Rules.{is_digest_length, is_digest_length_or_none, is_file_name_in_folder, is_folder_name, is_link_target_or_none}
-use Rattle.adb_sound.specs.adb_schema.SoundValues.{IsSoundFileOf, IsSoundFolder, IsSoundInformation, IsSoundPackage}
+use Rattle.adb_sound.specs.adb_schema.Rules.{is_digest_length, is_digest_length_or_none, is_valid_file_name_in_folder, is_folder_name, is_link_target_or_none}
+use Rattle.adb_sound.specs.adb_schema.SoundValues.{IsSoundFileInFolder, IsSoundFolder, IsSoundInformation, IsSoundPackage}
 use Rattle.adb_sound.specs.adb_schema.Texts.{is_file_with_contents, needs_file_hash}
 use Rattle.adb_sound.specs.adb_schema.SoundContainers.{IsSoundContainer, IsSoundValue}
 use Rattle.adb_sound.specs.adb_schema.Soundness.{payload_in, root_value}
 use Rattle.adb_copy.proofs.Shapes.{entries_shape, nth_shape}
-use Rattle.db_core.specs.SoundMembers.{IsOfSoundContainer, IsOfSoundDatabase, IsSoundPackageAndDigest}
+use Rattle.db_core.specs.SoundMembers.{IsPackageOfSoundContainer, IsOfSoundDatabase, IsSoundPackageAndDigest}
 use Rattle.db_write.proofs.Unchanged.{array_entries}
 use Rattle.adb_copy.proofs.WithoutZeros.{HasInts, each_ints, entries_ints, normal_ints, nth_ints}
 
 -- a file of a folder with this name, in whichever container it stands
 pub record IsFileUnder (folder : List ℕ) (v : Plain) : Type 0 where
-  pub name : is_file_name_in_folder folder (name_of v) ≡ true
+  pub name : is_valid_file_name_in_folder folder (name_of v) ≡ true
   pub hash : is_digest_length_or_none (length (text_in (entry_in v 4))) ≡ true
   pub target : is_link_target_or_none (text_in (entry_in v 5)) ≡ true
 
@@ -76,7 +76,7 @@ hash_or_none false n e = e
 pub digest_or_none : (n : ℕ) → is_digest_length n ≡ true → is_digest_length_or_none n ≡ true
 digest_or_none n e = or_right _ (is_digest_length n) e
 
-file_under : (root : Which) (folder : List ℕ) (v : Plain) → IsSoundFileOf root folder v → IsFileUnder folder v
+file_under : (root : Which) (folder : List ℕ) (v : Plain) → IsSoundFileInFolder root folder v → IsFileUnder folder v
 file_under root folder v h = record {
   name = h.name;
   hash = hash_or_none (needs_file_hash root (is_file_with_contents v)) (length (text_in (entry_in v 4))) h.hash;
@@ -84,7 +84,7 @@ file_under root folder v h = record {
 }
 
 folder_anywhere : (root : Which) (v : Plain) → IsSoundFolder root v → IsFolderAnywhere v
-folder_anywhere root v h = record { name = h.name; files = each_map (IsSoundFileOf root (name_of v)) (IsFileUnder (name_of v)) (file_under root (name_of v)) (entries_in (entry_in v 2)) h.files }
+folder_anywhere root v h = record { name = h.name; files = each_map (IsSoundFileInFolder root (name_of v)) (IsFileUnder (name_of v)) (file_under root (name_of v)) (entries_in (entry_in v 2)) h.files }
 
 -- an information has the same rules in a package and in a database
 of_package : (v : Plain) → IsSoundInformation Tables.Package v → IsSoundInformation Tables.Idb v
@@ -131,7 +131,7 @@ database_enters pkg h =
       files_once = those_distinct (λ p. map (λ folder. map name_of (files_in folder)) (folders_in p)) pkg (entries_at 0 h.database) once.files h.listed;
     }
 
-pub member_enters : (pkg : Plain) (id : Option (List ℕ)) → IsOfSoundContainer pkg id → MayEnter pkg
+pub member_enters : (pkg : Plain) (id : Option (List ℕ)) → IsPackageOfSoundContainer pkg id → MayEnter pkg
 member_enters pkg None h = database_enters pkg h
 member_enters pkg (Some id) h = package_enters pkg id h
 
@@ -143,9 +143,9 @@ Holds = (which : Which) (file : List ℕ) → IsSoundContainer which file → Is
 abbrev pub HoldsNormal : Type 0
 HoldsNormal = (which : Which) (file : List ℕ) → IsSoundContainer which file → All (λ b. b < 256) (payload_in file) → IsNormal (root_value which (payload_in file))
 
-pub may_be_kept : Holds → HoldsNormal → (file : List ℕ) (pkg : Plain) → IsSoundContainer Tables.Idb file → All (λ b. b < 256) (payload_in file) → IsIn pkg (entries_at 0 (root_value Tables.Idb (payload_in file))) → IsOfSoundContainer pkg None
+pub may_be_kept : Holds → HoldsNormal → (file : List ℕ) (pkg : Plain) → IsSoundContainer Tables.Idb file → All (λ b. b < 256) (payload_in file) → IsIn pkg (entries_at 0 (root_value Tables.Idb (payload_in file))) → IsPackageOfSoundContainer pkg None
 may_be_kept holds normal file pkg sound bytes listed = record { database = root_value Tables.Idb (payload_in file); sound = holds Tables.Idb file sound; normal = normal Tables.Idb file sound bytes; listed = listed }
 
 pub may_come : Holds → HoldsNormal → (file id : List ℕ) → IsSoundContainer Tables.Package file → All (λ b. b < 256) (payload_in file) → is_digest_length (length id) ≡ true
-    → IsOfSoundContainer (root_value Tables.Package (payload_in file)) (Some id)
+    → IsPackageOfSoundContainer (root_value Tables.Package (payload_in file)) (Some id)
 may_come holds normal file id sound bytes digest = record { sound = holds Tables.Package file sound; normal = normal Tables.Package file sound bytes; digest = digest }

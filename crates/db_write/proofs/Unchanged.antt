@@ -16,8 +16,8 @@ use Rattle.adb_copy.proofs.Fields.{INFO, info_written, object_written}
 use Rattle.adb_copy.proofs.Shapes.{entries_shape, nth_shape}
 use Rattle.adb_copy.proofs.Zeros.{zeros_array}
 use Rattle.db_core.specs.Members.{Member, member_of_kept, members_of_kept}
-use Rattle.db_write.specs.NewDatabase.{database_container, database_of, database_value, each_by_flags, file_count, folder_in_new_database, folders_in_new_database, info_in_new_database, member_file_count, owned_entries, package_in_new_database, packages_in_new_database, total_of}
-use Rattle.db_write.specs.Unchanged.{all_owned}
+use Rattle.db_write.specs.NewDatabase.{database_container, database_of, database_value, values_by_successive_flags, file_count, folder_in_new_database, folders_in_new_database, info_in_new_database, member_file_count, owned_entries, package_in_new_database, packages_in_new_database, total_of}
+use Rattle.db_write.specs.Unchanged.{all_owned_flags}
 
 -- ---- flags that are all set
 
@@ -38,12 +38,12 @@ owned_all (more v vs) (suc m) h = ap (more (without_zeros v)) (owned_all vs m (o
 each_all : {X : Type 0} (count : X → ℕ) (value : X → List Bool → Plain) (made : Plain → X) (P : Plain → Type 0)
     → ((v : Plain) (m : ℕ) → P v → count (made v) ≤ m → value (made v) (replicate m true) ≡ without_zeros v)
     → (vs : Plains) (m : ℕ) → Each P vs → total_of count (map made (list_of vs)) ≤ m
-    → each_by_flags count value (map made (list_of vs)) (replicate m true) ≡ all_without_zeros vs
+    → values_by_successive_flags count value (map made (list_of vs)) (replicate m true) ≡ all_without_zeros vs
 unfolding without_zeros
 each_all count value made P same none m each h = refl
 each_all count value made P same (more v vs) m each h =
     let rest : drop (count (made v)) (replicate m true) ≡ replicate (m - count (made v)) true = drop_set (count (made v)) m (omega arith) in
-    (λ j. more (same v m each.0 (omega arith) j) (each_by_flags count value (map made (list_of vs)) (rest j)))
+    (λ j. more (same v m each.0 (omega arith) j) (values_by_successive_flags count value (map made (list_of vs)) (rest j)))
     ∙ ap (more (without_zeros v)) (each_all count value made P same vs (m - count (made v)) each.1 (omega arith))
 
 map_same : (vs : List Plain) → map (λ v. v) vs ≡ vs
@@ -96,18 +96,18 @@ package_same v m h enough =
 
 -- ---- the database
 
-pub database_same : (v : Plain) → HasShape (shape_of (Kinds.Obj Tables.Idb)) v → database_value (members_of_kept (entries_at 0 v)) (all_owned (members_of_kept (entries_at 0 v))) ≡ without_zeros v
+pub database_same : (v : Plain) → HasShape (shape_of (Kinds.Obj Tables.Idb)) v → database_value (members_of_kept (entries_at 0 v)) (all_owned_flags (members_of_kept (entries_at 0 v))) ≡ without_zeros v
 unfolding shape_of HasShape database_value
 database_same v h =
     let packages : IsArrayOrNullOf (HasShape (shape_of (Kinds.Obj Tables.Package))) (entry_in v 0) = nth_shape (shapes_of (table Tables.Idb)) (entries_in v) 0 (entries_shape 9 (shapes_of (table Tables.Idb)) v h) in
     let members : List Member = members_of_kept (entries_at 0 v) in
-    let all : packages_in_new_database members (all_owned members) ≡ all_without_zeros (entries_in (entry_in v 0)) =
+    let all : packages_in_new_database members (all_owned_flags members) ≡ all_without_zeros (entries_in (entry_in v 0)) =
     each_all member_file_count package_in_new_database member_of_kept (HasShape (shape_of (Kinds.Obj Tables.Package))) package_same (entries_in (entry_in v 0)) (total_of member_file_count members)
     (array_entries (HasShape (shape_of (Kinds.Obj Tables.Package))) (entry_in v 0) packages) (omega arith) in
     ap (λ ps. trimmed_object_or_null (more ps none)) (ap array_or_null all ∙ sym (zeros_array (HasShape (shape_of (Kinds.Obj Tables.Package))) (entry_in v 0) packages))
     ∙ object_written 9 (shapes_of (table Tables.Idb)) v h
 
 pub bytes_same : (v : Plain) (payload : List ℕ) → HasShape (shape_of (Kinds.Obj Tables.Idb)) v → without_zeros v ≡ v → payload_or_overflow v ≡ Ok payload
-    → database_of (members_of_kept (entries_at 0 v)) (all_owned (members_of_kept (entries_at 0 v))) ≡ Ok (file_of IDB_WORD payload)
+    → database_of (members_of_kept (entries_at 0 v)) (all_owned_flags (members_of_kept (entries_at 0 v))) ≡ Ok (file_of IDB_WORD payload)
 unfolding database_of
 bytes_same v payload h free canonical = ap (λ u. database_container (payload_or_overflow u)) (database_same v h ∙ free) ∙ ap database_container canonical

@@ -25,11 +25,11 @@ owned_entries (file ∷ files) (false ∷ flags) = owned_entries files flags
 
 -- the values that a function computes of each element of a list and the flags from the element's first
 -- one on; `count` says how many flags each element has
-abbrev pub each_by_flags :
+abbrev pub values_by_successive_flags :
     {X : Type 0} → (X → ℕ) → (X → List Bool → Plain) → List X → List Bool → Plains
-each_by_flags count value [] flags = none
-each_by_flags count value (x ∷ xs) flags =
-    more (value x flags) (each_by_flags count value xs (drop (count x) flags))
+values_by_successive_flags count value [] flags = none
+values_by_successive_flags count value (x ∷ xs) flags =
+    more (value x flags) (values_by_successive_flags count value xs (drop (count x) flags))
 
 -- how many of something the elements of a list have in all
 abbrev pub total_of : {X : Type 0} → (X → ℕ) → List X → ℕ
@@ -51,7 +51,8 @@ folder_in_new_database folder flags =
 
 -- the folders of a package in the new database; each takes as many flags as it has files
 abbrev pub folders_in_new_database : List Plain → List Bool → Plains
-folders_in_new_database folders flags = each_by_flags file_count folder_in_new_database folders flags
+folders_in_new_database folders flags =
+    values_by_successive_flags file_count folder_in_new_database folders flags
 
 -- ---- packages
 
@@ -78,7 +79,7 @@ package_in_new_database m flags =
 -- the packages of the new database, each with the flags of its own files
 abbrev pub packages_in_new_database : List Member → List Bool → Plains
 packages_in_new_database members flags =
-    each_by_flags member_file_count package_in_new_database members flags
+    values_by_successive_flags member_file_count package_in_new_database members flags
 
 -- ---- the database
 

@@ -10,7 +10,7 @@ ghost use Rattle.adb_view.specs.declared.tables.Which.TheVariants as Tables;
 ghost use Rattle.db_core.specs.Members.{member_listings};
 ghost use Rattle.db_core.specs.OwnedListings.{owned_listings};
 ghost use Rattle.db_core.specs.Seen.{members_of};
-ghost use Rattle.db_core.specs.SoundMembers.{MayBeInDatabase};
+ghost use Rattle.db_core.specs.SoundMembers.{HaveOneOwnerAndNoReservedPath};
 ghost use Rattle.db_write.specs.NewDatabase.{database_of, database_value};
 ghost use Rattle.std.specs.Prelude.{◌≡◌, ◌≤◌, IfOk, OnOk, length};
 
@@ -35,7 +35,8 @@ pub fn write_db(alloc: Global, members: &Members<'_>, owned: &Owned) -> Result<V
         (database_of (members_of members.now) owned.now) }
     // The file passes all tests of a database if the owned listings may be listed.
     ensures sound { IfOk result (λ file.
-        MayBeInDatabase (owned_listings (member_listings (members_of members.now)) owned.now)
+        HaveOneOwnerAndNoReservedPath (owned_listings (member_listings
+        (members_of members.now)) owned.now)
         → IsSoundContainer Tables.Idb file.items) }
 {
     members.members_are_in_order();

@@ -9,7 +9,7 @@ ghost use Rattle.adb_sound.specs.adb_schema.Rules.{is_digest_length};
 ghost use Rattle.adb_sound.specs.adb_schema.SoundContainers.{IsSoundContainer};
 ghost use Rattle.adb_sound.specs.adb_schema.Soundness.{payload_in, root_value};
 ghost use Rattle.adb_sound.specs.adb_schema.declared.read.TheConstants.{IDB_WORD};
-ghost use Rattle.adb_sound.specs.Root.{IsRootOf};
+ghost use Rattle.adb_sound.specs.Root.{IsValidRootValueOfTable};
 ghost use Rattle.adb_view.specs.FieldIndexes.{DIR_ACL, IDB_PACKAGES, INFO_FILE_SIZE, INFO_HASHES, PACKAGE_INFO, PACKAGE_REPLACES_PRIORITY, PACKAGE_SCRIPTS, PACKAGE_TRIGGERS};
 ghost use Rattle.adb_view.specs.Schema.{shape_of};
 ghost use Rattle.adb_view.specs.Values.{entry_in, int_in};
@@ -19,13 +19,13 @@ ghost use Rattle.adb_view.specs.Plain.{Plain};
 ghost use Rattle.adb_view.specs.Shaped.{HasShape};
 ghost use Rattle.adb_sound.specs.adb_write.Canonical.{payload_or_overflow};
 ghost use Rattle.adb_sound.specs.adb_write.File.{file_of};
-ghost use Rattle.db_core.specs.Members.{AreInOrder, Member, member_of_added, member_listings, member_of_kept, members_of_kept};
+ghost use Rattle.db_core.specs.Members.{AreMembersInNameOrder, Member, member_of_added, member_listings, member_of_kept, members_of_kept};
 ghost use Rattle.db_core.specs.Packages.{installed_id};
-ghost use Rattle.db_write.specs.Information.{file_size_of};
+ghost use Rattle.db_write.specs.Information.{package_file_size_in_info};
 ghost use Rattle.db_write.specs.NewDatabase.{database_of, database_value, package_in_new_database, packages_in_new_database};
 ghost use Rattle.db_core.specs.OwnedListings.{owned_listings, owned_paths};
-ghost use Rattle.db_core.specs.SoundMembers.{AreOfSoundContainers, IsOfSoundContainer, MayBeInDatabase};
-ghost use Rattle.db_write.specs.Unchanged.{all_owned};
+ghost use Rattle.db_core.specs.SoundMembers.{AreMembersOfSoundContainers, IsPackageOfSoundContainer, HaveOneOwnerAndNoReservedPath};
+ghost use Rattle.db_write.specs.Unchanged.{all_owned_flags};
 ghost use Rattle.adb_sound.specs.pkg_core.Whole.{container_fault};
 ghost use Rattle.std.specs.List.{flat_map};
 ghost use Rattle.std.specs.Prelude.{◌≡◌, ◌≢◌, ◌<◌, ℕ, All, Bool, List, None, Ok, Some, length, map, true};
@@ -40,13 +40,16 @@ use adb_write::{a_file_is_spelled, a_value_overflows_exactly_past_a_limit};
 /// packages are read back: those of the members, each with the files that it owns.
 pub fn a_written_database_is_read_back()
     ensures database { (members : List Member) (flags : List Bool) (bytes : List ℕ)
-        → IsRootOf Tables.Idb (database_value members flags) → database_of members flags ≡ Ok bytes
+        → IsValidRootValueOfTable Tables.Idb (database_value members flags)
+        → database_of members flags ≡ Ok bytes
         → IsSoundContainer Tables.Idb bytes }
     ensures sound { (members : List Member) (flags : List Bool) (bytes : List ℕ)
-        → IsRootOf Tables.Idb (database_value members flags) → database_of members flags ≡ Ok bytes
+        → IsValidRootValueOfTable Tables.Idb (database_value members flags)
+        → database_of members flags ≡ Ok bytes
         → container_fault bytes ≡ None }
     ensures packages { (members : List Member) (flags : List Bool) (bytes : List ℕ)
-        → IsRootOf Tables.Idb (database_value members flags) → database_of members flags ≡ Ok bytes
+        → IsValidRootValueOfTable Tables.Idb (database_value members flags)
+        → database_of members flags ≡ Ok bytes
         → entries_at IDB_PACKAGES (root_value Tables.Idb (payload_in bytes))
         ≡ list_of (packages_in_new_database members flags) }
 {
@@ -61,10 +64,10 @@ pub fn a_written_database_is_read_back()
 /// members are in order, each owned path has one owner, and none is reserved.
 pub fn a_database_of_sound_packages_may_be_the_root()
     ensures { (members : List Member) (flags : List Bool) (bytes : List ℕ)
-        → AreOfSoundContainers members → AreInOrder members
-        → MayBeInDatabase (owned_listings (member_listings members) flags)
+        → AreMembersOfSoundContainers members → AreMembersInNameOrder members
+        → HaveOneOwnerAndNoReservedPath (owned_listings (member_listings members) flags)
         → database_of members flags ≡ Ok bytes
-        → IsRootOf Tables.Idb (database_value members flags) }
+        → IsValidRootValueOfTable Tables.Idb (database_value members flags) }
 {
     a_value_overflows_exactly_past_a_limit();
     no_text_is_bad_where_each_keeps_its_rule();
@@ -77,11 +80,11 @@ pub fn packages_of_sound_containers_may_be_members()
     ensures stays { (file : List ℕ) (pkg : Plain)
         → IsSoundContainer Tables.Idb file → All (λ b. b < 256) (payload_in file)
         → IsIn pkg (entries_at IDB_PACKAGES (root_value Tables.Idb (payload_in file)))
-        → IsOfSoundContainer pkg None }
+        → IsPackageOfSoundContainer pkg None }
     ensures comes { (file id : List ℕ)
         → IsSoundContainer Tables.Package file → All (λ b. b < 256) (payload_in file)
         → is_digest_length (length id) ≡ true
-        → IsOfSoundContainer (root_value Tables.Package (payload_in file)) (Some id) }
+        → IsPackageOfSoundContainer (root_value Tables.Package (payload_in file)) (Some id) }
 {
     sound_containers_hold_sound_values();
 }
@@ -100,12 +103,12 @@ pub fn a_database_lists_the_owned_files()
 pub fn a_database_without_changes_stays_the_same()
     ensures value { (v : Plain) → HasShape (shape_of (Kinds.Obj Tables.Idb)) v
         → database_value (members_of_kept (entries_at IDB_PACKAGES v))
-        (all_owned (members_of_kept (entries_at IDB_PACKAGES v)))
+        (all_owned_flags (members_of_kept (entries_at IDB_PACKAGES v)))
         ≡ without_zeros v }
     ensures bytes { (v : Plain) (payload : List ℕ) → HasShape (shape_of (Kinds.Obj Tables.Idb)) v
         → without_zeros v ≡ v → payload_or_overflow v ≡ Ok payload
         → database_of (members_of_kept (entries_at IDB_PACKAGES v))
-        (all_owned (members_of_kept (entries_at IDB_PACKAGES v)))
+        (all_owned_flags (members_of_kept (entries_at IDB_PACKAGES v)))
         ≡ Ok (file_of IDB_WORD payload) }
 {}
 
@@ -117,7 +120,8 @@ pub fn a_package_keeps_its_information()
     ensures stays { (pkg : Plain) (flags : List Bool)
         → installed_id (package_in_new_database (member_of_kept pkg) flags) ≡ installed_id pkg }
     ensures size { (m : Member) (flags : List Bool)
-        → file_size_of (package_in_new_database m flags) ≡ file_size_of m.pkg }
+        → package_file_size_in_info (package_in_new_database m flags)
+        ≡ package_file_size_in_info m.pkg }
     ensures others { (m : Member) (flags : List Bool) (i : ℕ)
         → i ≢ INFO_HASHES → i ≢ INFO_FILE_SIZE
         → entry_in (entry_in (package_in_new_database m flags) PACKAGE_INFO) i
@@ -162,10 +166,11 @@ pub fn a_package_keeps_its_scripts_and_its_priority()
 /// bytes: it is read back, and nothing changes.
 pub fn a_written_database_is_written_again_alike()
     ensures { (members : List Member) (flags : List Bool) (bytes : List ℕ)
-        → IsRootOf Tables.Idb (database_value members flags) → database_of members flags ≡ Ok bytes
+        → IsValidRootValueOfTable Tables.Idb (database_value members flags)
+        → database_of members flags ≡ Ok bytes
         → database_of
         (members_of_kept (entries_at IDB_PACKAGES (root_value Tables.Idb (payload_in bytes))))
-        (all_owned
+        (all_owned_flags
         (members_of_kept (entries_at IDB_PACKAGES (root_value Tables.Idb (payload_in bytes)))))
         ≡ Ok bytes }
 {

@@ -2,7 +2,7 @@
 use Rattle.std.proofs.Common.{◌≡◌, ℕ, zero, suc, ◌+◌, ◌<◌, ◌≤◌, ◌*◌, ◌^◌, Bool, true, false, List, [], ◌∷◌, ◌++◌, length, refl, sym, ap, subst, ◌∙◌, append_assoc, arith}
 use Rattle.std.specs.Prelude.{if◌then◌else◌, nat_lt}
 use Rattle.std.proofs.lemmas.List.{length-append}
-use Rattle.demo_lines.specs.Lines.{demo_name, demo_package_path, demo_package_paths, name_unless_needed_by_first_n, names_not_needed_by_first_n}
+use Rattle.demo_lines.specs.Lines.{demo_package_name, demo_package_path, demo_package_paths, name_unless_needed_by_first_n, names_not_needed_by_first_n}
 
 pub packages_length : (n : ℕ) → length (demo_package_paths n) ≡ n
 packages_length zero = refl
@@ -20,7 +20,7 @@ names_length n zero = omega arith
 names_length n (suc i) =
     let split : length (names_not_needed_by_first_n n i ++ name_unless_needed_by_first_n n (suc i)) ≡ length (names_not_needed_by_first_n n i) + length (name_unless_needed_by_first_n n (suc i)) = length-append (names_not_needed_by_first_n n i) (name_unless_needed_by_first_n n (suc i)) in
     let before = names_length n i in
-    let one : length (name_unless_needed_by_first_n n (suc i)) ≤ 1 = if_length (nat_lt n (2 * suc i)) (demo_name (suc i)) in
+    let one : length (name_unless_needed_by_first_n n (suc i)) ≤ 1 = if_length (nat_lt n (2 * suc i)) (demo_package_name (suc i)) in
     omega (arith, split, before, one)
 
 -- words behind a few others are not too many

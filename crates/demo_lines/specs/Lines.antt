@@ -13,8 +13,8 @@ abbrev pub digit_at_unit : ℕ → ℕ → ℕ
 digit_at_unit unit i = digit_zero + i / unit % 10
 
 -- the name of package i: `p` and i in five digits
-abbrev pub demo_name : ℕ → List ℕ
-demo_name i =
+abbrev pub demo_package_name : ℕ → List ℕ
+demo_package_name i =
     codes "p"
     ++ (digit_at_unit 10000 i ∷ digit_at_unit 1000 i ∷ digit_at_unit 100 i ∷ digit_at_unit 10 i
     ∷ digit_at_unit 1 i ∷ [])
@@ -25,15 +25,15 @@ demo_version i = codes "1." ++ (digit_at_unit 1 (i % 7) ∷ codes "-r" ++ (digit
 
 -- the folder with the files of package i
 abbrev pub demo_folder : ℕ → List ℕ
-demo_folder i = codes "demo/" ++ demo_name i
+demo_folder i = codes "demo/" ++ demo_package_name i
 
 -- the path of the one file that package i is made of
 abbrev pub demo_file : ℕ → List ℕ
-demo_file i = demo_folder i ++ codes "/usr/share/demo/" ++ demo_name i
+demo_file i = demo_folder i ++ codes "/usr/share/demo/" ++ demo_package_name i
 
 -- the contents of the one file of package i: its name and a line end
 abbrev pub demo_text : ℕ → List ℕ
-demo_text i = demo_name i ++ codes "\n"
+demo_text i = demo_package_name i ++ codes "\n"
 
 -- the path of package i, in the folder of the index
 abbrev pub demo_package_path : ℕ → List ℕ
@@ -45,13 +45,14 @@ demo_package_path i = demo_folder i ++ codes "-" ++ demo_version i ++ codes ".ap
 -- number, rounded down
 abbrev pub depends_words : ℕ → List (List ℕ)
 depends_words i =
-    if nat_lt i 2 then [] else codes "-I" ∷ (codes "depends:" ++ demo_name (i / 2)) ∷ []
+    if nat_lt i 2 then [] else codes "-I" ∷ (codes "depends:" ++ demo_package_name (i / 2)) ∷ []
 
 -- the words that make package i
 abbrev pub mkpkg_words : ℕ → List (List ℕ)
 mkpkg_words i =
     codes "mkpkg" ∷ codes "-F" ∷ demo_folder i ∷ codes "-o" ∷ demo_package_path i
-    ∷ codes "-I" ∷ (codes "name:" ++ demo_name i) ∷ codes "-I" ∷ (codes "version:" ++ demo_version i)
+    ∷ codes "-I" ∷ (codes "name:" ++ demo_package_name i) ∷ codes "-I"
+    ∷ (codes "version:" ++ demo_version i)
     ∷ depends_words i
 
 -- the path of the index
@@ -73,7 +74,7 @@ mkndx_words n = codes "mkndx" ∷ codes "-o" ∷ demo_index_path ∷ demo_packag
 
 -- the name of package i, if none of n depends on it: only packages 2i and 2i + 1 could
 abbrev pub name_unless_needed_by_first_n : ℕ → ℕ → List (List ℕ)
-name_unless_needed_by_first_n n i = if nat_lt n (2 * i) then demo_name i ∷ [] else []
+name_unless_needed_by_first_n n i = if nat_lt n (2 * i) then demo_package_name i ∷ [] else []
 
 -- the names of those of the packages 1 to i on which none of n depends
 abbrev pub names_not_needed_by_first_n : ℕ → ℕ → List (List ℕ)

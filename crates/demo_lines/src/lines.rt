@@ -5,7 +5,7 @@
 //! list of words holds at most 4,294,967,294, and no command of `demo` comes near this limit.
 
 ghost use Rattle.std.specs.Prelude.{◌≡◌, ◌<◌, ◌++◌, ◌∷◌, [], codes, length, IfOk, OnOk, true, IsTrue, Some};
-ghost use Rattle.demo_lines.specs.Lines.{add_words, demo_name, demo_package_path, demo_package_paths, demo_version, depends_words, mkndx_words, mkpkg_words, name_unless_needed_by_first_n, names_not_needed_by_first_n};
+ghost use Rattle.demo_lines.specs.Lines.{add_words, demo_package_name, demo_package_path, demo_package_paths, demo_version, depends_words, mkndx_words, mkpkg_words, name_unless_needed_by_first_n, names_not_needed_by_first_n};
 ghost use Rattle.std.specs.Str.Parse.{digits_value};
 ghost use Rattle.command_core.specs.Operands.{exactly, is_demo_number};
 ghost use Rattle.command_core.specs.Sound.{are_allowed_operands};
@@ -20,7 +20,7 @@ use base_core::{Text, Words};
 use command_core::Operands;
 use std::alloc::{AllocError, Global};
 
-/// The words that make package i.
+/// The command line of `mkpkg` that makes package i.
 pub fn mkpkg_words(alloc: Global, i: u16) -> Result<Words, AllocError>
     ensures { IfOk result (λ words. words ≡ mkpkg_words i) }
 {
@@ -29,7 +29,7 @@ pub fn mkpkg_words(alloc: Global, i: u16) -> Result<Words, AllocError>
     Ok(words)
 }
 
-// Adds the words that make package i, to a list without words.
+// Adds the arguments of the command line that makes package i to an empty list.
 fn push_mkpkg(words: &mut Words, alloc: Global, i: u16) -> Result<(), AllocError>
     requires { words.old ≡ [] }
     ensures { OnOk result (words.new ≡ mkpkg_words i) }
@@ -42,7 +42,7 @@ fn push_mkpkg(words: &mut Words, alloc: Global, i: u16) -> Result<(), AllocError
     push_depends(words, alloc, i)
 }
 
-// Adds the words with the dependency of package i, if it has one.
+// Adds the option with the dependency of package i, if the package has one.
 fn push_depends(words: &mut Words, alloc: Global, i: u16) -> Result<(), AllocError>
     requires { length words.old < 16 }
     ensures { OnOk result (words.new ≡ words.old ++ depends_words i) }
@@ -53,7 +53,7 @@ fn push_depends(words: &mut Words, alloc: Global, i: u16) -> Result<(), AllocErr
     push_option(words, b"-I", &name_word(alloc, b"depends:", i / 2)?)
 }
 
-// Adds an option and its value, a word each.
+// Adds two arguments to a command line: an option, and its value.
 fn push_option(words: &mut Words, option: &[u8], value: &[u8]) -> Result<(), AllocError>
     requires { length words.old < 32 }
     ensures { OnOk result (words.new ≡ words.old ++ option.now ∷ value.now ∷ []) }
@@ -62,16 +62,16 @@ fn push_option(words: &mut Words, option: &[u8], value: &[u8]) -> Result<(), All
     words.push(value)
 }
 
-// A word: this beginning, followed by the name of package i.
+// An argument of a command line: these first bytes, followed by the name of package i.
 fn name_word(alloc: Global, front: &[u8], i: u16) -> Result<Vec<u8>, AllocError>
-    ensures { IfOk result (λ text. text.items ≡ front.now ++ demo_name i) }
+    ensures { IfOk result (λ text. text.items ≡ front.now ++ demo_package_name i) }
 {
     let mut text = Vec::from_slice(alloc, front)?;
     push_name(&mut text, i)?;
     Ok(text)
 }
 
-// The word that gives the version of package i.
+// The argument that gives the version of package i.
 fn version_word(alloc: Global, i: u16) -> Result<Vec<u8>, AllocError>
     ensures { IfOk result (λ text. text.items ≡ codes "version:" ++ demo_version i) }
 {
@@ -80,7 +80,7 @@ fn version_word(alloc: Global, i: u16) -> Result<Vec<u8>, AllocError>
     Ok(text)
 }
 
-/// The words that make the index of n packages.
+/// The command line of `mkndx` that makes the index of n packages.
 pub fn mkndx_words(alloc: Global, n: u16) -> Result<Words, AllocError>
     ensures { IfOk result (λ words. words ≡ mkndx_words n) }
 {
@@ -92,7 +92,7 @@ pub fn mkndx_words(alloc: Global, n: u16) -> Result<Words, AllocError>
     Ok(words)
 }
 
-// Adds the paths of the packages 1 to n.
+// Adds the paths of packages 1 to n, as arguments of a command line.
 fn push_packages(words: &mut Words, alloc: Global, n: u16) -> Result<(), AllocError>
     requires { length words.old < 16 }
     ensures { OnOk result (words.new ≡ words.old ++ demo_package_paths n) }
@@ -103,7 +103,7 @@ fn push_packages(words: &mut Words, alloc: Global, n: u16) -> Result<(), AllocEr
     Ok(())
 }
 
-// Adds the path of package i.
+// Adds the path of package i, as an argument of a command line.
 fn push_package(words: &mut Words, alloc: Global, i: u16) -> Result<(), AllocError>
     requires { length words.old < 100000 }
     ensures { OnOk result (words.new ≡ words.old ++ demo_package_path i ∷ []) }
@@ -113,7 +113,7 @@ fn push_package(words: &mut Words, alloc: Global, i: u16) -> Result<(), AllocErr
     Ok(())
 }
 
-/// The words that add those of n packages on which no other depends.
+/// The command line of `add` with the names of those of n packages on which no other one depends.
 pub fn add_words(alloc: Global, n: u16) -> Result<Words, AllocError>
     ensures { IfOk result (λ words. words ≡ add_words n) }
 {
@@ -125,7 +125,8 @@ pub fn add_words(alloc: Global, n: u16) -> Result<Words, AllocError>
     Ok(words)
 }
 
-// Adds the names of those of n packages on which no other depends.
+// Adds the names of those of n packages on which no other one depends, as arguments of a command
+// line.
 fn push_top_names(words: &mut Words, alloc: Global, n: u16) -> Result<(), AllocError>
     requires { length words.old < 16 }
     ensures { OnOk result (words.new ≡ words.old ++ names_not_needed_by_first_n n n) }
@@ -159,7 +160,7 @@ pub fn demo_count(operands: &Operands) -> u16
     number_of(operands.get(0).text.as_bytes())
 }
 
-// The number that the text is: 1 to 20,000, which fits a u16.
+// The number of which the text is the decimal form. It is 1 to 20,000, so it fits into 16 bits.
 fn number_of(text: &[u8]) -> u16
     requires { IsTrue (is_demo_number text.now) }
     ensures { result ≡ digits_value 10 text.now }

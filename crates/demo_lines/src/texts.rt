@@ -1,6 +1,6 @@
 //! The texts of package i and of its file. The rules are in `docs/commands.md`, "`demo N`".
 ghost use Rattle.std.specs.Prelude.{◌≡◌, ◌<◌, ◌++◌, IfOk, OnOk};
-ghost use Rattle.demo_lines.specs.Lines.{demo_file, demo_folder, demo_index_path, demo_name, demo_package_path, demo_repositories, demo_text, demo_version, digit_at_unit};
+ghost use Rattle.demo_lines.specs.Lines.{demo_file, demo_folder, demo_index_path, demo_package_name, demo_package_path, demo_repositories, demo_text, demo_version, digit_at_unit};
 
 use std::alloc::{AllocError, Global};
 
@@ -56,7 +56,7 @@ pub(crate) fn demo_package_path(alloc: Global, i: u16) -> Result<Vec<u8>, AllocE
 
 /// Adds the name of package i: `p` and i in five digits.
 pub(crate) fn push_name(text: &mut Vec<u8>, i: u16) -> Result<(), AllocError>
-    ensures { OnOk result (text.new.items ≡ text.old.items ++ demo_name i) }
+    ensures { OnOk result (text.new.items ≡ text.old.items ++ demo_package_name i) }
 {
     let digits = [
         b'p',

@@ -10,7 +10,7 @@ use Rattle.std.specs.Cmp.Lexicographic.{slice_cmp, texts_ties, nat_list_eq_equiv
 use Rattle.std.specs.declared.cmp.Ordering.TheVariants.{Less, Equal, Greater}
 use Rattle.dep_core.specs.Dependency.{Dependency}
 use Rattle.dep_core.specs.Found.{IsKeyedByName}
-use Rattle.dep_core.specs.World.{has_name, with_entry}
+use Rattle.dep_core.specs.World.{has_dependency_named, world_with_dependency_set}
 use Rattle.base_core.specs.ByteOrder.{bytes_cmp}
 use Rattle.dep_core.proofs.Worlds.{cmp-equal}
 
@@ -22,11 +22,11 @@ values-by k v e rest more others Less h = refl
 values-by k v e rest more others Equal h = refl
 values-by k v e rest more others Greater h = ap (λ ds. e.1 ∷ ds) h
 
-pub values-insert : (es : List (Bor (List ℕ) × Dependency)) (k : Bor (List ℕ)) (v : Dependency) → k.now ≡ v.name → IsKeyedByName es → values_of (insert_entry key_cmp es k v) ≡ with_entry v (values_of es)
+pub values-insert : (es : List (Bor (List ℕ) × Dependency)) (k : Bor (List ℕ)) (v : Dependency) → k.now ≡ v.name → IsKeyedByName es → values_of (insert_entry key_cmp es k v) ≡ world_with_dependency_set v (values_of es)
 values-insert [] k v n h = refl
 values-insert (e ∷ rest) k v n h =
-    values-by k v e rest (insert_entry key_cmp rest k v) (with_entry v (values_of rest)) (key_cmp k e.0) (values-insert rest k v n h.1)
-    ∙ ap (λ o. match_ordering o (v ∷ (e.1 ∷ values_of rest)) (v ∷ values_of rest) (e.1 ∷ with_entry v (values_of rest))) ((λ i. bytes_cmp (n i) (h.0 i)))
+    values-by k v e rest (insert_entry key_cmp rest k v) (world_with_dependency_set v (values_of rest)) (key_cmp k e.0) (values-insert rest k v n h.1)
+    ∙ ap (λ o. match_ordering o (v ∷ (e.1 ∷ values_of rest)) (v ∷ values_of rest) (e.1 ∷ world_with_dependency_set v (values_of rest))) ((λ i. bytes_cmp (n i) (h.0 i)))
 
 by_name-by : (k : Bor (List ℕ)) (v : Dependency) (e : Bor (List ℕ) × Dependency) (rest more : List (Bor (List ℕ) × Dependency)) (o : Ordering) → k.now ≡ v.name → bytes_cmp k.now e.0.now ≡ o → IsKeyedByName (e ∷ rest) → IsKeyedByName more → IsKeyedByName (match_ordering o ((k, v) ∷ (e ∷ rest)) ((e.0, v) ∷ rest) (e ∷ more))
 by_name-by k v e rest more Less n c h m = (n, h)
@@ -46,10 +46,10 @@ some-by : (a b : Bool) (v : Dependency) (r : Option Dependency) (s : Bool) → a
 some-by true b v r s e h = ap (λ t. t || s) e
 some-by false b v r s e h = h ∙ ap (λ t. t || s) e
 
-pub some-found : (es : List (Bor (List ℕ) × Dependency)) (k : Bor (List ℕ)) → IsKeyedByName es → is_some (lookup (is_at (key_cmp k)) es) ≡ has_name k.now (values_of es)
+pub some-found : (es : List (Bor (List ℕ) × Dependency)) (k : Bor (List ℕ)) → IsKeyedByName es → is_some (lookup (is_at (key_cmp k)) es) ≡ has_dependency_named k.now (values_of es)
 some-found [] k h = refl
 some-found (e ∷ rest) k h =
-    some-by (is_at (key_cmp k) e.0) (bytes_eq e.1.name k.now) e.1 (lookup (is_at (key_cmp k)) rest) (has_name k.now (values_of rest)) (tests_agree k.now e.0.now e.1.name h.0) (some-found rest k h.1)
+    some-by (is_at (key_cmp k) e.0) (bytes_eq e.1.name k.now) e.1 (lookup (is_at (key_cmp k)) rest) (has_dependency_named k.now (values_of rest)) (tests_agree k.now e.0.now e.1.name h.0) (some-found rest k h.1)
 
 pub not-moved : (a b c : Bool) → a ≡ not b → a ≡ c → b ≡ not c
 not-moved a true c n h = ap not (sym n ∙ h)

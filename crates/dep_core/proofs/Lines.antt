@@ -5,7 +5,7 @@ use Rattle.std.specs.Option.{option_and_then}
 use Rattle.std.proofs.lemmas.List.{at_drop_more, at_drop_all}
 use Rattle.dep_core.specs.Dependency.{Dependency}
 use Rattle.dep_core.specs.Reading.{dependency_of}
-use Rattle.dep_core.specs.World.{or_bad_line, world_with_lines, with_new_entry, world_with_words, words_of_line}
+use Rattle.dep_core.specs.World.{or_bad_line, world_with_lines, world_with_new_dependency, world_with_words, words_of_line}
 
 abbrev pub is_word : List ℕ → Bool
 is_word word = not (eqb (length word) 0)
@@ -25,7 +25,7 @@ no_word w parts n m x r h e p q =
     words_left-more parts n x h ∙ ap (λ b. cond (not b) (x ∷ words_left (n + 1) parts) (words_left (n + 1) parts)) e in
     ap (λ k. world_with_words w (words_left k parts)) p ∙ (ap (world_with_words w) (sym step) ∙ q)
 
-pub one_word : (w : List Dependency) (parts : List (List ℕ)) (n : ℕ) (x : List ℕ) (more : Option (List Dependency)) → (n < length parts) × (x ≡ get_or parts n x) → eqb (length x) 0 ≡ false → option_and_then (with_new_entry w) (dependency_of x) ≡ more → world_with_words w (words_left n parts) ≡ option_and_then (λ v. world_with_words v (words_left (n + 1) parts)) more
+pub one_word : (w : List Dependency) (parts : List (List ℕ)) (n : ℕ) (x : List ℕ) (more : Option (List Dependency)) → (n < length parts) × (x ≡ get_or parts n x) → eqb (length x) 0 ≡ false → option_and_then (world_with_new_dependency w) (dependency_of x) ≡ more → world_with_words w (words_left n parts) ≡ option_and_then (λ v. world_with_words v (words_left (n + 1) parts)) more
 one_word w parts n x more h e d =
     let step : words_left n parts ≡ x ∷ words_left (n + 1) parts =
     words_left-more parts n x h ∙ ap (λ b. cond (not b) (x ∷ words_left (n + 1) parts) (words_left (n + 1) parts)) e in

@@ -13,7 +13,7 @@ use Rattle.std.proofs.lemmas.List.Splits.{slice_split_none, slice_split_at}
 use Rattle.version_core.specs.Order.{is_version}
 use Rattle.dep_core.specs.Dependency.{Dependency, is_dep_name, is_name_byte, is_tag_byte}
 use Rattle.dep_core.specs.DependencyText.{IsDependency, dep_text, is_dependency, is_constraint_or_none, is_tag_or_none, constraint_text, conflict_mark_text, operator_text, tag_text}
-use Rattle.dep_core.specs.World.{IsWorld, has_name, is_blank, is_in_order, is_line_end, lines_of, or_bad_line, with_entry, world_with_lines, with_new_entry, world_with_words, words_of_line, world_of, world_text}
+use Rattle.dep_core.specs.World.{IsWorld, has_dependency_named, is_blank, is_in_order, is_line_end, lines_of, or_bad_line, world_with_dependency_set, world_with_lines, world_with_new_dependency, world_with_words, words_of_line, world_of, world_text}
 use Rattle.base_core.specs.ByteOrder.{bytes_cmp}
 use Rattle.base_core.proofs.Orderings.{is_less}
 use Rattle.dep_core.proofs.Lines.{is_word}
@@ -95,15 +95,15 @@ pub behind-at : (P : Dependency → Bool) (w : List Dependency) (d : Dependency)
 behind-at P [] d rest h = (and_parts (P d) (list_all P rest) h).0
 behind-at P (e ∷ w) d rest h = behind-at P w d rest (and_parts (P e) (list_all P (w ++ (d ∷ rest))) h).1
 
-last-new : (w : List Dependency) (d : Dependency) (rest : List Dependency) → is_in_order (w ++ (d ∷ rest)) ≡ true → (has_name d.name w ≡ false) × (with_entry d w ≡ w ++ (d ∷ []))
+last-new : (w : List Dependency) (d : Dependency) (rest : List Dependency) → is_in_order (w ++ (d ∷ rest)) ≡ true → (has_dependency_named d.name w ≡ false) × (world_with_dependency_set d w ≡ w ++ (d ∷ []))
 last-new [] d rest h = (refl, refl)
 last-new (e ∷ w) d rest h =
     let parts : (list_all (is_behind e.name) (w ++ (d ∷ rest)) ≡ true) × (is_in_order (w ++ (d ∷ rest)) ≡ true) =
     and_parts (list_all (is_behind e.name) (w ++ (d ∷ rest))) (is_in_order (w ++ (d ∷ rest))) h in
-    let more : (has_name d.name w ≡ false) × (with_entry d w ≡ w ++ (d ∷ [])) = last-new w d rest parts.1 in
+    let more : (has_dependency_named d.name w ≡ false) × (world_with_dependency_set d w ≡ w ++ (d ∷ [])) = last-new w d rest parts.1 in
     let before : bytes_cmp e.name d.name ≡ Less = is_less (bytes_cmp e.name d.name) (behind-at (is_behind e.name) w d rest parts.0) in (
-      (ap (λ b. b || has_name d.name w) (texts_ties e.name d.name ∙ ap is_eq before) ∙ more.0),
-      (ap (λ o. match_ordering o (d ∷ (e ∷ w)) (d ∷ w) (e ∷ with_entry d w)) (cmp-back e.name d.name Less before) ∙ ap (λ ds. e ∷ ds) more.1),
+      (ap (λ b. b || has_dependency_named d.name w) (texts_ties e.name d.name ∙ ap is_eq before) ∙ more.0),
+      (ap (λ o. match_ordering o (d ∷ (e ∷ w)) (d ∷ w) (e ∷ world_with_dependency_set d w)) (cmp-back e.name d.name Less before) ∙ ap (λ ds. e ∷ ds) more.1),
     )
 
 -- ---- the whole text
@@ -112,9 +112,9 @@ one-line : Versions → (w : List Dependency) (d : Dependency) (rest : List Depe
 one-line spelled w d rest g h =
     let good = and_parts (is_dep_name d.name && is_constraint_or_none d.version d.bits) (is_tag_or_none d.tag) g in
     let named = (and_parts (is_dep_name d.name) (is_constraint_or_none d.version d.bits) good.0).0 in
-    let new : (has_name d.name w ≡ false) × (with_entry d w ≡ w ++ (d ∷ [])) = last-new w d rest h in
+    let new : (has_dependency_named d.name w ≡ false) × (world_with_dependency_set d w ≡ w ++ (d ∷ [])) = last-new w d rest h in
     ap (world_with_words w) (one-word (dep_text d) (text-is_visible spelled d g) (text-word d.conflict d.name (tag_text d.tag ++ constraint_text d.version d.bits) named))
-    ∙ (ap (λ o. option_and_then (λ more. Some more) (option_and_then (with_new_entry w) o)) (read-written spelled d g)
+    ∙ (ap (λ o. option_and_then (λ more. Some more) (option_and_then (world_with_new_dependency w) o)) (read-written spelled d g)
     ∙ (λ i. option_and_then (λ more. Some more) (cond (new.0 i) None (Some (new.1 i)))))
 
 lines-read : Versions → (rest w : List Dependency) (k : ℕ) → list_all is_dependency rest ≡ true → is_in_order (w ++ rest) ≡ true → world_with_lines w k (lines_of (world_text rest)) ≡ Ok (w ++ rest)

@@ -13,13 +13,13 @@ use Rattle.std.proofs.lemmas.Bool.{and_parts, and_from, or_parts, not-true, not_
 use Rattle.std.proofs.lemmas.List.Sorted.{IsPermutation-refl, IsPermutation-sym, IsPermutation-trans, IsPermutation-cons, IsPermutation-middle, IsPermutation-append_right}
 use Rattle.dep_core.specs.Dependency.{Dependency}
 use Rattle.dep_core.specs.Reading.{dependency_of}
-use Rattle.dep_core.specs.World.{IsWorld, has_name, lines_of, or_bad_line, with_entry, world_with_lines, with_new_entry, world_with_words, words_of_line, world_of}
+use Rattle.dep_core.specs.World.{IsWorld, has_dependency_named, lines_of, or_bad_line, world_with_dependency_set, world_with_lines, world_with_new_dependency, world_with_words, words_of_line, world_of}
 use Rattle.base_core.specs.ByteOrder.{bytes_cmp}
 use Rattle.base_core.proofs.Booleans.{or_swap}
-use Rattle.dep_core.specs.Entries.{IsFirstBadLine, IsWorldOf, have_different_names, words_in}
+use Rattle.dep_core.specs.Entries.{IsFirstBadLineOfWorldText, IsWorldOf, have_different_names, words_in}
 use Rattle.dep_core.proofs.Operators.{some-inj}
 use Rattle.dep_core.proofs.ReadOut.{read-out}
-use Rattle.dep_core.proofs.Worlds.{IsWorld-with_entry, cmp-back}
+use Rattle.dep_core.proofs.Worlds.{IsWorld-world_with_dependency_set, cmp-back}
 
 -- ---- lines and words
 
@@ -30,7 +30,7 @@ append-by (Some w) front back h = h w
 words-append : (front back : List (List ℕ)) (w : List Dependency) → world_with_words w (front ++ back) ≡ option_and_then (λ m. world_with_words m back) (world_with_words w front)
 words-append [] back w = refl
 words-append (x ∷ front) back w =
-    append-by (option_and_then (with_new_entry w) (dependency_of x)) front back (words-append front back)
+    append-by (option_and_then (world_with_new_dependency w) (dependency_of x)) front back (words-append front back)
 
 line-by : (o : Option (List Dependency)) (k : ℕ) (lines : List (List ℕ)) → ((w : List Dependency) → result_ok (world_with_lines w (k + 1) lines) ≡ world_with_words w (flat_map words_of_line lines)) → result_ok (or_bad_line k (λ m. world_with_lines m (k + 1) lines) o) ≡ option_and_then (λ m. world_with_words m (flat_map words_of_line lines)) o
 line-by None k lines h = refl
@@ -51,16 +51,16 @@ not-tied d e h t = sym h ∙ (texts_ties e.name d.name ∙ ap is_eq (cmp-back d.
 no_truth : {A : Type 0} → false ≡ true → A
 no_truth h = (cc)
 
-name-by : (d e : Dependency) (rest more : List Dependency) (n : List ℕ) (o : Ordering) → bytes_cmp d.name e.name ≡ o → bytes_eq e.name d.name ≡ false → has_name n more ≡ (bytes_eq d.name n || has_name n rest) → has_name n (match_ordering o (d ∷ (e ∷ rest)) (d ∷ rest) (e ∷ more)) ≡ (bytes_eq d.name n || has_name n (e ∷ rest))
+name-by : (d e : Dependency) (rest more : List Dependency) (n : List ℕ) (o : Ordering) → bytes_cmp d.name e.name ≡ o → bytes_eq e.name d.name ≡ false → has_dependency_named n more ≡ (bytes_eq d.name n || has_dependency_named n rest) → has_dependency_named n (match_ordering o (d ∷ (e ∷ rest)) (d ∷ rest) (e ∷ more)) ≡ (bytes_eq d.name n || has_dependency_named n (e ∷ rest))
 name-by d e rest more n Less t h m = refl
 name-by d e rest more n Equal t h m = no_truth (not-tied d e h t)
-name-by d e rest more n Greater t h m = ap (λ b. bytes_eq e.name n || b) m ∙ or_swap (bytes_eq e.name n) (bytes_eq d.name n) (has_name n rest)
+name-by d e rest more n Greater t h m = ap (λ b. bytes_eq e.name n || b) m ∙ or_swap (bytes_eq e.name n) (bytes_eq d.name n) (has_dependency_named n rest)
 
-has_name-with_entry : (d : Dependency) (w : List Dependency) (n : List ℕ) → has_name d.name w ≡ false → has_name n (with_entry d w) ≡ (bytes_eq d.name n || has_name n w)
-has_name-with_entry d [] n h = refl
-has_name-with_entry d (e ∷ rest) n h =
-    let parts : (bytes_eq e.name d.name ≡ false) × (has_name d.name rest ≡ false) = or_parts (bytes_eq e.name d.name) (has_name d.name rest) h in
-    name-by d e rest (with_entry d rest) n (bytes_cmp d.name e.name) refl parts.0 (has_name-with_entry d rest n parts.1)
+has_dependency_named-world_with_dependency_set : (d : Dependency) (w : List Dependency) (n : List ℕ) → has_dependency_named d.name w ≡ false → has_dependency_named n (world_with_dependency_set d w) ≡ (bytes_eq d.name n || has_dependency_named n w)
+has_dependency_named-world_with_dependency_set d [] n h = refl
+has_dependency_named-world_with_dependency_set d (e ∷ rest) n h =
+    let parts : (bytes_eq e.name d.name ≡ false) × (has_dependency_named d.name rest ≡ false) = or_parts (bytes_eq e.name d.name) (has_dependency_named d.name rest) h in
+    name-by d e rest (world_with_dependency_set d rest) n (bytes_cmp d.name e.name) refl parts.0 (has_dependency_named-world_with_dependency_set d rest n parts.1)
 
 moved-by : (d e : Dependency) (rest more : List Dependency) (o : Ordering) → bytes_cmp d.name e.name ≡ o → bytes_eq e.name d.name ≡ false → IsPermutation (d ∷ rest) more → IsPermutation (d ∷ (e ∷ rest)) (match_ordering o (d ∷ (e ∷ rest)) (d ∷ rest) (e ∷ more))
 moved-by d e rest more Less t h m = IsPermutation-refl (d ∷ (e ∷ rest))
@@ -68,36 +68,36 @@ moved-by d e rest more Equal t h m = no_truth (not-tied d e h t)
 moved-by d e rest more Greater t h m =
     IsPermutation-trans (d ∷ (e ∷ rest)) (e ∷ (d ∷ rest)) (e ∷ more) (IsPermutation-sym (e ∷ (d ∷ rest)) (d ∷ (e ∷ rest)) (IsPermutation-middle (e ∷ []) d rest)) (IsPermutation-cons e (d ∷ rest) more m)
 
-moved : (d : Dependency) (w : List Dependency) → has_name d.name w ≡ false → IsPermutation (d ∷ w) (with_entry d w)
+moved : (d : Dependency) (w : List Dependency) → has_dependency_named d.name w ≡ false → IsPermutation (d ∷ w) (world_with_dependency_set d w)
 moved d [] h = IsPermutation-refl (d ∷ [])
 moved d (e ∷ rest) h =
-    let parts : (bytes_eq e.name d.name ≡ false) × (has_name d.name rest ≡ false) = or_parts (bytes_eq e.name d.name) (has_name d.name rest) h in
-    moved-by d e rest (with_entry d rest) (bytes_cmp d.name e.name) refl parts.0 (moved d rest parts.1)
+    let parts : (bytes_eq e.name d.name ≡ false) × (has_dependency_named d.name rest ≡ false) = or_parts (bytes_eq e.name d.name) (has_dependency_named d.name rest) h in
+    moved-by d e rest (world_with_dependency_set d rest) (bytes_cmp d.name e.name) refl parts.0 (moved d rest parts.1)
 
 -- whether each name is new to a world
 abbrev are_new : List Dependency → List Dependency → Bool
-are_new w ds = list_all (λ (d : Dependency). not (has_name d.name w)) ds
+are_new w ds = list_all (λ (d : Dependency). not (has_dependency_named d.name w)) ds
 
-new-parts : (d : Dependency) (w ds : List Dependency) → has_name d.name w ≡ false → are_new (with_entry d w) ds ≡ true → (has_name d.name ds ≡ false) × (are_new w ds ≡ true)
+new-parts : (d : Dependency) (w ds : List Dependency) → has_dependency_named d.name w ≡ false → are_new (world_with_dependency_set d w) ds ≡ true → (has_dependency_named d.name ds ≡ false) × (are_new w ds ≡ true)
 new-parts d w [] h n = (refl, refl)
 new-parts d w (e ∷ ds) h n =
-    let parts : (not (has_name e.name (with_entry d w)) ≡ true) × (are_new (with_entry d w) ds ≡ true) =
-    and_parts (not (has_name e.name (with_entry d w))) (are_new (with_entry d w) ds) n in
-    let both : (bytes_eq d.name e.name ≡ false) × (has_name e.name w ≡ false) =
-    or_parts (bytes_eq d.name e.name) (has_name e.name w) (sym (has_name-with_entry d w e.name h) ∙ not-true (has_name e.name (with_entry d w)) parts.0) in
-    let more : (has_name d.name ds ≡ false) × (are_new w ds ≡ true) = new-parts d w ds h parts.1 in (
-      ap (λ b. b || has_name d.name ds) (nat_list_eq_equiv.symm e.name d.name ∙ both.0) ∙ more.0,
-      and_from (not (has_name e.name w)) (are_new w ds) (not_from_false (has_name e.name w) both.1) more.1,
+    let parts : (not (has_dependency_named e.name (world_with_dependency_set d w)) ≡ true) × (are_new (world_with_dependency_set d w) ds ≡ true) =
+    and_parts (not (has_dependency_named e.name (world_with_dependency_set d w))) (are_new (world_with_dependency_set d w) ds) n in
+    let both : (bytes_eq d.name e.name ≡ false) × (has_dependency_named e.name w ≡ false) =
+    or_parts (bytes_eq d.name e.name) (has_dependency_named e.name w) (sym (has_dependency_named-world_with_dependency_set d w e.name h) ∙ not-true (has_dependency_named e.name (world_with_dependency_set d w)) parts.0) in
+    let more : (has_dependency_named d.name ds ≡ false) × (are_new w ds ≡ true) = new-parts d w ds h parts.1 in (
+      ap (λ b. b || has_dependency_named d.name ds) (nat_list_eq_equiv.symm e.name d.name ∙ both.0) ∙ more.0,
+      and_from (not (has_dependency_named e.name w)) (are_new w ds) (not_from_false (has_dependency_named e.name w) both.1) more.1,
     )
 
-new-joined : (d : Dependency) (w ds : List Dependency) → has_name d.name w ≡ false → has_name d.name ds ≡ false → are_new w ds ≡ true → are_new (with_entry d w) ds ≡ true
+new-joined : (d : Dependency) (w ds : List Dependency) → has_dependency_named d.name w ≡ false → has_dependency_named d.name ds ≡ false → are_new w ds ≡ true → are_new (world_with_dependency_set d w) ds ≡ true
 new-joined d w [] h a n = refl
 new-joined d w (e ∷ ds) h a n =
-    let apart : (bytes_eq e.name d.name ≡ false) × (has_name d.name ds ≡ false) = or_parts (bytes_eq e.name d.name) (has_name d.name ds) a in
-    let parts : (not (has_name e.name w) ≡ true) × (are_new w ds ≡ true) = and_parts (not (has_name e.name w)) (are_new w ds) n in
-    let absent : has_name e.name (with_entry d w) ≡ false =
-    has_name-with_entry d w e.name h ∙ (ap (λ b. b || has_name e.name w) (nat_list_eq_equiv.symm d.name e.name ∙ apart.0) ∙ not-true (has_name e.name w) parts.0) in
-    and_from (not (has_name e.name (with_entry d w))) (are_new (with_entry d w) ds) (not_from_false (has_name e.name (with_entry d w)) absent) (new-joined d w ds h apart.1 parts.1)
+    let apart : (bytes_eq e.name d.name ≡ false) × (has_dependency_named d.name ds ≡ false) = or_parts (bytes_eq e.name d.name) (has_dependency_named d.name ds) a in
+    let parts : (not (has_dependency_named e.name w) ≡ true) × (are_new w ds ≡ true) = and_parts (not (has_dependency_named e.name w)) (are_new w ds) n in
+    let absent : has_dependency_named e.name (world_with_dependency_set d w) ≡ false =
+    has_dependency_named-world_with_dependency_set d w e.name h ∙ (ap (λ b. b || has_dependency_named e.name w) (nat_list_eq_equiv.symm d.name e.name ∙ apart.0) ∙ not-true (has_dependency_named e.name w) parts.0) in
+    and_from (not (has_dependency_named e.name (world_with_dependency_set d w))) (are_new (world_with_dependency_set d w) ds) (not_from_false (has_dependency_named e.name (world_with_dependency_set d w)) absent) (new-joined d w ds h apart.1 parts.1)
 
 -- ---- what the words are
 
@@ -109,25 +109,25 @@ record AreRead (words : List (List ℕ)) (w v : List Dependency) : Type 0 where
   same : IsPermutation (entries ++ w) v
   kept : IsWorld w → IsWorld v
 
-one-more : (x : List ℕ) (words : List (List ℕ)) (d : Dependency) (w v : List Dependency) → dependency_of x ≡ Some d → has_name d.name w ≡ false → AreRead words (with_entry d w) v → AreRead (x ∷ words) w v
+one-more : (x : List ℕ) (words : List (List ℕ)) (d : Dependency) (w v : List Dependency) → dependency_of x ≡ Some d → has_dependency_named d.name w ≡ false → AreRead words (world_with_dependency_set d w) v → AreRead (x ∷ words) w v
 one-more x words d w v r h out =
-    let parts : (has_name d.name out.entries ≡ false) × (are_new w out.entries ≡ true) = new-parts d w out.entries h out.fresh in
+    let parts : (has_dependency_named d.name out.entries ≡ false) × (are_new w out.entries ≡ true) = new-parts d w out.entries h out.fresh in
     record {
       entries = d ∷ out.entries;
       read = (λ i. r i ∷ out.read i);
-      apart = and_from (not (has_name d.name out.entries)) (have_different_names out.entries) (not_from_false (has_name d.name out.entries) parts.0) out.apart;
-      fresh = and_from (not (has_name d.name w)) (are_new w out.entries) (not_from_false (has_name d.name w) h) parts.1;
-      same = IsPermutation-trans (d ∷ (out.entries ++ w)) (out.entries ++ (d ∷ w)) v (IsPermutation-sym (out.entries ++ (d ∷ w)) (d ∷ (out.entries ++ w)) (IsPermutation-middle out.entries d w)) (IsPermutation-trans (out.entries ++ (d ∷ w)) (out.entries ++ with_entry d w) v (IsPermutation-append_right out.entries (d ∷ w) (with_entry d w) (moved d w h)) out.same);
-      kept = (λ world. out.kept (IsWorld-with_entry d w (read-out x d r).0 world));
+      apart = and_from (not (has_dependency_named d.name out.entries)) (have_different_names out.entries) (not_from_false (has_dependency_named d.name out.entries) parts.0) out.apart;
+      fresh = and_from (not (has_dependency_named d.name w)) (are_new w out.entries) (not_from_false (has_dependency_named d.name w) h) parts.1;
+      same = IsPermutation-trans (d ∷ (out.entries ++ w)) (out.entries ++ (d ∷ w)) v (IsPermutation-sym (out.entries ++ (d ∷ w)) (d ∷ (out.entries ++ w)) (IsPermutation-middle out.entries d w)) (IsPermutation-trans (out.entries ++ (d ∷ w)) (out.entries ++ world_with_dependency_set d w) v (IsPermutation-append_right out.entries (d ∷ w) (world_with_dependency_set d w) (moved d w h)) out.same);
+      kept = (λ world. out.kept (IsWorld-world_with_dependency_set d w (read-out x d r).0 world));
     }
 
-new-by : (x : List ℕ) (words : List (List ℕ)) (d : Dependency) (w v : List Dependency) (b : Bool) → dependency_of x ≡ Some d → has_name d.name w ≡ b → option_and_then (λ m. world_with_words m words) (cond b None (Some (with_entry d w))) ≡ Some v → ((u : List Dependency) → world_with_words u words ≡ Some v → AreRead words u v) → AreRead (x ∷ words) w v
+new-by : (x : List ℕ) (words : List (List ℕ)) (d : Dependency) (w v : List Dependency) (b : Bool) → dependency_of x ≡ Some d → has_dependency_named d.name w ≡ b → option_and_then (λ m. world_with_words m words) (cond b None (Some (world_with_dependency_set d w))) ≡ Some v → ((u : List Dependency) → world_with_words u words ≡ Some v → AreRead words u v) → AreRead (x ∷ words) w v
 new-by x words d w v true r e h more = (cc)
-new-by x words d w v false r e h more = one-more x words d w v r e (more (with_entry d w) h)
+new-by x words d w v false r e h more = one-more x words d w v r e (more (world_with_dependency_set d w) h)
 
-read-by : (x : List ℕ) (words : List (List ℕ)) (o : Option Dependency) (w v : List Dependency) → dependency_of x ≡ o → option_and_then (λ m. world_with_words m words) (option_and_then (with_new_entry w) o) ≡ Some v → ((u : List Dependency) → world_with_words u words ≡ Some v → AreRead words u v) → AreRead (x ∷ words) w v
+read-by : (x : List ℕ) (words : List (List ℕ)) (o : Option Dependency) (w v : List Dependency) → dependency_of x ≡ o → option_and_then (λ m. world_with_words m words) (option_and_then (world_with_new_dependency w) o) ≡ Some v → ((u : List Dependency) → world_with_words u words ≡ Some v → AreRead words u v) → AreRead (x ∷ words) w v
 read-by x words None w v r h more = (cc)
-read-by x words (Some d) w v r h more = new-by x words d w v (has_name d.name w) r refl h more
+read-by x words (Some d) w v r h more = new-by x words d w v (has_dependency_named d.name w) r refl h more
 
 words-read : (words : List (List ℕ)) (v w : List Dependency) → world_with_words w words ≡ Some v → AreRead words w v
 words-read [] v w h = record {
@@ -146,12 +146,12 @@ words-good (x ∷ words) [] w r a n = (cc)
 words-good (x ∷ words) (d ∷ ds) w r a n =
     let first : dependency_of x ≡ Some d = cc in
     let others : map dependency_of words ≡ map Some ds = cc in
-    let apart : (not (has_name d.name ds) ≡ true) × (have_different_names ds ≡ true) = and_parts (not (has_name d.name ds)) (have_different_names ds) a in
-    let fresh : (not (has_name d.name w) ≡ true) × (are_new w ds ≡ true) = and_parts (not (has_name d.name w)) (are_new w ds) n in
-    let absent : has_name d.name w ≡ false = not-true (has_name d.name w) fresh.0 in
-    ap (λ o. is_some (option_and_then (λ m. world_with_words m words) (option_and_then (with_new_entry w) o))) first
-    ∙ (ap (λ b. is_some (option_and_then (λ m. world_with_words m words) (cond b None (Some (with_entry d w))))) absent
-    ∙ words-good words ds (with_entry d w) others apart.1 (new-joined d w ds absent (not-true (has_name d.name ds) apart.0) fresh.1))
+    let apart : (not (has_dependency_named d.name ds) ≡ true) × (have_different_names ds ≡ true) = and_parts (not (has_dependency_named d.name ds)) (have_different_names ds) a in
+    let fresh : (not (has_dependency_named d.name w) ≡ true) × (are_new w ds ≡ true) = and_parts (not (has_dependency_named d.name w)) (are_new w ds) n in
+    let absent : has_dependency_named d.name w ≡ false = not-true (has_dependency_named d.name w) fresh.0 in
+    ap (λ o. is_some (option_and_then (λ m. world_with_words m words) (option_and_then (world_with_new_dependency w) o))) first
+    ∙ (ap (λ b. is_some (option_and_then (λ m. world_with_words m words) (cond b None (Some (world_with_dependency_set d w))))) absent
+    ∙ words-good words ds (world_with_dependency_set d w) others apart.1 (new-joined d w ds absent (not-true (has_dependency_named d.name ds) apart.0) fresh.1))
 
 -- ---- the whole text
 
@@ -207,7 +207,7 @@ bad-at [] w k line h = (cc)
 bad-at (text ∷ lines) w k line h =
     bad-by w k text lines line (world_with_words w (words_of_line text)) refl h (λ u. bad-at lines u (k + 1) line)
 
-pub first-bad_line : (text : List ℕ) (line : ℕ) → world_of text ≡ Err line → IsFirstBadLine text line
+pub first-bad_line : (text : List ℕ) (line : ℕ) → world_of text ≡ Err line → IsFirstBadLineOfWorldText text line
 unfolding world_of
 first-bad_line text line h =
     let out : IsBadAt [] 1 (lines_of text) line = bad-at (lines_of text) [] 1 line h in

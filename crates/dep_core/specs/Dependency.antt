@@ -8,10 +8,15 @@ use Rattle.std.specs.List.{list_all, list_any}
 -- what a package needs or excludes. The match bits are 1 equal, 2 less, 4 greater, 8 the fuzzy match;
 -- they are 1 if no version is named. Only world gives a tag to a name
 pub record Dependency : Type 0 where
+  -- the name that is needed or excluded
   pub name : List ℕ
+  -- the wanted version, if one is named
   pub version : Option (List ℕ)
+  -- the match bits of the version operator; 1 if no version is named
   pub bits : ℕ
+  -- whether the dependency excludes the packages that meet it
   pub conflict : Bool
+  -- the repository tag, as in `app@edge`, if one is given
   pub tag : Option (List ℕ)
 
 -- a dependency from its parts

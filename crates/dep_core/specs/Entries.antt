@@ -5,7 +5,7 @@ use Rattle.std.specs.List.{flat_map}
 use Rattle.std.specs.List.Sorted.{IsPermutation}
 use Rattle.dep_core.specs.Dependency.{Dependency}
 use Rattle.dep_core.specs.Reading.{dependency_of}
-use Rattle.dep_core.specs.World.{IsWorld, has_name, lines_of, world_with_lines, words_of_line}
+use Rattle.dep_core.specs.World.{IsWorld, has_dependency_named, lines_of, world_with_lines, words_of_line}
 
 -- the words of all lines of a text, in their order
 abbrev pub words_in : List ℕ → List (List ℕ)
@@ -14,7 +14,7 @@ words_in text = flat_map words_of_line (lines_of text)
 -- whether no two of some dependencies have the same name
 abbrev pub have_different_names : List Dependency → Bool
 have_different_names [] = true
-have_different_names (d ∷ rest) = not (has_name d.name rest) && have_different_names rest
+have_different_names (d ∷ rest) = not (has_dependency_named d.name rest) && have_different_names rest
 
 -- each word is a dependency, no name occurs twice, and the world has exactly these dependencies, in
 -- order of their names
@@ -32,7 +32,7 @@ pub record IsWorldOf (text : List ℕ) (world : List Dependency) : Type 0 where
 
 -- this line, counted from 1, is the first that spoils the world: the lines before it are one, and with
 -- it they are not
-pub record IsFirstBadLine (text : List ℕ) (line : ℕ) : Type 0 where
+pub record IsFirstBadLineOfWorldText (text : List ℕ) (line : ℕ) : Type 0 where
   -- how many lines precede it
   pub before : ℕ
   -- the line is counted from 1

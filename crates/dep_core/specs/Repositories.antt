@@ -11,7 +11,9 @@ use Rattle.dep_core.specs.World.{is_blank, lines_of}
 
 -- the file of an index, and the tag under which world may ask for its packages
 pub record Repository : Type 0 where
+  -- the tag of the repository, if it has one
   pub tag : Option (List ℕ)
+  -- the path of the index file
   pub path : List ℕ
 
 -- a repository from its parts

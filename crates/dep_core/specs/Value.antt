@@ -10,8 +10,11 @@ use Rattle.dep_core.specs.Dependency.{Dependency}
 -- the three fields of a dependency in a package: an empty version stands for none, and an absent match
 -- number counts as 0
 pub record DepValue : Type 0 where
+  -- the name
   pub name : List ℕ
+  -- the version; empty if no version is named
   pub version : List ℕ
+  -- the match number, if the field is present
   pub matching : Option ℕ
 
 -- the match number of a dependency, or None if it is absent. 16 marks a conflict, and 7 (so 23) accepts

@@ -20,19 +20,20 @@ abbrev pub IsWorld : List Dependency → Type 0
 IsWorld world = IsTrue (list_all is_dependency world && is_in_order world)
 
 -- whether one of the dependencies has this name
-abbrev pub has_name : List ℕ → List Dependency → Bool
-has_name name world = list_any (λ (d : Dependency). bytes_eq d.name name) world
+abbrev pub has_dependency_named : List ℕ → List Dependency → Bool
+has_dependency_named name world = list_any (λ (d : Dependency). bytes_eq d.name name) world
 
 -- world with this dependency: it replaces the entry with its name, or is inserted in the order of
 -- the names
-abbrev pub with_entry : Dependency → List Dependency → List Dependency
-with_entry d [] = d ∷ []
-with_entry d (e ∷ rest) =
-    match_ordering (bytes_cmp d.name e.name) (d ∷ (e ∷ rest)) (d ∷ rest) (e ∷ with_entry d rest)
+abbrev pub world_with_dependency_set : Dependency → List Dependency → List Dependency
+world_with_dependency_set d [] = d ∷ []
+world_with_dependency_set d (e ∷ rest) =
+    match_ordering (bytes_cmp d.name e.name) (d ∷ (e ∷ rest)) (d ∷ rest)
+    (e ∷ world_with_dependency_set d rest)
 
 -- world without the entry of a name
-abbrev pub without_name : List ℕ → List Dependency → List Dependency
-without_name name world = filter (λ (d : Dependency). not (bytes_eq d.name name)) world
+abbrev pub world_without_name : List ℕ → List Dependency → List Dependency
+world_without_name name world = filter (λ (d : Dependency). not (bytes_eq d.name name)) world
 
 -- the text of a world: a line for each entry, which ends with a line end (10)
 abbrev pub world_text : List Dependency → List ℕ
@@ -57,15 +58,16 @@ abbrev pub words_of_line : List ℕ → List (List ℕ)
 words_of_line line = filter (λ word. not (length word == 0)) (slice_split is_blank line)
 
 -- world with this dependency as a new entry, or None if an entry has its name
-abbrev pub with_new_entry : List Dependency → Dependency → Option (List Dependency)
-with_new_entry world d = if has_name d.name world then None else Some (with_entry d world)
+abbrev pub world_with_new_dependency : List Dependency → Dependency → Option (List Dependency)
+world_with_new_dependency world d =
+    if has_dependency_named d.name world then None else Some (world_with_dependency_set d world)
 
 -- world with the entries of some words, or None if a word is no dependency or repeats a name
 abbrev pub world_with_words : List Dependency → List (List ℕ) → Option (List Dependency)
 world_with_words world [] = Some world
 world_with_words world (word ∷ words) =
     option_and_then (λ more. world_with_words more words)
-    (option_and_then (with_new_entry world) (dependency_of word))
+    (option_and_then (world_with_new_dependency world) (dependency_of word))
 
 -- the result of `next` for the world that includes the entries of a line; if the line is bad
 -- (None), its number

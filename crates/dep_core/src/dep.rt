@@ -54,6 +54,7 @@ impl<'a> Dep<'a> {
 
     /// The dependency on any version of a name.
     pub(crate) fn dependency_on_any_version(conflict: bool, name: &'a [u8]) -> Dep<'a>
+        // The bytes are an allowed name of a dependency.
         requires { IsTrue (is_dep_name name.now) }
         ensures { dependency result ≡ dependency_on_any_version conflict name.entry.now }
     {
@@ -68,6 +69,7 @@ impl<'a> Dep<'a> {
 
     /// This dependency, with a tag.
     pub(crate) fn with_tag(self, tag: &'a [u8]) -> Dep<'a>
+        // The bytes are an allowed tag.
         requires { IsTrue (is_tag tag.now) }
         ensures { dependency result ≡ with_tag (dependency self.entry) tag.entry.now }
     {
@@ -78,6 +80,7 @@ impl<'a> Dep<'a> {
 
     /// This dependency with its version and operator replaced.
     pub(crate) fn with_constraint(self, version: Version<'a>, op: Op) -> Dep<'a>
+        // The operator can be written as a text.
         requires { IsTrue (is_some (operator_text op)) }
         ensures { dependency result ≡ with_constraint (dependency self.entry) version.entry op }
     {
@@ -99,6 +102,7 @@ fn equal() -> Op
 /// text is no operator.
 pub fn operator_of(text: &[u8]) -> Option<Op>
     ensures bits { result ≡ operator_bits text.now }
+    // An operator that is returned can be written as a text.
     ensures has_text { IfSome result (λ op. IsTrue (is_some (operator_text op))) }
 {
     match text {
@@ -116,6 +120,7 @@ pub fn operator_of(text: &[u8]) -> Option<Op>
 
 /// The text of an operator; it must have one.
 pub fn operator_text(op: Op) -> &'static [u8]
+    // The operator can be written as a text.
     requires { IsTrue (is_some (operator_text op)) }
     ensures { operator_text op ≡ Some result.now }
 {

@@ -10,7 +10,7 @@ ghost use Rattle.dep_core.specs.Spelling.{SpellsDependency};
 ghost use Rattle.dep_core.specs.Value.{dep_value};
 ghost use Rattle.dep_core.specs.ValueReading.{dependency_of_value};
 ghost use Rattle.dep_core.specs.World.{IsWorld, world_of, world_text};
-ghost use Rattle.dep_core.specs.Entries.{IsFirstBadLine, IsWorldOf, have_different_names, words_in};
+ghost use Rattle.dep_core.specs.Entries.{IsFirstBadLineOfWorldText, IsWorldOf, have_different_names, words_in};
 ghost use Rattle.dep_core.specs.Repositories.{Repository, repositories_of};
 ghost use Rattle.dep_core.specs.RepositoryText.{is_line_repository, repositories_text};
 ghost use Rattle.std.specs.List.{list_all};
@@ -33,7 +33,9 @@ pub fn spelled_texts_are_read()
 
 /// The text that a dependency is written as is one of its texts, and is read as that dependency.
 pub fn texts_are_read_back()
+    // The written text is one of the dependency's texts.
     ensures spelled { (d : Dependency) → IsDependency d → SpellsDependency (dep_text d) d }
+    // The written text is read as this dependency.
     ensures read { (d : Dependency) → IsDependency d → dependency_of (dep_text d) ≡ Some d }
 {
     versions_have_version_bytes();
@@ -70,7 +72,8 @@ pub fn words_of_different_names_are_a_world()
 
 /// The bad line that is reported is the first one.
 pub fn first_bad_line_is_reported()
-    ensures { (text : List ℕ) (line : ℕ) → world_of text ≡ Err line → IsFirstBadLine text line }
+    ensures { (text : List ℕ) (line : ℕ) → world_of text ≡ Err line
+        → IsFirstBadLineOfWorldText text line }
 {}
 
 /// The text of repositories is read as these repositories.

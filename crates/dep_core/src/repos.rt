@@ -72,7 +72,9 @@ impl Repos {
     /// path. Lines that are empty or begin with `#` are skipped, as are spaces and tabs at both
     /// ends of a line. One leading `/` of a path is dropped, and the rest must be a name.
     pub fn read(alloc: Global, bytes: &[u8]) -> Result<Repos, ReposFault>
+        // On Ok, the repositories are those of the text.
         ensures ok { IfOk result (λ repos. repositories_of bytes.now ≡ Ok repos) }
+        // An error is that of the definition, or out of memory.
         ensures bad { IfErr result (λ fault. IsReposFault fault (repositories_of bytes.now)) }
     {
         let mut repos = Vec::new(alloc);
@@ -102,6 +104,7 @@ impl Repos {
 
     /// The file of the index of a repository, by its index.
     pub fn path(&self, i: usize) -> &Name
+        // The index is that of an element.
         requires { i < length self.now }
         ensures { option_map (λ repo. repo.path) (slice_get self.now i) ≡ Some result.now }
     {
@@ -110,6 +113,7 @@ impl Repos {
 
     /// The tag of a repository, if it has one, by its index.
     pub fn tag(&self, i: usize) -> Option<&[u8]>
+        // The index is that of an element.
         requires { i < length self.now }
         ensures { option_map (λ repo. repo.tag) (slice_get self.now i)
             ≡ Some (option_copied result) }

@@ -85,6 +85,7 @@ fn dependency_from_operator<'a>(dep: Dep<'a>, text: &'a [u8]) -> Option<Dep<'a>>
 /// Reads the version after an operator, and what follows it.
 #[tactic(auto, unfolding(crate::specs::Reading::dependency_from_version))]
 fn dependency_from_version<'a>(dep: Dep<'a>, op: Op, text: &'a [u8]) -> Option<Dep<'a>>
+    // The operator can be written as a text.
     requires { IsTrue (is_some (operator_text op)) }
     ensures { option_map dependency result
         ≡ dependency_from_version (dependency dep.entry) op text.entry.now }
@@ -131,7 +132,9 @@ pub fn dep_of<'a>(name: &'a [u8], version: &'a [u8], matching: u64) -> Option<De
 /// read.
 #[tactic(auto, unfolding(crate::specs::ValueReading::dependency_of_value))]
 pub fn dep_of_parts<'a>(name: &'a [u8], version: &'a [u8], matching: u64) -> Option<Dep<'a>>
+    // The name is allowed for a dependency.
     requires name { is_dep_name name.now ≡ true }
+    // The version is valid, or empty.
     requires version { is_version_or_empty version.now ≡ true }
     ensures { option_map dependency result
         ≡ dependency_of_value name.entry.now version.entry.now matching }
@@ -160,6 +163,7 @@ fn is_version_or_empty(text: &[u8]) -> bool
 /// The operator that the low four bits of a match number denote; None if any version is accepted.
 fn wanted_op(low: Op) -> Option<Op>
     ensures bits { result ≡ match_bits_unless_any_version low }
+    // An operator that is returned can be written as a text.
     ensures has_text { IfSome result (λ op. IsTrue (is_some (operator_text op))) }
 {
     match low.bits() {
@@ -204,6 +208,7 @@ pub fn append_dep(text: &mut Vec<u8>, dep: &Dep<'_>) -> Result<(), AllocError>
 #[tactic(auto, using(crate::proofs::Prefixes::len_at))]
 pub fn name_len(text: &[u8]) -> usize
     ensures len { result ≡ prefix_len is_name_byte text.now }
+    // The result is at most the length.
     ensures within { result ≤ length text.now }
 {
     name_end(text).unwrap_or(text.len())
@@ -220,6 +225,7 @@ fn name_end(text: &[u8]) -> Option<usize>
 #[tactic(auto, using(crate::proofs::Prefixes::len_at))]
 pub fn tag_len(text: &[u8]) -> usize
     ensures len { result ≡ prefix_len is_tag_byte text.now }
+    // The result is at most the length.
     ensures within { result ≤ length text.now }
 {
     tag_end(text).unwrap_or(text.len())
@@ -236,6 +242,7 @@ fn tag_end(text: &[u8]) -> Option<usize>
 #[tactic(auto, using(crate::proofs::Prefixes::len_at))]
 pub fn operator_len(text: &[u8]) -> usize
     ensures len { result ≡ prefix_len is_operator_byte text.now }
+    // The result is at most the length.
     ensures within { result ≤ length text.now }
 {
     operator_end(text).unwrap_or(text.len())
@@ -259,6 +266,7 @@ fn is_operator_byte(byte: u8) -> bool
 #[tactic(auto, using(crate::proofs::Prefixes::len_at))]
 pub fn len_before_at_sign(text: &[u8]) -> usize
     ensures len { result ≡ prefix_len is_not_at_sign text.now }
+    // The result is at most the length.
     ensures within { result ≤ length text.now }
 {
     at_sign(text).unwrap_or(text.len())
@@ -275,6 +283,7 @@ fn at_sign(text: &[u8]) -> Option<usize>
 #[tactic(auto, using(crate::proofs::Prefixes::len_at))]
 pub fn blank_len(text: &[u8]) -> usize
     ensures len { result ≡ prefix_len is_blank text.now }
+    // The result is at most the length.
     ensures within { result ≤ length text.now }
 {
     blank_end(text).unwrap_or(text.len())

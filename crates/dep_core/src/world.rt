@@ -4,7 +4,7 @@
 
 ghost use Rattle.std.specs.Prelude.{◌≡◌, ◌<◌, ◌==◌, Some, length, slice_get, IfOk, IfErr, OnOk, OnErr, IsTrue, [], None, not, if◌then◌else◌};
 ghost use Rattle.dep_core.specs.Meets.{dependency};
-ghost use Rattle.dep_core.specs.World.{IsWorld, has_name, with_entry, without_name, world_of, world_text, with_new_entry, world_with_words, words_of_line};
+ghost use Rattle.dep_core.specs.World.{IsWorld, has_dependency_named, world_with_dependency_set, world_without_name, world_of, world_text, world_with_new_dependency, world_with_words, words_of_line};
 ghost use Rattle.base_core.specs.ByteOrder.{bytes_cmp};
 ghost use Rattle.dep_core.specs.Faults.{IsWorldFault};
 ghost use Rattle.dep_core.specs.DependencyText.{is_dependency, IsDependency};
@@ -46,6 +46,7 @@ impl From<AllocError> for WorldFault {
 /// name.
 #[derive(Drop)]
 pub struct World {
+    /// The allocator for further entries.
     alloc: Global,
     /// In byte order of their names, one per name.
     entries: Vec<Entry>,
@@ -66,7 +67,9 @@ impl Model for World {
 impl World {
     /// The world that a text denotes: dependency texts between spaces, tabs and line ends.
     pub fn read(alloc: Global, bytes: &[u8]) -> Result<World, WorldFault>
+        // On Ok, the world is that of the text.
         ensures ok { IfOk result (λ world. world_of bytes.now ≡ Ok world) }
+        // An error is that of the definition, or out of memory.
         ensures bad { IfErr result (λ fault. IsWorldFault fault (world_of bytes.now)) }
         ensures world { IfOk result (λ world. IsWorld world) }
     {
@@ -85,7 +88,10 @@ impl World {
     /// Replaces the entry of the dependency's name, or inserts one. A call that fails changes
     /// nothing.
     pub fn add(&mut self, dep: &Dep<'_>) -> Result<(), AllocError>
-        ensures ok { OnOk result (self.new ≡ with_entry (dependency dep.now) self.old) }
+        // On Ok, the world has the dependency in its place, instead of one of the same name.
+        ensures ok { OnOk result (self.new
+            ≡ world_with_dependency_set (dependency dep.now) self.old) }
+        // An error leaves the value unchanged.
         ensures err { OnErr result (self.new ≡ self.old) }
     {
         let entry = Entry::of(self.alloc, dep)?;
@@ -94,14 +100,15 @@ impl World {
 
     /// Removes the entry of a name, and returns whether there was one.
     pub fn del(&mut self, name: &[u8]) -> bool
-        ensures found { result ≡ has_name name.now self.old }
-        ensures rest { self.new ≡ without_name name.now self.old }
+        ensures found { result ≡ has_dependency_named name.now self.old }
+        ensures rest { self.new ≡ world_without_name name.now self.old }
     {
         take_out(&mut self.entries, name)
     }
 
     /// The text of this world, a line for each entry. It is read as this world.
     pub fn text(&self, alloc: Global) -> Result<Text, AllocError>
+        // On Ok, the text is that of the world.
         ensures text { IfOk result (λ text. text ≡ world_text self.now) }
         ensures world { IsWorld self.now }
     {
@@ -130,6 +137,7 @@ impl World {
 
     /// An entry, by its index.
     pub fn entry(&self, i: usize) -> Dep<'_>
+        // The index is that of an element.
         requires { i < length self.now }
         ensures { slice_get self.now i ≡ Some (dependency result) }
     {
@@ -142,9 +150,13 @@ impl World {
 pub struct Entry {
     // The parts are those of `Dep`, in texts that the entry owns.
     name: Text,
+    /// The wanted version, if one is named.
     version: Option<Text>,
+    /// The version operator, such as `>=`.
     op: Op,
+    /// Whether the entry excludes the packages that meet it.
     conflict: bool,
+    /// The tag of the repositories to be preferred, if one is given.
     tag: Option<Text>,
 }
 
@@ -164,7 +176,9 @@ impl Model for Entry {
 impl Entry {
     /// A copy of the dependency.
     pub fn of(alloc: Global, dep: &Dep<'_>) -> Result<Entry, AllocError>
+        // On Ok, the entry is the given dependency.
         ensures value { IfOk result (λ entry. entry ≡ dependency dep.now) }
+        // Each `Dep` is a valid dependency.
         ensures grammar { IsTrue (is_dependency (dependency dep.now)) }
     {
         let name = Text::of(alloc, dep.name)?;
@@ -214,9 +228,14 @@ impl Entry {
 /// Replaces the entry of the same name, or inserts the entry at the place of its name. A call that
 /// fails changes nothing.
 pub fn put(entries: &mut Vec<Entry>, entry: Entry) -> Result<(), AllocError>
+    // The entries are those of a world: each name once, in order.
     requires world { IsWorld entries.old.items }
+    // The entry is a valid dependency.
     requires dependency { IsDependency entry }
-    ensures ok { OnOk result (entries.new.items ≡ with_entry entry entries.old.items) }
+    // On Ok, the entry is in its place, instead of one of the same name.
+    ensures ok { OnOk result (entries.new.items
+        ≡ world_with_dependency_set entry entries.old.items) }
+    // An error leaves the entries unchanged.
     ensures err { OnErr result (entries.new.items ≡ entries.old.items) }
     ensures still_world { IsWorld entries.new.items }
 {
@@ -229,9 +248,12 @@ pub fn put(entries: &mut Vec<Entry>, entry: Entry) -> Result<(), AllocError>
 
 /// Removes the entry of a name, and returns whether there was one.
 pub fn take_out(entries: &mut Vec<Entry>, name: &[u8]) -> bool
+    // The entries are those of a world: each name once, in order.
     requires { IsWorld entries.old.items }
-    ensures found { result ≡ has_name name.now entries.old.items }
-    ensures rest { entries.new.items ≡ without_name name.now entries.old.items }
+    // The result says whether an entry had the name.
+    ensures found { result ≡ has_dependency_named name.now entries.old.items }
+    // No entry has the name any more.
+    ensures rest { entries.new.items ≡ world_without_name name.now entries.old.items }
     ensures still_world { IsWorld entries.new.items }
 {
     match index_of(entries, name) {
@@ -245,7 +267,9 @@ pub fn take_out(entries: &mut Vec<Entry>, name: &[u8]) -> bool
 
 /// The index of the entry of a name, or else the one at which it would be inserted.
 fn index_of(entries: &[Entry], name: &[u8]) -> Result<usize, usize>
+    // The index is within the list, or at its end.
     ensures within { IsSearchInRange result (length entries.now) }
+    // The index is that of an entry of this name, or the one at which it would be inserted.
     ensures index { IsBinarySearchResult
         (λ entry. bytes_cmp entry.name name.now) entries.now result }
 {
@@ -307,7 +331,7 @@ impl<'a> Found<'a> {
     /// Adds the entry that a word denotes, and returns whether it is a dependency with a new name.
     fn add_word(&mut self, word: &'a [u8]) -> Result<bool, AllocError>
         ensures { IfOk result (λ good.
-            option_and_then (with_new_entry self.old) (dependency_of word.entry.now)
+            option_and_then (world_with_new_dependency self.old) (dependency_of word.entry.now)
             ≡ (if good then Some self.new else None)) }
     {
         match read_dep(word) {
@@ -318,8 +342,12 @@ impl<'a> Found<'a> {
 
     /// Adds an entry, and returns whether its name is new.
     fn add(&mut self, dep: &Dep<'a>) -> Result<bool, AllocError>
-        ensures new { IfOk result (λ new. new ≡ not (has_name dep.now.name.now self.old)) }
-        ensures added { OnOk result (self.new ≡ with_entry (dependency dep.now) self.old) }
+        // On Ok, the result says whether no entry had the name before.
+        ensures new { IfOk result (λ new. new
+            ≡ not (has_dependency_named dep.now.name.now self.old)) }
+        // On Ok, the world has the dependency in its place, instead of one of the same name.
+        ensures added { OnOk result (self.new
+            ≡ world_with_dependency_set (dependency dep.now) self.old) }
     {
         let entry = Entry::of(self.alloc, dep)?;
         let old = self.by_name.insert(dep.name, entry)?;
@@ -328,6 +356,7 @@ impl<'a> Found<'a> {
 
     /// All entries, in byte order of their names.
     pub fn into_entries(self) -> Result<Vec<Entry>, AllocError>
+        // On Ok, the entries are those of the world.
         ensures value { IfOk result (λ entries. entries.items ≡ self.entry) }
         ensures world { IsWorld self.entry }
     {

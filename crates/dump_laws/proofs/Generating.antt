@@ -3,7 +3,7 @@ use Rattle.std.proofs.Common.{◌≡◌, ◌≢◌, ℕ, ◌<◌, Bool, true, fa
 use Rattle.std.proofs.lemmas.Bool.{eqb-true}
 use Rattle.std.specs.Prelude.{All, IfSome, IsSome, unwrap_or}
 use Rattle.base_core.specs.declared.cause.Cause.{Cause}
-use Rattle.adb_block.specs.Header.{header_of}
+use Rattle.adb_block.specs.Header.{schema_of_header}
 use Rattle.adb_block.specs.ReaderPosition.{first_block_position}
 use Rattle.adb_block.specs.Reading.{Reading, block_stream_from}
 use Rattle.adb_view.specs.Plain.{Plain, null, plain_of, IsNormal}
@@ -23,15 +23,15 @@ use Rattle.outcome.proofs.adb_sound.Lower.{Lower}
 use Rattle.outcome.specs.adb_dump.Dump.{dump_text}
 use Rattle.outcome.specs.adb_dump.Values.{IsOfBytes, IsNormalValueOfTable}
 use Rattle.outcome.proofs.adb_dump.Booleans.{chosen}
-use Rattle.outcome.specs.gen_core.Dumps.{IsRootValue}
+use Rattle.outcome.specs.gen_core.Dumps.{IsNormalRootValueOfTable}
 use Rattle.outcome.specs.gen_core.Generated.{DumpedRoot, dumped_root, file_of_root, file_unless_too_large, generated_file, schema_word_or_zero}
 use Rattle.outcome.specs.Dump.{dump_fault_of_blocks, dump_of, dump_of_blocks, dump_by_root_table, dump_by_schema, text_unless_fault}
 use Rattle.dump_laws.proofs.Printed.{HasNamesAmong, Overflows, printed, within}
 
 -- what the layers below say of texts and of values that are found
 pub record Texts : Type 0 where
-  pub said : (text : List ℕ) (root : DumpedRoot) → dumped_root text ≡ Ok root → IsRootValue root.which root.value × (dump_text root.which root.value ≡ text)
-  pub accepted : (which : Which) (value : Plain) → IsRootValue which value → dumped_root (dump_text which value) ≡ Ok (record { which = which; value = value })
+  pub said : (text : List ℕ) (root : DumpedRoot) → dumped_root text ≡ Ok root → IsNormalRootValueOfTable root.which root.value × (dump_text root.which root.value ≡ text)
+  pub accepted : (which : Which) (value : Plain) → IsNormalRootValueOfTable which value → dumped_root (dump_text which value) ≡ Ok (record { which = which; value = value })
 
 abbrev pub Found : Type 0
 Found = (payload : List ℕ) → All (λ b. b < 256) payload → (which : Which) (word : ℕ) → IfSome (plain_of payload (shape_of (Obj which)) word) (λ v. IsNormalValueOfTable which v × IsOfBytes v)
@@ -66,7 +66,7 @@ printed_again laws over texts text file e = go (dumped_root text) refl e
 
 -- ---- a container, its text, and the container again
 
-generated : Texts → (which : Which) (v : Plain) → IsRootValue which v → generated_file (dump_text which v) ≡ file_unless_too_large (schema_word_or_zero which) (payload_or_overflow v)
+generated : Texts → (which : Which) (v : Plain) → IsNormalRootValueOfTable which v → generated_file (dump_text which v) ≡ file_unless_too_large (schema_word_or_zero which) (payload_or_overflow v)
 unfolding generated_file
 generated texts which v is = ap file_of_root (texts.accepted which v is)
 
@@ -105,7 +105,7 @@ text_of_blocks which r text e = go (dump_fault_of_blocks which r) e
     go None e = cc
     go (Some c) e = absurd cc
 
-printed_text : (file text : List ℕ) (schema : ℕ) (which : Which) → dump_of file ≡ Ok text → header_of file ≡ Ok schema → table_of_schema schema ≡ Some which → dump_text which (root_value which (payload_in file)) ≡ text
+printed_text : (file text : List ℕ) (schema : ℕ) (which : Which) → dump_of file ≡ Ok text → schema_of_header file ≡ Ok schema → table_of_schema schema ≡ Some which → dump_text which (root_value which (payload_in file)) ≡ text
 unfolding dump_of payload_in
 printed_text file text schema which e h root =
     let r = block_stream_from (first_block_position schema file) in
@@ -124,13 +124,13 @@ found_value found which payload bytes = go (plain_of payload (shape_of (Obj whic
     go None h = null_root which
     go (Some v) h = h
 
-pub generated_value : Texts → Found → (file text : List ℕ) (schema : ℕ) (which : Which) → All (λ b. b < 256) (payload_in file) → dump_of file ≡ Ok text → header_of file ≡ Ok schema → table_of_schema schema ≡ Some which
+pub generated_value : Texts → Found → (file text : List ℕ) (schema : ℕ) (which : Which) → All (λ b. b < 256) (payload_in file) → dump_of file ≡ Ok text → schema_of_header file ≡ Ok schema → table_of_schema schema ≡ Some which
     → generated_file text ≡ file_unless_too_large schema (payload_or_overflow (root_value which (payload_in file)))
 generated_value texts found file text schema which bytes e h root =
     let word = root_word schema which root in
     let k = word_known which schema word in
     let v = found_value found which (payload_in file) bytes in
-    let is : IsRootValue which (root_value which (payload_in file)) = record { root = k.0; normal = v.0; bytes = v.1 } in
+    let is : IsNormalRootValueOfTable which (root_value which (payload_in file)) = record { root = k.0; normal = v.0; bytes = v.1 } in
     ap generated_file (sym (printed_text file text schema which e h root))
     ∙ generated texts which (root_value which (payload_in file)) is
     ∙ ap (λ (n : ℕ). file_unless_too_large n (payload_or_overflow (root_value which (payload_in file)))) k.1
@@ -141,7 +141,7 @@ ok_text t = Ok t
 same_text : (s t : List ℕ) → ok_text s ≡ ok_text t → s ≡ t
 same_text s t e = cc
 
-pub generated_again : Lower → Overflows → Texts → (which : Which) (value : Plain) (schema : ℕ) (payload text : List ℕ) → IsRootValue which value → schema_word which ≡ Some schema → payload_or_overflow value ≡ Ok payload → dump_of (file_of schema payload) ≡ Ok text
+pub generated_again : Lower → Overflows → Texts → (which : Which) (value : Plain) (schema : ℕ) (payload text : List ℕ) → IsNormalRootValueOfTable which value → schema_word which ≡ Some schema → payload_or_overflow value ≡ Ok payload → dump_of (file_of schema payload) ≡ Ok text
     → generated_file text ≡ Ok (file_of schema payload)
 generated_again laws over texts which value schema payload text is word wrote e =
     let (g, canonical_is) = within over which value payload is.normal.0 is.normal.1 wrote in

@@ -6,7 +6,7 @@ use Rattle.std.proofs.lemmas.Bool.{le-ltb, ltb-false}
 use Rattle.base_core.specs.declared.cause.Cause.{Cause}
 use Rattle.base_core.proofs.Causes.{none_both}
 use Rattle.adb_block.specs.Piece.{Piece}
-use Rattle.adb_block.specs.Header.{header_of}
+use Rattle.adb_block.specs.Header.{schema_of_header}
 use Rattle.adb_block.specs.ReaderPosition.{first_block_position}
 use Rattle.adb_block.specs.Reading.{Reading, done, more, block_stream_from}
 use Rattle.adb_view.specs.Plain.{Plain, null, IsNormal}
@@ -20,8 +20,8 @@ use Rattle.adb_view.specs.declared.tables.Which.{Which}
 use Rattle.adb_view.specs.declared.tables.Kind.TheVariants.{Obj}
 use Rattle.outcome.specs.adb_schema.Soundness.{first_block_payload, root_value, schema_word}
 use Rattle.outcome.specs.adb_write.Canonical.{Layout, MOST_BYTES, canonical, empty_layout, exceeds_a_limit, overflow_of, payload_with_root, write, payload_or_overflow}
-use Rattle.outcome.specs.adb_write.Size.{size_of, value_count}
-use Rattle.outcome.specs.adb_write.File.{adb_piece, file_of}
+use Rattle.outcome.specs.adb_write.Size.{payload_size_of, value_count}
+use Rattle.outcome.specs.adb_write.File.{adb_block_of_payload, file_of}
 use Rattle.outcome.specs.pkg_core.Whole.{table_of_schema}
 use Rattle.outcome.proofs.adb_sound.ContentsBlocks.{contents_stand, first_of, none_of_blocks}
 use Rattle.outcome.proofs.adb_sound.Lower.{Lower}
@@ -35,14 +35,14 @@ use Rattle.outcome.specs.Dump.{dump_fault_of_blocks, dump_of, dump_of_blocks, du
 pub record HasNamesAmong (which : Which) (v : Plain) : Type 0 where
   pub normal : IsNormal v
   pub shaped : HasShape (shape_of (Obj which)) v
-  pub fits : size_of v ≤ MOST_BYTES
+  pub fits : payload_size_of v ≤ MOST_BYTES
   pub few : value_count v ≤ MOST_VALUES
 
 -- ---- what is written is within the limits
 
 -- what the layer below says of a value that overflows
 abbrev pub Overflows : Type 0
-Overflows = (v : Plain) → IsNormal v → is_some (overflow_of v) ≡ exceeds_a_limit (size_of v, value_count v)
+Overflows = (v : Plain) → IsNormal v → is_some (overflow_of v) ≡ exceeds_a_limit (payload_size_of v, value_count v)
 
 neither : (a b : Bool) → false ≡ (a || b) → (a ≡ false) × (b ≡ false)
 neither true b e = absurd cc
@@ -52,7 +52,7 @@ pub within : Overflows → (which : Which) (v : Plain) (payload : List ℕ) → 
 within law which v payload n h e =
     let w = written v payload e in
     let passed = sym (ap is_some w.none) ∙ law v n in
-    let t = neither (ltb MOST_BYTES (size_of v)) (ltb MOST_VALUES (value_count v)) passed in
+    let t = neither (ltb MOST_BYTES (payload_size_of v)) (ltb MOST_VALUES (value_count v)) passed in
     (record { normal = n; shaped = h; fits = ltb-false _ _ t.0; few = ltb-false _ _ t.1 }, w.is)
 
 -- ---- the payload
@@ -76,7 +76,7 @@ value_is laws which v g = ap (λ (o : Option Plain). unwrap_or o null) (laws.bac
 
 -- ---- the file
 
-blocks_printed : Lower → (which : Which) (v : Plain) → HasNamesAmong which v → (r : Reading) (at : ℕ) → r ≡ more (adb_piece (canonical v)) at done → dump_of_blocks which r ≡ Ok (dump_text which v)
+blocks_printed : Lower → (which : Which) (v : Plain) → HasNamesAmong which v → (r : Reading) (at : ℕ) → r ≡ more (adb_block_of_payload (canonical v)) at done → dump_of_blocks which r ≡ Ok (dump_text which v)
 blocks_printed laws which v g r at is =
     ap (dump_of_blocks which) is
     ∙ ap (λ (o : Option Cause). text_unless_fault o (dump_text which (root_value which (canonical v)))) (none_both _ _ (form_good laws which v g) refl)
@@ -87,13 +87,13 @@ unfolding dump_of
 printed laws which schema v word g =
     let w = word_is which schema word in
     let file : List ℕ = file_of schema (canonical v) in
-    let pieces : List Piece = adb_piece (canonical v) ∷ [] in
+    let pieces : List Piece = adb_block_of_payload (canonical v) ∷ [] in
     let long = payload_long (write v empty_layout).0 (write v empty_layout).1 in
     let fits = g.fits in
     let spelled = laws.written schema pieces w.small (record { order = refl; long = long }, omega arith, contents_stand [] tt) in
     let read = laws.read file schema pieces spelled in
-    let first = first_of (block_stream_from (first_block_position schema file)) (adb_piece (canonical v)) [] (reading_is file schema pieces read.0 read.1) in
-    let alone : block_stream_from (first_block_position schema file) ≡ more (adb_piece (canonical v)) first.at done = first.is ∙ ap (λ (r : Reading). more (adb_piece (canonical v)) first.at r) (none_of_blocks first.later first.others) in
+    let first = first_of (block_stream_from (first_block_position schema file)) (adb_block_of_payload (canonical v)) [] (reading_is file schema pieces read.0 read.1) in
+    let alone : block_stream_from (first_block_position schema file) ≡ more (adb_block_of_payload (canonical v)) first.at done = first.is ∙ ap (λ (r : Reading). more (adb_block_of_payload (canonical v)) first.at r) (none_of_blocks first.later first.others) in
     ap (dump_by_schema file) read.0
     ∙ ap (dump_by_root_table schema (block_stream_from (first_block_position schema file))) w.root
     ∙ blocks_printed laws which v g (block_stream_from (first_block_position schema file)) first.at alone

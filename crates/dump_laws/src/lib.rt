@@ -6,14 +6,14 @@
 #![tactic(auto)]
 
 ghost use Rattle.std.specs.Prelude.{◌≡◌, ◌<◌, ℕ, All, List, Some, Ok};
-ghost use Rattle.adb_block.specs.Header.{header_of};
+ghost use Rattle.adb_block.specs.Header.{schema_of_header};
 ghost use Rattle.adb_view.specs.declared.tables.Which.{Which};
 ghost use Rattle.adb_view.specs.Plain.{Plain};
 ghost use Rattle.outcome.specs.adb_schema.Soundness.{payload_in, root_value, schema_word};
 ghost use Rattle.outcome.specs.adb_write.Canonical.{payload_or_overflow};
 ghost use Rattle.outcome.specs.adb_write.File.{file_of};
 ghost use Rattle.outcome.specs.pkg_core.Whole.{table_of_schema};
-ghost use Rattle.outcome.specs.gen_core.Dumps.{IsRootValue};
+ghost use Rattle.outcome.specs.gen_core.Dumps.{IsNormalRootValueOfTable};
 ghost use Rattle.outcome.specs.gen_core.Generated.{file_unless_too_large, generated_file};
 ghost use Rattle.outcome.specs.Dump.{dump_of};
 
@@ -44,11 +44,11 @@ pub fn what_is_generated_is_printed_again()
 pub fn what_is_printed_is_generated_again()
     ensures value { (file text : List ℕ) (schema : ℕ) (which : Which)
         → All (λ b. b < 256) (payload_in file) → dump_of file ≡ Ok text
-        → header_of file ≡ Ok schema → table_of_schema schema ≡ Some which
+        → schema_of_header file ≡ Ok schema → table_of_schema schema ≡ Some which
         → generated_file text
         ≡ file_unless_too_large schema (payload_or_overflow (root_value which (payload_in file))) }
     ensures canonical { (which : Which) (value : Plain) (schema : ℕ) (payload text : List ℕ)
-        → IsRootValue which value → schema_word which ≡ Some schema
+        → IsNormalRootValueOfTable which value → schema_word which ≡ Some schema
         → payload_or_overflow value ≡ Ok payload → dump_of (file_of schema payload) ≡ Ok text
         → generated_file text ≡ Ok (file_of schema payload) }
 {

@@ -22,19 +22,19 @@ use Rattle.change_report.specs.change_inputs.Chains.{and_then}
 use Rattle.change_report.specs.change_inputs.Inputs.{Inputs}
 use Rattle.change_report.specs.change_inputs.declared.root.Refused.{Refused}
 use Rattle.change_report.specs.change_inputs.declared.root.Refused.TheVariants.{Disk, Memory, Refusal as IsRefused}
-use Rattle.change_report.specs.change_outcome.Premises.{HasNoReservedPath, IsRootOfFiles}
+use Rattle.change_report.specs.change_outcome.Premises.{HasNoReservedPath, AreDatabaseAndWorldReadFromFiles}
 use Rattle.change_report.proofs.change_outcome.ChangeLeads.{leads}
 use Rattle.change_report.proofs.change_outcome.ChangeNames.{change_names}
 use Rattle.change_report.proofs.change_outcome.FreeNames.{name_of_any, none_of, once_rising}
 use Rattle.change_report.specs.journal_intent.FreeNames.{HaveNoRepeats}
-use Rattle.change_report.specs.journal_intent.Intent.{AreChangeNames, Intent}
+use Rattle.change_report.specs.journal_intent.Intent.{AreDistinctNamesAllowedInIntent, Intent}
 use Rattle.engine_core.proofs.Once.{once_both}
 use Rattle.change_report.proofs.change_outcome.Leading.{acted_is}
 use Rattle.change_report.proofs.change_outcome.Room.{room}
-use Rattle.change_report.specs.change_outcome.ChangeOutcome.{ChangeDone, ChangeWishes, intent_of_change, bytes_or_empty_under, change_done, has_actions, file_change, is_absent_or_different, name_if_needed, new_records, or_result_too_large, unless_overflow, unless_too_large, names_of_written_database_and_world}
+use Rattle.change_report.specs.change_outcome.ChangeOutcome.{ChangeDone, ChangeWishes, intent_of_change, bytes_or_empty_under, change_done, has_actions, file_change, is_absent_or_different, name_if_needed, database_and_world_after_change, or_result_too_large, unless_overflow, change_done_unless_too_large, names_of_written_database_and_world}
 use Rattle.change_report.specs.change_outcome.MembersAfter.{MemberFound, found_package_contents, found_members}
 use Rattle.change_report.specs.journal_core.Recovery.{files_after_actions, intent_name}
-use Rattle.change_report.specs.journal_core.Staged.{AreJournalPathsFree, AreStagingPathsFree, IsEmptyStage, Staging, action_count, new_stage, files_with_staged}
+use Rattle.change_report.specs.journal_core.Staged.{AreJournalPathsFree, AreStagingPathsFree, HasNoStagedNames, Staging, action_count, new_stage_of_removals_and_writes, files_with_staged}
 use Rattle.change_report.specs.journal_intent.IntentValue.{intent_of_lists, value_of_intent}
 use Rattle.change_report.specs.change_files.NamesAfter.{name_change}
 use Rattle.change_report.specs.db_core.Members.{Member, is_added, member_name}
@@ -52,7 +52,7 @@ use Rattle.report_core.specs.declared.refusal.Refusal.TheVariants.{PackageBad}
 use Rattle.root_names.specs.RootNames.{database_name, text_database_name, world_name}
 use Rattle.journal_staging.specs.Carried.{IsCarriedTo}
 use Rattle.journal_staging.specs.Sources.{EachDenotes}
-use Rattle.journal_staging.specs.Spoiled.{HasSpoiledFile, IsSpoiledAt, IsSpoiledFile}
+use Rattle.journal_staging.specs.Spoiled.{HasSpoiledFile, IsSpoiledAt, IsFileWithOnlyContentsSpoiled}
 use Rattle.journal_staging.specs.package_verifier.Tested.{IsTestedOf}
 use Rattle.journal_staging.specs.package_verifier.declared.package.TestedPackage.{TestedPackage}
 use Rattle.journal_staging.specs.declared.writes.Source.{Source}
@@ -62,7 +62,7 @@ use Rattle.journal_staging.specs.declared.writes.StageFault.TheVariants as Stage
 use Rattle.journal_staging.specs.declared.writes.StagedWrite.{StagedWrite}
 use Rattle.engine_core.specs.Committing.{IsReadyToCommit, IsRefusedPackage, result_of_ready}
 use Rattle.engine_core.specs.Rendering.{IsRefusedForOverflow, IsRendered, IsStageOf, removals_of_plan}
-use Rattle.engine_core.specs.ChangeRun.{CarriesOut, DoesCommit, IsUnchangedOrCommit, report_of_result}
+use Rattle.engine_core.specs.ChangeRun.{IsEndOfRunOfWantedChange, DoesCommit, IsUnchangedOrCommit, report_of_result}
 use Rattle.engine_core.specs.Preparing.{AreRecordWrites, AreNewRecordsOf, IsPlanned, bytes_if, inputs_of_plan, replacement_of_plan, wishes_of_plan}
 use Rattle.engine_core.specs.Writing.{HasBytes, IsWriteOfRecord, IsSourceOfWrite, IsWriteOfChange, package_at, database_and_world_names, name_of_write}
 use Rattle.engine_core.specs.declared.planning.Plan.{Plan}
@@ -92,7 +92,7 @@ some_copied (Some x) false bytes is = absurd (cc)
 -- the result of a change that is prepared except for the journal entry, with these bytes of the database
 abbrev pub ready_change : Inputs → Replacement → ChangeWishes → List MemberFound → Files → List ℕ → Result ChangeDone Refusal
 ready_change inputs r wishes found files database =
-    let records = new_records inputs database in
+    let records = database_and_world_after_change inputs database in
     let actions = intent_of_change inputs (file_change inputs wishes found) files records in
     unless_overflow (overflow_of (value_of_intent actions)) (change_done inputs r wishes found files records)
 
@@ -168,7 +168,7 @@ module _ (history : List TreeState) (p : Plan) (found : List MemberFound) (files
   no_reserved = record { before = plan.unreserved; coming = sym (ap first_reserved_path plan.arrived.members) ∙ plan.owners.allowed }
 
   module _ (records : NewRecords) (own : AreNewRecordsOf (inputs_of_plan p) records) (rw : RecordWrites) (which : AreRecordWrites (inputs_of_plan p) records rw) where
-    pub record_names_are : database_and_world_names rw ≡ names_of_written_database_and_world (inputs_of_plan p) (new_records (inputs_of_plan p) records.database.items)
+    pub record_names_are : database_and_world_names rw ≡ names_of_written_database_and_world (inputs_of_plan p) (database_and_world_after_change (inputs_of_plan p) records.database.items)
     record_names_are =
         let inputs = inputs_of_plan p in
         let named = which.database_name ∙ own.database_name in
@@ -180,11 +180,11 @@ module _ (history : List TreeState) (p : Plan) (found : List MemberFound) (files
     pub written_once : HaveNoRepeats (written_names p.files ++ database_and_world_names rw)
     written_once =
         once_reserved (written_names p.files) (database_and_world_names rw) plan.names.writes plan.names.writes_rise
-        (subst HaveNoRepeats (sym record_names_are) (records_once (inputs_of_plan p) (new_records (inputs_of_plan p) records.database.items)))
-        (λ q here. records_are_reserved (inputs_of_plan p) (new_records (inputs_of_plan p) records.database.items) q (subst (λ (ns : List (List ℕ)). IsIn q ns) record_names_are here))
+        (subst HaveNoRepeats (sym record_names_are) (records_once (inputs_of_plan p) (database_and_world_after_change (inputs_of_plan p) records.database.items)))
+        (λ q here. records_are_reserved (inputs_of_plan p) (database_and_world_after_change (inputs_of_plan p) records.database.items) q (subst (λ (ns : List (List ℕ)). IsIn q ns) record_names_are here))
 
     pub write_names_are : written_names p.files ++ database_and_world_names rw
-        ≡ map (λ w. w.name) (file_writes_of (file_change (inputs_of_plan p) (wishes_of_plan p) found) files) ++ names_of_written_database_and_world (inputs_of_plan p) (new_records (inputs_of_plan p) records.database.items)
+        ≡ map (λ w. w.name) (file_writes_of (file_change (inputs_of_plan p) (wishes_of_plan p) found) files) ++ names_of_written_database_and_world (inputs_of_plan p) (database_and_world_after_change (inputs_of_plan p) records.database.items)
     write_names_are = let lists = plan.lists.writes in λ i. map (λ w. w.name) (lists i) ++ record_names_are i
 
 contained : {X : Type 0} (P : X → Type 0) (xs : List X) (x : X) → All P xs → Contains xs x → P x
@@ -204,7 +204,7 @@ module _ (history : List TreeState) (p : Plan) (found : List MemberFound) (files
 
   abbrev Spoiled : ℕ → Type 0
   Spoiled place = (pkg : TestedPackage) × (package_at p.packages.now.arrivals place ≡ Some pkg)
-      × ((name tested : List ℕ) → IsTestedOf name tested pkg → (file : List ℕ) × IsSpoiledFile tested file cause)
+      × ((name tested : List ℕ) → IsTestedOf name tested pkg → (file : List ℕ) × IsFileWithOnlyContentsSpoiled tested file cause)
 
   planned_at : (w : FileWrite) (s : Source) → IsSourceOfWrite (members_of p.members) (package_at p.packages.now.arrivals) w s → IsSpoiledAt member cause s → (w.member ≡ member) × Spoiled w.member
   planned_at w (Bytes own) source at = absurd at
@@ -236,7 +236,7 @@ module _ (history : List TreeState) (p : Plan) (found : List MemberFound) (files
   change = file_change inputs (wishes_of_plan p) found
 
   abbrev records : DatabaseAndWorldAfter
-  records = new_records inputs own.database.items
+  records = database_and_world_after_change inputs own.database.items
 
   abbrev actions : Intent
   actions = intent_of_change inputs change files records
@@ -256,11 +256,11 @@ module _ (history : List TreeState) (p : Plan) (found : List MemberFound) (files
   free : HasNoReservedPath change
   free = no_reserved history p found files ready.plan
 
-  pub may_be_changed : (names : List (List ℕ)) → names ≡ map name_of_write writes → All IsName removals → All IsName names → AreChangeNames (removals ++ names)
+  pub may_be_changed : (names : List (List ℕ)) → names ≡ map name_of_write writes → All IsName removals → All IsName names → AreDistinctNamesAllowedInIntent (removals ++ names)
   may_be_changed names names_is gone wrote =
-      let named : AreChangeNames (actions.removals ++ actions.writes) =
+      let named : AreDistinctNamesAllowedInIntent (actions.removals ++ actions.writes) =
       change_names inputs change files records free (subst (All IsName) removed_is gone) (subst (All IsName) (names_is ∙ written_is) wrote) in
-      subst AreChangeNames (λ i. sym removed_is i ++ sym (names_is ∙ written_is) i) named
+      subst AreDistinctNamesAllowedInIntent (λ i. sym removed_is i ++ sym (names_is ∙ written_is) i) named
 
   -- ---- the intent
 
@@ -275,38 +275,38 @@ module _ (history : List TreeState) (p : Plan) (found : List MemberFound) (files
 
   -- ---- where the tree shows its files
 
-  module _ (few : length (map name_of_write writes) < 2 ^ 63) (stage : Staging) (is_new : stage ≡ new_stage removals (map name_of_write writes)) where
-    acted : (v : TreeState) → files ≡ files_of v → IsRootOfFiles (files_of v) inputs.root → IsEmptyStage (files_of v)
+  module _ (few : length (map name_of_write writes) < 2 ^ 63) (stage : Staging) (is_new : stage ≡ new_stage_of_removals_and_writes removals (map name_of_write writes)) where
+    acted : (v : TreeState) → files ≡ files_of v → AreDatabaseAndWorldReadFromFiles (files_of v) inputs.root → HasNoStagedNames (files_of v)
         → files_after_actions stage.intent (files_with_staged 1 (map (bytes_or_empty_under done.files) (map name_of_write writes)) (files_of v)) ≡ done.files
     acted v told root empty =
         let of_files : files_after_actions actions (files_with_staged 1 (map (bytes_or_empty_under done.files) actions.writes) files) ≡ done.files =
         acted_is actions.removals actions.writes files done.files
-        (leads inputs change (listing_bytes (found_package_contents found)) own.database.items files (subst (λ (f : Files). IsRootOfFiles f inputs.root) (sym told) root) free
-        (subst IsEmptyStage (sym told) empty) (subst (λ (names : List (List ℕ)). length names < 2 ^ 63) written_is few)) in
+        (leads inputs change (listing_bytes (found_package_contents found)) own.database.items files (subst (λ (f : Files). AreDatabaseAndWorldReadFromFiles f inputs.root) (sym told) root) free
+        (subst HasNoStagedNames (sym told) empty) (subst (λ (names : List (List ℕ)). length names < 2 ^ 63) written_is few)) in
         (λ i. files_after_actions (is_new i).intent (files_with_staged 1 (map (bytes_or_empty_under done.files) (map name_of_write writes)) (sym told i)))
         ∙ ((λ i. files_after_actions (intent_of_lists (removed_is i) (written_is i)) (files_with_staged 1 (map (bytes_or_empty_under done.files) (written_is i)) files))
         ∙ of_files)
 
-    located : (v : TreeState) (earlier : List TreeState) → FilesAreRead (v ∷ earlier) found (package_at p.packages.now.arrivals) → files ≡ files_of v → IsRootOfFiles (files_of v) inputs.root
+    located : (v : TreeState) (earlier : List TreeState) → FilesAreRead (v ∷ earlier) found (package_at p.packages.now.arrivals) → files ≡ files_of v → AreDatabaseAndWorldReadFromFiles (files_of v) inputs.root
         → EachDenotes (files_of v) writes (map (bytes_or_empty_under done.files) (map name_of_write writes))
     located v earlier read told root =
-        all_stand inputs change found own rw (package_at p.packages.now.arrivals) ready.own ready.which free v earlier read files (subst (λ (f : Files). IsRootOfFiles f inputs.root) (sym told) root) writes
+        all_stand inputs change found own rw (package_at p.packages.now.arrivals) ready.own ready.which free v earlier read files (subst (λ (f : Files). AreDatabaseAndWorldReadFromFiles f inputs.root) (sym told) root) writes
         (subst (λ (ms : List Member). All (IsWriteOfChange ms (package_at p.packages.now.arrivals) (file_writes_of change files) rw) writes) ready.plan.arrived.members
         (subst (λ (ws : List FileWrite). All (IsWriteOfChange (members_of p.members) (package_at p.packages.now.arrivals) ws rw) writes) ready.plan.lists.writes ready.each))
 
     -- what holds of the run by its contents and the files that it leads to holds by those of the change
     pub where_shown : (ws : List StagedWrite) → ws ≡ writes → (P : TreeState → Files → Type 0) → FilesAreRead history found (package_at p.packages.now.arrivals)
-        → IfObservable history (λ v. (contents : List (List ℕ)) → v.names intent_name ≡ None → IsEmptyStage (files_of v) → EachDenotes (files_of v) ws contents → P v (files_after_actions stage.intent (files_with_staged 1 contents (files_of v))))
-        → IfObservable history (λ v. v.names intent_name ≡ None → IsEmptyStage (files_of v) → P v done.files)
+        → IfObservable history (λ v. (contents : List (List ℕ)) → v.names intent_name ≡ None → HasNoStagedNames (files_of v) → EachDenotes (files_of v) ws contents → P v (files_after_actions stage.intent (files_with_staged 1 contents (files_of v))))
+        → IfObservable history (λ v. v.names intent_name ≡ None → HasNoStagedNames (files_of v) → P v done.files)
     where_shown ws ws_is P read run =
         by history refl read
-        (subst (λ (ws : List StagedWrite). IfObservable history (λ v. (contents : List (List ℕ)) → v.names intent_name ≡ None → IsEmptyStage (files_of v) → EachDenotes (files_of v) ws contents → P v (files_after_actions stage.intent (files_with_staged 1 contents (files_of v))))) ws_is run)
+        (subst (λ (ws : List StagedWrite). IfObservable history (λ v. (contents : List (List ℕ)) → v.names intent_name ≡ None → HasNoStagedNames (files_of v) → EachDenotes (files_of v) ws contents → P v (files_after_actions stage.intent (files_with_staged 1 contents (files_of v))))) ws_is run)
         ready.plan.told ready.plan.arrived.read.root
       where
         by : (h : List TreeState) → h ≡ history → FilesAreRead h found (package_at p.packages.now.arrivals)
-            → IfObservable h (λ v. (contents : List (List ℕ)) → v.names intent_name ≡ None → IsEmptyStage (files_of v) → EachDenotes (files_of v) writes contents → P v (files_after_actions stage.intent (files_with_staged 1 contents (files_of v))))
-            → IfObservable h (λ v. files ≡ files_of v) → IfObservable h (λ v. IsRootOfFiles (files_of v) inputs.root)
-            → IfObservable h (λ v. v.names intent_name ≡ None → IsEmptyStage (files_of v) → P v done.files)
+            → IfObservable h (λ v. (contents : List (List ℕ)) → v.names intent_name ≡ None → HasNoStagedNames (files_of v) → EachDenotes (files_of v) writes contents → P v (files_after_actions stage.intent (files_with_staged 1 contents (files_of v))))
+            → IfObservable h (λ v. files ≡ files_of v) → IfObservable h (λ v. AreDatabaseAndWorldReadFromFiles (files_of v) inputs.root)
+            → IfObservable h (λ v. v.names intent_name ≡ None → HasNoStagedNames (files_of v) → P v done.files)
         by [] same read run told root = tt
         by (v ∷ earlier) same read run told root = λ absent empty.
             subst (P v) (acted v told root empty) (run (map (bytes_or_empty_under done.files) (map name_of_write writes)) absent empty (located v earlier read told root))
@@ -323,32 +323,32 @@ module _ (history : List TreeState) (p : Plan) (found : List MemberFound) (files
 
     -- no call is a misuse where there is room
     pub proper_shown : (ws : List StagedWrite) → ws ≡ writes → (before after : ℕ) → FilesAreRead history found (package_at p.packages.now.arrivals)
-        → IfObservable history (λ v. (contents : List (List ℕ)) → v.names intent_name ≡ None → IsEmptyStage (files_of v) → EachDenotes (files_of v) ws contents → AreJournalPathsFree (files_of v)
+        → IfObservable history (λ v. (contents : List (List ℕ)) → v.names intent_name ≡ None → HasNoStagedNames (files_of v) → EachDenotes (files_of v) ws contents → AreJournalPathsFree (files_of v)
         → AreJournalPathsFree (files_after_actions stage.intent (files_with_staged 1 contents (files_of v))) → after ≡ before)
-        → IfObservable history (λ v. v.names intent_name ≡ None → IsEmptyStage (files_of v) → AreStagingPathsFree (files_of v) → after ≡ before)
+        → IfObservable history (λ v. v.names intent_name ≡ None → HasNoStagedNames (files_of v) → AreStagingPathsFree (files_of v) → after ≡ before)
     proper_shown ws ws_is before after read proper = both history (where_shown ws ws_is (λ v left. AreJournalPathsFree (files_of v) → AreJournalPathsFree left → after ≡ before) read proper) room_after
       where
-        both : (h : List TreeState) → IfObservable h (λ v. v.names intent_name ≡ None → IsEmptyStage (files_of v) → AreJournalPathsFree (files_of v) → AreJournalPathsFree done.files → after ≡ before)
-            → IfObservable h (λ v. AreStagingPathsFree (files_of v) → AreJournalPathsFree done.files) → IfObservable h (λ v. v.names intent_name ≡ None → IsEmptyStage (files_of v) → AreStagingPathsFree (files_of v) → after ≡ before)
+        both : (h : List TreeState) → IfObservable h (λ v. v.names intent_name ≡ None → HasNoStagedNames (files_of v) → AreJournalPathsFree (files_of v) → AreJournalPathsFree done.files → after ≡ before)
+            → IfObservable h (λ v. AreStagingPathsFree (files_of v) → AreJournalPathsFree done.files) → IfObservable h (λ v. v.names intent_name ≡ None → HasNoStagedNames (files_of v) → AreStagingPathsFree (files_of v) → after ≡ before)
         both [] proper has = tt
         both (v ∷ earlier) proper has = λ absent empty stage. proper absent empty stage.beside (has stage)
 
   -- ---- nothing is carried through
 
-  pub idle_comes : wanted ≡ Ok done → done.commits ≡ false → (counts : Counts) (report : List ℕ) → report ≡ done.report → CarriesOut (Ok found) wanted history history counts counts (Ok report)
+  pub idle_comes : wanted ≡ Ok done → done.commits ≡ false → (counts : Counts) (report : List ℕ) → report ≡ done.report → IsEndOfRunOfWantedChange (Ok found) wanted history history counts counts (Ok report)
   idle_comes is idle counts report told = comes_to_idle (Ok found) wanted history history counts counts (nothing_read history counts) done report is idle told
 
   -- ---- what comes of the run
 
   module _ (is : wanted ≡ Ok done) (commits : done.commits ≡ true) (now : List TreeState) (before after : Counts)
-      (proper : IfObservable history (λ v. v.names intent_name ≡ None → IsEmptyStage (files_of v) → AreStagingPathsFree (files_of v) → after.misuses ≡ before.misuses)) where
-    proper_where : IfObservable history (λ v. v.names intent_name ≡ None → IsEmptyStage (files_of v) → (DoesCommit wanted → AreStagingPathsFree (files_of v)) → after.misuses ≡ before.misuses)
+      (proper : IfObservable history (λ v. v.names intent_name ≡ None → HasNoStagedNames (files_of v) → AreStagingPathsFree (files_of v) → after.misuses ≡ before.misuses)) where
+    proper_where : IfObservable history (λ v. v.names intent_name ≡ None → HasNoStagedNames (files_of v) → (DoesCommit wanted → AreStagingPathsFree (files_of v)) → after.misuses ≡ before.misuses)
     proper_where = if_told history _ _ proper (λ v same absent empty has. same absent empty (has (subst DoesCommit (sym is) commits)))
 
     abbrev Carried : Result (Unit {0}) StageFault → Type 0
-    Carried r = IfObservable history (λ v. v.names intent_name ≡ None → IsEmptyStage (files_of v) → IsCarriedTo {A = Unit {0}} done.files v history now r)
+    Carried r = IfObservable history (λ v. v.names intent_name ≡ None → HasNoStagedNames (files_of v) → IsCarriedTo {A = Unit {0}} done.files v history now r)
 
-    pub done_comes : Carried (Ok tt) → (report : List ℕ) → report ≡ done.report → CarriesOut (Ok found) wanted history now before after (Ok report)
+    pub done_comes : Carried (Ok tt) → (report : List ℕ) → report ≡ done.report → IsEndOfRunOfWantedChange (Ok found) wanted history now before after (Ok report)
     done_comes run report told = record {
       told = inl (ap report_of_result is ∙ ap Ok (sym told));
       run = if_told history _ _ run (λ v carried absent empty.
@@ -356,7 +356,7 @@ module _ (history : List TreeState) (p : Plan) (found : List MemberFound) (files
       proper = proper_where;
     }
 
-    pub disk_comes : (fault : StageFault) → fault ≡ Stages.Disk → Carried (Err fault) → CarriesOut (Ok found) wanted history now before after (Err Disk)
+    pub disk_comes : (fault : StageFault) → fault ≡ Stages.Disk → Carried (Err fault) → IsEndOfRunOfWantedChange (Ok found) wanted history now before after (Err Disk)
     disk_comes fault is_disk run = record {
       told = inl tt;
       run = if_told history _ _ run (λ v carried absent empty.
@@ -365,16 +365,16 @@ module _ (history : List TreeState) (p : Plan) (found : List MemberFound) (files
     }
 
     module _ (member : ℕ) (cause : Cause) (has : HasSpoiledFile member cause writes) (fault : StageFault) (is_bad : fault ≡ Stages.Bad member cause) (run : Carried (Err fault)) where
-      unseen : IfObservable history (λ v. v.names intent_name ≡ None → IsEmptyStage (files_of v) → ⊥)
+      unseen : IfObservable history (λ v. v.names intent_name ≡ None → HasNoStagedNames (files_of v) → ⊥)
       unseen = if_told history _ _ run (λ v carried absent empty. never (sym is_bad ∙ (carried absent empty).err))
         where
           never : Stages.Bad member cause ≡ Stages.Disk → ⊥
           never e = cc
 
-      run_where : (result : Result (List ℕ) Refused) → IfObservable history (λ v. v.names intent_name ≡ None → IsEmptyStage (files_of v) → IsUnchangedOrCommit wanted v history now result)
+      run_where : (result : Result (List ℕ) Refused) → IfObservable history (λ v. v.names intent_name ≡ None → HasNoStagedNames (files_of v) → IsUnchangedOrCommit wanted v history now result)
       run_where result = if_told history _ _ unseen (λ v never absent empty. absurd (never absent empty))
 
-      pub bad_comes : (refused : Refused) → IsRefusedPackage (members_of p.members) member cause refused → CarriesOut (Ok found) wanted history now before after (Err refused)
+      pub bad_comes : (refused : Refused) → IsRefusedPackage (members_of p.members) member cause refused → IsEndOfRunOfWantedChange (Ok found) wanted history now before after (Err refused)
       bad_comes (IsRefused refusal) bad =
           let (m, at, told) = bad in
           let coming = file_comes history p found files ready.plan writes rw ready.each member cause has in
@@ -405,7 +405,7 @@ module _ (history : List TreeState) (p : Plan) (found : List MemberFound) (files
       bad_comes Disk bad = absurd bad
       bad_comes Memory bad = record { told = inl tt; run = run_where (Err Memory); proper = proper_where }
 
-pub few_writes : (stage : Staging) (removals names writes : List (List ℕ)) → stage ≡ new_stage removals names → names ≡ writes → action_count stage.intent < 2 ^ 63 → length writes < 2 ^ 63
+pub few_writes : (stage : Staging) (removals names writes : List (List ℕ)) → stage ≡ new_stage_of_removals_and_writes removals names → names ≡ writes → action_count stage.intent < 2 ^ 63 → length writes < 2 ^ 63
 few_writes stage removals names writes is same few =
     let both : length removals + length names < 2 ^ 63 = subst (λ (s : Staging). action_count s.intent < 2 ^ 63) is few in
     subst (λ (ns : List (List ℕ)). length ns < 2 ^ 63) same (less (length removals) (length names) (2 ^ 63) both)
@@ -421,7 +421,7 @@ within_length (y ∷ ys) (suc i) x at = let less = within_length ys i x at in om
 -- ---- a part that is refused
 
 pub part_fails : {A B : Type 0} (packages : Result (List MemberFound) Refusal) (part other : Result B Refusal) (next : B → Result ChangeDone Refusal) (view : A → B) (history : List TreeState) (counts : Counts) (fault : Refused) → other ≡ part
-    → Agrees view (Err fault) other → CarriesOut packages (and_then part next) history history counts counts (Err fault)
+    → Agrees view (Err fault) other → IsEndOfRunOfWantedChange packages (and_then part next) history history counts counts (Err fault)
 part_fails {A} {B} packages part other next view history counts (IsRefused refusal) same told =
     comes_to_refusal packages (and_then part next) history history counts counts (nothing_read history counts) refusal (ap (λ (p : Result B Refusal). and_then p next) (sym same ∙ told))
 part_fails packages part other next view history counts Disk same told = absurd told
@@ -439,7 +439,7 @@ ready_is history p r ready =
 pub entry_large : {A : Type 0} (view : A → Bool) (history : List TreeState) (p : Plan) (found : List MemberFound) (files : Files) (made : NewRecords) (rw : RecordWrites) (writes : List StagedWrite) (removals : List (List ℕ))
     → IsMadeReady history p found files made rw writes removals → (fault : Refused)
     → Agrees view (Err fault) (unless_overflow (overflow_of (value_of_intent (intent_of_lists removals (map name_of_write writes)))) true)
-    → Agrees {A = Bool} {B = Bool} (λ _. true) (Err fault) (unless_overflow (overflow_of (value_of_intent (intent_of_change (inputs_of_plan p) (file_change (inputs_of_plan p) (wishes_of_plan p) found) files (new_records (inputs_of_plan p) made.database.items)))) true)
+    → Agrees {A = Bool} {B = Bool} (λ _. true) (Err fault) (unless_overflow (overflow_of (value_of_intent (intent_of_change (inputs_of_plan p) (file_change (inputs_of_plan p) (wishes_of_plan p) found) files (database_and_world_after_change (inputs_of_plan p) made.database.items)))) true)
 entry_large view history p found files made rw writes removals ready (IsRefused refusal) told =
     ap (λ (o : Option PayloadCounts). unless_overflow o true) (sym (overflow_is history p found files made rw writes removals ready)) ∙ told
 entry_large view history p found files made rw writes removals ready Disk told = told
@@ -482,13 +482,13 @@ idle_fits [] (name ∷ writes) is =
 -- ---- a rendered change is committed
 
 pub stage_of : (o : Option Staging) (stage : Staging) (removals writes : List (List ℕ)) → o ≡ Some stage → IsStageOf removals writes o
-    → (has_actions (record { removals = removals; writes = writes }) ≡ true) × (stage ≡ new_stage removals writes)
+    → (has_actions (record { removals = removals; writes = writes }) ≡ true) × (stage ≡ new_stage_of_removals_and_writes removals writes)
 stage_of o stage removals writes is of = subst (IsStageOf removals writes) is of
 
-pub new_stage_is : (stage : Staging) (removals writes : List (List ℕ)) → stage ≡ new_stage removals writes → stage ≡ new_stage stage.intent.removals stage.intent.writes
-new_stage_is stage removals writes is = is ∙ sym (λ i. new_stage (is i).intent.removals (is i).intent.writes)
+pub new_stage_is : (stage : Staging) (removals writes : List (List ℕ)) → stage ≡ new_stage_of_removals_and_writes removals writes → stage ≡ new_stage_of_removals_and_writes stage.intent.removals stage.intent.writes
+new_stage_is stage removals writes is = is ∙ sym (λ i. new_stage_of_removals_and_writes (is i).intent.removals (is i).intent.writes)
 
-pub same_length : (stage : Staging) (removals : List (List ℕ)) (ws writes : List StagedWrite) → stage ≡ new_stage removals (map name_of_write writes) → ws ≡ writes → length ws ≡ length stage.intent.writes
+pub same_length : (stage : Staging) (removals : List (List ℕ)) (ws writes : List StagedWrite) → stage ≡ new_stage_of_removals_and_writes removals (map name_of_write writes) → ws ≡ writes → length ws ≡ length stage.intent.writes
 same_length stage removals ws writes is same = ap length same ∙ (sym (length-map writes name_of_write) ∙ sym (ap (λ (s : Staging). length s.intent.writes) is))
 
 module _ (history : List TreeState) (p : Plan) (r : Rendered) (ready : IsReadyToCommit history p r) where
@@ -499,12 +499,12 @@ module _ (history : List TreeState) (p : Plan) (r : Rendered) (ready : IsReadyTo
   made = made_ready history p r ready
 
   abbrev Ends : List TreeState → Counts → Counts → Result (List ℕ) Refused → Type 0
-  Ends now before after result = CarriesOut (Ok ready.found) (Ok (result_of_ready ready)) history now before after result
+  Ends now before after result = IsEndOfRunOfWantedChange (Ok ready.found) (Ok (result_of_ready ready)) history now before after result
 
   ends : (now : List TreeState) (before after : Counts) (result : Result (List ℕ) Refused)
-      → CarriesOut (Ok ready.found) (ready_change (inputs_of_plan p) (replacement_of_plan p) (wishes_of_plan p) ready.found ready.files ready.records.database.items) history now before after result
+      → IsEndOfRunOfWantedChange (Ok ready.found) (ready_change (inputs_of_plan p) (replacement_of_plan p) (wishes_of_plan p) ready.found ready.files ready.records.database.items) history now before after result
       → Ends now before after result
-  ends now before after result comes = subst (λ (w : Result ChangeDone Refusal). CarriesOut (Ok ready.found) w history now before after result) (ready_is history p r ready) comes
+  ends now before after result comes = subst (λ (w : Result ChangeDone Refusal). IsEndOfRunOfWantedChange (Ok ready.found) w history now before after result) (ready_is history p r ready) comes
 
   -- nothing is done
   pub nothing_done : r.stage ≡ None → (counts : Counts) → Ends history counts counts (Ok r.report)
@@ -523,11 +523,11 @@ module _ (history : List TreeState) (p : Plan) (r : Rendered) (ready : IsReadyTo
   -- the stage is carried out
   module _ (law : FilesAreRead history ready.found (package_at p.packages.now.arrivals))
       (stage : Staging) (staged : r.stage ≡ Some stage) (few : action_count stage.intent < 2 ^ 63) (ws : List StagedWrite) (ws_is : ws ≡ r.writes.items) (now : List TreeState) (before after : Counts) (res : Result (Unit {0}) StageFault)
-      (run : IfObservable history (λ v. (contents : List (List ℕ)) → v.names intent_name ≡ None → IsEmptyStage (files_of v) → EachDenotes (files_of v) ws contents
+      (run : IfObservable history (λ v. (contents : List (List ℕ)) → v.names intent_name ≡ None → HasNoStagedNames (files_of v) → EachDenotes (files_of v) ws contents
       → IsCarriedTo {A = Unit {0}} (files_after_actions stage.intent (files_with_staged 1 contents (files_of v))) v history now res))
-      (proper : IfObservable history (λ v. (contents : List (List ℕ)) → v.names intent_name ≡ None → IsEmptyStage (files_of v) → EachDenotes (files_of v) ws contents → AreJournalPathsFree (files_of v)
+      (proper : IfObservable history (λ v. (contents : List (List ℕ)) → v.names intent_name ≡ None → HasNoStagedNames (files_of v) → EachDenotes (files_of v) ws contents → AreJournalPathsFree (files_of v)
       → AreJournalPathsFree (files_after_actions stage.intent (files_with_staged 1 contents (files_of v))) → after.misuses ≡ before.misuses)) where
-    of_stage : (has_actions (record { removals = removals_of_plan p; writes = map name_of_write r.writes.items }) ≡ true) × (stage ≡ new_stage (removals_of_plan p) (map name_of_write r.writes.items))
+    of_stage : (has_actions (record { removals = removals_of_plan p; writes = map name_of_write r.writes.items }) ≡ true) × (stage ≡ new_stage_of_removals_and_writes (removals_of_plan p) (map name_of_write r.writes.items))
     of_stage = stage_of r.stage stage (removals_of_plan p) (map name_of_write r.writes.items) staged ready.rendered.stage
 
     few_names : length (map name_of_write r.writes.items) < 2 ^ 63
@@ -536,11 +536,11 @@ module _ (history : List TreeState) (p : Plan) (r : Rendered) (ready : IsReadyTo
     commits : (result_of_ready ready).commits ≡ true
     commits = sym (commits_is history p ready.found ready.files ready.records of_records r.writes.items (removals_of_plan p) made) ∙ of_stage.0
 
-    carried : IfObservable history (λ v. v.names intent_name ≡ None → IsEmptyStage (files_of v) → IsCarriedTo {A = Unit {0}} (result_of_ready ready).files v history now res)
+    carried : IfObservable history (λ v. v.names intent_name ≡ None → HasNoStagedNames (files_of v) → IsCarriedTo {A = Unit {0}} (result_of_ready ready).files v history now res)
     carried =
         where_shown history p ready.found ready.files ready.records of_records r.writes.items (removals_of_plan p) made few_names stage of_stage.1 ws ws_is (λ v left. IsCarriedTo {A = Unit {0}} left v history now res) law run
 
-    no_misuse : IfObservable history (λ v. v.names intent_name ≡ None → IsEmptyStage (files_of v) → AreStagingPathsFree (files_of v) → after.misuses ≡ before.misuses)
+    no_misuse : IfObservable history (λ v. v.names intent_name ≡ None → HasNoStagedNames (files_of v) → AreStagingPathsFree (files_of v) → after.misuses ≡ before.misuses)
     no_misuse =
         proper_shown history p ready.found ready.files ready.records of_records r.writes.items (removals_of_plan p) made few_names stage of_stage.1 ws ws_is before.misuses after.misuses law proper
 
@@ -548,26 +548,26 @@ module _ (history : List TreeState) (p : Plan) (r : Rendered) (ready : IsReadyTo
     ends_well is =
         ends now before after (Ok r.report)
         (done_comes history p ready.found ready.files ready.records of_records r.writes.items (removals_of_plan p) made (ready_is history p r ready) commits now before after no_misuse
-        (subst (λ (x : Result (Unit {0}) StageFault). IfObservable history (λ v. v.names intent_name ≡ None → IsEmptyStage (files_of v) → IsCarriedTo {A = Unit {0}} (result_of_ready ready).files v history now x)) is carried)
+        (subst (λ (x : Result (Unit {0}) StageFault). IfObservable history (λ v. v.names intent_name ≡ None → HasNoStagedNames (files_of v) → IsCarriedTo {A = Unit {0}} (result_of_ready ready).files v history now x)) is carried)
         r.report (ready.rendered.report history ready.found ready.files ready.planned))
 
     pub ends_by_disk : (fault : StageFault) → fault ≡ Stages.Disk → res ≡ Err fault → Ends now before after (Err Disk)
     ends_by_disk fault is_disk is =
         ends now before after (Err Disk)
         (disk_comes history p ready.found ready.files ready.records of_records r.writes.items (removals_of_plan p) made (ready_is history p r ready) commits now before after no_misuse fault is_disk
-        (subst (λ (x : Result (Unit {0}) StageFault). IfObservable history (λ v. v.names intent_name ≡ None → IsEmptyStage (files_of v) → IsCarriedTo {A = Unit {0}} (result_of_ready ready).files v history now x)) is carried))
+        (subst (λ (x : Result (Unit {0}) StageFault). IfObservable history (λ v. v.names intent_name ≡ None → HasNoStagedNames (files_of v) → IsCarriedTo {A = Unit {0}} (result_of_ready ready).files v history now x)) is carried))
 
     pub ends_by_bad : (member : ℕ) (cause : Cause) → HasSpoiledFile member cause r.writes.items → (fault : StageFault) → fault ≡ Stages.Bad member cause → res ≡ Err fault → (refused : Refused)
         → IsRefusedPackage (members_of p.members) member cause refused → Ends now before after (Err refused)
     ends_by_bad member cause has fault is_bad is refused bad =
         ends now before after (Err refused)
         (bad_comes history p ready.found ready.files ready.records of_records r.writes.items (removals_of_plan p) made (ready_is history p r ready) commits now before after no_misuse member cause has fault is_bad
-        (subst (λ (x : Result (Unit {0}) StageFault). IfObservable history (λ v. v.names intent_name ≡ None → IsEmptyStage (files_of v) → IsCarriedTo {A = Unit {0}} (result_of_ready ready).files v history now x)) is carried)
+        (subst (λ (x : Result (Unit {0}) StageFault). IfObservable history (λ v. v.names intent_name ≡ None → HasNoStagedNames (files_of v) → IsCarriedTo {A = Unit {0}} (result_of_ready ready).files v history now x)) is carried)
         refused bad)
 
 -- a journal entry that is too large is refused
 entry_refused : (packages : Result (List MemberFound) Refusal) (overflow : Option PayloadCounts) (ends : ChangeDone) (history : List TreeState) (counts : Counts) (fault : Refused)
-    → Agrees {A = Bool} {B = Bool} (λ _. true) (Err fault) (unless_overflow overflow true) → CarriesOut packages (unless_overflow overflow ends) history history counts counts (Err fault)
+    → Agrees {A = Bool} {B = Bool} (λ _. true) (Err fault) (unless_overflow overflow true) → IsEndOfRunOfWantedChange packages (unless_overflow overflow ends) history history counts counts (Err fault)
 entry_refused packages overflow ends history counts (IsRefused refusal) told =
     comes_to_refusal packages (unless_overflow overflow ends) history history counts counts (nothing_read history counts) refusal (too_large overflow ends refusal told)
 entry_refused packages overflow ends history counts Disk told = absurd told
@@ -581,29 +581,29 @@ module _ (history : List TreeState) (p : Plan) (found : List MemberFound) (files
 
   -- the database is too large
   pub large_database : (counts : Counts) (fault : Refused) → Agrees {A = NewRecords} (λ r. r.database.items) (Err fault) (or_result_too_large (database_of (members_of p.members) p.files.owned))
-      → CarriesOut (Ok found) (unless_too_large (inputs_of_plan p) (replacement_of_plan p) (wishes_of_plan p) found files) history history counts counts (Err fault)
+      → IsEndOfRunOfWantedChange (Ok found) (change_done_unless_too_large (inputs_of_plan p) (replacement_of_plan p) (wishes_of_plan p) found files) history history counts counts (Err fault)
   large_database counts fault told =
       part_fails {A = NewRecords} {B = List ℕ} (Ok found) (or_result_too_large (database_of (found_members found) (owned_flags_of (found_members found)))) (or_result_too_large (database_of (members_of p.members) p.files.owned))
       (ready_change (inputs_of_plan p) (replacement_of_plan p) (wishes_of_plan p) found files) (λ r. r.database.items) history counts fault database_is told
 
   -- the database is made
   module _ (records : NewRecords) (told : or_result_too_large (database_of (members_of p.members) p.files.owned) ≡ Ok records.database.items) where
-    pub made_database : unless_too_large (inputs_of_plan p) (replacement_of_plan p) (wishes_of_plan p) found files ≡ ready_change (inputs_of_plan p) (replacement_of_plan p) (wishes_of_plan p) found files records.database.items
+    pub made_database : change_done_unless_too_large (inputs_of_plan p) (replacement_of_plan p) (wishes_of_plan p) found files ≡ ready_change (inputs_of_plan p) (replacement_of_plan p) (wishes_of_plan p) found files records.database.items
     made_database = ap (λ (part : Result (List ℕ) Refusal). and_then part (ready_change (inputs_of_plan p) (replacement_of_plan p) (wishes_of_plan p) found files)) (sym database_is ∙ told)
 
     -- the journal entry is too large
     pub large_entry : (counts : Counts) (fault : Refused) → IsRefusedForOverflow p records fault
-        → CarriesOut (Ok found) (unless_too_large (inputs_of_plan p) (replacement_of_plan p) (wishes_of_plan p) found files) history history counts counts (Err fault)
+        → IsEndOfRunOfWantedChange (Ok found) (change_done_unless_too_large (inputs_of_plan p) (replacement_of_plan p) (wishes_of_plan p) found files) history history counts counts (Err fault)
     large_entry counts fault large =
-        subst (λ (w : Result ChangeDone Refusal). CarriesOut (Ok found) w history history counts counts (Err fault)) (sym made_database)
+        subst (λ (w : Result ChangeDone Refusal). IsEndOfRunOfWantedChange (Ok found) w history history counts counts (Err fault)) (sym made_database)
         (entry_refused (Ok found)
-        (overflow_of (value_of_intent (intent_of_change (inputs_of_plan p) (file_change (inputs_of_plan p) (wishes_of_plan p) found) files (new_records (inputs_of_plan p) records.database.items))))
-        (change_done (inputs_of_plan p) (replacement_of_plan p) (wishes_of_plan p) found files (new_records (inputs_of_plan p) records.database.items)) history counts fault (large history found files plan))
+        (overflow_of (value_of_intent (intent_of_change (inputs_of_plan p) (file_change (inputs_of_plan p) (wishes_of_plan p) found) files (database_and_world_after_change (inputs_of_plan p) records.database.items))))
+        (change_done (inputs_of_plan p) (replacement_of_plan p) (wishes_of_plan p) found files (database_and_world_after_change (inputs_of_plan p) records.database.items)) history counts fault (large history found files plan))
 
     -- the journal entry fits
     pub entry_fits : (own : AreNewRecordsOf (inputs_of_plan p) records) (r : Rendered) → IsRendered p records r
-        → unless_too_large (inputs_of_plan p) (replacement_of_plan p) (wishes_of_plan p) found files
-        ≡ Ok (change_done (inputs_of_plan p) (replacement_of_plan p) (wishes_of_plan p) found files (new_records (inputs_of_plan p) records.database.items))
+        → change_done_unless_too_large (inputs_of_plan p) (replacement_of_plan p) (wishes_of_plan p) found files
+        ≡ Ok (change_done (inputs_of_plan p) (replacement_of_plan p) (wishes_of_plan p) found files (database_and_world_after_change (inputs_of_plan p) records.database.items))
     entry_fits own r rendered =
         let ready : IsReadyToCommit history p r = record { found = found; files = files; planned = plan; records = records; own = own; rendered = rendered } in
         made_database ∙ ready_is history p r ready

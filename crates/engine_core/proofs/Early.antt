@@ -7,7 +7,7 @@ use Rattle.base_core.specs.Faults.{Counts}
 use Rattle.base_core.specs.Files.{Files, HasNamesAmong, no_names}
 use Rattle.base_core.specs.Read.{OnlyReads}
 use Rattle.base_core.specs.Tree.{IsWellFormed, TreeState, bytes_of_file_number, files_of}
-use Rattle.change_report.specs.change_inputs.Answers.{AgreesUnlessDisk, IsDiskOrMemoryFailure}
+use Rattle.change_report.specs.change_inputs.Answers.{AgreesUnlessDiskOrMemory, IsDiskOrMemoryFailure}
 use Rattle.change_report.specs.change_inputs.Chains.{and_then}
 use Rattle.change_report.specs.change_inputs.Inputs.{Inputs}
 use Rattle.change_report.specs.change_inputs.declared.root.Refused.{Refused}
@@ -16,14 +16,14 @@ use Rattle.change_report.specs.change_outcome.ChangeOutcome.{ChangeDone, ChangeW
 use Rattle.change_report.specs.change_outcome.MembersAfter.{MemberFound}
 use Rattle.command_core.specs.Command.{CommandLine}
 use Rattle.change_report.specs.journal_core.Recovery.{intent_name}
-use Rattle.change_report.specs.journal_core.Staged.{AreStagingPathsFree, IsEmptyStage}
+use Rattle.change_report.specs.journal_core.Staged.{AreStagingPathsFree, HasNoStagedNames}
 use Rattle.change_report.specs.make_info.Reads.{Reads}
 use Rattle.change_report.specs.package_files.Runs.{AreReadsOfTree}
 use Rattle.change_report.specs.path_clashes.Clash.{NamePair}
 use Rattle.change_report.specs.package_changes.Changes.{Replacement}
 use Rattle.report_core.specs.declared.refusal.Refusal.{Refusal}
-use Rattle.engine_core.specs.ChangeRun.{CarriesOut, DoesCommit, IsUnchangedOrCommit, report_as_is, report_of_result}
-use Rattle.engine_core.specs.Changed.{IsClashOfSelected, IsClashUnlessSimulated, InputsAndReplacement, change_of_selected, found_packages}
+use Rattle.engine_core.specs.ChangeRun.{IsEndOfRunOfWantedChange, DoesCommit, IsUnchangedOrCommit, report_as_is, report_of_result}
+use Rattle.engine_core.specs.Changed.{IsClashOfSelected, IsClashUnlessSimulated, InputsAndReplacement, change_of_selected, packages_found_after_change}
 use Rattle.engine_core.specs.Runs.{IsRunOnSelection}
 use Rattle.engine_core.specs.Wishes.{wishes_of}
 
@@ -119,28 +119,28 @@ if_told [] P Q p f = tt
 if_told (v ∷ earlier) P Q p f = f v p
 
 module _ (packages : Result (List MemberFound) Refusal) (wanted : Result ChangeDone Refusal) (old now : List TreeState) (before after : Counts) (quiet : IsOnlyRead old now before after) where
-  none_run : (result : Result (List ℕ) Refused) → OnOk result (DoesCommit wanted → ⊥) → IfObservable old (λ v. v.names intent_name ≡ None → IsEmptyStage (files_of v) → IsUnchangedOrCommit wanted v old now result)
+  none_run : (result : Result (List ℕ) Refused) → OnOk result (DoesCommit wanted → ⊥) → IfObservable old (λ v. v.names intent_name ≡ None → HasNoStagedNames (files_of v) → IsUnchangedOrCommit wanted v old now result)
   none_run result ok = by old quiet.same
     where
-      by : (h : List TreeState) → now ≡ old → IfObservable h (λ v. v.names intent_name ≡ None → IsEmptyStage (files_of v) → IsUnchangedOrCommit wanted v old now result)
+      by : (h : List TreeState) → now ≡ old → IfObservable h (λ v. v.names intent_name ≡ None → HasNoStagedNames (files_of v) → IsUnchangedOrCommit wanted v old now result)
       by [] same = tt
       by (v ∷ earlier) same = λ absent empty. inl (same, ok)
 
-  none_proper : IfObservable old (λ v. v.names intent_name ≡ None → IsEmptyStage (files_of v) → (DoesCommit wanted → AreStagingPathsFree (files_of v)) → after.misuses ≡ before.misuses)
+  none_proper : IfObservable old (λ v. v.names intent_name ≡ None → HasNoStagedNames (files_of v) → (DoesCommit wanted → AreStagingPathsFree (files_of v)) → after.misuses ≡ before.misuses)
   none_proper = if_told old _ _ quiet.proper (λ v same absent empty room. same)
 
-  pub comes_to_failure : (fault : Refused) → IsDiskOrMemoryFailure fault → CarriesOut packages wanted old now before after (Err fault)
+  pub comes_to_failure : (fault : Refused) → IsDiskOrMemoryFailure fault → IsEndOfRunOfWantedChange packages wanted old now before after (Err fault)
   comes_to_failure fault is = record { told = inl (failure_told fault is); run = none_run (Err fault) tt; proper = none_proper }
     where
-      failure_told : (e : Refused) → IsDiskOrMemoryFailure e → AgreesUnlessDisk report_as_is (Err e) (report_of_result wanted)
+      failure_told : (e : Refused) → IsDiskOrMemoryFailure e → AgreesUnlessDiskOrMemory report_as_is (Err e) (report_of_result wanted)
       failure_told (IsRefused r) h = absurd h
       failure_told Disk h = tt
       failure_told Memory h = tt
 
-  pub comes_to_refusal : (refusal : Refusal) → wanted ≡ Err refusal → CarriesOut packages wanted old now before after (Err (IsRefused refusal))
+  pub comes_to_refusal : (refusal : Refusal) → wanted ≡ Err refusal → IsEndOfRunOfWantedChange packages wanted old now before after (Err (IsRefused refusal))
   comes_to_refusal refusal is = record { told = inl (ap report_of_result is); run = none_run (Err (IsRefused refusal)) tt; proper = none_proper }
 
-  pub comes_to_idle : (done : ChangeDone) (report : List ℕ) → wanted ≡ Ok done → done.commits ≡ false → report ≡ done.report → CarriesOut packages wanted old now before after (Ok report)
+  pub comes_to_idle : (done : ChangeDone) (report : List ℕ) → wanted ≡ Ok done → done.commits ≡ false → report ≡ done.report → IsEndOfRunOfWantedChange packages wanted old now before after (Ok report)
   comes_to_idle done report is idle told = record {
     told = inl (ap report_of_result is ∙ ap Ok (sym told));
     run = none_run (Ok report) (λ commits. true_is_not_false (subst DoesCommit is commits) idle);
@@ -154,7 +154,7 @@ module _ (packages : Result (List MemberFound) Refusal) (wanted : Result ChangeD
 
 module _ (command : CommandLine) (selected : Result InputsAndReplacement Refusal) (old now : List TreeState) (before after : Counts) where
   pub of_seen : (seen : Seen command selected old) (result : Result (List ℕ) Refused)
-      → CarriesOut (found_packages command seen.read selected) (and_then selected (change_of_selected command seen.read seen.files seen.clash)) old now before after result
+      → IsEndOfRunOfWantedChange (packages_found_after_change command seen.read selected) (and_then selected (change_of_selected command seen.read seen.files seen.clash)) old now before after result
       → IsRunOnSelection command selected old now before after result
   of_seen seen result comes = record {
     read = seen.read;

@@ -11,8 +11,8 @@ use Rattle.base_core.proofs.Orderings.{is_less, names_total}
 use Rattle.command_core.specs.declared.operands.Operand.{Operand}
 use Rattle.dep_core.specs.Dependency.{Dependency}
 use Rattle.dep_core.specs.DependencyText.{is_dependency}
-use Rattle.dep_core.specs.World.{IsWorld, has_name, is_in_order}
-use Rattle.dep_core.proofs.Places.{has_name-at, has_name-none, in_order_at}
+use Rattle.dep_core.specs.World.{IsWorld, has_dependency_named, is_in_order}
+use Rattle.dep_core.proofs.Places.{has_dependency_named-at, has_dependency_named-none, in_order_at}
 use Rattle.dep_core.proofs.Worlds.{cmp-back}
 use Rattle.change_report.proofs.make_info.Left.{left_at}
 use Rattle.engine_core.specs.Wishes.{place_of_first_unknown_operand}
@@ -37,9 +37,9 @@ IsNarrowed name world low high =
 pub not_narrowed : (name : List ℕ) (world : List Dependency) → IsNarrowed name world 0 (length world)
 not_narrowed name world = ((omega arith), (omega arith), (λ k d within early. absurd (omega arith)), (λ k d late within. absurd (omega arith)))
 
-pub name_nowhere : (name : List ℕ) (world : List Dependency) (low high : ℕ) → IsNarrowed name world low high → high ≤ low → false ≡ has_name name world
+pub name_nowhere : (name : List ℕ) (world : List Dependency) (low high : ℕ) → IsNarrowed name world low high → high ≤ low → false ≡ has_dependency_named name world
 name_nowhere name world low high narrowed met =
-    sym (has_name-none name world low ((λ k d inside early. narrowed.2 k d (omega (arith, inside)) (omega (arith, early))), (λ k d late inside. narrowed.3 k d (omega (arith, met, late)) (omega (arith, inside)))))
+    sym (has_dependency_named-none name world low ((λ k d inside early. narrowed.2 k d (omega (arith, inside)) (omega (arith, early))), (λ k d late inside. narrowed.3 k d (omega (arith, met, late)) (omega (arith, inside)))))
 
 module _ (name : List ℕ) (world : List Dependency) (is_world : IsWorld world) (i : ℕ) (d : Dependency) (at : slice_get world i ≡ Some d) where
   within : i < length world
@@ -51,8 +51,8 @@ module _ (name : List ℕ) (world : List Dependency) (is_world : IsWorld world) 
   in_order : is_in_order world ≡ true
   in_order = (and_parts (list_all is_dependency world) (is_in_order world) is_world).1
 
-  pub name_here : bytes_cmp d.name name ≡ Equal → true ≡ has_name name world
-  name_here same = sym (has_name-at name world i within (λ f. subst (λ (e : Dependency). bytes_cmp e.name name ≡ Equal) (sym (here f)) same))
+  pub name_here : bytes_cmp d.name name ≡ Equal → true ≡ has_dependency_named name world
+  name_here same = sym (has_dependency_named-at name world i within (λ f. subst (λ (e : Dependency). bytes_cmp e.name name ≡ Equal) (sym (here f)) same))
 
   pub name_later : (low high : ℕ) → IsNarrowed name world low high → i < high → bytes_cmp d.name name ≡ Less → IsNarrowed name world (i + 1) high
   name_later low high narrowed below less = ((omega (arith, below)), narrowed.1, early, narrowed.3)

@@ -15,7 +15,7 @@ use Rattle.change_report.specs.change_inputs.Chains.{and_then}
 use Rattle.change_report.specs.change_inputs.Inputs.{Inputs}
 use Rattle.change_report.specs.change_inputs.declared.root.Refused.{Refused}
 use Rattle.change_report.specs.change_inputs.declared.root.Refused.TheVariants.{Disk, Memory, Refusal as IsRefused}
-use Rattle.change_report.specs.change_outcome.ChangeOutcome.{ChangeDone, ChangeWishes, IsClashFoundAmong, members_after_change, change_or_refusal, change_with_members, file_change, touched_paths, unless_too_large}
+use Rattle.change_report.specs.change_outcome.ChangeOutcome.{ChangeDone, ChangeWishes, IsClashFoundAmong, members_after_change, change_or_refusal, change_with_members, file_change, touched_paths, change_done_unless_too_large}
 use Rattle.change_report.specs.change_outcome.Triggers.{unless_trigger_due}
 use Rattle.change_report.specs.change_outcome.MembersAfter.{MemberFound, found_members, members_after}
 use Rattle.command_core.specs.Command.{CommandLine}
@@ -33,7 +33,7 @@ use Rattle.change_report.specs.path_clashes.Clash.{NamePair}
 use Rattle.change_report.specs.candidate_core.Rank.{SealedPool}
 use Rattle.change_report.specs.candidate_core.declared.candidate_list.TheConstants.{MOST_CANDIDATES}
 use Rattle.report_core.specs.declared.refusal.Refusal.{Refusal}
-use Rattle.engine_core.specs.ChangeRun.{CarriesOut}
+use Rattle.engine_core.specs.ChangeRun.{IsEndOfRunOfWantedChange}
 use Rattle.engine_core.specs.Changed.{IsClashOfSelectedAmong, IsClashUnlessSimulatedAmong, change_of_selected, simulated_change}
 use Rattle.engine_core.specs.Preparing.{HasReadAddedPackages, ArePackagesFoundByReads, ArePackagesReadForSelection, IsArrived, IsPlanOfPackages, IsPlanned, IsRootRead, inputs_of_packages, inputs_of_plan, replacement_of_packages, replacement_of_plan, wishes_of_packages, wishes_of_plan}
 use Rattle.engine_core.specs.Runs.{IsRunOnSelection}
@@ -174,8 +174,8 @@ module _ (s : Selection) (real : s.command.now.flags.simulate ≡ false) where
           stand = run.stand;
           clash = run.clash;
           is_clash = clash_is read found run.files run.present_files run.clash found_is run.is_clash;
-          comes = subst (λ (p : Result (List MemberFound) Refusal). CarriesOut p (change_of_selected s.command.now read run.files run.clash (selection_seen s)) mid now between after result) (sym found_is)
-              (subst (λ (w : Result ChangeDone Refusal). CarriesOut (Ok found) w mid now between after result) (sym (by_found read run.files run.clash (Ok found) found_is)) run.comes);
+          comes = subst (λ (p : Result (List MemberFound) Refusal). IsEndOfRunOfWantedChange p (change_of_selected s.command.now read run.files run.clash (selection_seen s)) mid now between after result) (sym found_is)
+              (subst (λ (w : Result ChangeDone Refusal). IsEndOfRunOfWantedChange (Ok found) w mid now between after result) (sym (by_found read run.files run.clash (Ok found) found_is)) run.comes);
         })
 
     -- the packages that come are read
@@ -215,14 +215,14 @@ module _ (law : HaveMembers) (old mid : List TreeState) (before between : Counts
   plan_is = planned_step old mid p found plan.files quiet.same plan_arrived
 
   pub plan_run : (now : List TreeState) (after : Counts) (result : Result (List ℕ) Refused)
-      → ((files : Files) → IsPlanned mid p found files → CarriesOut (Ok found) (unless_too_large (inputs_of_plan p) (replacement_of_plan p) (wishes_of_plan p) found files) mid now between after result)
+      → ((files : Files) → IsPlanned mid p found files → IsEndOfRunOfWantedChange (Ok found) (change_done_unless_too_large (inputs_of_plan p) (replacement_of_plan p) (wishes_of_plan p) found files) mid now between after result)
       → IsRunOnFoundPackages (inputs_of_packages a) (replacement_of_packages a) (wishes_of_packages a) found old now before after result
   plan_run now after result comes =
       subst (λ (b : ReadPackages). IsRunOnFoundPackages (inputs_of_packages b) (replacement_of_packages b) (wishes_of_packages b) found old now before after result) plan.packages
       (planned_step_run old mid now before between after p found result
       (λ files planned.
-      subst (λ (w : Result ChangeDone Refusal). CarriesOut (Ok found) w mid now between after result)
-      (sym (ap (λ (t : Result Bool Refusal). and_then t (λ allowed. unless_too_large (inputs_of_plan p) (replacement_of_plan p) (wishes_of_plan p) found files)) (allowed files planned)))
+      subst (λ (w : Result ChangeDone Refusal). IsEndOfRunOfWantedChange (Ok found) w mid now between after result)
+      (sym (ap (λ (t : Result Bool Refusal). and_then t (λ allowed. change_done_unless_too_large (inputs_of_plan p) (replacement_of_plan p) (wishes_of_plan p) found files)) (allowed files planned)))
       (comes files planned))
       plan.files quiet plan_arrived)
     where
@@ -246,7 +246,7 @@ untriggered law old mid before between quiet p files members found arrivals faul
     planned_step_run old mid mid before between between p found (Err fault)
     (λ fs planned.
     part_fails {A = Unit {0}} {B = Bool} (Ok found) (unless_trigger_due (wishes_of_plan p).no_scripts (touched_paths (file_change (inputs_of_plan p) (wishes_of_plan p) found) fs) (found_members found))
-    (unless_trigger_due flags.no_scripts (planned_paths p.files) (members_of p.members)) (λ allowed. unless_too_large (inputs_of_plan p) (replacement_of_plan p) (wishes_of_plan p) found fs) (λ _. true) mid between fault
+    (unless_trigger_due flags.no_scripts (planned_paths p.files) (members_of p.members)) (λ allowed. change_done_unless_too_large (inputs_of_plan p) (replacement_of_plan p) (wishes_of_plan p) found fs) (λ _. true) mid between fault
     ((λ i. unless_trigger_due (is_flags i).no_scripts (planned_paths p.files) (members_of p.members)) ∙ triggers_are mid p found fs planned) told)
     files quiet (has_arrived old p.packages.now p.members found (members ∙ law _ _ _ found arrivals.read) arrivals)
 

@@ -16,7 +16,7 @@ use Rattle.change_report.specs.package_changes.Report.{simulated_report}
 use Rattle.change_report.specs.candidate_core.Rank.{SealedPool, UpgradedNames}
 use Rattle.report_core.specs.declared.refusal.Refusal.{Refusal}
 use Rattle.report_core.specs.declared.refusal.Refusal.TheVariants.{NotInstalled}
-use Rattle.engine_core.specs.Changed.{InputsAndReplacement, selected_by, selected_of_inputs, simulated_change}
+use Rattle.engine_core.specs.Changed.{InputsAndReplacement, selected_from_pool_by_choice, selected_from_inputs_by_choice, simulated_change}
 use Rattle.engine_core.specs.Choice.{IsPreferredChoice, IsChoiceFrom}
 use Rattle.engine_core.specs.Chosen.{IsResultOfChoice}
 use Rattle.engine_core.specs.Runs.{IsRunOnSelection}
@@ -36,7 +36,7 @@ abbrev pub IsRunBy :
 IsRunBy command inputs old now before after result =
     (chosen : Option (List ℕ))
     × IsChoiceFrom (pool_of_inputs command inputs) chosen
-    × IsRunOnSelection command (selected_of_inputs command chosen inputs)
+    × IsRunOnSelection command (selected_from_inputs_by_choice command chosen inputs)
     old now before after result
 
 pub with_error : {A : Type 0} (P : Result A Refused → Type 0) (r : Result A Refused) (fault : Refused) → IsErrAnd r (λ e. e ≡ fault) → P (Err fault) → P r
@@ -47,15 +47,15 @@ module _ (command : CommandLine) (inputs : Inputs) (old now : List TreeState) (b
   pub run_failure : HaveChoice → HaveClash → All IsWellFormed old → IsOnlyRead old now before after → (fault : Refused) → IsDiskOrMemoryFailure fault → IsRunBy command inputs old now before after (Err fault)
   run_failure choose have whole quiet fault is =
       let (chosen, choice) = choose (pool_of_inputs command inputs) in
-      (chosen, choice, selected_failure command (selected_of_inputs command chosen inputs) old now before after have whole quiet fault is)
+      (chosen, choice, selected_failure command (selected_from_inputs_by_choice command chosen inputs) old now before after have whole quiet fault is)
 
   -- nothing is selected
   pub unselected_run : HaveClash → All IsWellFormed old → IsOnlyRead old now before after → (fault : Refused) → IsSelectedFrom command inputs (Err fault) → IsRunBy command inputs old now before after (Err fault)
   unselected_run have whole quiet (IsRefused refusal) (chosen, choice, is) =
-      (chosen, choice, selected_refusal command (selected_of_inputs command chosen inputs) old now before after have whole quiet refusal is)
+      (chosen, choice, selected_refusal command (selected_from_inputs_by_choice command chosen inputs) old now before after have whole quiet refusal is)
   unselected_run have whole quiet Disk (chosen, choice, is) = absurd is
   unselected_run have whole quiet Memory (chosen, choice, is) =
-      (chosen, choice, selected_failure command (selected_of_inputs command chosen inputs) old now before after have whole quiet Memory tt)
+      (chosen, choice, selected_failure command (selected_from_inputs_by_choice command chosen inputs) old now before after have whole quiet Memory tt)
 
   -- a selection is made
   pub selected_run : (s : Selection) (result : Result (List ℕ) Refused) → IsSelectedFrom command inputs (Ok s) → IsRunOnSelection command (Ok (selection_seen s)) old now before after result → IsRunBy command inputs old now before after result
@@ -82,17 +82,17 @@ module _ (command : CommandLine) (inputs : Inputs) where
       by (IsRefused refusal) is = (
         None,
         subst (λ (p : Result SealedPool Refusal). IsChoiceFrom p None) (sym is) refl,
-        ap (λ (p : Result SealedPool Refusal). and_then p (λ pool. unless_unknown_operand (unknown_operand_place command.applet inputs command.operands) (selected_by command inputs pool None))) is,
+        ap (λ (p : Result SealedPool Refusal). and_then p (λ pool. unless_unknown_operand (unknown_operand_place command.applet inputs command.operands) (selected_from_pool_by_choice command inputs pool None))) is,
       )
       by Disk is = absurd is
       by Memory is = out_of_memory choose
 
   module _ (pool : SealedPool) (pool_is : pool_of_inputs command inputs ≡ Ok pool) where
     selected_is : (chosen : Option (List ℕ)) (unknown : Option ℕ) → unknown_operand_place command.applet inputs command.operands ≡ unknown
-        → selected_of_inputs command chosen inputs ≡ unless_unknown_operand unknown (selected_by command inputs pool chosen)
+        → selected_from_inputs_by_choice command chosen inputs ≡ unless_unknown_operand unknown (selected_from_pool_by_choice command inputs pool chosen)
     selected_is chosen unknown known_is =
-        ap (λ (p : Result SealedPool Refusal). and_then p (λ pool. unless_unknown_operand (unknown_operand_place command.applet inputs command.operands) (selected_by command inputs pool chosen))) pool_is
-        ∙ ap (λ (o : Option ℕ). unless_unknown_operand o (selected_by command inputs pool chosen)) known_is
+        ap (λ (p : Result SealedPool Refusal). and_then p (λ pool. unless_unknown_operand (unknown_operand_place command.applet inputs command.operands) (selected_from_pool_by_choice command inputs pool chosen))) pool_is
+        ∙ ap (λ (o : Option ℕ). unless_unknown_operand o (selected_from_pool_by_choice command inputs pool chosen)) known_is
 
     choice_is : (chosen : Option (List ℕ)) → IsPreferredChoice pool chosen → IsChoiceFrom (pool_of_inputs command inputs) chosen
     choice_is chosen choice = subst (λ (p : Result SealedPool Refusal). IsChoiceFrom p chosen) (sym pool_is) choice
@@ -107,7 +107,7 @@ module _ (command : CommandLine) (inputs : Inputs) where
       -- no selection satisfies the world
       pub unchosen : (fault : Refused) → IsResultOfChoice chosen (Err fault) → IsSelectedFrom command inputs (Err fault)
       unchosen (IsRefused refusal) is =
-          (chosen, choice_is chosen choice, selected_is chosen None known ∙ ap (selected_by command inputs pool) is.0 ∙ ap Err (sym is.1))
+          (chosen, choice_is chosen choice, selected_is chosen None known ∙ ap (selected_from_pool_by_choice command inputs pool) is.0 ∙ ap Err (sym is.1))
       unchosen Disk is = absurd is
       unchosen Memory is = (chosen, choice_is chosen choice, tt)
 
@@ -116,7 +116,7 @@ module _ (command : CommandLine) (inputs : Inputs) where
           → record { inputs = inputs; replacement = replacement_of_choice (names_to_reinstall command.applet command.operands) inputs pool trace } ≡ selection_seen s
           → IsSelectedFrom command inputs (Ok s)
       selection_by s trace is seen =
-          (chosen, choice_is chosen choice, selected_is chosen None known ∙ ap (selected_by command inputs pool) is ∙ ap Ok seen)
+          (chosen, choice_is chosen choice, selected_is chosen None known ∙ ap (selected_from_pool_by_choice command inputs pool) is ∙ ap Ok seen)
 
 -- ---- a change that is only simulated
 

@@ -7,11 +7,11 @@ use Rattle.base_core.specs.Files.{Files}
 use Rattle.base_core.specs.Tree.{TreeState, files_of}
 use Rattle.journal_staging.specs.adb_schema.Reserved.{is_reserved}
 use Rattle.adb_view.specs.Plain.{Plain}
-use Rattle.added_packages.specs.Arrivals.{IsFileOfMember}
+use Rattle.added_packages.specs.Arrivals.{IsTestedPackageOfMember}
 use Rattle.change_report.specs.change_files.FileChange.{FileChange}
 use Rattle.change_report.specs.change_files.FilesAfter.{DatabaseAndWorldAfter, files_after_change, database_name, is_written, listing_bytes, world_bytes_after, world_name, listing_written_under_name}
-use Rattle.change_report.specs.change_files.PlanLists.{FileWrite, file_writes_of, write_to}
-use Rattle.change_report.specs.change_files.Touched.{is_record_name}
+use Rattle.change_report.specs.change_files.PlanLists.{FileWrite, file_writes_of, file_write_under_name}
+use Rattle.change_report.specs.change_files.Touched.{is_database_or_world_name}
 use Rattle.change_report.proofs.change_files.Lists.{IsOneOf}
 use Rattle.change_report.proofs.change_files.OwnedFiles.{coming_is, written_is}
 use Rattle.change_report.proofs.change_files.PlanNames.{writes_are}
@@ -20,9 +20,9 @@ use Rattle.change_report.proofs.change_files.Reserved.{records_reserved}
 use Rattle.change_report.proofs.change_files.Untouched.{takes_its_path}
 use Rattle.std.proofs.lemmas.Bool.{false_from_ne_true}
 use Rattle.change_report.specs.change_inputs.Inputs.{Inputs}
-use Rattle.change_report.specs.change_outcome.Premises.{HasNoReservedPath, IsRootOfFiles}
+use Rattle.change_report.specs.change_outcome.Premises.{HasNoReservedPath, AreDatabaseAndWorldReadFromFiles}
 use Rattle.change_report.proofs.change_outcome.ActionNames.{written_free}
-use Rattle.change_report.specs.change_outcome.ChangeOutcome.{bytes_or_empty_under, is_absent_or_different, new_records}
+use Rattle.change_report.specs.change_outcome.ChangeOutcome.{bytes_or_empty_under, is_absent_or_different, database_and_world_after_change}
 use Rattle.change_report.specs.change_outcome.MembersAfter.{MemberFound, found_package_contents}
 use Rattle.change_report.specs.db_core.Members.{Listing, Member, member_listings}
 use Rattle.journal_staging.specs.file_guard.AsListed.{has_target, link_bytes, link_bytes_to}
@@ -53,14 +53,14 @@ abbrev write_bytes : List Member → (ℕ → List Contents) → FileWrite → L
 write_bytes members contents w =
     if has_target (entry_of_write members w) then link_bytes (entry_of_write members w) else bytes_of_file w.folder w.file (contents w.member)
 
-listing_bytes_are : (contents : ℕ → List Contents) (members : List Member) (name : List ℕ) (l : Listing) → l.entry ≡ entry_of_write members (write_to name l) → listing_bytes contents l ≡ write_bytes members contents (write_to name l)
+listing_bytes_are : (contents : ℕ → List Contents) (members : List Member) (name : List ℕ) (l : Listing) → l.entry ≡ entry_of_write members (file_write_under_name name l) → listing_bytes contents l ≡ write_bytes members contents (file_write_under_name name l)
 unfolding listing_bytes
 listing_bytes_are contents members name l entry =
     ap (λ (e : Plain). if has_target e then link_bytes e else bytes_of_file l.folder l.file (contents l.place)) entry
 
-module _ (inputs : Inputs) (change : FileChange) (contents : ℕ → List Contents) (database : List ℕ) (files : Files) (root : IsRootOfFiles files inputs.root) (free : HasNoReservedPath change) where
+module _ (inputs : Inputs) (change : FileChange) (contents : ℕ → List Contents) (database : List ℕ) (files : Files) (root : AreDatabaseAndWorldReadFromFiles files inputs.root) (free : HasNoReservedPath change) where
   abbrev records : DatabaseAndWorldAfter
-  records = new_records inputs database
+  records = database_and_world_after_change inputs database
 
   abbrev after : Files
   after = files_after_change change (listing_bytes contents) records files
@@ -70,16 +70,16 @@ module _ (inputs : Inputs) (change : FileChange) (contents : ℕ → List Conten
       each_one (IsPlaced change.members) (member_listings change.members) l (each_placed change.members)
       ((coming_is change l.path l (written_is change files name l written).comes).0).listed
 
-  entry_is : (l : Listing) (name : List ℕ) → IsPlaced change.members l → l.entry ≡ entry_of_write change.members (write_to name l)
+  entry_is : (l : Listing) (name : List ℕ) → IsPlaced change.members l → l.entry ≡ entry_of_write change.members (file_write_under_name name l)
   entry_is l name p = p.entry ∙ sym (ap (λ (o : Option Member). listed_file_at (folders_if_any o) l.folder l.file) p.at)
 
-  no_record : (name : List ℕ) → is_reserved name ≡ false → is_record_name records name ≡ false
-  no_record name unreserved = false_from_ne_true (is_record_name records name) (λ is. true≢false (sym (records_reserved records name is) ∙ unreserved))
+  no_record : (name : List ℕ) → is_reserved name ≡ false → is_database_or_world_name records name ≡ false
+  no_record name unreserved = false_from_ne_true (is_database_or_world_name records name) (λ is. true≢false (sym (records_reserved records name is) ∙ unreserved))
 
   some_written : (l : Listing) (name : List ℕ) → listing_written_under_name change files name ≡ Some l → is_written change files name ≡ true
   some_written l name written = ap is_some written
 
-  bytes_by : (l : Listing) (name : List ℕ) → listing_written_under_name change files name ≡ Some l → bytes_or_empty_under after name ≡ write_bytes change.members contents (write_to name l)
+  bytes_by : (l : Listing) (name : List ℕ) → listing_written_under_name change files name ≡ Some l → bytes_or_empty_under after name ≡ write_bytes change.members contents (file_write_under_name name l)
   bytes_by l name written =
       ap (λ (o : Option (List ℕ)). unwrap_or o []) (takes_its_path change (listing_bytes contents) records files name l written
       (no_record name (written_free inputs change files records free name (some_written l name written))))
@@ -126,7 +126,7 @@ record_stands files name own wanted b (Some bytes) write copied same is = (is.na
 
 -- what `a_package_that_was_read_is_that_of_its_file` says
 abbrev pub FilesAreRead : List TreeState → List MemberFound → (ℕ → Option TestedPackage) → Type 0
-FilesAreRead history found packages = (place : ℕ) (pkg : TestedPackage) → packages place ≡ Some pkg → IsFileOfMember history found place pkg
+FilesAreRead history found packages = (place : ℕ) (pkg : TestedPackage) → packages place ≡ Some pkg → IsTestedPackageOfMember history found place pkg
 
 module _ (v : TreeState) (earlier : List TreeState) (found : List MemberFound) (members : List Member) (packages : ℕ → Option TestedPackage) (read : FilesAreRead (v ∷ earlier) found packages) where
   file_stands : (w : FileWrite) (bytes : List ℕ) (s : Source) → bytes ≡ write_bytes members (found_package_contents found) w → IsSourceOfWrite members packages w s → DenotesBytes (files_of v) s bytes
@@ -166,9 +166,9 @@ mapped_long f g (x ∷ xs) = ap suc (mapped_long f g xs)
 module _ (inputs : Inputs) (change : FileChange) (found : List MemberFound) (own : NewRecords) (rw : RecordWrites) (packages : ℕ → Option TestedPackage)
     (is_own : AreNewRecordsOf inputs own) (which : AreRecordWrites inputs own rw) (free : HasNoReservedPath change)
     (v : TreeState) (earlier : List TreeState) (read : FilesAreRead (v ∷ earlier) found packages)
-    (files : Files) (root : IsRootOfFiles files inputs.root) where
+    (files : Files) (root : AreDatabaseAndWorldReadFromFiles files inputs.root) where
   abbrev left : Files
-  left = files_after_change change (listing_bytes (found_package_contents found)) (new_records inputs own.database.items) files
+  left = files_after_change change (listing_bytes (found_package_contents found)) (database_and_world_after_change inputs own.database.items) files
 
   one_stands : (w : StagedWrite) → IsWriteOfChange change.members packages (file_writes_of change files) rw w → DenotesBytes (files_of v) w.source (bytes_or_empty_under left (name_of_write w))
   one_stands w (inl f) =

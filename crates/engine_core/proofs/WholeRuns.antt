@@ -6,7 +6,7 @@ use Rattle.base_core.specs.Calls.{IfObservable}
 use Rattle.base_core.specs.Faults.{Counts}
 use Rattle.base_core.specs.Files.{Files}
 use Rattle.base_core.specs.Tree.{IsWellFormed, TreeState, files_of}
-use Rattle.change_report.specs.change_inputs.Answers.{AgreesUnlessDisk, IsDiskOrMemoryFailure}
+use Rattle.change_report.specs.change_inputs.Answers.{AgreesUnlessDiskOrMemory, IsDiskOrMemoryFailure}
 use Rattle.change_report.specs.change_inputs.Chains.{and_then}
 use Rattle.change_report.specs.change_inputs.Inputs.{Inputs, first_index_read_number, inputs_of}
 use Rattle.change_report.specs.change_inputs.Seen.{inputs_seen}
@@ -23,10 +23,10 @@ use Rattle.change_report.specs.package_changes.Changes.{Replacement}
 use Rattle.change_report.specs.path_clashes.Clash.{NamePair}
 use Rattle.change_report.specs.candidate_core.Rank.{SealedPool}
 use Rattle.report_core.specs.declared.refusal.Refusal.{Refusal}
-use Rattle.change_report.specs.change_outcome.Premises.{IsRootOfFiles}
+use Rattle.change_report.specs.change_outcome.Premises.{AreDatabaseAndWorldReadFromFiles}
 use Rattle.engine_core.specs.Preparing.{IsRootRead}
-use Rattle.engine_core.specs.ChangeRun.{CarriesOut, IsChangeRun}
-use Rattle.engine_core.specs.Changed.{IsClashOfSelected, IsClashOfSelectedAmong, IsClashUnlessSimulatedAmong, InputsAndReplacement, change_of_selected, change_of_command, found_packages, selected_by, selected_for, selected_of_inputs, simulated_change}
+use Rattle.engine_core.specs.ChangeRun.{IsEndOfRunOfWantedChange, IsChangeRun}
+use Rattle.engine_core.specs.Changed.{IsClashOfSelected, IsClashOfSelectedAmong, IsClashUnlessSimulatedAmong, InputsAndReplacement, change_of_selected, change_of_command, packages_found_after_change, selected_from_pool_by_choice, selected_from_reads_by_choice, selected_from_inputs_by_choice, simulated_change}
 use Rattle.engine_core.specs.Choice.{IsChoiceFrom}
 use Rattle.engine_core.specs.Runs.{IsRunOnSelection}
 use Rattle.engine_core.specs.Selecting.{pool_of_inputs, pool_of_command}
@@ -71,15 +71,15 @@ splice_observed count first behind (v ∷ earlier) f b = λ n name. by (nat_lt n
 -- ---- a run behind calls that only read
 
 pub comes_after_reads : (packages : Result (List MemberFound) Refusal) (wanted : Result ChangeDone Refusal) (old mid now : List TreeState) (before between after : Counts) (result : Result (List ℕ) Refused)
-    → IsOnlyRead old mid before between → CarriesOut packages wanted mid now between after result → CarriesOut packages wanted old now before after result
+    → IsOnlyRead old mid before between → IsEndOfRunOfWantedChange packages wanted mid now between after result → IsEndOfRunOfWantedChange packages wanted old now before after result
 comes_after_reads packages wanted old mid now before between after result quiet comes = record {
   told = same.told;
   run = same.run;
   proper = both _ _ _ old quiet.proper same.proper;
 }
   where
-    same : CarriesOut packages wanted old now between after result
-    same = subst (λ (h : List TreeState). CarriesOut packages wanted h now between after result) quiet.same comes
+    same : IsEndOfRunOfWantedChange packages wanted old now between after result
+    same = subst (λ (h : List TreeState). IsEndOfRunOfWantedChange packages wanted h now between after result) quiet.same comes
 
     both : (A B C : TreeState → Type 0) (h : List TreeState) → IfObservable h (λ v. between.misuses ≡ before.misuses)
         → IfObservable h (λ v. A v → B v → C v → after.misuses ≡ between.misuses) → IfObservable h (λ v. A v → B v → C v → after.misuses ≡ before.misuses)
@@ -131,7 +131,7 @@ module _ (have : HaveOwnReads) (command : CommandLine) (inputs : Inputs) (read o
       by true clash_is = clash_is
       by false clash_is = subst (λ (found : Result (List MemberFound) Refusal). IsClashFoundAmong s.inputs (wishes_of command) files present_files found clash) (of_inputs s.inputs is) clash_is
 
-  packages_same : (s : InputsAndReplacement) → s.inputs ≡ inputs → found_packages command read (Ok s) ≡ found_packages command other (Ok s)
+  packages_same : (s : InputsAndReplacement) → s.inputs ≡ inputs → packages_found_after_change command read (Ok s) ≡ packages_found_after_change command other (Ok s)
   packages_same s is = subst (λ (i : Inputs). members_after_change i s.replacement (wishes_of command) read ≡ members_after_change i s.replacement (wishes_of command) other) (sym is) (members_same s.replacement (wishes_of command))
 
 -- what is selected has these inputs
@@ -139,30 +139,30 @@ abbrev HasInputs : Inputs → Result InputsAndReplacement Refusal → Type 0
 HasInputs inputs (Ok s) = s.inputs ≡ inputs
 HasInputs inputs (Err refusal) = Unit {0}
 
-selected_has : (command : CommandLine) (chosen : Option (List ℕ)) (inputs : Inputs) → HasInputs inputs (selected_of_inputs command chosen inputs)
+selected_has : (command : CommandLine) (chosen : Option (List ℕ)) (inputs : Inputs) → HasInputs inputs (selected_from_inputs_by_choice command chosen inputs)
 selected_has command chosen inputs = by_pool (pool_of_inputs command inputs)
   where
-    by_choice : (pool : SealedPool) (c : Option (List ℕ)) → HasInputs inputs (selected_by command inputs pool c)
+    by_choice : (pool : SealedPool) (c : Option (List ℕ)) → HasInputs inputs (selected_from_pool_by_choice command inputs pool c)
     by_choice pool None = tt
     by_choice pool (Some trace) = refl
 
-    by_place : (pool : SealedPool) (place : Option ℕ) → HasInputs inputs (unless_unknown_operand place (selected_by command inputs pool chosen))
+    by_place : (pool : SealedPool) (place : Option ℕ) → HasInputs inputs (unless_unknown_operand place (selected_from_pool_by_choice command inputs pool chosen))
     by_place pool None = by_choice pool chosen
     by_place pool (Some place) = tt
 
-    by_pool : (p : Result SealedPool Refusal) → HasInputs inputs (and_then p (λ pool. unless_unknown_operand (unknown_operand_place command.applet inputs command.operands) (selected_by command inputs pool chosen)))
+    by_pool : (p : Result SealedPool Refusal) → HasInputs inputs (and_then p (λ pool. unless_unknown_operand (unknown_operand_place command.applet inputs command.operands) (selected_from_pool_by_choice command inputs pool chosen)))
     by_pool (Ok pool) = by_place pool (unknown_operand_place command.applet inputs command.operands)
     by_pool (Err refusal) = tt
 
 module _ (have : HaveOwnReads) (command : CommandLine) (inputs : Inputs) (old now : List TreeState) (before after : Counts) (result : Result (List ℕ) Refused)
     (first : Reads) (observed : AreReadsOfTree old first) (is : inputs_of command first ≡ Ok inputs)
     (chosen : Option (List ℕ)) (choice : IsChoiceFrom (pool_of_inputs command inputs) chosen)
-    (run : IsRunOnSelection command (selected_of_inputs command chosen inputs) old now before after result) where
+    (run : IsRunOnSelection command (selected_from_inputs_by_choice command chosen inputs) old now before after result) where
   count : ℕ
   count = first_index_read_number + length inputs.root.repositories
 
   selected : Result InputsAndReplacement Refusal
-  selected = selected_of_inputs command chosen inputs
+  selected = selected_from_inputs_by_choice command chosen inputs
 
   read : Reads
   read = splice count first run.read
@@ -175,9 +175,9 @@ module _ (have : HaveOwnReads) (command : CommandLine) (inputs : Inputs) (old no
   unfolding read count
   inputs_is = have.inputs command first read inputs is (λ n name less. splice_first count first run.read n name less)
 
-  selected_is : selected_for command read chosen ≡ selected
+  selected_is : selected_from_reads_by_choice command read chosen ≡ selected
   unfolding selected
-  selected_is = ap (λ (r : Result Inputs Refusal). and_then r (selected_of_inputs command chosen)) inputs_is
+  selected_is = ap (λ (r : Result Inputs Refusal). and_then r (selected_from_inputs_by_choice command chosen)) inputs_is
 
   by_selected : (s : Result InputsAndReplacement Refusal) → HasInputs inputs s → and_then s (change_of_selected command read run.files run.clash) ≡ and_then s (change_of_selected command run.read run.files run.clash)
   by_selected (Ok s) has = selected_same have command inputs read run.read same s run.files run.clash has
@@ -187,13 +187,13 @@ module _ (have : HaveOwnReads) (command : CommandLine) (inputs : Inputs) (old no
   unfolding change_of_command selected
   changed_is = sym (ap (λ (s : Result InputsAndReplacement Refusal). and_then s (change_of_selected command read run.files run.clash)) selected_is ∙ by_selected selected (selected_has command chosen inputs))
 
-  packages_by : (s : Result InputsAndReplacement Refusal) → HasInputs inputs s → found_packages command run.read s ≡ found_packages command read s
+  packages_by : (s : Result InputsAndReplacement Refusal) → HasInputs inputs s → packages_found_after_change command run.read s ≡ packages_found_after_change command read s
   packages_by (Ok s) has = sym (packages_same have command inputs read run.read same s has)
   packages_by (Err refusal) has = refl
 
-  packages_are : found_packages command run.read selected ≡ found_packages command read (selected_for command read chosen)
+  packages_are : packages_found_after_change command run.read selected ≡ packages_found_after_change command read (selected_from_reads_by_choice command read chosen)
   unfolding selected
-  packages_are = packages_by selected (selected_has command chosen inputs) ∙ ap (found_packages command read) (sym selected_is)
+  packages_are = packages_by selected (selected_has command chosen inputs) ∙ ap (packages_found_after_change command read) (sym selected_is)
 
   clash_by : (s : Result InputsAndReplacement Refusal) → HasInputs inputs s → IsClashOfSelectedAmong command run.read run.files run.present_files s run.clash → IsClashOfSelectedAmong command read run.files run.present_files s run.clash
   clash_by (Ok s) has clash = clash_same have command inputs read run.read same s run.files run.present_files run.clash has clash
@@ -213,8 +213,8 @@ module _ (have : HaveOwnReads) (command : CommandLine) (inputs : Inputs) (old no
     clash = run.clash;
     is_clash = subst (λ (s : Result InputsAndReplacement Refusal). IsClashOfSelectedAmong command read run.files run.present_files s run.clash) (sym selected_is)
         (clash_by selected (selected_has command chosen inputs) run.is_clash);
-    comes = subst (λ (p : Result (List MemberFound) Refusal). CarriesOut p (change_of_command command read run.files chosen run.clash) old now before after result) packages_are
-        (subst (λ (w : Result ChangeDone Refusal). CarriesOut (found_packages command run.read selected) w old now before after result) changed_is run.comes);
+    comes = subst (λ (p : Result (List MemberFound) Refusal). IsEndOfRunOfWantedChange p (change_of_command command read run.files chosen run.clash) old now before after result) packages_are
+        (subst (λ (w : Result ChangeDone Refusal). IsEndOfRunOfWantedChange (packages_found_after_change command run.read selected) w old now before after result) changed_is run.comes);
   }
 
 pub joined : HaveOwnReads → (command : CommandLine) (loaded : Loaded) (old mid now : List TreeState) (before between after : Counts) (result : Result (List ℕ) Refused) → IsOnlyRead old mid before between
@@ -229,7 +229,7 @@ module _ (choose : HaveChoice) (have : HaveClash) (command : CommandLine) (old n
   unread_failure : (fault : Refused) → IsDiskOrMemoryFailure fault → (read : Reads) → AreReadsOfTree old read → IsChangeRun command old now before after (Err fault)
   unread_failure fault is read observed =
       let (chosen, choice) = choose (pool_of_command command read) in
-      let seen = files_seen have command (selected_for command read chosen) old read whole in
+      let seen = files_seen have command (selected_from_reads_by_choice command read chosen) old read whole in
       record {
         read = read;
         observed = observed;
@@ -248,7 +248,7 @@ module _ (choose : HaveChoice) (have : HaveClash) (command : CommandLine) (old n
   unfolding change_of_command
   unread_refusal refusal read observed is =
       let seen = files_seen have command (Err refusal) old read whole in
-      let selected : selected_for command read None ≡ Err refusal = ap (λ (r : Result Inputs Refusal). and_then r (selected_of_inputs command None)) is in
+      let selected : selected_from_reads_by_choice command read None ≡ Err refusal = ap (λ (r : Result Inputs Refusal). and_then r (selected_from_inputs_by_choice command None)) is in
       record {
         read = read;
         observed = observed;
@@ -263,14 +263,14 @@ module _ (choose : HaveChoice) (have : HaveClash) (command : CommandLine) (old n
         comes = comes_to_refusal _ _ old now before after quiet refusal (ap (λ (s : Result InputsAndReplacement Refusal). and_then s (change_of_selected command read seen.files seen.clash)) selected);
       }
 
-  pub unread : (fault : Refused) → IsExplainedBySomeReads old (λ read. AgreesUnlessDisk inputs_seen (Err fault) (inputs_of command read)) → IsChangeRun command old now before after (Err fault)
+  pub unread : (fault : Refused) → IsExplainedBySomeReads old (λ read. AgreesUnlessDiskOrMemory inputs_seen (Err fault) (inputs_of command read)) → IsChangeRun command old now before after (Err fault)
   unread (IsRefused refusal) explained = unread_refusal refusal explained.read explained.observed explained.is
   unread Disk explained = unread_failure Disk tt explained.read explained.observed
   unread Memory explained = unread_failure Memory tt explained.read explained.observed
 
 -- ---- what was read of the root stands there
 
-pub root_read : ((command : CommandLine) (read : Reads) (inputs : Inputs) (files : Files) → ((n : ℕ) (name : List ℕ) → read n name ≡ files name) → inputs_of command read ≡ Ok inputs → IsRootOfFiles files inputs.root)
+pub root_read : ((command : CommandLine) (read : Reads) (inputs : Inputs) (files : Files) → ((n : ℕ) (name : List ℕ) → read n name ≡ files name) → inputs_of command read ≡ Ok inputs → AreDatabaseAndWorldReadFromFiles files inputs.root)
     → (command : CommandLine) (inputs : Inputs) (old mid : List TreeState) → mid ≡ old → IsExplainedBySomeReads old (λ read. inputs_of command read ≡ Ok inputs) → IsRootRead mid inputs
 root_read law command inputs old mid same explained = subst (λ (h : List TreeState). IsRootRead h inputs) (sym same) (by old explained.observed)
   where

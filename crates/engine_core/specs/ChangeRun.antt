@@ -7,7 +7,7 @@ use Rattle.base_core.specs.Faults.{Counts}
 use Rattle.base_core.specs.Files.{Files}
 use Rattle.base_core.specs.Tree.{TreeState, files_of}
 use Rattle.base_core.specs.declared.cause.Cause.{Cause}
-use Rattle.change_report.specs.change_inputs.Answers.{AgreesUnlessDisk}
+use Rattle.change_report.specs.change_inputs.Answers.{AgreesUnlessDiskOrMemory}
 use Rattle.change_report.specs.change_inputs.Chains.{and_then}
 use Rattle.change_report.specs.change_inputs.declared.root.Refused.{Refused}
 use Rattle.change_report.specs.change_inputs.declared.root.Refused.TheVariants.{Disk, Refusal as IsRefused}
@@ -17,15 +17,15 @@ use Rattle.command_core.specs.Command.{CommandLine}
 use Rattle.change_report.specs.db_core.Members.{member_name}
 use Rattle.change_report.specs.file_owners.Replaces.{package_version_text}
 use Rattle.change_report.specs.journal_core.Recovery.{intent_name}
-use Rattle.change_report.specs.journal_core.Staged.{AreStagingPathsFree, IsEmptyStage}
+use Rattle.change_report.specs.journal_core.Staged.{AreStagingPathsFree, HasNoStagedNames}
 use Rattle.change_report.specs.make_info.Reads.{Reads}
 use Rattle.change_report.specs.package_files.Runs.{AreReadsOfTree}
 use Rattle.change_report.specs.path_clashes.Clash.{NamePair}
 use Rattle.report_core.specs.declared.refusal.Refusal.{Refusal}
 use Rattle.report_core.specs.declared.refusal.Refusal.TheVariants.{PackageBad}
-use Rattle.journal_staging.specs.Spoiled.{IsSpoiledFile}
+use Rattle.journal_staging.specs.Spoiled.{IsFileWithOnlyContentsSpoiled}
 use Rattle.journal_staging.specs.journal_commit.StageRun.{IsRunOfStagedChange, IsStagedChangeComplete}
-use Rattle.engine_core.specs.Changed.{IsClashOfCommandAmong, change_of_command, found_packages, selected_for}
+use Rattle.engine_core.specs.Changed.{IsClashOfCommandAmong, change_of_command, packages_found_after_change, selected_from_reads_by_choice}
 use Rattle.engine_core.specs.Choice.{IsChoiceFrom}
 use Rattle.engine_core.specs.Selecting.{pool_of_command}
 
@@ -47,42 +47,51 @@ DoesCommit (Err refusal) = ⊥
 -- One of the packages that were read for a change is spoiled. `tested` is its file when it was tested,
 -- and `file` is a file with other contents, which fails a test with `cause`. The refusal reports this
 -- package as bad, with this cause.
-pub record HasSpoiledPackage (packages : Result (List MemberFound) Refusal) (refusal : Refusal) :
+pub record IsRefusalOfSpoiledPackage (packages : Result (List MemberFound) Refusal) (refusal : Refusal) :
     Type 0 where
+  -- the packages after the change, as the reads found them
   pub found : List MemberFound
   pub are : packages ≡ Ok found
+  -- one of these packages, which is spoiled
   pub one : MemberFound
   pub among : Contains found one
+  -- the bytes of its file when it was tested
   pub tested : List ℕ
   pub read : one.file ≡ Some tested
+  -- a file with the same values and other contents, and the test that it fails
   pub file : List ℕ
   pub cause : Cause
-  pub spoiled : IsSpoiledFile tested file cause
+  pub spoiled : IsFileWithOnlyContentsSpoiled tested file cause
+  -- the refusal reports this package as bad, with this cause
   pub is : refusal ≡ PackageBad (member_name one.member) (package_version_text one.member.pkg) cause
 
 -- The file of an added package is not what was tested, when its contents are read once more. The report
 -- on it is that on some file with other contents. This does not happen on an observable tree without an
 -- intent and staged files.
-pub record IsChangedSinceTested (packages : Result (List MemberFound) Refusal)
+pub record IsPackageFileChangedSinceTested (packages : Result (List MemberFound) Refusal)
     (wanted : Result ChangeDone Refusal) (history : List TreeState)
     (result : Result (List ℕ) Refused) : Type 0 where
   -- the tree is not observable, or has an intent or a staged file
-  pub unseen : IfObservable history (λ v. v.names intent_name ≡ None → IsEmptyStage (files_of v)
+  pub unseen : IfObservable history (λ v. v.names intent_name ≡ None → HasNoStagedNames (files_of v)
       → ⊥)
   -- the change is not refused, and would write or remove something
   pub commits : DoesCommit wanted
   -- the refusal reports the package that is spoiled
   pub refusal : Refusal
-  pub spoiled : HasSpoiledPackage packages refusal
+  -- the refusal is that of a spoiled package
+  pub spoiled : IsRefusalOfSpoiledPackage packages refusal
+  -- the run ends with this refusal
   pub is : result ≡ Err (IsRefused refusal)
 
 -- ---- the effect on the tree
 
 -- a change is staged and carried through, or the tree failed on the way
-pub record IsCommit (wanted : Result ChangeDone Refusal) (v : TreeState)
+pub record IsRunThatCommitsChange (wanted : Result ChangeDone Refusal) (v : TreeState)
     (old now : List TreeState) (result : Result (List ℕ) Refused) : Type 0 where
+  -- the result of the change
   pub done : ChangeDone
   pub is : wanted ≡ Ok done
+  -- the change writes or removes a file
   pub commits : done.commits ≡ true
   -- what holds in each state of a run that leads to the files of the change
   pub run : IsRunOfStagedChange done.files v old now
@@ -97,7 +106,7 @@ abbrev pub IsUnchangedOrCommit :
     Result ChangeDone Refusal → TreeState → List TreeState → List TreeState
     → Result (List ℕ) Refused → Type 0
 IsUnchangedOrCommit wanted v old now result =
-    ((now ≡ old) × OnOk result (DoesCommit wanted → ⊥)) ⊎ IsCommit wanted v old now result
+    ((now ≡ old) × OnOk result (DoesCommit wanted → ⊥)) ⊎ IsRunThatCommitsChange wanted v old now result
 
 -- ---- the answer and the effect together
 
@@ -106,14 +115,17 @@ IsUnchangedOrCommit wanted v old now result =
 -- memory ran out. If there is neither an intent nor a staged file at its start, the tree is unchanged,
 -- or the change is carried through, or the tree fails on the way. No call is a misuse if the paths are
 -- free for the stage of a change that commits.
-pub record CarriesOut (packages : Result (List MemberFound) Refusal)
+pub record IsEndOfRunOfWantedChange (packages : Result (List MemberFound) Refusal)
     (wanted : Result ChangeDone Refusal) (old now : List TreeState) (before after : Counts)
     (result : Result (List ℕ) Refused) : Type 0 where
-  pub told : AgreesUnlessDisk report_as_is result (report_of_result wanted)
-      ⊎ IsChangedSinceTested packages wanted old result
-  pub run : IfObservable old (λ v. v.names intent_name ≡ None → IsEmptyStage (files_of v)
+  -- the run reports what was wanted, or that a package is no longer what was tested
+  pub told : AgreesUnlessDiskOrMemory report_as_is result (report_of_result wanted)
+      ⊎ IsPackageFileChangedSinceTested packages wanted old result
+  -- without an intent and staged files, the change is carried through, or the tree is unchanged or failed
+  pub run : IfObservable old (λ v. v.names intent_name ≡ None → HasNoStagedNames (files_of v)
       → IsUnchangedOrCommit wanted v old now result)
-  pub proper : IfObservable old (λ v. v.names intent_name ≡ None → IsEmptyStage (files_of v)
+  -- without an intent and staged files, no call is a misuse if the paths of the stage are free
+  pub proper : IfObservable old (λ v. v.names intent_name ≡ None → HasNoStagedNames (files_of v)
       → (DoesCommit wanted → AreStagingPathsFree (files_of v)) → after.misuses ≡ before.misuses)
 
 -- A run of a command's change: by what reads find, by some files, by what is chosen, and by the first
@@ -123,19 +135,25 @@ pub record IsChangeRun (command : CommandLine) (old now : List TreeState) (befor
     (result : Result (List ℕ) Refused) : Type 0 where
   -- what the reads find
   pub read : Reads
+  -- the reads find what is in the tree
   pub observed : AreReadsOfTree old read
   -- the places of the chosen candidates; None if no selection satisfies the new world
   pub chosen : Option (List ℕ)
+  -- the chosen candidates are the preferred selection, or there is none
   pub choice : IsChoiceFrom (pool_of_command command read) chosen
   -- the files that decide whether a configuration file is kept
   pub files : Files
+  -- on an observable tree these are its files at the start
   pub there : IfObservable old (λ v. files ≡ files_of v)
   -- the files among which names clash
   pub present_files : Files
+  -- on an observable tree the present files are its files at the start
   pub stand : IfObservable old (λ v. present_files ≡ files_of v)
   -- the first clash of names, if there is one
   pub clash : Option NamePair
+  -- the first clash of names of the change, if there is one
   pub is_clash : IsClashOfCommandAmong command read files present_files chosen clash
   -- how the run ends
-  pub comes : CarriesOut (found_packages command read (selected_for command read chosen))
+  pub comes : IsEndOfRunOfWantedChange
+      (packages_found_after_change command read (selected_from_reads_by_choice command read chosen))
       (change_of_command command read files chosen clash) old now before after result

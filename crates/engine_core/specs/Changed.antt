@@ -22,15 +22,17 @@ use Rattle.engine_core.specs.Wishes.{names_to_reinstall, unknown_operand_place, 
 
 -- what is read, and the packages before with the candidates that are to replace them
 pub record InputsAndReplacement : Type 0 where
+  -- what was read of the root
   pub inputs : Inputs
+  -- the packages before, and the selected candidates
   pub replacement : Replacement
 
 -- what is selected by a choice of candidates; without a choice no selection satisfies the new world,
 -- and that is refused
-abbrev pub selected_by :
+abbrev pub selected_from_pool_by_choice :
     CommandLine → Inputs → SealedPool → Option (List ℕ) → Result InputsAndReplacement Refusal
-selected_by command inputs pool None = Err Unsatisfied
-selected_by command inputs pool (Some trace) =
+selected_from_pool_by_choice command inputs pool None = Err Unsatisfied
+selected_from_pool_by_choice command inputs pool (Some trace) =
     Ok (record {
       inputs = inputs;
       replacement = replacement_of_choice (names_to_reinstall command.applet command.operands)
@@ -39,22 +41,23 @@ selected_by command inputs pool (Some trace) =
 
 -- What is selected by the inputs and a choice. Too many candidates are refused first, then an operand
 -- that names no package, and then a world that no selection satisfies.
-abbrev pub selected_of_inputs :
+abbrev pub selected_from_inputs_by_choice :
     CommandLine → Option (List ℕ) → Inputs → Result InputsAndReplacement Refusal
-selected_of_inputs command chosen inputs =
+selected_from_inputs_by_choice command chosen inputs =
     and_then (pool_of_inputs command inputs) (λ pool.
     unless_unknown_operand (unknown_operand_place command.applet inputs command.operands)
-    (selected_by command inputs pool chosen))
+    (selected_from_pool_by_choice command inputs pool chosen))
 
 -- what a command selects by what reads find and by the chosen candidates, or its first refusal
-abbrev pub selected_for : CommandLine → Reads → Option (List ℕ) → Result InputsAndReplacement Refusal
-selected_for command read chosen =
-    and_then (inputs_of command read) (selected_of_inputs command chosen)
+abbrev pub selected_from_reads_by_choice : CommandLine → Reads → Option (List ℕ)
+    → Result InputsAndReplacement Refusal
+selected_from_reads_by_choice command read chosen =
+    and_then (inputs_of command read) (selected_from_inputs_by_choice command chosen)
 
 -- the packages after what is selected, as reads find them, or the first refusal
-abbrev pub found_packages :
+abbrev pub packages_found_after_change :
     CommandLine → Reads → Result InputsAndReplacement Refusal → Result (List MemberFound) Refusal
-found_packages command read selected =
+packages_found_after_change command read selected =
     and_then selected (λ s. members_after_change s.inputs s.replacement (wishes_of command) read)
 
 -- ---- the result
@@ -75,18 +78,20 @@ change_of_selected command read files clash s =
 unfoldable pub change_of_command :
     CommandLine → Reads → Files → Option (List ℕ) → Option NamePair → Result ChangeDone Refusal
 change_of_command command read files chosen clash =
-    and_then (selected_for command read chosen) (change_of_selected command read files clash)
+    and_then (selected_from_reads_by_choice command read chosen)
+    (change_of_selected command read files clash)
 
 -- ---- the first clash
 
--- the first clash of names that a change finds; a simulated change does not look for one, and has none
+-- the first clash of names that a change finds; a simulated change does not search for it, and has none
 abbrev pub IsClashUnlessSimulatedAmong :
     Bool → ChangeWishes → Reads → Files → Files → InputsAndReplacement → Option NamePair → Type 0
 IsClashUnlessSimulatedAmong true wishes read files present_files s clash = clash ≡ None
 IsClashUnlessSimulatedAmong false wishes read files present_files s clash =
     IsClashOfChangeAmong s.inputs s.replacement wishes read files present_files clash
 
--- the first clash of names that a command finds; one that is refused earlier does not look for it
+-- the first clash of names that a command finds; a command that is refused earlier does not search for it, and
+-- has none
 abbrev pub IsClashOfSelectedAmong :
     CommandLine → Reads → Files → Files → Result InputsAndReplacement Refusal → Option NamePair → Type 0
 IsClashOfSelectedAmong command read files present_files (Ok s) clash =
@@ -100,7 +105,8 @@ IsClashOfSelectedAmong command read files present_files (Err refusal) clash = cl
 abbrev pub IsClashOfCommandAmong :
     CommandLine → Reads → Files → Files → Option (List ℕ) → Option NamePair → Type 0
 IsClashOfCommandAmong command read files present_files chosen clash =
-    IsClashOfSelectedAmong command read files present_files (selected_for command read chosen) clash
+    IsClashOfSelectedAmong command read files present_files
+    (selected_from_reads_by_choice command read chosen) clash
 
 -- *IsClashUnlessSimulatedAmong*, with the same files as `present_files`, as on an observable tree
 abbrev pub IsClashUnlessSimulated :

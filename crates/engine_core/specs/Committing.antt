@@ -6,7 +6,7 @@ use Rattle.base_core.specs.Tree.{TreeState}
 use Rattle.base_core.specs.declared.cause.Cause.{Cause}
 use Rattle.change_report.specs.change_inputs.declared.root.Refused.{Refused}
 use Rattle.change_report.specs.change_inputs.declared.root.Refused.TheVariants.{Disk, Memory, Refusal as IsRefused}
-use Rattle.change_report.specs.change_outcome.ChangeOutcome.{ChangeDone, change_done, new_records}
+use Rattle.change_report.specs.change_outcome.ChangeOutcome.{ChangeDone, change_done, database_and_world_after_change}
 use Rattle.change_report.specs.change_outcome.MembersAfter.{MemberFound}
 use Rattle.change_report.specs.db_core.Members.{Member, member_name}
 use Rattle.change_report.specs.file_owners.Replaces.{package_version_text}
@@ -22,11 +22,15 @@ use Rattle.engine_core.specs.declared.rendering.Rendered.{Rendered}
 
 -- a change is ready to be committed: its files are planned over the tree as it is, and it is rendered
 pub record IsReadyToCommit (history : List TreeState) (p : Plan) (r : Rendered) : Type 0 where
+  -- the packages after the change
   pub found : List MemberFound
+  -- the files over which the change is planned
   pub files : Files
   pub planned : IsPlanned history p found files
+  -- the new database and world
   pub records : NewRecords
   pub own : AreNewRecordsOf (inputs_of_plan p) records
+  -- the staged files and the report are made of the plan and of the new database and world
   pub rendered : IsRendered p records r
 
 -- the result of a change that is committed
@@ -34,7 +38,7 @@ abbrev pub result_of_ready :
     {history : List TreeState} {p : Plan} {r : Rendered} → IsReadyToCommit history p r → ChangeDone
 result_of_ready {history} {p} {r} ready =
     change_done (inputs_of_plan p) (replacement_of_plan p) (wishes_of_plan p) ready.found ready.files
-    (new_records (inputs_of_plan p) ready.records.database.items)
+    (database_and_world_after_change (inputs_of_plan p) ready.records.database.items)
 
 -- ---- a package that was changed
 

@@ -31,9 +31,13 @@ IsRefusalOfPlanFault Plans.Memory refused = refused ≡ Commands.Memory
 -- removed
 pub record IsPlanFrom (history : List TreeState) (purge : Bool) (db : Db) (members : Members)
     (plan : FilePlan) : Type 0 where
+  -- the plan has the files that the change writes, removes, keeps and lays aside, over some files
   pub lists : IsPlanOverSomeFiles (file_change_between db members purge) history plan
+  -- no name is both written and removed, and none is reserved
   pub names : HasDisjointUnreservedNames plan
+  -- each written file has a source in an added package
   pub sources : HasSources (members_of members) plan
+  -- each written file is that of the package which owns its path
   pub owners : IsPlanForMembersAlone (members_of members) plan
   -- no path that the old database lists is reserved
   pub unreserved : All (λ l. is_reserved l.path ≡ false)
@@ -42,11 +46,14 @@ pub record IsPlanFrom (history : List TreeState) (purge : Bool) (db : Db) (membe
 -- a change has no plan, for this reason
 pub record HasNoPlan (history : List TreeState) (purge : Bool) (db : Db) (members : Members)
     (refused : Refused) : Type 0 where
+  -- the reason
   pub fault : PlanFault
+  -- the refusal is the one for this reason
   pub reported : IsRefusalOfPlanFault fault refused
   -- what the packages alone show of the fault
   pub cause : IsRefusalForMembersAlone (members_of members) fault
   -- what the tree's files show of the fault, if they are observable; and else what some files show
   pub first : IfObservable history
       (λ v. IsRefusalOverFiles (file_change_between db members purge) (files_of v) fault)
+  -- the reason is one that the change may have
   pub may : MayBeRefusalOf (file_change_between db members purge) history fault

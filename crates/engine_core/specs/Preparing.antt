@@ -13,7 +13,7 @@ use Rattle.change_report.specs.change_files.FileChange.{old_listings}
 use Rattle.change_report.specs.change_files.NamesAfter.{name_change}
 use Rattle.change_report.specs.path_clashes.Clash.{HasNoClash}
 use Rattle.change_report.specs.change_inputs.Inputs.{Inputs}
-use Rattle.change_report.specs.change_outcome.Premises.{IsRootOfFiles}
+use Rattle.change_report.specs.change_outcome.Premises.{AreDatabaseAndWorldReadFromFiles}
 use Rattle.change_report.specs.change_outcome.ChangeOutcome.{ChangeWishes, members_after_change, file_change, is_absent_or_different}
 use Rattle.change_report.specs.change_outcome.MembersAfter.{MemberFound, found_members}
 use Rattle.change_report.specs.change_outcome.Triggers.{unless_trigger_due}
@@ -36,7 +36,8 @@ use Rattle.engine_core.specs.declared.writes.RecordWrites.{RecordWrites}
 
 -- on an observable tree, the database and world were read from its files
 abbrev pub IsRootRead : List TreeState → Inputs → Type 0
-IsRootRead history inputs = IfObservable history (λ v. IsRootOfFiles (files_of v) inputs.root)
+IsRootRead history inputs =
+    IfObservable history (λ v. AreDatabaseAndWorldReadFromFiles (files_of v) inputs.root)
 
 -- ---- the packages
 
@@ -55,32 +56,43 @@ wishes_of_packages a = wishes_of_selection a.selection.now
 -- packages were read for a selection, and are those that are found
 pub record ArePackagesReadForSelection (history : List TreeState) (s : Selection) (a : ReadPackages)
     (found : List MemberFound) : Type 0 where
+  -- they were read for this selection
   pub selection : a.selection.now ≡ s
+  -- the names are those of the packages before and of the selected candidates, with their places
   pub placed : placed_names_seen a.names ≡ placed_names_of (placed_replacement_from_parts
       a.selection.now.db a.selection.now.pool a.selection.now.trace a.selection.now.again)
+  -- each package was read as the definition finds it
   pub read : AreMembersRead history (packages_of a.selection.now.db) (arrivals_seen a.arrivals) found
 
 -- the added packages were read, and with the kept ones they are those that are found
 -- found: the packages after the change, with the file of each added one
 pub record HasReadAddedPackages (history : List TreeState) (a : ReadPackages) (found : List MemberFound)
     : Type 0 where
+  -- the packages before are those of the inputs
   pub database : HasDatabaseOfInputs a.selection.now
+  -- the names are those of the packages before and of the selected candidates, with their places
   pub placed : placed_names_seen a.names ≡ placed_names_of (placed_replacement_from_parts
       a.selection.now.db a.selection.now.pool a.selection.now.trace a.selection.now.again)
+  -- each package was read as the definition finds it
   pub read : AreMembersRead history (packages_of a.selection.now.db) (arrivals_seen a.arrivals) found
+  -- the inputs were read from the tree
   pub root : IsRootRead history (inputs_of_packages a)
 
 -- reads find these packages after the change
 pub record ArePackagesFoundByReads (history : List TreeState) (a : ReadPackages) (read : Reads)
     (found : List MemberFound) : Type 0 where
+  -- the added packages were read
   pub arrivals : HasReadAddedPackages history a found
+  -- the definition finds these packages by these reads
   pub is : members_after_change (inputs_of_packages a) (replacement_of_packages a) (wishes_of_packages a)
       read ≡ Ok found
 
 -- the packages after a change were read, and `after` are their members
 pub record IsArrived (history : List TreeState) (a : ReadPackages) (after : Members)
     (found : List MemberFound) : Type 0 where
+  -- the added packages were read
   pub read : HasReadAddedPackages history a found
+  -- the members are the packages that were found
   pub members : members_of after ≡ found_members found
 
 -- ---- the plan
@@ -99,25 +111,33 @@ wishes_of_plan p = wishes_of_packages p.packages.now
 
 -- a plan is that of some packages, over these files if the tree is observable, and its triggers allow it
 pub record IsPlanOfPackages (history : List TreeState) (a : ReadPackages) (p : Plan) : Type 0 where
+  -- the plan is made for these packages
   pub packages : p.packages.now ≡ a
+  -- its members are these packages
   pub members : members_of p.members
       ≡ members_of_read_packages (packages_of p.packages.now.selection.now.db)
       (arrivals_seen p.packages.now.arrivals)
+  -- it has the files that the change writes, removes, keeps and lays aside
   pub files : IsPlanFrom history (wishes_of_plan p).purge p.packages.now.selection.now.db p.members
       p.files
+  -- no trigger is due, or scripts are skipped
   pub triggers : unless_trigger_due (wishes_of_plan p).no_scripts (planned_paths p.files)
       (members_of p.members) ≡ Ok true
 
 -- the files of a change are planned, over these files if the tree is observable
 pub record IsPlanned (history : List TreeState) (p : Plan) (found : List MemberFound) (files : Files)
     : Type 0 where
+  -- the packages after the change were read
   pub arrived : IsArrived history p.packages.now p.members found
   -- on an observable tree, the files are the tree's
   pub told : IfObservable history (λ v. files ≡ files_of v)
   -- the plan is that of the change over these files
   pub lists : ArePlanLists (file_change (inputs_of_plan p) (wishes_of_plan p) found) files p.files
+  -- no name is both written and removed, and none is reserved
   pub names : HasDisjointUnreservedNames p.files
+  -- each written file has a source in an added package
   pub sources : HasSources (members_of p.members) p.files
+  -- each written file is that of the package which owns its path
   pub owners : IsPlanForMembersAlone (members_of p.members) p.files
   -- no name after the change is a folder of another
   pub no_clash : IfObservable history (λ v.
@@ -136,7 +156,9 @@ IsPlannedFromSomeFiles history p =
 -- the new database and world of a change: the text is that of the new world, and both have the names of
 -- their files
 pub record AreNewRecordsOf (inputs : Inputs) (records : NewRecords) : Type 0 where
+  -- the text of world is that of the new world
   pub world : records.world ≡ world_text inputs.root.new_world
+  -- both have the names of their files
   pub database_name : records.database_name ≡ Names.database_name
   pub world_name : records.world_name ≡ Names.world_name
 
@@ -148,9 +170,13 @@ bytes_if false bytes = None
 -- what of the database and world is written
 pub record AreRecordWrites (inputs : Inputs) (records : NewRecords) (writes : RecordWrites)
     : Type 0 where
+  -- the name of the database's file
   pub database_name : writes.database_name.now ≡ records.database_name
+  -- the bytes of the database, if its file is absent or has other bytes
   pub database : option_copied writes.database
       ≡ bytes_if (is_absent_or_different inputs.root.database.file records.database.items) records.database.items
+  -- the name of world's file
   pub world_name : writes.world_name.now ≡ records.world_name
+  -- the bytes of world, if its text before is different
   pub world : option_copied writes.world
       ≡ bytes_if (not (bytes_eq inputs.root.world_text records.world)) records.world

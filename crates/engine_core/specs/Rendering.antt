@@ -8,10 +8,10 @@ use Rattle.base_core.specs.Tree.{TreeState}
 use Rattle.change_report.specs.change_files.PlanLists.{sorted_distinct_names}
 use Rattle.change_report.specs.change_inputs.Answers.{Agrees}
 use Rattle.change_report.specs.change_inputs.declared.root.Refused.{Refused}
-use Rattle.change_report.specs.change_outcome.ChangeOutcome.{intent_of_change, change_report, has_actions, file_change, name_if_needed, new_records, unless_overflow}
+use Rattle.change_report.specs.change_outcome.ChangeOutcome.{intent_of_change, change_report, has_actions, file_change, name_if_needed, database_and_world_after_change, unless_overflow}
 use Rattle.change_report.specs.change_outcome.MembersAfter.{MemberFound}
 use Rattle.change_report.specs.db_core.Seen.{members_of}
-use Rattle.change_report.specs.journal_core.Staged.{Staging, new_stage}
+use Rattle.change_report.specs.journal_core.Staged.{Staging, new_stage_of_removals_and_writes}
 use Rattle.change_report.specs.journal_intent.IntentValue.{intent_of_lists, value_of_intent}
 use Rattle.change_report.specs.own_core.Planned.{written_names}
 use Rattle.change_report.specs.own_core.WritesSeen.{writes_in}
@@ -28,10 +28,14 @@ use Rattle.engine_core.specs.declared.writes.RecordWrites.{RecordWrites}
 
 -- the writes of a change are those of its plan, and those of the database and world, in byte order
 pub record AreWritesOf (p : Plan) (records : NewRecords) (writes : List StagedWrite) : Type 0 where
+  -- the writes of the database and of world
   pub of_records : RecordWrites
+  -- each of these two is written if it differs from its file
   pub which : AreRecordWrites (inputs_of_plan p) records of_records
+  -- the names of all writes, each once, in byte order
   pub names : map name_of_write writes
       ≡ sorted_distinct_names (written_names p.files ++ database_and_world_names of_records)
+  -- each write has the bytes of a file of the plan, or those of the database or of world
   pub each : All (IsWriteOfChange (members_of p.members) (package_at p.packages.now.arrivals)
       (writes_in p.files.writes) of_records) writes
 
@@ -49,7 +53,7 @@ IsStageOf removals writes None =
     has_actions (record { removals = removals; writes = writes }) ≡ false
 IsStageOf removals writes (Some stage) =
     (has_actions (record { removals = removals; writes = writes }) ≡ true)
-    × (stage ≡ new_stage removals writes)
+    × (stage ≡ new_stage_of_removals_and_writes removals writes)
 
 -- a change is refused since its journal entry exceeds a limit of the writer; or memory has run out
 abbrev pub IsRefusedForOverflow : Plan → NewRecords → Refused → Type 0
@@ -59,17 +63,20 @@ IsRefusedForOverflow p records refused =
     → Agrees {A = Bool} {B = Bool} (λ _. true) (Err refused) (unless_overflow (overflow_of
     (value_of_intent (intent_of_change (inputs_of_plan p)
     (file_change (inputs_of_plan p) (wishes_of_plan p) found) files
-    (new_records (inputs_of_plan p) records.database.items)))) true)
+    (database_and_world_after_change (inputs_of_plan p) records.database.items)))) true)
 
 -- ---- the whole
 
 -- a change is rendered from its plan, with this database and world
 pub record IsRendered (p : Plan) (records : NewRecords) (r : Rendered) : Type 0 where
+  -- the writes are those of the plan, of the database and of world
   pub written : AreWritesOf p records r.writes.items
+  -- the stage lists the removals and writes of the change
   pub stage : IsStageOf (removals_of_plan p) (map name_of_write r.writes.items) r.stage
   -- the journal entry exceeds no limit of the writer
   pub fits : unless_overflow (overflow_of (value_of_intent
       (intent_of_lists (removals_of_plan p) (map name_of_write r.writes.items)))) true ≡ Ok true
+  -- the report is that of the change
   pub report : (history : List TreeState) (found : List MemberFound) (files : Files)
       → IsPlanned history p found files
       → r.report ≡ change_report (replacement_of_plan p) (wishes_of_plan p)

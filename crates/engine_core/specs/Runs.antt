@@ -18,8 +18,8 @@ use Rattle.change_report.specs.package_files.Runs.{AreReadsOfTree}
 use Rattle.change_report.specs.package_changes.Changes.{Replacement}
 use Rattle.change_report.specs.path_clashes.Clash.{NamePair}
 use Rattle.report_core.specs.declared.refusal.Refusal.{Refusal}
-use Rattle.engine_core.specs.ChangeRun.{CarriesOut}
-use Rattle.engine_core.specs.Changed.{IsClashOfSelectedAmong, InputsAndReplacement, change_of_selected, found_packages}
+use Rattle.engine_core.specs.ChangeRun.{IsEndOfRunOfWantedChange}
+use Rattle.engine_core.specs.Changed.{IsClashOfSelectedAmong, InputsAndReplacement, change_of_selected, packages_found_after_change}
 
 -- a run of a change, given what is selected or the refusal instead
 pub record IsRunOnSelection (command : CommandLine) (selected : Result InputsAndReplacement Refusal)
@@ -27,18 +27,22 @@ pub record IsRunOnSelection (command : CommandLine) (selected : Result InputsAnd
     (result : Result (List ℕ) Refused) : Type 0 where
   -- what the reads find
   pub read : Reads
+  -- the reads find what is in the tree
   pub observed : AreReadsOfTree old read
   -- the files that decide whether a configuration file is kept
   pub files : Files
+  -- on an observable tree these are its files at the start
   pub there : IfObservable old (λ v. files ≡ files_of v)
   -- the files among which names clash
   pub present_files : Files
+  -- on an observable tree the present files are its files at the start
   pub stand : IfObservable old (λ v. present_files ≡ files_of v)
   -- the first clash of names, if there is one
   pub clash : Option NamePair
+  -- the first clash of names of the change, if there is one
   pub is_clash : IsClashOfSelectedAmong command read files present_files selected clash
   -- how the run ends
-  pub comes : CarriesOut (found_packages command read selected)
+  pub comes : IsEndOfRunOfWantedChange (packages_found_after_change command read selected)
       (and_then selected (change_of_selected command read files clash))
       old now before after result
 
@@ -48,15 +52,18 @@ pub record IsRunOnFoundPackages (inputs : Inputs) (r : Replacement) (wishes : Ch
     (result : Result (List ℕ) Refused) : Type 0 where
   -- the files that decide whether a configuration file is kept
   pub files : Files
+  -- on an observable tree these are its files at the start
   pub there : IfObservable old (λ v. files ≡ files_of v)
   -- the files among which names clash
   pub present_files : Files
+  -- on an observable tree the present files are its files at the start
   pub stand : IfObservable old (λ v. present_files ≡ files_of v)
   -- the first clash of names, if there is one
   pub clash : Option NamePair
+  -- the first clash of names of the change, if there is one
   pub is_clash : IsClashFoundAmong inputs wishes files present_files (Ok found) clash
   -- how the run ends
-  pub comes : CarriesOut (Ok found) (change_with_members inputs r wishes clash files found)
+  pub comes : IsEndOfRunOfWantedChange (Ok found) (change_with_members inputs r wishes clash files found)
       old now before after result
 
 -- the effect of a call on the counts of a tree that it may write

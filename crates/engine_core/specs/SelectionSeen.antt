@@ -10,7 +10,7 @@ use Rattle.change_report.specs.change_outcome.ChangeOutcome.{ChangeWishes}
 use Rattle.command_core.specs.Command.{CommandLine}
 use Rattle.change_report.specs.db_core.Seen.{packages_of}
 use Rattle.change_report.specs.package_changes.Changes.{Replacement}
-use Rattle.engine_core.specs.Changed.{InputsAndReplacement, selected_of_inputs}
+use Rattle.engine_core.specs.Changed.{InputsAndReplacement, selected_from_inputs_by_choice}
 use Rattle.engine_core.specs.Choice.{IsChoiceFrom}
 use Rattle.engine_core.specs.Selecting.{pool_of_inputs, replacement_of_choice}
 use Rattle.engine_core.specs.Wishes.{wishes_of}
@@ -49,11 +49,15 @@ abbrev pub IsSelectedFrom : CommandLine → Inputs → Result Selection Refused 
 IsSelectedFrom command inputs result =
     (chosen : Option (List ℕ))
     × IsChoiceFrom (pool_of_inputs command inputs) chosen
-    × Agrees selection_seen result (selected_of_inputs command chosen inputs)
+    × Agrees selection_seen result (selected_from_inputs_by_choice command chosen inputs)
 
 -- a selection has this command, these inputs, their database, and the command's candidates
 pub record IsSelectionFor (command : CommandLine) (inputs : Inputs) (s : Selection) : Type 0 where
+  -- it is made for this command
   pub command_is : s.command.now ≡ command
+  -- it is made of these inputs
   pub inputs_are : inputs_of_selection s ≡ inputs
+  -- its packages before are those of the inputs
   pub database : HasDatabaseOfInputs s
+  -- its candidates are those of the inputs
   pub pool : HasPoolOfInputs s

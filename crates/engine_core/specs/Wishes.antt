@@ -8,7 +8,7 @@ use Rattle.command_core.specs.declared.command.Applet.{Applet}
 use Rattle.command_core.specs.declared.command.Applet.TheVariants.{Del, Fix, Upgrade}
 use Rattle.command_core.specs.declared.operands.Operand.{Operand}
 pub use Rattle.change_report.specs.change_inputs.World.{operand_texts}
-use Rattle.dep_core.specs.World.{has_name}
+use Rattle.dep_core.specs.World.{has_dependency_named}
 use Rattle.change_report.specs.package_changes.Report.{was_installed}
 use Rattle.change_report.specs.candidate_core.Rank.{UpgradedNames, all_names, listed_names, no_names}
 use Rattle.report_core.specs.declared.refusal.Refusal.{Refusal}
@@ -49,7 +49,7 @@ is_installed_name inputs name = was_installed inputs.root.database.packages name
 
 -- whether world has an entry of the name, or a package of it is installed
 abbrev pub is_known_name : Inputs → List ℕ → Bool
-is_known_name inputs name = has_name name inputs.root.world || is_installed_name inputs name
+is_known_name inputs name = has_dependency_named name inputs.root.world || is_installed_name inputs name
 
 -- the place on the command line of the first operand whose text is no known name
 abbrev pub place_of_first_unknown_operand : (List ℕ → Bool) → List Operand → Option ℕ

@@ -2,7 +2,7 @@
 -- `docs/commands.md`, "What a change does with files" and "`add` and `del`", what is written.
 use Rattle.std.specs.Prelude.{◌≡◌, ◌⊎◌, ℕ, true, false, List, [], ◌∷◌, ◌++◌, Option, Some, None, Contains, is_some, option_and_then, slice_get}
 use Rattle.std.specs.Borrow.{Bor}
-use Rattle.added_packages.specs.Arrivals.{arrivals_seen, package_in}
+use Rattle.added_packages.specs.Arrivals.{arrivals_seen, added_package_in_member_read}
 use Rattle.added_packages.specs.declared.arrivals.Arrivals.{Arrivals}
 use Rattle.adb_view.specs.Plain.{Plain}
 use Rattle.change_report.specs.change_files.PlanLists.{FileWrite}
@@ -34,7 +34,9 @@ PackagesRead = ℕ → Option TestedPackage
 
 -- a file in a package that was read is the file that a write writes
 pub record IsFileOfWrite (packages : PackagesRead) (w : FileWrite) (f : PackagedFile) : Type 0 where
+  -- the package of the write was read
   pub read : packages w.member ≡ Some f.package.now
+  -- the write and the file are of the same member, folder and place in the folder
   pub member : f.member ≡ w.member
   pub folder : f.folder ≡ w.folder
   pub file : f.file ≡ w.file
@@ -51,9 +53,12 @@ IsSourceOfWrite members packages w (File f) =
 -- the staged file of a name is the one that the plan writes there
 pub record IsFileWrite (members : List Member) (packages : PackagesRead) (planned : List FileWrite)
     (write : StagedWrite) : Type 0 where
+  -- a file of the plan
   pub file : FileWrite
   pub planned_file : Contains planned file
+  -- the staged file has the name of this file
   pub named : name_of_write write ≡ file.name
+  -- its bytes come from where the plan says
   pub source : IsSourceOfWrite members packages file write.source
 
 -- ---- the database and world
@@ -66,7 +71,9 @@ HasBytes bytes (File f) = ⊥
 
 -- the staged file of this name has these bytes
 pub record IsRecordWrite (name bytes : List ℕ) (write : StagedWrite) : Type 0 where
+  -- the staged file has this name
   pub named : name_of_write write ≡ name
+  -- its source has these bytes
   pub source : HasBytes bytes write.source
 
 -- a write is that of a record, which has bytes if it is written; without bytes it is unchanged
@@ -99,7 +106,8 @@ IsWriteOfChange members packages planned r write =
 
 -- the package that was read for the member at a place, if one was
 abbrev pub package_at : Arrivals → ℕ → Option TestedPackage
-package_at arrivals place = option_and_then package_in (slice_get (arrivals_seen arrivals) place)
+package_at arrivals place =
+    option_and_then added_package_in_member_read (slice_get (arrivals_seen arrivals) place)
 
 -- the package of each added member was read
 abbrev pub HasPackageOfEachAdded : List Member → Arrivals → Type 0

@@ -63,7 +63,7 @@ pub fn change<T: Tree>(alloc: Global, command: &Command, tree: &mut T) -> Result
     make_change(alloc, &selection, tree)
 }
 
-// Reports what would change, as `--simulate` asks for it.
+// Reports what would change. This is all that a command with `--simulate` does.
 fn simulate(alloc: Global, selection: &Selection<'_>) -> Result<Text, AllocError>
     requires { HasDatabaseOfInputs selection.now }
     ensures { IfOk result (λ report. report ≡ simulated_report (replacement_seen selection.now)

@@ -35,7 +35,7 @@ pub(crate) struct Selection<'a> {
     pub pool: Sealed<'a>,
     /// The places of the chosen candidates, in the order in which they were chosen.
     pub trace: Trace,
-    /// The names to be reinstalled, which `fix` asks for.
+    /// The names to be reinstalled: the operands of `fix`, and none for another command.
     pub again: Words,
 }
 
@@ -55,7 +55,7 @@ pub(crate) fn choose<'a>(
     requires { upgraded.now ≡ names_of_upgrade command.now.applet command.now.operands }
     // The selection by the choice among the command's candidates, or the refusal instead.
     ensures selected { IsSelectedFrom command.entry.now (inputs_seen loaded.entry.now) result }
-    // Its parts are those of the command and of what was read.
+    // The selection has this command, what was read, the opened database, and the candidates.
     ensures parts { IfOk result
         (IsSelectionFor command.entry.now (inputs_seen loaded.entry.now)) }
 {
@@ -103,6 +103,7 @@ pub fn a_choice_exists()
     ensures { (pool : Result SealedPool Refusal) →
         (chosen : Option (List ℕ)) × IsChoiceFrom pool chosen }
 {
+    // A law that the proof needs; it has no effect at run time.
     options_are_the_best_first();
 }
 
@@ -111,5 +112,6 @@ pub fn a_choice_is_unique()
     ensures { (pool : Result SealedPool Refusal) (a b : Option (List ℕ)) →
         IsChoiceFrom pool a → IsChoiceFrom pool b → a ≡ b }
 {
+    // A law that the proof needs; it has no effect at run time.
     the_first_selection_is_unique();
 }

@@ -2,7 +2,7 @@
 //! are in `docs/commands.md`, "`add` and `del`", what is written and refused, and in
 //! `docs/crash-safety.md`, "A change of several files".
 ghost use Rattle.change_report.specs.db_core.Seen.{members_of};
-ghost use Rattle.engine_core.specs.ChangeRun.{CarriesOut};
+ghost use Rattle.engine_core.specs.ChangeRun.{IsEndOfRunOfWantedChange};
 ghost use Rattle.engine_core.specs.Committing.{IsPackageBad, IsReadyToCommit, IsRefusedPackage, result_of_ready};
 ghost use Rattle.engine_core.specs.Runs.{IsRunCounted};
 ghost use Rattle.journal_staging.specs.journal_commit.Asked.{TargetsAreAccepted};
@@ -34,7 +34,8 @@ pub(crate) fn commit<T: Tree>(
     // The report of the rendered change is returned; or one of its packages has changed, the tree
     // failed, or memory ran out.
     ensures comes { (ready : IsReadyToCommit (T.history tree.old) plan.now rendered.entry)
-        → CarriesOut (Ok ready.found) (Ok (result_of_ready ready)) (T.history tree.old)
+        → IsEndOfRunOfWantedChange (Ok ready.found) (Ok (result_of_ready ready))
+        (T.history tree.old)
         (T.history tree.new) (T.counts tree.old) (T.counts tree.new) result }
     // How the tree's counts explain the answer.
     ensures counts { IsRunCounted (T.counts tree.old) (T.counts tree.new) result }

@@ -10,7 +10,7 @@ use crate::choosing::Selection;
 use crate::committing::commit;
 use crate::packages::read_packages;
 use crate::planning::plan_change;
-use crate::rendering::{new_records, render};
+use crate::rendering::{database_and_world_after_change, render};
 use added_packages::packages_that_were_read_are_those_found;
 use base_core::{Text, Tree, counts_of_consecutive_calls_compose};
 use change_report::{Refused, a_change_has_a_first_clash_or_none};
@@ -22,7 +22,7 @@ use std::alloc::Global;
 ///
 /// # Errors
 ///
-/// Those of `read_packages`, then those of `plan_change`, of `new_records`, of `render` and of
+/// Those of `read_packages`, then those of `plan_change`, of `database_and_world_after_change`, of `render` and of
 /// `commit`.
 pub(crate) fn make_change<T: Tree>(
     alloc: Global,
@@ -47,7 +47,7 @@ pub(crate) fn make_change<T: Tree>(
     counts_of_consecutive_calls_compose();
     let packages = read_packages(alloc, selection, tree)?;
     let plan = plan_change(alloc, &packages, tree)?;
-    let records = new_records(alloc, &plan)?;
+    let records = database_and_world_after_change(alloc, &plan)?;
     let rendered = render(alloc, &plan, &records)?;
     commit(alloc, &plan, rendered, tree)
 }

@@ -51,7 +51,8 @@ pub(crate) fn plan_change<'r, 's, 'a, T: Tree>(
         (arrivals_seen packages.now.arrivals) }
     // The plan of these packages, over the tree's files if they are observable.
     ensures plan { IfOk result (IsPlanOfPackages (T.history tree.old) packages.entry.now) }
-    // Or the refusal by the first test that the change fails, whatever reads find these packages.
+    // Or the result is the refusal for the first test that the change fails, whatever reads find
+    // these packages.
     ensures refused { IfErr result (λ refused. (read : Reads) (found : List MemberFound)
         → ArePackagesFoundByReads (T.history tree.old) packages.entry.now read found
         → IsRunOnFoundPackages (inputs_of_packages packages.entry.now)
@@ -91,7 +92,7 @@ fn plan_files<T: Tree>(
 ) -> Result<FilePlan, Refused>
     // The plan is that of the change, over the tree's files if they are observable.
     ensures plan { IfOk result (IsPlanFrom (T.history tree.old) purge db.now members.now) }
-    // Or the change has no plan, and this says why.
+    // Or the files of the change cannot be planned, and the result is the refusal for this.
     ensures refused { IfErr result (HasNoPlan (T.history tree.old) purge db.now members.now) }
     // The tree is only read, and an I/O error has its cause there.
     ensures tree { OnlyReads Refused.Disk (T.history tree.old) (T.history tree.new)
@@ -104,7 +105,7 @@ fn plan_files<T: Tree>(
     }
 }
 
-// Why a change is refused if its files cannot be planned.
+// The refusal of a change whose files cannot be planned.
 fn refused_plan(fault: PlanFault) -> Refused
     ensures { IsRefusalOfPlanFault fault result }
 {
@@ -154,7 +155,7 @@ fn test_triggers(
     }
 }
 
-/// The name of the package at a place.
+/// The name of the package at a place among the packages after the change.
 fn member_name(alloc: Global, members: &Members<'_>, place: usize) -> Result<Text, AllocError>
     requires { place < length (members_of members.now) }
     ensures { IfOk result (λ name. name ≡ member_name_at_place (members_of members.now) place) }

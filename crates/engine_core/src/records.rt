@@ -6,8 +6,8 @@ ghost use Rattle.change_report.specs.change_inputs.Answers.{Agrees};
 ghost use Rattle.change_report.specs.change_outcome.ChangeOutcome.{is_absent_or_different, or_result_too_large, unless_overflow};
 ghost use Rattle.change_report.specs.db_core.Seen.{members_of};
 ghost use Rattle.change_report.specs.db_write.NewDatabase.{database_of};
-ghost use Rattle.change_report.specs.journal_core.Staged.{new_stage};
-ghost use Rattle.change_report.specs.journal_intent.Intent.{AreChangeNames};
+ghost use Rattle.change_report.specs.journal_core.Staged.{new_stage_of_removals_and_writes};
+ghost use Rattle.change_report.specs.journal_intent.Intent.{AreDistinctNamesAllowedInIntent};
 ghost use Rattle.change_report.specs.journal_intent.IntentValue.{intent_of_lists, value_of_intent};
 ghost use Rattle.std.specs.Option.{option_copied};
 ghost use Rattle.std.specs.Prelude.{◌≡◌, ◌++◌, true, IfOk};
@@ -58,8 +58,9 @@ pub(crate) fn is_absent_or_different(found: Option<&[u8]>, bytes: &[u8]) -> bool
 ///
 /// `ResultTooLarge` if the intent exceeds a limit of the writer, or `Memory`.
 pub(crate) fn begin_stage(alloc: Global, removals: Names, writes: Names) -> Result<Stage, Refused>
-    requires { AreChangeNames (removals ++ writes) }
-    ensures stage { IfOk result (λ stage. stage ≡ new_stage removals writes) }
+    requires { AreDistinctNamesAllowedInIntent (removals ++ writes) }
+    ensures stage { IfOk result (λ stage. stage
+        ≡ new_stage_of_removals_and_writes removals writes) }
     ensures told { Agrees (λ _. true) result (unless_overflow
         (overflow_of (value_of_intent (intent_of_lists removals writes))) true) }
 {

@@ -12,8 +12,8 @@ use base_core::{Name, Names};
 use root_names::text_database_name;
 use std::alloc::{AllocError, Global};
 
-/// The names that a change removes, in byte order: those of its plan, and that of a text database
-/// that is converted.
+/// The names that a change removes, in byte order: those that its plan removes, and that of a text
+/// database which is converted.
 pub(crate) fn removals_of(
     alloc: Global,
     planned: &Names,
@@ -34,7 +34,7 @@ pub(crate) fn removals_of(
     copies_of(alloc, &names)
 }
 
-/// Appends each of some names.
+/// Appends each of the names `more`.
 fn push_each<'a>(names: &mut Vec<&'a Name>, more: &'a Names) -> Result<(), AllocError>
     ensures { OnOk result (map (λ n. n.now) names.new.items
         ≡ map (λ n. n.now) names.old.items ++ more.entry.now) }

@@ -57,7 +57,7 @@ pub(crate) fn render<'c>(
     requires plan { (history : List TreeState) × IsPlannedFromSomeFiles history plan.now }
     requires records { AreNewRecordsOf (inputs_of_plan plan.now) records.now }
     ensures rendered { IfOk result (IsRendered plan.entry.now records.entry.now) }
-    // Or the journal entry of the change is too large.
+    // Or the change is refused, since its journal entry is too large.
     ensures refused { IfErr result (IsRefusedForOverflow plan.entry.now records.entry.now) }
 {
     // A law that the proof needs; it has no effect at run time.
@@ -89,6 +89,7 @@ fn journal_entry(
         × AreWritesOf plan.now records writes.now }
     ensures stage { IfOk result
         (IsStageOf (removals_of_plan plan.now) (map name_of_write writes.now)) }
+    // Refused exactly if the value of the intent exceeds a limit of the writer.
     ensures told { Agrees (λ _. true) result (unless_overflow (overflow_of (value_of_intent
         (intent_of_lists (removals_of_plan plan.now) (map name_of_write writes.now)))) true) }
 {
@@ -118,12 +119,12 @@ pub(crate) struct NewRecords {
     pub world_name: Name,
 }
 
-/// The database that lists the packages after a change, and world as the command asks for it.
-///
-/// # Errors
-///
-/// `ResultTooLarge` if the database exceeds a limit of the writer, or `Memory`.
-pub(crate) fn new_records(alloc: Global, plan: &Plan<'_, '_, '_>) -> Result<NewRecords, Refused>
+/// The bytes of the database that lists the packages after a change, and the text of the new world.
+pub(crate) fn database_and_world_after_change(
+    alloc: Global,
+    plan: &Plan<'_, '_, '_>,
+) -> Result<NewRecords, Refused>
+    // The bytes of the new database, or the refusal if it exceeds a limit of the writer.
     ensures told { Agrees (λ records. records.database.items) result
         (or_result_too_large (database_of (members_of plan.now.members) plan.now.files.owned)) }
     ensures records { IfOk result (AreNewRecordsOf (inputs_of_plan plan.now)) }
@@ -150,8 +151,8 @@ fn bytes_if(is_other: bool, bytes: &[u8]) -> Option<&[u8]>
     Some(bytes)
 }
 
-/// What of the database and world is written: the database if its file is absent or has other
-/// bytes, and world if it differs.
+/// The writes of the database and of world: the database is written if its file is absent or has
+/// other bytes, and world if its text differs.
 fn record_writes_of<'c>(loaded: &Loaded, records: &'c NewRecords) -> RecordWrites<'c>
     ensures { AreRecordWrites (inputs_seen loaded.now) records.now result }
 {

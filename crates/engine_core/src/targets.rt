@@ -34,7 +34,8 @@ fn target_in<'c>(pkg: &PackageView<'c>, folder: u32, file: u32) -> &'c [u8]
     target_in_folders(&pkg.paths(), folder, file)
 }
 
-/// The target of a file of some folders; positions of folder and file count from 1.
+/// The link target of a file in these folders. The positions of the folder and of the file count
+/// from 1.
 fn target_in_folders<'c>(folders: &List<'c, DirInfo<'c>>, folder: u32, file: u32) -> &'c [u8]
     requires { HasFileAt (list_value folders.now) folder file }
     ensures { result.now ≡ file_target (listed_file_at (list_value folders.now) folder file) }

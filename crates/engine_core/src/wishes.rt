@@ -2,7 +2,7 @@
 //! `del`" and "`upgrade` and `fix`".
 ghost use Rattle.change_report.specs.change_inputs.Seen.{inputs_seen};
 ghost use Rattle.change_report.specs.db_core.Seen.{packages_of};
-ghost use Rattle.dep_core.specs.World.{has_name};
+ghost use Rattle.dep_core.specs.World.{has_dependency_named};
 ghost use Rattle.change_report.specs.change_inputs.World.{operand_texts};
 ghost use Rattle.engine_core.specs.Wishes.{place_of_first_unknown_operand, is_known_name, names_of_upgrade, names_to_remove, names_to_reinstall, names_to_upgrade, unknown_operand_place};
 ghost use Rattle.change_report.specs.package_changes.Report.{was_installed};
@@ -129,7 +129,7 @@ fn first_not_installed(operands: &Operands, db: &Db<'_>) -> Option<u32>
     None
 }
 
-// Whether world has an entry of a name, or a package of it is installed.
+// Whether world has an entry of a name, or a package of this name is installed.
 fn is_known(name: &[u8], loaded: &Loaded, db: &Db<'_>) -> bool
     requires { packages_of db.now ≡ (inputs_seen loaded.now).root.database.packages }
     ensures { result ≡ is_known_name (inputs_seen loaded.now) name.now }
@@ -142,7 +142,7 @@ fn is_known(name: &[u8], loaded: &Loaded, db: &Db<'_>) -> bool
 
 // Whether world has an entry of a name, by bisection: in time linear in log n for n entries.
 fn is_in_world(name: &[u8], world: &World) -> bool
-    ensures { result ≡ has_name name.now world.now }
+    ensures { result ≡ has_dependency_named name.now world.now }
 {
     let mut low = 0;
     let mut high = world.len();

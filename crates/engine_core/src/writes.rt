@@ -19,16 +19,16 @@ use change_report::{FilePlan, Members, Write};
 use journal_staging::{PackagedFile, Source, StagedWrite};
 use std::alloc::{AllocError, Global};
 
-/// The database and world, as they are written. A file without given bytes is unchanged.
+/// The writes of the database and of world. A file without given bytes is not written.
 #[derive(Clone, Copy)]
 pub(crate) struct RecordWrites<'c> {
     /// The name of the database's file.
     pub database_name: &'c Name,
-    /// Its new bytes, if it is written.
+    /// The new bytes of the database; None if its file is not written.
     pub database: Option<&'c [u8]>,
     /// The name of world's file.
     pub world_name: &'c Name,
-    /// Its new text, if it is written.
+    /// The new text of world; None if its file is not written.
     pub world: Option<&'c [u8]>,
 }
 
@@ -100,7 +100,7 @@ fn push_record<'c>(
     Ok(())
 }
 
-/// Puts writes into byte order of their names, in which the intent lists them.
+/// Sorts writes by the byte order of their names, in which the intent (journal entry) lists them.
 fn sort_writes(writes: &mut Vec<StagedWrite<'_>>) -> Result<(), AllocError>
     ensures { OnOk result (writes.new.items
         ≡ sorted_by (on name_of_write bytes_cmp) writes.old.items) }
@@ -123,7 +123,8 @@ pub(crate) fn writes_of<'c>(
     requires packages { HasPackageOfEachAdded (members_of members.now) arrivals.now }
     // No name is written twice.
     requires once { HaveNoRepeats (written_names plan.now ++ database_and_world_names records.now) }
-    // The names are those of the plan and of the records, in byte order.
+    // The names are those that the plan writes, and those of the database and world if they are
+    // written, in byte order.
     ensures names { IfOk result (λ writes. map name_of_write writes.items
         ≡ sorted_distinct_names (written_names plan.entry.now
         ++ database_and_world_names records.now)) }

@@ -1,6 +1,6 @@
 -- Rows that are worked by hand: bytes against an entry, and two entries.
 use Rattle.std.proofs.Common.{◌≡◌, ℕ, List, [], codes, refl, true, false}
-use Rattle.file_guard.specs.AsListed.{do_entries_agree, is_as_listed, is_as_listed_by}
+use Rattle.file_guard.specs.AsListed.{do_entries_agree, is_as_listed, is_as_listed_by_size_hash_target}
 use Rattle.file_guard.proofs.Sample.{link, plain_file}
 
 abbrev name : List ℕ
@@ -12,32 +12,32 @@ digest = codes "01234567890123456789"
 -- ---- bytes
 
 empty_file : is_as_listed (plain_file name 0 []) [] ≡ true
-unfolding is_as_listed_by
+unfolding is_as_listed_by_size_hash_target
 empty_file = refl
 
 empty_no_more : is_as_listed (plain_file name 0 []) (codes "x") ≡ false
-unfolding is_as_listed_by
+unfolding is_as_listed_by_size_hash_target
 empty_no_more = refl
 
 -- a size without a digest tells nothing
 size_alone : is_as_listed (plain_file name 3 []) (codes "abc") ≡ false
-unfolding is_as_listed_by
+unfolding is_as_listed_by_size_hash_target
 size_alone = refl
 
 size_alone_empty : is_as_listed (plain_file name 3 []) [] ≡ false
-unfolding is_as_listed_by
+unfolding is_as_listed_by_size_hash_target
 size_alone_empty = refl
 
 link_text : is_as_listed (link name (codes "y")) (codes "!<symlink>y") ≡ true
-unfolding is_as_listed_by
+unfolding is_as_listed_by_size_hash_target
 link_text = refl
 
 link_without_mark : is_as_listed (link name (codes "y")) (codes "y") ≡ false
-unfolding is_as_listed_by
+unfolding is_as_listed_by_size_hash_target
 link_without_mark = refl
 
 link_to_other : is_as_listed (link name (codes "y")) (codes "!<symlink>z") ≡ false
-unfolding is_as_listed_by
+unfolding is_as_listed_by_size_hash_target
 link_to_other = refl
 
 -- ---- two entries

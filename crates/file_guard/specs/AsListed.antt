@@ -42,8 +42,8 @@ link_bytes entry = link_bytes_to (file_target entry)
 
 -- Whether bytes are as an entry with this size, hash and target lists them: a link's bytes; bytes with
 -- the hash; or, if there is no hash, no bytes at a size of 0.
-unfoldable pub is_as_listed_by : ℕ → List ℕ → List ℕ → List ℕ → Bool
-is_as_listed_by size hash target bytes =
+unfoldable pub is_as_listed_by_size_hash_target : ℕ → List ℕ → List ℕ → List ℕ → Bool
+is_as_listed_by_size_hash_target size hash target bytes =
     if not (length target == 0) then bytes_eq bytes (link_bytes_to target)
     else if length hash == 0 then (size == 0) && (length bytes == 0)
     else is_none (hash_fault hash bytes)
@@ -51,7 +51,7 @@ is_as_listed_by size hash target bytes =
 -- whether bytes are as an entry lists them
 abbrev pub is_as_listed : Plain → List ℕ → Bool
 is_as_listed entry bytes =
-    is_as_listed_by (file_size entry) (file_hash entry) (file_target entry) bytes
+    is_as_listed_by_size_hash_target (file_size entry) (file_hash entry) (file_target entry) bytes
 
 -- whether two entries describe the same bytes: their sizes, hashes and targets are equal
 unfoldable pub do_entries_agree : Plain → Plain → Bool

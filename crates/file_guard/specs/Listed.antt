@@ -3,21 +3,24 @@
 use Rattle.std.specs.Prelude.{◌≡◌, ℕ, Bool, false, List, Option, Some, None}
 use Rattle.std.specs.Option.{option_map}
 use Rattle.adb_view.specs.Plain.{Plain}
-use Rattle.file_guard.specs.AsListed.{file_hash, file_size, file_target, is_as_listed_by}
+use Rattle.file_guard.specs.AsListed.{file_hash, file_size, file_target, is_as_listed_by_size_hash_target}
 use Rattle.file_guard.specs.declared.compare.Comparison.{Comparison}
 use Rattle.file_guard.specs.declared.compare.ListedFile.{ListedFile}
 
 -- a `ListedFile` says of the bytes what the entry says
 pub record DescribesEntry (listed : ListedFile) (entry : Plain) : Type 0 where
+  -- the size is the entry's
   pub size : listed.size ≡ file_size entry
+  -- the digest is the entry's
   pub hash : listed.hash.now ≡ file_hash entry
+  -- the link target is the entry's
   pub target : listed.target.now ≡ file_target entry
 
 -- whether bytes are as a `ListedFile` describes; without one, none are
 abbrev pub is_as_described : Option ListedFile → List ℕ → Bool
 is_as_described None bytes = false
 is_as_described (Some listed) bytes =
-    is_as_listed_by listed.size listed.hash.now listed.target.now bytes
+    is_as_listed_by_size_hash_target listed.size listed.hash.now listed.target.now bytes
 
 -- whether bytes are as the new `ListedFile` describes, and whether they are as the old one
 -- describes; without one, no bytes are

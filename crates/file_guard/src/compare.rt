@@ -47,6 +47,7 @@ pub fn compare_file<T: Tree>(
     // If the tree's files are observable, it is right of the file under the name.
     ensures answer { IfOk result (λ found. IfObservable (T.history tree.old) (λ v.
         found ≡ comparison_of_found_file new.entry old.entry (files_of v name.now))) }
+    // The tree is only read: no file changes, no I/O error is hidden, and no call is a misuse.
     ensures tree { OnlyReads (record {}) (T.history tree.old) (T.history tree.new)
         (T.counts tree.old) (T.counts tree.new) result }
 {
@@ -75,6 +76,7 @@ pub fn compare_file_in<T: Tree>(
     // If the tree's files are observable, it is right of the file under the name.
     ensures answer { IfOk result (λ found. IfObservable (T.history tree.old) (λ v.
         found ≡ comparison_of_found_file new.entry old.entry (files_of v name.now))) }
+    // The tree is only read: no file changes, no I/O error is hidden, and no call is a misuse.
     ensures tree { OnlyReads (record {}) (T.history tree.old) (T.history tree.new)
         (T.counts tree.old) (T.counts tree.new) result }
 {
@@ -94,11 +96,15 @@ fn compare_present<T: Tree>(
     old: Option<ListedFile<'_>>,
     piece: &mut [u8; PIECE_LEN],
 ) -> Result<Comparison, Disk>
+    // If the tree is observable, the file has this length.
     requires { IfObservable (T.history tree.old) (λ v.
         Some size ≡ option_map length (files_of v name.now)) }
+    // On Ok, the result compares some bytes, the file's if the tree is observable, with the
+    // entries.
     ensures found { IfOk result (λ comparison. (bytes : List ℕ)
         × IfObservable (T.history tree.old) (λ v. Some bytes ≡ files_of v name.now)
         × (comparison ≡ comparison_of_bytes new.entry old.entry bytes)) }
+    // The tree is only read: no file changes, no I/O error is hidden, and no call is a misuse.
     ensures tree { OnlyReads (record {}) (T.history tree.old) (T.history tree.new)
         (T.counts tree.old) (T.counts tree.new) result }
 {

@@ -17,7 +17,7 @@ use Rattle.adb_view.specs.declared.tables.Kind.TheVariants as Kinds
 use Rattle.db_core.specs.Members.{Member, is_found_place, member_name}
 use Rattle.db_core.proofs.AnyOf.{any_step, past_end}
 use Rattle.file_owners.specs.Questions.{AreSameQuestion, IsQuestionIn, entry_of_question, question_names_package, question_names_if_any, with_question}
-use Rattle.file_owners.specs.Replaces.{replaces_entry_names, is_replaced_by, package_version_text}
+use Rattle.file_owners.specs.Replaces.{does_replaces_entry_name_package, is_package_met_by_replaces_entry, package_version_text}
 use Rattle.file_owners.specs.declared.questions.Question.{Question}
 use Rattle.file_owners.proofs.AnyOfFront.{all_at, one_more, passed_in_front, settled, some_at}
 use Rattle.file_owners.proofs.NamedPlaces.{other_name}
@@ -35,20 +35,20 @@ named_so members place name found m g = sym ((bytes_decides (member_name m) name
 -- an entry names no other member than the one that has its name
 pub found_asks : (entry : Plain) (members : List Member) (place : ℕ)
     → ((i : ℕ) (m : Member) → slice_get members i ≡ Some m → is_found_place i (Some place) ≡ bytes_eq (member_name m) (text_in (entry_in entry 0)))
-    → (y : ℕ) (m : Member) → slice_get members y ≡ Some m → ((place == y) && replaces_entry_names entry m.pkg) ≡ replaces_entry_names entry m.pkg
+    → (y : ℕ) (m : Member) → slice_get members y ≡ Some m → ((place == y) && does_replaces_entry_name_package entry m.pkg) ≡ does_replaces_entry_name_package entry m.pkg
 found_asks entry members place found y m g = go (eqb_tells place y)
   where
-    go : ((place == y) ≡ true) × (place ≡ y) ⊎ ((place == y) ≡ false) × (place ≡ y → ⊥) → ((place == y) && replaces_entry_names entry m.pkg) ≡ replaces_entry_names entry m.pkg
-    go (inl (e, s)) = ap (λ b. b && replaces_entry_names entry m.pkg) e
-    go (inr (e, n)) = ap (λ b. b && replaces_entry_names entry m.pkg) e ∙ sym (other_name entry m.pkg (sym (found y m g) ∙ e))
+    go : ((place == y) ≡ true) × (place ≡ y) ⊎ ((place == y) ≡ false) × (place ≡ y → ⊥) → ((place == y) && does_replaces_entry_name_package entry m.pkg) ≡ does_replaces_entry_name_package entry m.pkg
+    go (inl (e, s)) = ap (λ b. b && does_replaces_entry_name_package entry m.pkg) e
+    go (inr (e, n)) = ap (λ b. b && does_replaces_entry_name_package entry m.pkg) e ∙ sym (other_name entry m.pkg (sym (found y m g) ∙ e))
 
 -- ---- the questions of entries
 
 abbrev pub AreAskedSoFar : List ℕ → List Member → List Question → Plains → ℕ → Type 0
 AreAskedSoFar payload members questions vs i =
     (y : ℕ) (m : Member) → slice_get members y ≡ Some m
-    → (list_any (question_names_package payload y m.pkg) questions || list_any (λ entry. replaces_entry_names entry m.pkg) (drop i (list_of vs)))
-    ≡ list_any (λ entry. replaces_entry_names entry m.pkg) (list_of vs)
+    → (list_any (question_names_package payload y m.pkg) questions || list_any (λ entry. does_replaces_entry_name_package entry m.pkg) (drop i (list_of vs)))
+    ≡ list_any (λ entry. does_replaces_entry_name_package entry m.pkg) (list_of vs)
 
 any_with : (payload : List ℕ) (y : ℕ) (pkg : Plain) (old : List Question) (q : Option Question) → list_any (question_names_package payload y pkg) (with_question old q) ≡ (list_any (question_names_package payload y pkg) old || question_names_if_any payload y pkg q)
 any_with payload y pkg old None = sym (or-false (list_any (question_names_package payload y pkg) old))
@@ -57,11 +57,11 @@ any_with payload y pkg old (Some q) =
 
 pub entry_asked : (payload : List ℕ) (members : List Member) (old new : List Question) (question : Option Question) (vs : Plains) (i : ℕ) (entry : Plain) → i < count_of vs → entry ≡ nth vs i
     → new ≡ with_question old question
-    → ((y : ℕ) (m : Member) → slice_get members y ≡ Some m → question_names_if_any payload y m.pkg question ≡ replaces_entry_names entry m.pkg)
+    → ((y : ℕ) (m : Member) → slice_get members y ≡ Some m → question_names_if_any payload y m.pkg question ≡ does_replaces_entry_name_package entry m.pkg)
     → AreAskedSoFar payload members old vs i → AreAskedSoFar payload members new vs (i + 1)
 entry_asked payload members old new question vs i entry l is grown asked inv y m g =
     let s : i + 1 ≡ suc i = omega arith in
-    let p : Plain → Bool = λ entry. replaces_entry_names entry m.pkg in
+    let p : Plain → Bool = λ entry. does_replaces_entry_name_package entry m.pkg in
     let a : Question → Bool = question_names_package payload y m.pkg in
     let added : list_any a new ≡ (list_any a old || question_names_if_any payload y m.pkg question) = ap (list_any a) grown ∙ any_with payload y m.pkg old question in
     (λ j. added j || list_any p (drop (s j) (list_of vs)))
@@ -70,9 +70,9 @@ entry_asked payload members old new question vs i entry l is grown asked inv y m
     ∙ (ap (λ b. list_any a old || b) (sym (any_step p vs i l)) ∙ inv y m g)))
 
 pub all_asked : (payload : List ℕ) (members : List Member) (questions : List Question) (vs : Plains) (i : ℕ) → count_of vs ≤ i → AreAskedSoFar payload members questions vs i
-    → (y : ℕ) (m : Member) → slice_get members y ≡ Some m → list_any (question_names_package payload y m.pkg) questions ≡ list_any (λ entry. replaces_entry_names entry m.pkg) (list_of vs)
+    → (y : ℕ) (m : Member) → slice_get members y ≡ Some m → list_any (question_names_package payload y m.pkg) questions ≡ list_any (λ entry. does_replaces_entry_name_package entry m.pkg) (list_of vs)
 all_asked payload members questions vs i l inv y m g =
-    let p : Plain → Bool = λ entry. replaces_entry_names entry m.pkg in
+    let p : Plain → Bool = λ entry. does_replaces_entry_name_package entry m.pkg in
     let a : Question → Bool = question_names_package payload y m.pkg in
     sym (or-false (list_any a questions)) ∙ (ap (λ b. list_any a questions || b) (sym (past_end p vs i l)) ∙ inv y m g)
 
@@ -109,7 +109,7 @@ asks_alike members payload one other p q same y pkg =
     let version : text_in (entry_in first 1) ≡ text_in (entry_in second 1) = p.version ∙ (ap (λ (w : ℕ). text_in (value_at payload Kinds.Text w)) same.version ∙ sym q.version) in
     let matching : int_in (entry_in first 2) ≡ int_in (entry_in second 2) = p.matching ∙ (same.matching ∙ sym q.matching) in
     let dependency : dependency_in first ≡ dependency_in second = λ k. dependency_of_value (name k) (version k) (matching k) in
-    λ k. (same.place k == y) && (is_version (package_version_text pkg) && is_replaced_by (dependency k) (package_name pkg) (package_version_text pkg))
+    λ k. (same.place k == y) && (is_version (package_version_text pkg) && is_package_met_by_replaces_entry (dependency k) (package_name pkg) (package_version_text pkg))
 
 module _ (members : List Member) (payload : List ℕ) (questions : List Question) (i : ℕ) (all : All (IsQuestionIn members payload) questions) (y : ℕ) (m : Member) where
   pub next_answered : (q : Question) (answer : Bool) → slice_get questions i ≡ Some q → answer ≡ question_names_package payload y m.pkg q

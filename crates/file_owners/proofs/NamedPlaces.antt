@@ -24,7 +24,7 @@ use Rattle.adb_view.specs.Values.{entry_in, int_in, text_in}
 use Rattle.db_core.specs.Members.{Member, member_name}
 use Rattle.file_owners.specs.NamedPlaces.{ArePlacesOfNamedMembers, ArePlacesNamedByEachMember}
 use Rattle.file_owners.specs.Owners.{member_beats, takes_over_if_both_exist}
-use Rattle.file_owners.specs.Replaces.{replaces_entry_names, is_preferred_replacer, is_replaced_by, replaces_names_package, takes_over, package_version_text}
+use Rattle.file_owners.specs.Replaces.{does_replaces_entry_name_package, is_preferred_replacer, is_package_met_by_replaces_entry, does_first_list_second_in_replaces, takes_over, package_version_text}
 use Rattle.db_core.specs.adb_schema.Dependencies.{dependency_in}
 use Rattle.file_owners.proofs.AnyOfFront.{some_at}
 
@@ -43,7 +43,7 @@ named_on d [] bits = refl
 named_on d (b ∷ rest) None = refl
 named_on d (b ∷ rest) (Some bits) = refl
 
-not_met : (o : Option Dependency) (name version : List ℕ) → ((d : Dependency) → o ≡ Some d → bytes_eq d.name name ≡ false) → is_replaced_by o name version ≡ false
+not_met : (o : Option Dependency) (name version : List ℕ) → ((d : Dependency) → o ≡ Some d → bytes_eq d.name name ≡ false) → is_package_met_by_replaces_entry o name version ≡ false
 not_met None name version h = refl
 not_met (Some d) name version h = go (not d.conflict) (bytes_eq d.name name) _ (h d refl)
   where
@@ -68,7 +68,7 @@ turned a b h = go (bytes_eq b a) refl
     go false e = refl
     go true e = absurd (true≢false (sym ((bytes_decides a b).1 (sym ((bytes_decides b a).0 e))) ∙ h))
 
-pub other_name : (entry y : Plain) → bytes_eq (package_name y) (text_in (entry_in entry 0)) ≡ false → replaces_entry_names entry y ≡ false
+pub other_name : (entry y : Plain) → bytes_eq (package_name y) (text_in (entry_in entry 0)) ≡ false → does_replaces_entry_name_package entry y ≡ false
 other_name entry y h =
     let name : List ℕ = text_in (entry_in entry 0) in
     ap (λ t. is_version (package_version_text y) && t)
@@ -83,15 +83,15 @@ other_name entry y h =
 -- ---- the member that an entry names
 
 pub none_found : (entry : Plain) (members : List Member) → ((i : ℕ) (m : Member) → slice_get members i ≡ Some m → false ≡ bytes_eq (member_name m) (text_in (entry_in entry 0)))
-    → (y : ℕ) (m : Member) → slice_get members y ≡ Some m → false ≡ replaces_entry_names entry m.pkg
+    → (y : ℕ) (m : Member) → slice_get members y ≡ Some m → false ≡ does_replaces_entry_name_package entry m.pkg
 none_found entry members h y m g = sym (other_name entry m.pkg (sym (h y m g)))
 
 -- ---- in rising order
 
 pub in_order : (members : List Member) (pkg : Plain) (old new : List ℕ) → IsPermutation old new → IsSorted nat_cmp new
-    → ((y : ℕ) (m : Member) → slice_get members y ≡ Some m → list_any (λ p. p == y) old ≡ list_any (λ entry. replaces_entry_names entry m.pkg) (entries_at 16 (entry_in pkg 0)))
+    → ((y : ℕ) (m : Member) → slice_get members y ≡ Some m → list_any (λ p. p == y) old ≡ list_any (λ entry. does_replaces_entry_name_package entry m.pkg) (entries_at 16 (entry_in pkg 0)))
     → ArePlacesOfNamedMembers members pkg new
-unfolding replaces_names_package
+unfolding does_first_list_second_in_replaces
 in_order members pkg old new moved rising named = record {
   rising = rising;
   named = λ y m g. sym (list_any-IsPermutation (λ p. p == y) old new moved) ∙ named y m g;
@@ -164,7 +164,7 @@ module _ (members : List Member) (named : List (List ℕ)) (all : ArePlacesNamed
   pub rising_at : (i : ℕ) (places : List ℕ) → i < length members → slice_get named i ≡ Some places → IsSorted nat_cmp places
   rising_at i places h g = let m = some_at members i h in (all.each i m.0 places m.1 g).rising
 
-  names_at : (i j : ℕ) (m n : Member) (places : List ℕ) → slice_get members i ≡ Some m → slice_get members j ≡ Some n → slice_get named i ≡ Some places → list_any (λ p. p == j) places ≡ replaces_names_package m.pkg n.pkg
+  names_at : (i j : ℕ) (m n : Member) (places : List ℕ) → slice_get members i ≡ Some m → slice_get members j ≡ Some n → slice_get named i ≡ Some places → list_any (λ p. p == j) places ≡ does_first_list_second_in_replaces m.pkg n.pkg
   names_at i j m n places g h s = (all.each i m places g s).named j n h
 
   beats_is : (m n : Member) → slice_get members x ≡ Some m → slice_get members y ≡ Some n → takes_over m.pkg n.pkg ≡ member_beats members x y
@@ -176,8 +176,8 @@ module _ (members : List Member) (named : List (List ℕ)) (all : ArePlacesNamed
   not_named places t g is absent =
       let m = some_at members x l in
       let n = some_at members y k in
-      let e : replaces_names_package m.0.pkg n.0.pkg ≡ false = sym (names_at x y m.0 n.0 places m.1 n.1 g) ∙ (sym is ∙ absent) in
-      sym (sym (beats_is m.0 n.0 m.1 n.1) ∙ ap (λ b. b && (not (replaces_names_package n.0.pkg m.0.pkg) || is_preferred_replacer m.0.pkg n.0.pkg)) e)
+      let e : does_first_list_second_in_replaces m.0.pkg n.0.pkg ≡ false = sym (names_at x y m.0 n.0 places m.1 n.1 g) ∙ (sym is ∙ absent) in
+      sym (sym (beats_is m.0 n.0 m.1 n.1) ∙ ap (λ b. b && (not (does_first_list_second_in_replaces n.0.pkg m.0.pkg) || is_preferred_replacer m.0.pkg n.0.pkg)) e)
 
   pub not_back : (places others : List ℕ) (t u : Bool) → slice_get named x ≡ Some places → slice_get named y ≡ Some others → t ≡ list_any (λ p. p == y) places → t ≡ true
       → u ≡ list_any (λ p. p == x) others → u ≡ false → true ≡ member_beats members x y
@@ -185,8 +185,8 @@ module _ (members : List Member) (named : List (List ℕ)) (all : ArePlacesNamed
   not_back places others t u g h is yes_named back no_back =
       let m = some_at members x l in
       let n = some_at members y k in
-      let e : replaces_names_package m.0.pkg n.0.pkg ≡ true = sym (names_at x y m.0 n.0 places m.1 n.1 g) ∙ (sym is ∙ yes_named) in
-      let f : replaces_names_package n.0.pkg m.0.pkg ≡ false = sym (names_at y x n.0 m.0 others n.1 m.1 h) ∙ (sym back ∙ no_back) in
+      let e : does_first_list_second_in_replaces m.0.pkg n.0.pkg ≡ true = sym (names_at x y m.0 n.0 places m.1 n.1 g) ∙ (sym is ∙ yes_named) in
+      let f : does_first_list_second_in_replaces n.0.pkg m.0.pkg ≡ false = sym (names_at y x n.0 m.0 others n.1 m.1 h) ∙ (sym back ∙ no_back) in
       sym (sym (beats_is m.0 n.0 m.1 n.1) ∙ (λ j. e j && (not (f j) || is_preferred_replacer m.0.pkg n.0.pkg)))
 
   pub by_preference : (places others : List ℕ) (t u p : Bool) (v w : Plain) → slice_get named x ≡ Some places → slice_get named y ≡ Some others → t ≡ list_any (λ p. p == y) places → t ≡ true
@@ -196,7 +196,7 @@ module _ (members : List Member) (named : List (List ℕ)) (all : ArePlacesNamed
   by_preference places others t u p v w g h is yes_named back yes_back first second preferred =
       let m = some_at members x l in
       let n = some_at members y k in
-      let e : replaces_names_package m.0.pkg n.0.pkg ≡ true = sym (names_at x y m.0 n.0 places m.1 n.1 g) ∙ (sym is ∙ yes_named) in
-      let f : replaces_names_package n.0.pkg m.0.pkg ≡ true = sym (names_at y x n.0 m.0 others n.1 m.1 h) ∙ (sym back ∙ yes_back) in
+      let e : does_first_list_second_in_replaces m.0.pkg n.0.pkg ≡ true = sym (names_at x y m.0 n.0 places m.1 n.1 g) ∙ (sym is ∙ yes_named) in
+      let f : does_first_list_second_in_replaces n.0.pkg m.0.pkg ≡ true = sym (names_at y x n.0 m.0 others n.1 m.1 h) ∙ (sym back ∙ yes_back) in
       preferred ∙ ((λ j. is_preferred_replacer (first m.0 m.1 j) (second n.0 n.1 j))
       ∙ (sym (λ j. e j && (not (f j) || is_preferred_replacer m.0.pkg n.0.pkg)) ∙ beats_is m.0 n.0 m.1 n.1))

@@ -15,7 +15,7 @@ use Rattle.path_claims.specs.adb_fields.Repeated.{list_of}
 use Rattle.db_core.specs.adb_schema.SoundValues.{IsSoundPackage, IsSoundDependency}
 use Rattle.db_core.proofs.adb_schema.SoundLeaves.{each_at}
 use Rattle.db_core.specs.Members.{Member}
-use Rattle.db_core.specs.SoundMembers.{AreOfSoundContainers, IsOfSoundContainer}
+use Rattle.db_core.specs.SoundMembers.{AreMembersOfSoundContainers, IsPackageOfSoundContainer}
 use Rattle.file_owners.specs.Replaces.{package_version_text}
 
 abbrev replaced_by : Plain → Plains
@@ -33,12 +33,12 @@ each_in P v none h here = absurd here
 each_in P v (more u us) h (inl is) = subst P (sym is) h.0
 each_in P v (more u us) h (inr here) = each_in P v us h.1 here
 
-of_container : (pkg : Plain) (id : Option (List ℕ)) → IsOfSoundContainer pkg id → IsSoundMember pkg
+of_container : (pkg : Plain) (id : Option (List ℕ)) → IsPackageOfSoundContainer pkg id → IsSoundMember pkg
 of_container pkg None h = of_package Tables.Idb pkg (each_in (IsSoundPackage Tables.Idb) pkg (entries_in (entry_in h.database 0)) h.sound.rules h.listed)
 of_container pkg (Some id) h = of_package Tables.Package pkg h.sound.rules
 
 -- the package at a place of sound members
-member_at : (members : List Member) (i : ℕ) (pkg : Plain) → i < length members → ((m : Member) → slice_get members i ≡ Some m → pkg ≡ m.pkg) → AreOfSoundContainers members → IsSoundMember pkg
+member_at : (members : List Member) (i : ℕ) (pkg : Plain) → i < length members → ((m : Member) → slice_get members i ≡ Some m → pkg ≡ m.pkg) → AreMembersOfSoundContainers members → IsSoundMember pkg
 member_at [] i pkg within at all = absurd (omega (arith, within))
 member_at (m ∷ members) zero pkg within at all = subst IsSoundMember (sym (at m refl)) (of_container m.pkg m.id all.0)
 member_at (m ∷ members) (suc i) pkg within at all = member_at members i pkg (omega (arith, within)) (λ n e. at n e) all.1
@@ -52,13 +52,13 @@ each_by : (P : Plain → Type 0) (vs : Plains) → ((k : ℕ) → k < count_of v
 each_by P none h = tt
 each_by P (more v vs) h = (h 0 (omega arith), each_by P vs (λ k less. h (suc k) (omega (arith, less))))
 
-module _ (members : List Member) (i : ℕ) (pkg : Plain) (within : i < length members) (at : (m : Member) → slice_get members i ≡ Some m → pkg ≡ m.pkg) (sound : ∥ AreOfSoundContainers members ∥₁) where
+module _ (members : List Member) (i : ℕ) (pkg : Plain) (within : i < length members) (at : (m : Member) → slice_get members i ≡ Some m → pkg ≡ m.pkg) (sound : ∥ AreMembersOfSoundContainers members ∥₁) where
   pub version_sound : is_version (package_version_text pkg) ≡ true
   version_sound = is_passed (is_version (package_version_text pkg)) sound (λ all. (member_at members i pkg within at all).version)
 
   dependency_sound : (k : ℕ) → k < count_of (replaced_by pkg) → IsSoundDependency (nth (replaced_by pkg) k)
   dependency_sound k less =
-      let sure : AreOfSoundContainers members → IsSoundDependency (nth (replaced_by pkg) k) = λ all. each_at IsSoundDependency (replaced_by pkg) k (member_at members i pkg within at all).replaced less in
+      let sure : AreMembersOfSoundContainers members → IsSoundDependency (nth (replaced_by pkg) k) = λ all. each_at IsSoundDependency (replaced_by pkg) k (member_at members i pkg within at all).replaced less in
       record {
         name = is_passed _ sound (λ all. (sure all).name);
         version = is_passed _ sound (λ all. (sure all).version);

@@ -7,7 +7,7 @@ use Rattle.std.specs.List.Sorted.{IsSorted}
 use Rattle.std.specs.Ordering.{nat_cmp}
 use Rattle.adb_view.specs.Plain.{Plain}
 use Rattle.db_core.specs.Members.{Member}
-use Rattle.file_owners.specs.Replaces.{replaces_names_package}
+use Rattle.file_owners.specs.Replaces.{does_first_list_second_in_replaces}
 
 -- the places rise, and are those of the members that the package names
 pub record ArePlacesOfNamedMembers (members : List Member) (pkg : Plain) (places : List ℕ) : Type 0 where
@@ -15,7 +15,7 @@ pub record ArePlacesOfNamedMembers (members : List Member) (pkg : Plain) (places
   pub rising : IsSorted nat_cmp places
   -- the member at a place is named exactly if the place is in the list
   pub named : (y : ℕ) (m : Member) → slice_get members y ≡ Some m
-      → list_any (λ place. place == y) places ≡ replaces_names_package pkg m.pkg
+      → list_any (λ place. place == y) places ≡ does_first_list_second_in_replaces pkg m.pkg
 
 -- for each member, in its order, the list has the places of the members that it names
 pub record ArePlacesNamedByEachMember (members : List Member) (named : List (List ℕ)) : Type 0 where

@@ -8,7 +8,7 @@ use Rattle.adb_view.specs.declared.tables.Kind.TheVariants.{Obj, Text}
 use Rattle.adb_view.specs.declared.tables.Which.TheVariants.{Dep}
 use Rattle.db_core.specs.adb_schema.SoundValues.{IsSoundDependency}
 use Rattle.db_core.specs.Members.{Member, member_name}
-use Rattle.file_owners.specs.Replaces.{replaces_entry_names}
+use Rattle.file_owners.specs.Replaces.{does_replaces_entry_name_package}
 use Rattle.file_owners.specs.declared.questions.Question.{Question}
 
 -- the plain value of a question's entry, read from the payload
@@ -18,7 +18,7 @@ entry_of_question payload q = value_at payload (Obj Dep) q.word
 -- whether a question is about the member at a place, and its entry names that member's package
 abbrev pub question_names_package : List ℕ → ℕ → Plain → Question → Bool
 question_names_package payload place pkg q =
-    (q.place == place) && replaces_entry_names (entry_of_question payload q) pkg
+    (q.place == place) && does_replaces_entry_name_package (entry_of_question payload q) pkg
 
 -- whether there is a question, it is about the member at a place, and its entry names that member's
 -- package
@@ -52,6 +52,9 @@ pub record IsQuestionIn (members : List Member) (payload : List ℕ) (q : Questi
 -- two questions are the same: they are about one member, and have the same version word and the
 -- same operator
 pub record AreSameQuestion (one other : Question) : Type 0 where
+  -- both are about the same member
   pub place : one.place ≡ other.place
+  -- both have the same word (32-bit reference) for the version
   pub version : one.version ≡ other.version
+  -- both have the same match bits
   pub matching : one.matching ≡ other.matching

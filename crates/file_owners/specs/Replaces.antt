@@ -18,21 +18,22 @@ package_version_text pkg = text_in (entry_in (entry_in pkg PACKAGE_INFO) INFO_VE
 
 -- whether a package with this name and version meets the dependency; false if there is no
 -- dependency or if it is a conflict
-abbrev pub is_replaced_by : Option Dependency → List ℕ → List ℕ → Bool
-is_replaced_by None name version = false
-is_replaced_by (Some d) name version = not d.conflict && meets d name (Some version)
+abbrev pub is_package_met_by_replaces_entry : Option Dependency → List ℕ → List ℕ → Bool
+is_package_met_by_replaces_entry None name version = false
+is_package_met_by_replaces_entry (Some d) name version = not d.conflict && meets d name (Some version)
 
 -- whether an entry of `replaces` names the package y: the entry is no conflict, and the name and
 -- the version of y meet it
-abbrev pub replaces_entry_names : Plain → Plain → Bool
-replaces_entry_names entry y =
+abbrev pub does_replaces_entry_name_package : Plain → Plain → Bool
+does_replaces_entry_name_package entry y =
     is_version (package_version_text y)
-    && is_replaced_by (dependency_in entry) (package_name y) (package_version_text y)
+    && is_package_met_by_replaces_entry (dependency_in entry) (package_name y) (package_version_text y)
 
 -- whether the package x names the package y: an entry of the `replaces` of x does
-unfoldable pub replaces_names_package : Plain → Plain → Bool
-replaces_names_package x y =
-    list_any (λ entry. replaces_entry_names entry y) (entries_at INFO_REPLACES (entry_in x PACKAGE_INFO))
+unfoldable pub does_first_list_second_in_replaces : Plain → Plain → Bool
+does_first_list_second_in_replaces x y =
+    list_any (λ entry. does_replaces_entry_name_package entry y)
+    (entries_at INFO_REPLACES (entry_in x PACKAGE_INFO))
 
 -- the priority of a package in replacing: 0 if the package gives none
 abbrev pub replacing_priority : Plain → ℕ
@@ -50,4 +51,5 @@ is_preferred_replacer x y =
 -- name x or x is preferred
 unfoldable pub takes_over : Plain → Plain → Bool
 takes_over x y =
-    replaces_names_package x y && (not (replaces_names_package y x) || is_preferred_replacer x y)
+    does_first_list_second_in_replaces x y
+    && (not (does_first_list_second_in_replaces y x) || is_preferred_replacer x y)

@@ -45,6 +45,7 @@ fn count_listed(db: &Db<'_>) -> usize {
 /// How many files the package at a place of the database, counted from 0, lists. The mark serves
 /// only the borrow checker, as in `add_package`.
 fn count_in_package<'a>(db: &Db<'a>, i: usize, _mark: PhantomData<PackageView<'a>>) -> usize
+    // The index is one of the database's packages.
     requires { i < length (packages_of db.now) }
 {
     let package = db.package(i);
@@ -65,14 +66,15 @@ fn listed_files<'a>(alloc: Global, db: &Db<'a>) -> Result<Vec<Claim<'a>>, AllocE
 }
 
 /// Adds the files of the package at a place of the database, counted from 0, to the claims. The
-/// mark serves only the borrow checker: it does not know the parts of a view that is made and lent
-/// here unless the signature names the view as an argument.
+/// argument `PhantomData` serves only the borrow checker: it does not know the parts of a view that
+/// is made and lent here unless the signature names the view as an argument.
 fn add_package<'a>(
     claims: &mut Vec<Claim<'a>>,
     db: &Db<'a>,
     i: usize,
     _mark: PhantomData<PackageView<'a>>,
 ) -> Result<(), AllocError>
+    // The index is one of the database's packages.
     requires { i < length (packages_of db.now) }
     ensures { IfOk result (λ _. (m : Member)
         → slice_get (map member_of_kept (packages_of db.now)) i ≡ Some m

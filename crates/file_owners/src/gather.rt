@@ -78,6 +78,7 @@ fn add_folder<'a>(
     folders: &List<'a, DirInfo<'a>>,
     i: usize,
 ) -> Result<(), AllocError>
+    // The index is that of an entry of the list.
     requires { i < count_of (entries_in (list_value folders.now)) }
     ensures { IfOk result (λ _. (m : Member) → map claim_seen claims.new.items
         ≡ claims_with_listings (map claim_seen claims.old.items)
@@ -140,6 +141,7 @@ fn add_member<'a>(
     members: &Members<'a>,
     i: usize,
 ) -> Result<(), AllocError>
+    // The index is that of one of the members.
     requires { i < length (members_of members.now) }
     ensures { IfOk result (λ _. (m : Member) → slice_get (members_of members.now) i ≡ Some m
         → map claim_seen claims.new.items
@@ -151,6 +153,7 @@ fn add_member<'a>(
 
 /// A place among members in 32 bits, as claims have it.
 pub(crate) fn place_of(members: &Members<'_>, i: usize) -> u32
+    // The index is that of one of the members.
     requires { i < length (members_of members.now) }
     ensures { result ≡ i }
 {

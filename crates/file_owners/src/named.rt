@@ -54,6 +54,7 @@ fn places_named(
     members: &Members<'_>,
     pkg: &PackageView<'_>,
 ) -> Result<Vec<u32>, AllocError>
+    // The entries obey the rules of dependencies.
     requires { Each IsSoundDependency (entries_in
         (entry_in (entry_in (package_value pkg.now) PACKAGE_INFO) INFO_REPLACES)) }
     ensures { IfOk result (λ places.
@@ -67,8 +68,10 @@ fn places_named(
 
 /// The entries of a package's `replaces`.
 fn replaced_entries<'a>(info: &PkgInfo<'a>) -> Arr<'a>
+    // Each word of the result has a plain value of its kind.
     ensures sound { are_all_sound (payload_of info.now.adb) (Kinds.Obj Tables.Dep)
         (array_entries result) ≡ true }
+    // The values of these words are the entries of the field.
     ensures value { array_at (payload_of info.now.adb) (Kinds.Obj Tables.Dep)
         (array_entries result) ≡ entry_in (info_value info.now) INFO_REPLACES }
 {
@@ -83,6 +86,7 @@ fn replaced_entries<'a>(info: &PkgInfo<'a>) -> Arr<'a>
 
 /// Whether a place is among places in rising order, by binary search.
 pub(crate) fn is_among(places: &[u32], place: u32) -> bool
+    // The places are in rising order.
     requires { IsSorted nat_cmp places.now }
     ensures { result ≡ list_any (λ p. p == place) places.now }
 {

@@ -13,7 +13,7 @@ ghost use Rattle.path_claims.specs.Seen.{claim_seen};
 ghost use Rattle.file_owners.specs.Owners.{claims_in, first_contested_path_of_members, member_beats, owned_flags_of, owner_of_path};
 ghost use Rattle.file_owners.specs.NamedPlaces.{ArePlacesNamedByEachMember};
 ghost use Rattle.db_core.specs.adb_schema.Views.{dependency_value, package_value};
-ghost use Rattle.file_owners.specs.Replaces.{replaces_entry_names, is_preferred_replacer, is_replaced_by, takes_over, package_version_text};
+ghost use Rattle.file_owners.specs.Replaces.{does_replaces_entry_name_package, is_preferred_replacer, is_package_met_by_replaces_entry, takes_over, package_version_text};
 ghost use Rattle.db_core.specs.adb_schema.Dependencies.{dependency_in};
 ghost use Rattle.db_core.specs.adb_schema.SoundValues.{IsSoundDependency};
 ghost use Rattle.version_core.specs.Order.{is_version};
@@ -59,8 +59,11 @@ impl<'m, 'a> Contest for Claimants<'m, 'a> {
 /// Whether the member at the first place takes over the files of that at the second; `named` has
 /// the places that each member names.
 fn member_beats(members: &Members<'_>, named: &[Vec<u32>], one: u32, other: u32) -> bool
+    // The first place is one of the members,
     requires one { one < length (members_of members.now) }
+    // and so is the second.
     requires other { other < length (members_of members.now) }
+    // `named` has, for each member, the places of the members that it names.
     requires each { ArePlacesNamedByEachMember (members_of members.now) (map
         (λ v. v.items) named.now) }
     ensures { result ≡ member_beats (members_of members.now) one other }
@@ -102,9 +105,11 @@ pub fn owners_of_files<'a>(alloc: Global, members: &Members<'a>) -> Result<Owner
 
 /// Whether an entry of a `replaces` is no conflict, and is met by a name and a version.
 fn is_replaced(dep: &DepView<'_>, name: &[u8], version: &Version<'_>) -> bool
+    // The entry obeys the rules of a dependency.
     requires { IsSoundDependency (dependency_value dep.now) }
     ensures { result
-        ≡ is_replaced_by (dependency_in (dependency_value dep.now)) name.now version.now }
+        ≡ is_package_met_by_replaces_entry (dependency_in
+        (dependency_value dep.now)) name.now version.now }
 {
     match dep_of_parts(dep.name(), dep.version(), dep.matching()) {
         Some(dep) => !dep.conflict && dep.met_by(name, Some(version)),
@@ -115,10 +120,13 @@ fn is_replaced(dep: &DepView<'_>, name: &[u8], version: &Version<'_>) -> bool
 /// Whether an entry of `replaces` names another package: the entry is no conflict, and the name and
 /// the version of that package meet it. Name and version are not validated, since the packages are
 /// from sound containers.
-pub(crate) fn replaces_entry_names(entry: &DepView<'_>, pkg: &PackageView<'_>) -> bool
+pub(crate) fn does_replaces_entry_name_package(entry: &DepView<'_>, pkg: &PackageView<'_>) -> bool
+    // The entry obeys the rules of a dependency.
     requires entry { IsSoundDependency (dependency_value entry.now) }
+    // The package's version is valid.
     requires version { is_version (package_version_text (package_value pkg.now)) ≡ true }
-    ensures { result ≡ replaces_entry_names (dependency_value entry.now) (package_value pkg.now) }
+    ensures { result ≡ does_replaces_entry_name_package (dependency_value entry.now)
+        (package_value pkg.now) }
 {
     let info = pkg.info();
     let version = Version::of(info.version());

@@ -17,11 +17,11 @@ ghost use Rattle.db_core.specs.adb_schema.SoundValues.{IsSoundDependency};
 ghost use Rattle.db_core.specs.Members.{Member, is_found_place};
 ghost use Rattle.db_core.specs.Seen.{members_of};
 ghost use Rattle.file_owners.specs.Questions.{AreSameQuestion, IsQuestionIn, question_names_package, question_names_if_any, with_question};
-ghost use Rattle.file_owners.specs.Replaces.{replaces_entry_names};
+ghost use Rattle.file_owners.specs.Replaces.{does_replaces_entry_name_package};
 ghost use Rattle.file_owners.specs.declared.questions.Question.{Question as AskedQuestion};
 
 use crate::gather::place_of;
-use crate::owner::replaces_entry_names;
+use crate::owner::does_replaces_entry_name_package;
 use adb_view::{Adb, Arr, Val, Which, entry_word};
 use db_core::{DepView, Members, View};
 use path_claims::field_word;
@@ -72,14 +72,16 @@ pub(crate) fn places_in<'a>(
     adb: Adb<'a>,
     entries: Arr<'a>,
 ) -> Result<Vec<u32>, AllocError>
+    // Each word has a plain value of its kind.
     requires sound { are_all_sound (payload_of adb) (Kinds.Obj Tables.Dep) (array_entries entries)
         ≡ true }
+    // The entries obey the rules of dependencies.
     requires texts { Each IsSoundDependency (entries_in
         (array_at (payload_of adb) (Kinds.Obj Tables.Dep) (array_entries entries))) }
     ensures { IfOk result (λ places. (y : ℕ) (m : Member)
         → slice_get (members_of members.now) y ≡ Some m
         → list_any (λ place. place == y) places.items
-        ≡ list_any (λ entry. replaces_entry_names entry m.pkg) (list_of (entries_in
+        ≡ list_any (λ entry. does_replaces_entry_name_package entry m.pkg) (list_of (entries_in
         (array_at (payload_of adb.entry) (Kinds.Obj Tables.Dep) (array_entries entries.entry))))) }
 {
     let mut questions = questions_of(alloc, members, adb, entries)?;
@@ -95,15 +97,20 @@ fn questions_of<'a>(
     adb: Adb<'a>,
     entries: Arr<'a>,
 ) -> Result<Vec<Question>, AllocError>
+    // Each word has a plain value of its kind.
     requires sound { are_all_sound (payload_of adb) (Kinds.Obj Tables.Dep) (array_entries entries)
         ≡ true }
+    // The entries obey the rules of dependencies.
     requires texts { Each IsSoundDependency (entries_in
         (array_at (payload_of adb) (Kinds.Obj Tables.Dep) (array_entries entries))) }
+    // For a member, the answer to one of the questions is yes exactly if one of the entries names
+    // it.
     ensures asked { IfOk result (λ questions. (y : ℕ) (m : Member)
         → slice_get (members_of members.now) y ≡ Some m
         → list_any (question_names_package (payload_of adb.entry) y m.pkg) questions.items
-        ≡ list_any (λ entry. replaces_entry_names entry m.pkg) (list_of (entries_in
+        ≡ list_any (λ entry. does_replaces_entry_name_package entry m.pkg) (list_of (entries_in
         (array_at (payload_of adb.entry) (Kinds.Obj Tables.Dep) (array_entries entries.entry))))) }
+    // Each question is about one of the members.
     ensures questions { IfOk result (λ questions.
         All (IsQuestionIn (members_of members.now) (payload_of adb.entry)) questions.items) }
 {
@@ -130,12 +137,16 @@ fn add_question(questions: &mut Vec<Question>, question: Option<Question>) -> Re
 
 /// The question of an entry, if a member has its name.
 fn question_of(members: &Members<'_>, adb: Adb<'_>, entry: Val) -> Option<Question>
+    // The word has a plain value of its kind.
     requires sound { is_sound (payload_of adb) (Kinds.Obj Tables.Dep) entry ≡ true }
+    // The entries obey the rules of dependencies.
     requires texts { IsSoundDependency (value_at (payload_of adb) (Kinds.Obj Tables.Dep) entry) }
+    // For a member, the answer to the question is yes exactly if the entry names it.
     ensures asked { (y : ℕ) (m : Member) → slice_get (members_of members.now) y ≡ Some m
         → question_names_if_any (payload_of adb.entry) y m.pkg result
-        ≡ replaces_entry_names (value_at (payload_of adb.entry)
+        ≡ does_replaces_entry_name_package (value_at (payload_of adb.entry)
         (Kinds.Obj Tables.Dep) entry) m.pkg }
+    // The question is about one of the members.
     ensures question { IfSome result
         (IsQuestionIn (members_of members.now) (payload_of adb.entry)) }
 {
@@ -159,6 +170,7 @@ fn places_asked(
     adb: Adb<'_>,
     questions: &[Question],
 ) -> Result<Vec<u32>, AllocError>
+    // Each question is about one of the members.
     requires { All (IsQuestionIn (members_of members.now) (payload_of adb)) questions.now }
     ensures { IfOk result (λ places. (y : ℕ) (m : Member)
         → slice_get (members_of members.now) y ≡ Some m
@@ -185,7 +197,9 @@ fn add_place(places: &mut Vec<u32>, place: Option<u32>) -> Result<(), AllocError
 
 /// The place of the question's member, if the answer is yes and the question before is another one.
 fn place_asked(members: &Members<'_>, adb: Adb<'_>, questions: &[Question], i: usize) -> Option<u32>
+    // The index is that of one of the questions.
     requires within { i < length questions.now }
+    // Each question is about one of the members.
     requires questions { All (IsQuestionIn (members_of members.now) (payload_of adb))
         questions.now }
     ensures { (y : ℕ) (m : Member) → slice_get (members_of members.now) y ≡ Some m
@@ -202,8 +216,10 @@ fn place_asked(members: &Members<'_>, adb: Adb<'_>, questions: &[Question], i: u
 
 /// Whether a question is the same as the one before it.
 fn repeats_the_one_before(questions: &[Question], i: usize) -> bool
+    // The index is that of an element.
     requires { i < length questions.now }
     ensures first { result ≡ true → 0 < i }
+    // If the result is true, the question and the one before it are the same.
     ensures same { result ≡ true → (one other : AskedQuestion)
         → slice_get questions.now (i - 1) ≡ Some one → slice_get questions.now i ≡ Some other
         → AreSameQuestion one other }
@@ -214,8 +230,10 @@ fn repeats_the_one_before(questions: &[Question], i: usize) -> bool
     questions[i - 1].is_same(&questions[i])
 }
 
-/// The place of the member that a question is about, if its entry names that member.
+/// The place of the member that a question is about, if the question's entry of `replaces` names
+/// the package of this member. The entry is a value in `adb`.
 fn place_if_named(members: &Members<'_>, adb: Adb<'_>, question: &Question) -> Option<u32>
+    // The question is about one of the members.
     requires { IsQuestionIn (members_of members.now) (payload_of adb) question.now }
     ensures { (y : ℕ) (m : Member) → slice_get (members_of members.now) y ≡ Some m
         → is_found_place y result
@@ -224,7 +242,7 @@ fn place_if_named(members: &Members<'_>, adb: Adb<'_>, question: &Question) -> O
     members.packages_are_sound();
     let place = question.place;
     let entry = DepView::of(adb, question.word);
-    if replaces_entry_names(&entry, members.view(place as usize)) {
+    if does_replaces_entry_name_package(&entry, members.view(place as usize)) {
         Some(place)
     } else {
         None

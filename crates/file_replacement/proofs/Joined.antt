@@ -8,8 +8,8 @@ use Rattle.base_core.specs.Calls.{IfObservable, HoldsNow}
 use Rattle.base_core.specs.Crash.{Since}
 use Rattle.base_core.specs.Undone.{IsDurable}
 use Rattle.journal_core.specs.Kept.{IsSyncedAt}
-use Rattle.journal_core.specs.Recovery.{StateDependsOn, EachCrashLeaves}
-use Rattle.journal_core.specs.Replacing.{scratch_name_of, replaced_files_through_scratch, replaced_files, IgnoresScratch, IsMomentOfReplacing}
+use Rattle.journal_core.specs.Recovery.{StateDependsOn, EachCrashLeavesStateOf}
+use Rattle.journal_core.specs.Replacing.{scratch_name_of, files_after_replacement_through_scratch, files_after_replacement, IgnoresScratchNameButNotIntent, IsMomentOfReplacing}
 use Rattle.journal_core.specs.Reading.{ReadsOldOrReplaced}
 use Rattle.journal_core.specs.Filling.{MayHaveChangedOnly, HasChangedOnlyByNewFile, synced_file, IsNewFileReadyToMove, IsNewFileDurablyMoved}
 
@@ -29,7 +29,7 @@ module _ (scratch name bytes : List ℕ) (v : TreeState) (old mid rest : History
         record {
           is_durable = is_unchanged.is_durable;
           old_or_new = old_or_new_from_quiet ignored v
-              (replaced_files_through_scratch scratch name bytes (files_of v)) w is_unchanged.quiet;
+              (files_after_replacement_through_scratch scratch name bytes (files_of v)) w is_unchanged.quiet;
           made = is_unchanged.made;
         };
     reads = inl was.others;
@@ -82,13 +82,13 @@ module _ (scratch name bytes : List ℕ) (scratch_is : scratch ≡ scratch_name_
   moments : Shows → Since (IsNewFileReadyToMove (scratch_name_of name) name bytes v) old new
   moments moves = subst (λ s. Since (IsNewFileReadyToMove s name bytes v) old new) scratch_is (observable_at old v rest is (λ w. Since (IsNewFileReadyToMove scratch name bytes w) old new) moves)
 
-  pub replacing_moments : Shows → (ignored : List ℕ → Bool) → IsDurable (StateDependsOn ignored) v → IgnoresScratch ignored name
-      → Since (IsMomentOfReplacing ignored (replaced_files name bytes (files_of v)) v) old new
+  pub replacing_moments : Shows → (ignored : List ℕ → Bool) → IsDurable (StateDependsOn ignored) v → IgnoresScratchNameButNotIntent ignored name
+      → Since (IsMomentOfReplacing ignored (files_after_replacement name bytes (files_of v)) v) old new
   replacing_moments moves ignored is_durable hides =
-      since_weaker (IsNewFileReadyToMove (scratch_name_of name) name bytes v) (IsMomentOfReplacing ignored (replaced_files name bytes (files_of v)) v) old new
+      since_weaker (IsNewFileReadyToMove (scratch_name_of name) name bytes v) (IsMomentOfReplacing ignored (files_after_replacement name bytes (files_of v)) v) old new
       (λ w m. m.safe ignored is_durable (private_of ignored name hides)) (moments moves)
 
-  pub replacing_durable : Shows → (ignored : List ℕ → Bool) → IsDurable (StateDependsOn ignored) v → IgnoresScratch ignored name → HoldsNow new (IsDurable (StateDependsOn ignored))
+  pub replacing_durable : Shows → (ignored : List ℕ → Bool) → IsDurable (StateDependsOn ignored) v → IgnoresScratchNameButNotIntent ignored name → HoldsNow new (IsDurable (StateDependsOn ignored))
   replacing_durable moves ignored is_durable hides =
       now_since (IsDurable (StateDependsOn ignored)) old new v rest is is_durable
       (since_weaker (IsNewFileReadyToMove (scratch_name_of name) name bytes v) (IsDurable (StateDependsOn ignored)) old new (λ w m. (m.safe ignored is_durable (private_of ignored name hides)).is_durable)
@@ -104,16 +104,16 @@ module _ {T E : Type 0} (name bytes : List ℕ) (old new : History) where
   LastsOn r = IfObservable old (λ v. OnOk r (HoldsNow new (IsNewFileDurablyMoved (scratch_name_of name) name bytes v)))
 
   pub settled_called : (r : Result T E) → LastsOn r
-      → IfObservable old (λ v. (ignored : List ℕ → Bool) → IsDurable (StateDependsOn ignored) v → IgnoresScratch ignored name
-      → OnOk r (HoldsNow new (EachCrashLeaves ignored (replaced_files name bytes (files_of v)))))
+      → IfObservable old (λ v. (ignored : List ℕ → Bool) → IsDurable (StateDependsOn ignored) v → IgnoresScratchNameButNotIntent ignored name
+      → OnOk r (HoldsNow new (EachCrashLeavesStateOf ignored (files_after_replacement name bytes (files_of v)))))
   settled_called (Ok x) lasts = observable_map old _ _ lasts (λ v l ignored is_durable hides.
-      now_map new (IsNewFileDurablyMoved (scratch_name_of name) name bytes v) (EachCrashLeaves ignored (replaced_files name bytes (files_of v))) l
+      now_map new (IsNewFileDurablyMoved (scratch_name_of name) name bytes v) (EachCrashLeavesStateOf ignored (files_after_replacement name bytes (files_of v))) l
       (λ w m. m.settled ignored is_durable (private_of ignored name hides)))
   settled_called (Err e) lasts = observable_map old _ _ lasts (λ v l ignored is_durable hides. tt)
 
-  pub replaced_called : (r : Result T E) → LastsOn r → IfObservable old (λ v. OnOk r (HoldsNow new (λ w. files_of w ≡ replaced_files name bytes (files_of v))))
+  pub replaced_called : (r : Result T E) → LastsOn r → IfObservable old (λ v. OnOk r (HoldsNow new (λ w. files_of w ≡ files_after_replacement name bytes (files_of v))))
   replaced_called (Ok x) lasts = observable_map old _ _ lasts
-      (λ v l. now_map new (IsNewFileDurablyMoved (scratch_name_of name) name bytes v) (λ w. files_of w ≡ replaced_files name bytes (files_of v)) l (λ w m. m.reads))
+      (λ v l. now_map new (IsNewFileDurablyMoved (scratch_name_of name) name bytes v) (λ w. files_of w ≡ files_after_replacement name bytes (files_of v)) l (λ w m. m.reads))
   replaced_called (Err e) lasts = observable_map old _ _ lasts (λ v l. tt)
 
   pub synced_called : (r : Result T E) → LastsOn r → IfObservable old (λ v. OnOk r (HoldsNow new (IsSyncedAt name)))

@@ -11,8 +11,8 @@ ghost use Rattle.file_replacement.specs.Lengths.{most_replaceable_name_bytes};
 ghost use Rattle.journal_core.specs.Filling.{CanAddBothNames, IsNewFileDurablyMoved, IsNewFileReadyToMove};
 ghost use Rattle.journal_core.specs.Kept.{IsSyncedAt, KeepsCrashMapsExcept};
 ghost use Rattle.journal_core.specs.Reading.{ReadsOldOrReplaced};
-ghost use Rattle.journal_core.specs.Recovery.{StateDependsOn, EachCrashLeaves, intent_name};
-ghost use Rattle.journal_core.specs.Replacing.{IgnoresScratch, CanAddOutputNames, IsMomentOfReplacing, replaced_files, scratch_name_of};
+ghost use Rattle.journal_core.specs.Recovery.{StateDependsOn, EachCrashLeavesStateOf, intent_name};
+ghost use Rattle.journal_core.specs.Replacing.{IgnoresScratchNameButNotIntent, CanAddOutputNames, IsMomentOfReplacing, files_after_replacement, scratch_name_of};
 
 use crate::new_file::NewFile;
 use base_core::{Name, Tree, TreeFault, counts_of_consecutive_calls_compose};
@@ -41,20 +41,22 @@ pub fn replace<T: Tree>(
     // At each moment the tree is durable, and a crash leaves a state from before or that of the new
     // files. The ignored names include the scratch name.
     ensures moments { IfObservable (T.history tree.old) (λ v. (ignored : List ℕ → Bool)
-        → IsDurable (StateDependsOn ignored) v → IgnoresScratch ignored name.now
-        → Since (IsMomentOfReplacing ignored (replaced_files name.now bytes.now (files_of v)) v)
+        → IsDurable (StateDependsOn ignored) v → IgnoresScratchNameButNotIntent ignored name.now
+        → Since (IsMomentOfReplacing ignored (files_after_replacement name.now bytes.now
+        (files_of v)) v)
         (T.history tree.old) (T.history tree.new)) }
 
     // Whatever it returns, the tree is durable.
     ensures is_durable { IfObservable (T.history tree.old) (λ v. (ignored : List ℕ → Bool)
-        → IsDurable (StateDependsOn ignored) v → IgnoresScratch ignored name.now
+        → IsDurable (StateDependsOn ignored) v → IgnoresScratchNameButNotIntent ignored name.now
         → HoldsNow (T.history tree.new) (IsDurable (StateDependsOn ignored))) }
 
     // Once it has returned Ok, each crash leaves the state of the new files.
     ensures settled { IfObservable (T.history tree.old) (λ v. (ignored : List ℕ → Bool)
-        → IsDurable (StateDependsOn ignored) v → IgnoresScratch ignored name.now
+        → IsDurable (StateDependsOn ignored) v → IgnoresScratchNameButNotIntent ignored name.now
         → OnOk result (HoldsNow (T.history tree.new)
-        (EachCrashLeaves ignored (replaced_files name.now bytes.now (files_of v))))) }
+        (EachCrashLeavesStateOf ignored (files_after_replacement name.now bytes.now
+        (files_of v))))) }
 
     // At each moment the files as read are the old ones, apart from the scratch name, or the new
     // ones: the latter once it has returned Ok.
@@ -63,7 +65,7 @@ pub fn replace<T: Tree>(
         (T.history tree.new)) }
     ensures ok { IfObservable (T.history tree.old)
         (λ v. OnOk result (HoldsNow (T.history tree.new) (λ w.
-        files_of w ≡ replaced_files name.now bytes.now (files_of v)))) }
+        files_of w ≡ files_after_replacement name.now bytes.now (files_of v)))) }
 
     // At each moment a crash leaves every other name as it might have left it before.
     ensures others { IfObservable (T.history tree.old) (λ v.

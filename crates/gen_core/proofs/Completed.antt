@@ -8,9 +8,9 @@ use Rattle.adb_view.specs.Shaped.{Each, HasShape, HaveShapes}
 use Rattle.adb_view.proofs.FoundShapes.{shape_null}
 use Rattle.base_core.specs.Lists.{and_then}
 use Rattle.base_core.proofs.AtName.{is_name}
-use Rattle.adb_dump.specs.Dump.{Line, int_line, text_line, hash_line, indent, with_dash, entry_lines_or_null_line, array_lines, block_lines, named_line, named_block, named_lines, fields_lines, field_lines_unless_null}
+use Rattle.adb_dump.specs.Dump.{Line, int_line, text_line, hash_line, indent, lines_with_dash_before_first, entry_lines_or_null_line, array_lines, block_lines, named_line, name_line_above_indented_lines, named_lines, fields_lines, field_lines_unless_null}
 use Rattle.adb_dump.specs.Values.{IsOfBytes, AreOfBytes}
-use Rattle.adb_dump.specs.ReadBack.{ResultOrBadLine, mapped_or_bad_line_shifted_by, strip_prefix, block_and_lines_after, single_line_value, entry_read, entries_from_dash_line, entries_read, array_unless_empty, object_unless_empty, fields_read_with_value_on_line, fields_read_with_value_below, if_line_prints_value, fields_read_by_name_match, block_read, named_read, fields_read, int_read, text_read, hash_read}
+use Rattle.adb_dump.specs.ReadBack.{ResultOrBadLine, mapped_or_bad_line_shifted_by, strip_prefix, block_and_lines_after, single_line_value, entry_read, entries_from_dash_line, entries_read, array_unless_empty, object_unless_empty, fields_read_with_value_on_line, fields_read_with_value_below, value_if_printed_as_line, fields_read_by_name_match, block_read, named_read, fields_read, int_read, text_read, hash_read}
 use Rattle.adb_dump.proofs.Booleans.{chosen}
 use Rattle.adb_dump.proofs.ReadOnly.{block_only, Fits1, split_block_parts, strip_prefix_some, keeps, entry_lines_or_null_line-is}
 use Rattle.adb_dump.proofs.BlockLines.{no_lines}
@@ -181,7 +181,7 @@ pub record Completed (s : Shape) (ls : List Line) (k : ℕ) : Type 0 where
 at_first : (s : Shape) → Sample s → (ls : List Line) (k : ℕ) → k ≡ 0 → Completed s ls k
 at_first s p ls k e = subst (λ (n : ℕ). Completed s ls n) (sym e) (record { value = p.value; fit = p.fit; count = omega arith; rest = block_lines s p.value; lines = refl })
 
-form_zero : (form : Plain → Line) (l : Line) (o : Option Plain) (k : ℕ) → if_line_prints_value form l o ≡ no_value k → k ≡ 0
+form_zero : (form : Plain → Line) (l : Line) (o : Option Plain) (k : ℕ) → value_if_printed_as_line form l o ≡ no_value k → k ≡ 0
 form_zero form l None k e = sym (value_number 0 k e)
 form_zero form l (Some v) k e =
     elim (chosen (bytes_eq (form v) l) _ _ _ e) [
@@ -288,7 +288,7 @@ entry_ends s l m ls (suc i) dash c =
       count = omega (arith, within, split_count ls);
       rest = indent c.rest;
       lines =
-          append-nil (with_dash (entry_lines_or_null_line c.value (block_lines s c.value))) ∙ ap with_dash c.lines
+          append-nil (lines_with_dash_before_first (entry_lines_or_null_line c.value (block_lines s c.value))) ∙ ap lines_with_dash_before_first c.lines
           ∙ ap (λ (x : List Line). (codes "- " ++ m) ∷ x) (indent-append (take i r.0) c.rest)
           ∙ ap (λ (x : Line). x ∷ (indent (take i r.0) ++ indent c.rest)) (dash_line l m dash)
           ∙ ap (λ (x : List Line). l ∷ (x ++ indent c.rest)) (sym front);
@@ -309,7 +309,7 @@ entry_passed s l m ls k j v dash read is c =
       count = omega (arith, is, c.count, split_count ls);
       rest = c.rest;
       lines =
-          ap (λ (x : List Line). with_dash x ++ array_lines (block_lines s) (more c.first c.others)) t.0
+          ap (λ (x : List Line). lines_with_dash_before_first x ++ array_lines (block_lines s) (more c.first c.others)) t.0
           ∙ ap (λ (x : List Line). ((codes "- " ++ m) ∷ indent r.0) ++ x) c.lines
           ∙ ap (λ (x : Line). x ∷ (indent r.0 ++ (take j r.1 ++ c.rest))) (dash_line l m dash)
           ∙ ap (λ (x : List Line). l ∷ x) (sym (append_assoc (indent r.0) (take j r.1) c.rest) ∙ ap (λ (x : List Line). x ++ c.rest) (sym front))
@@ -403,7 +403,7 @@ name_line : (name : List ℕ) (l rest : Line) → NamedHere name l rest → rest
 name_line name l rest here e = ap (λ (x : Line). name ++ 58 ∷ x) (sym e) ∙ sym here.is
 
 -- the bad line is in the block below the name
-below_ends : (name : List ℕ) (s : Shape) (fs : Fields) → ((v : Plain) → named_lines s name v ≡ named_block name (block_lines s v)) → (l rest : Line) (ls : List Line) (k j : ℕ) → NamedHere name l rest → rest ≡ [] → k ≡ 1 + j → Completed s (block_and_lines_after ls).0 j → FieldsCompleted (field name s fs) (l ∷ ls) k
+below_ends : (name : List ℕ) (s : Shape) (fs : Fields) → ((v : Plain) → named_lines s name v ≡ name_line_above_indented_lines name (block_lines s v)) → (l rest : Line) (ls : List Line) (k j : ℕ) → NamedHere name l rest → rest ≡ [] → k ≡ 1 + j → Completed s (block_and_lines_after ls).0 j → FieldsCompleted (field name s fs) (l ∷ ls) k
 below_ends name s fs h l rest ls k j here e is c =
     let r = block_and_lines_after ls in
     let front : take j ls ≡ indent (take j r.0) = front_in_block ls j c.count in
@@ -423,7 +423,7 @@ below_ends name s fs h l rest ls k j here e is c =
     }
 
 -- the bad line is after that block
-below_passed : (name : List ℕ) (s : Shape) (fs : Fields) → ((v : Plain) → named_lines s name v ≡ named_block name (block_lines s v)) → (l rest : Line) (ls : List Line) (k j : ℕ) (v : Plain) → NamedHere name l rest → rest ≡ [] → block_read s (block_and_lines_after ls).0 ≡ Ok v
+below_passed : (name : List ℕ) (s : Shape) (fs : Fields) → ((v : Plain) → named_lines s name v ≡ name_line_above_indented_lines name (block_lines s v)) → (l rest : Line) (ls : List Line) (k j : ℕ) (v : Plain) → NamedHere name l rest → rest ≡ [] → block_read s (block_and_lines_after ls).0 ≡ Ok v
     → k ≡ 1 + length (block_and_lines_after ls).0 + j → FieldsCompleted fs (block_and_lines_after ls).1 j → FieldsCompleted (field name s fs) (l ∷ ls) k
 below_passed name s fs h l rest ls k j v here e read is c =
     let r = block_and_lines_after ls in
@@ -446,14 +446,14 @@ below_passed name s fs h l rest ls k j v here e read is c =
     }
 
 -- a field's value on its line
-on_line_completed : (name : List ℕ) (s : Shape) (fs : Fields) (form : Plain → Line) (read : Line → Option Plain) → ((v : Plain) → named_lines s name v ≡ named_line name (form v)) → ((l : Line) (v : Plain) → if_line_prints_value form l (read l) ≡ Ok v → Fit s v) → FieldsComplete fs
-    → (l rest : Line) (ls : List Line) (k : ℕ) → NamedHere name l rest → fields_read_with_value_on_line (λ x. if_line_prints_value form x (read x)) (fields_read fs) ls (strip_prefix (codes " ") rest) ≡ no_values k → FieldsCompleted (field name s fs) (l ∷ ls) k
+on_line_completed : (name : List ℕ) (s : Shape) (fs : Fields) (form : Plain → Line) (read : Line → Option Plain) → ((v : Plain) → named_lines s name v ≡ named_line name (form v)) → ((l : Line) (v : Plain) → value_if_printed_as_line form l (read l) ≡ Ok v → Fit s v) → FieldsComplete fs
+    → (l rest : Line) (ls : List Line) (k : ℕ) → NamedHere name l rest → fields_read_with_value_on_line (λ x. value_if_printed_as_line form x (read x)) (fields_read fs) ls (strip_prefix (codes " ") rest) ≡ no_values k → FieldsCompleted (field name s fs) (l ∷ ls) k
 on_line_completed name s fs form read h fits next l rest ls k here e = go (strip_prefix (codes " ") rest) refl e
   where
-    formed : (word : Line) (v : Plain) → if_line_prints_value form word (read word) ≡ Ok v → form v ≡ word
+    formed : (word : Line) (v : Plain) → value_if_printed_as_line form word (read word) ≡ Ok v → form v ≡ word
     formed word v e = by_value (read word) e
       where
-        by_value : (o : Option Plain) → if_line_prints_value form word o ≡ Ok v → form v ≡ word
+        by_value : (o : Option Plain) → value_if_printed_as_line form word o ≡ Ok v → form v ≡ word
         by_value None e = absurd cc
         by_value (Some u) e =
             elim (chosen (bytes_eq (form u) word) _ _ _ e) [
@@ -461,18 +461,18 @@ on_line_completed name s fs form read h fits next l rest ls k here e = go (strip
               | inr x ↦ absurd (let f = x.1 in cc)
             ]
 
-    after : (word : Line) → Some word ≡ strip_prefix (codes " ") rest → (x : ResultOrBadLine Plain) → if_line_prints_value form word (read word) ≡ x → and_then x (λ v. mapped_or_bad_line_shifted_by 1 (more v) (fields_read fs ls)) ≡ no_values k → FieldsCompleted (field name s fs) (l ∷ ls) k
+    after : (word : Line) → Some word ≡ strip_prefix (codes " ") rest → (x : ResultOrBadLine Plain) → value_if_printed_as_line form word (read word) ≡ x → and_then x (λ v. mapped_or_bad_line_shifted_by 1 (more v) (fields_read fs ls)) ≡ no_values k → FieldsCompleted (field name s fs) (l ∷ ls) k
     after word space (Err j) is e = no_field (field name s fs) (l ∷ ls) k (sym (values_number j k e) ∙ form_zero form word (read word) j is)
     after word space (Ok v) is e =
         let (j, bad, count) = later 1 v (fields_read fs ls) k e in
         line_passed name s fs form h l rest word ls k j v here space (fits word v is) (formed word v is) count (next ls j bad)
 
-    go : (o : Option Line) → o ≡ strip_prefix (codes " ") rest → fields_read_with_value_on_line (λ x. if_line_prints_value form x (read x)) (fields_read fs) ls o ≡ no_values k → FieldsCompleted (field name s fs) (l ∷ ls) k
+    go : (o : Option Line) → o ≡ strip_prefix (codes " ") rest → fields_read_with_value_on_line (λ x. value_if_printed_as_line form x (read x)) (fields_read fs) ls o ≡ no_values k → FieldsCompleted (field name s fs) (l ∷ ls) k
     go None space e = no_field (field name s fs) (l ∷ ls) k (sym (values_number 0 k e))
-    go (Some word) space e = after word space (if_line_prints_value form word (read word)) refl e
+    go (Some word) space e = after word space (value_if_printed_as_line form word (read word)) refl e
 
 -- a field's value in the block below its name
-below_completed : (name : List ℕ) (s : Shape) (fs : Fields) → ((v : Plain) → named_lines s name v ≡ named_block name (block_lines s v)) → Completes s → FieldsComplete fs
+below_completed : (name : List ℕ) (s : Shape) (fs : Fields) → ((v : Plain) → named_lines s name v ≡ name_line_above_indented_lines name (block_lines s v)) → Completes s → FieldsComplete fs
     → (l rest : Line) (ls : List Line) (k : ℕ) → NamedHere name l rest → fields_read_with_value_below (block_read s) (fields_read fs) (block_and_lines_after ls) rest ≡ no_values k → FieldsCompleted (field name s fs) (l ∷ ls) k
 below_completed name s fs h inner next l (c ∷ cs) ls k here e = no_field (field name s fs) (l ∷ ls) k (sym (values_number 0 k e))
 below_completed name s fs h inner next l [] ls k here e = go (block_read s (block_and_lines_after ls).0) refl e
@@ -483,15 +483,15 @@ below_completed name s fs h inner next l [] ls k here e = go (block_read s (bloc
         let (j, bad, count) = later (1 + length (block_and_lines_after ls).0) v (fields_read fs (block_and_lines_after ls).1) k e in
         below_passed name s fs h l [] ls k j v here refl is count (next (block_and_lines_after ls).1 j bad)
 
-number_fits : (l : Line) (v : Plain) → if_line_prints_value int_line l (int_read l) ≡ Ok v → Fit number v
+number_fits : (l : Line) (v : Plain) → value_if_printed_as_line int_line l (int_read l) ≡ Ok v → Fit number v
 unfolding block_read
 number_fits l v e = read_fit number (l ∷ []) v e
 
-text_fits : (l : Line) (v : Plain) → if_line_prints_value text_line l (text_read l) ≡ Ok v → Fit text v
+text_fits : (l : Line) (v : Plain) → value_if_printed_as_line text_line l (text_read l) ≡ Ok v → Fit text v
 unfolding block_read
 text_fits l v e = read_fit text (l ∷ []) v e
 
-hash_fits : (l : Line) (v : Plain) → if_line_prints_value hash_line l (hash_read l) ≡ Ok v → Fit hash v
+hash_fits : (l : Line) (v : Plain) → value_if_printed_as_line hash_line l (hash_read l) ≡ Ok v → Fit hash v
 unfolding block_read
 hash_fits l v e = read_fit hash (l ∷ []) v e
 

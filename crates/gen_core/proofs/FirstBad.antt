@@ -13,8 +13,8 @@ use Rattle.base_core.specs.Lists.{and_then}
 use Rattle.adb_dump.specs.Dump.{Line, dump_lines, schema_line, value_lines}
 use Rattle.adb_dump.specs.ReadBack.{ResultOrBadLine, value_read}
 use Rattle.adb_dump.proofs.ValueLaws.{read_back}
-use Rattle.gen_core.specs.Dumps.{AreDumpLines, BeginsADump, IsFirstBadDumpLine, IsRootValue}
-use Rattle.gen_core.specs.Generated.{DumpedRoot, dumped_root, root_of_lines, root_of_table, root_read, table_of_line, text_lines, unless_unfinished_line}
+use Rattle.gen_core.specs.Dumps.{AreDumpLines, BeginsADump, IsFirstBadDumpLine, IsNormalRootValueOfTable}
+use Rattle.gen_core.specs.Generated.{DumpedRoot, dumped_root, root_of_lines, root_of_lines_after_first, dumped_root_of_value_read, table_of_line, text_lines, unless_unfinished_line}
 use Rattle.gen_core.proofs.Completed.{Completed, block_completed, has_samples}
 use Rattle.gen_core.proofs.Stable.{Agree, block_stable}
 use Rattle.gen_core.proofs.Texts.{AreLinesOf, NamesRoot, line_of_root, lines_are_read, lines_of_root, root_of_line}
@@ -60,7 +60,7 @@ tails : (x y : Line) (xs ys : List Line) → x ∷ xs ≡ y ∷ ys → xs ≡ ys
 tails x y xs ys e = cc
 
 -- the first line of a dump names its table
-first_line_of_dump : (d l : Line) (ls : List Line) (w : Which) (v : Plain) → IsRootValue w v → dump_lines w v ≡ l ∷ ls → table_of_line l ≡ Some w
+first_line_of_dump : (d l : Line) (ls : List Line) (w : Which) (v : Plain) → IsNormalRootValueOfTable w v → dump_lines w v ≡ l ∷ ls → table_of_line l ≡ Some w
 first_line_of_dump d l ls w v is e = ap table_of_line (sym (heads (schema_line (schema_word w)) l (value_lines w v) ls e)) ∙ line_of_root w is.root
 
 -- lines that are all lines of a dump are read
@@ -132,11 +132,11 @@ first_bad : (ls : List Line) (n : ℕ) → root_of_lines ls ≡ Err n → FirstB
 first_bad [] n e = subst (FirstBad []) (root_number 1 n e) at_nothing
 first_bad (l ∷ ls) n e = by_table (table_of_line l) refl e
   where
-    by_value : (w : Which) (r : ResultOrBadLine Plain) → table_of_line l ≡ Some w → value_read w ls ≡ r → root_read w r ≡ bad_root n → FirstBad (l ∷ ls) n
+    by_value : (w : Which) (r : ResultOrBadLine Plain) → table_of_line l ≡ Some w → value_read w ls ≡ r → dumped_root_of_value_read w r ≡ bad_root n → FirstBad (l ∷ ls) n
     by_value w (Ok v) t is e = absurd cc
     by_value w (Err k) t is e = subst (FirstBad (l ∷ ls)) (root_number (k + 2) n e) (at_value l ls w k t is)
 
-    by_table : (o : Option Which) → table_of_line l ≡ o → root_of_table o ls ≡ bad_root n → FirstBad (l ∷ ls) n
+    by_table : (o : Option Which) → table_of_line l ≡ o → root_of_lines_after_first o ls ≡ bad_root n → FirstBad (l ∷ ls) n
     by_table None t e = subst (FirstBad (l ∷ ls)) (root_number 1 n e) (at_table l ls t)
     by_table (Some w) t e = by_value w (value_read w ls) t refl e
 

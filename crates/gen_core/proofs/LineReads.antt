@@ -9,7 +9,7 @@ use Rattle.hex.specs.Hex.{encode_with, encode_lower, lower_digits}
 use Rattle.base_core.proofs.AtName.{other_name}
 use Rattle.adb_view.specs.Plain.{Plain, int, blob, number, text, hash}
 use Rattle.adb_dump.specs.Dump.{Line, is_printable, begins_with_byte, needs_no_quotes, quoted_form_of_byte, bare_or_quoted_text, int_line, text_line, hash_line}
-use Rattle.adb_dump.specs.ReadBack.{ResultOrBadLine, hex_digit_value_unchecked, quoted_read, bytes_of_hex_digits, blob_unless_empty, int_read, text_read, hash_read, if_line_prints_value}
+use Rattle.adb_dump.specs.ReadBack.{ResultOrBadLine, hex_digit_value_unchecked, quoted_read, bytes_of_hex_digits, blob_unless_empty, int_read, text_read, hash_read, value_if_printed_as_line}
 use Rattle.adb_dump.proofs.Booleans.{chosen}
 use Rattle.adb_dump.proofs.LineBack.{AreBytes, int_back, text_back, hash_back, hex_digit_value_unchecked-digit, unquoted-escaped}
 use Rattle.adb_dump.proofs.ReadOnly.{made_blob_some}
@@ -27,7 +27,7 @@ number_not_read l other = go (ltb (digits_value 10 l) (2 ^ 64)) refl
     n : ℕ
     n = digits_value 10 l
 
-    go : (b : Bool) → ltb n (2 ^ 64) ≡ b → if_line_prints_value int_line l (cond b (Some (int n)) None) ≡ Err 0
+    go : (b : Bool) → ltb n (2 ^ 64) ≡ b → value_if_printed_as_line int_line l (cond b (Some (int n)) None) ≡ Err 0
     go false e = refl
     go true e = let f : bytes_eq (decimal n) l ≡ false = other_name (decimal n) l (other n (ltb-true n (2 ^ 64) e)) in rw f refl
 
@@ -130,7 +130,7 @@ text_bytes b l r e = go (needs_no_quotes b) refl
 -- ---- texts and hashes
 
 -- a blob whose form a line is, or no line of a blob
-no_blob : (form : List ℕ → Line) (l : Line) (o : Option Plain) (line : Plain → Line) → ((b : List ℕ) → line (blob b) ≡ form b) → ((v : Plain) → o ≡ Some v → (b : List ℕ) × (v ≡ blob b) × (b ≢ []) × (form b ≡ l → AreBytes b)) → IsFormOf form false [] l → if_line_prints_value line l o ≡ Err 0
+no_blob : (form : List ℕ → Line) (l : Line) (o : Option Plain) (line : Plain → Line) → ((b : List ℕ) → line (blob b) ≡ form b) → ((v : Plain) → o ≡ Some v → (b : List ℕ) × (v ≡ blob b) × (b ≢ []) × (form b ≡ l → AreBytes b)) → IsFormOf form false [] l → value_if_printed_as_line line l o ≡ Err 0
 no_blob form l None line k h other = refl
 no_blob form l (Some v) line k h other =
     let (b, is, ne, fits) = h v refl in

@@ -12,7 +12,7 @@ use Rattle.adb_values.specs.Written.{IsWrittenAs}
 use Rattle.adb_dump.specs.Dump.{Line}
 use Rattle.adb_dump.specs.ReadBack.{ResultOrBadLine, value_read}
 use Rattle.gen_core.specs.Cursors.{CursorState, cursor_after_line, cursor_from_parts}
-use Rattle.gen_core.specs.Generated.{DumpedRoot, IsGenFault, dumped_root, file_of_root, file_unless_too_large, generated_file, root_of_lines, root_of_table, root_read, table_of_line, text_lines, unless_unfinished_line, schema_word_or_zero}
+use Rattle.gen_core.specs.Generated.{DumpedRoot, IsGenFault, dumped_root, file_of_root, file_unless_too_large, generated_file, root_of_lines, root_of_lines_after_first, dumped_root_of_value_read, table_of_line, text_lines, unless_unfinished_line, schema_word_or_zero}
 use Rattle.gen_core.specs.Reads.{DraftOrBadLine, IsTextFault, block_taken, fault_of_writer, has_rest, table_and_draft_of_root, table_read}
 use Rattle.gen_core.specs.declared.generate.GenFault.{GenFault}
 use Rattle.gen_core.specs.declared.generate.GenFault.TheVariants.{Bad, TooLarge, Memory}
@@ -43,14 +43,14 @@ no_table t d e = go (text_lines t).0 refl e
   where
     go : (ls : List Line) → (text_lines t).0 ≡ ls → table_read ls ≡ None → table_and_draft_of_root (dumped_root t) d ≡ bad_root 1
     go [] is e = ap (λ (r : Result DumpedRoot ℕ). table_and_draft_of_root r d) (by_lines t [] (Err 1) is refl)
-    go (l ∷ ls) is e = ap (λ (r : Result DumpedRoot ℕ). table_and_draft_of_root r d) (by_lines t (l ∷ ls) (Err 1) is (ap (λ (o : Option Which). root_of_table o ls) e))
+    go (l ∷ ls) is e = ap (λ (r : Result DumpedRoot ℕ). table_and_draft_of_root r d) (by_lines t (l ∷ ls) (Err 1) is (ap (λ (o : Option Which). root_of_lines_after_first o ls) e))
 
 -- a text whose first line names a table
 record Opened (t : List ℕ) (which : Which) : Type 0 where
   first : Line
   lines : List Line
   is : (text_lines t).0 ≡ first ∷ lines
-  root : root_of_lines (first ∷ lines) ≡ root_read which (value_read which lines)
+  root : root_of_lines (first ∷ lines) ≡ dumped_root_of_value_read which (value_read which lines)
   place : after_first t ≡ cursor_from_parts lines 2 0
 
 opened : (t : List ℕ) (which : Which) → table_read (text_lines t).0 ≡ Some which → Opened t which
@@ -62,7 +62,7 @@ opened t which e = go (text_lines t).0 refl e
       first = l;
       lines = ls;
       is = is;
-      root = ap (λ (o : Option Which). root_of_table o ls) e;
+      root = ap (λ (o : Option Which). root_of_lines_after_first o ls) e;
       place = ap (λ (x : List Line). cursor_after_line x (cursor_from_parts x 1 0)) is;
     }
 
@@ -81,7 +81,7 @@ bad_value t which d n e bad = let o = opened t which e in go o (value_read which
     go o (Err k) is bad =
         let number : 2 + k ≡ n = same (2 + k) n bad in
         let count : k + 2 ≡ n = omega (arith, number) in
-        ap (λ (r : Result DumpedRoot ℕ). table_and_draft_of_root r d) (by_lines t (o.first ∷ o.lines) (Err (k + 2)) o.is (o.root ∙ ap (root_read which) is)) ∙ ap bad_root count
+        ap (λ (r : Result DumpedRoot ℕ). table_and_draft_of_root r d) (by_lines t (o.first ∷ o.lines) (Err (k + 2)) o.is (o.root ∙ ap (dumped_root_of_value_read which) is)) ∙ ap bad_root count
       where
         same : (m n : ℕ) → bad_at m ≡ bad_at n → m ≡ n
         same m n e = cc
@@ -107,7 +107,7 @@ value_there t which d later e ok = let o = opened t which e in go o (value_read 
           draft = sym (ap (λ (p : Reading). p.0) both);
           number = omega (arith, number, count);
           root =
-              by_lines t (o.first ∷ o.lines) (Ok (record { which = which; value = v })) o.is (o.root ∙ ap (root_read which) is)
+              by_lines t (o.first ∷ o.lines) (Ok (record { which = which; value = v })) o.is (o.root ∙ ap (dumped_root_of_value_read which) is)
               ∙ ap (λ (ls : List Line). unless_unfinished_line (text_lines t).1 (length ls) (record { which = which; value = v })) (sym o.is);
         }
 

@@ -4,7 +4,7 @@ use Rattle.std.specs.Prelude.{codes, bytes_eq}
 use Rattle.adb_view.specs.Plain.{Plain, Plains, null, none, more, Shape, number, text, hash, array, object, Fields, no_fields, field}
 use Rattle.base_core.specs.Lists.{and_then}
 use Rattle.adb_dump.specs.Dump.{Line, fields_lines, int_line, text_line, hash_line}
-use Rattle.adb_dump.specs.ReadBack.{ResultOrBadLine, mapped_or_bad_line_shifted_by, strip_prefix, end_block_or_add_line, block_and_lines_after, single_line_value, entry_read, entries_from_dash_line, entries_read, array_unless_empty, object_unless_empty, fields_read_with_value_on_line, fields_read_with_value_below, if_line_prints_value, fields_read_by_name_match, block_read, named_read, fields_read, int_read, text_read, hash_read}
+use Rattle.adb_dump.specs.ReadBack.{ResultOrBadLine, mapped_or_bad_line_shifted_by, strip_prefix, end_block_or_add_line, block_and_lines_after, single_line_value, entry_read, entries_from_dash_line, entries_read, array_unless_empty, object_unless_empty, fields_read_with_value_on_line, fields_read_with_value_below, value_if_printed_as_line, fields_read_by_name_match, block_read, named_read, fields_read, int_read, text_read, hash_read}
 use Rattle.adb_dump.proofs.Booleans.{chosen}
 use Rattle.adb_dump.proofs.ReadOnly.{FieldsOnly, fields_only, some_line}
 use Rattle.gen_core.specs.Reads.{entry_block_read}
@@ -223,9 +223,9 @@ below_stable b f sb sf [] xs ys k a e = go (b r.0) refl e
 
 named_stable : (s : Shape) (f : List Line → ResultOrBadLine Plains) → IsStable (block_read s) → IsStable f → StableNamed (named_read s f)
 unfolding named_read block_read
-named_stable number f sb sf = on_line_stable (λ l. if_line_prints_value int_line l (int_read l)) f sf
-named_stable text f sb sf = on_line_stable (λ l. if_line_prints_value text_line l (text_read l)) f sf
-named_stable hash f sb sf = on_line_stable (λ l. if_line_prints_value hash_line l (hash_read l)) f sf
+named_stable number f sb sf = on_line_stable (λ l. value_if_printed_as_line int_line l (int_read l)) f sf
+named_stable text f sb sf = on_line_stable (λ l. value_if_printed_as_line text_line l (text_read l)) f sf
+named_stable hash f sb sf = on_line_stable (λ l. value_if_printed_as_line hash_line l (hash_read l)) f sf
 named_stable (array s) f sb sf = below_stable (block_read (array s)) f sb sf
 named_stable (object which fs) f sb sf = below_stable (block_read (object which fs)) f sb sf
 
@@ -250,15 +250,15 @@ no_fields_stable (x ∷ xs) (y ∷ ys) k e a = e
 
 number_stable : IsStable (block_read number)
 unfolding block_read
-number_stable = only_stable (λ l. if_line_prints_value int_line l (int_read l))
+number_stable = only_stable (λ l. value_if_printed_as_line int_line l (int_read l))
 
 text_stable : IsStable (block_read text)
 unfolding block_read
-text_stable = only_stable (λ l. if_line_prints_value text_line l (text_read l))
+text_stable = only_stable (λ l. value_if_printed_as_line text_line l (text_read l))
 
 hash_stable : IsStable (block_read hash)
 unfolding block_read
-hash_stable = only_stable (λ l. if_line_prints_value hash_line l (hash_read l))
+hash_stable = only_stable (λ l. value_if_printed_as_line hash_line l (hash_read l))
 
 mutual
   pub block_stable : (s : Shape) → IsStable (block_read s)

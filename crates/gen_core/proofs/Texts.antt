@@ -12,16 +12,16 @@ use Rattle.adb_dump.specs.adb_schema.Soundness.{schema_word}
 use Rattle.base_core.specs.Lists.{and_then}
 use Rattle.base_core.proofs.AtName.{is_name}
 use Rattle.adb_dump.specs.Dump.{Line, dump_lines, dump_text, schema_line, dump_text_of_lines, value_lines}
-use Rattle.adb_dump.specs.ReadBack.{ResultOrBadLine, add_char, split_lines, value_read}
+use Rattle.adb_dump.specs.ReadBack.{ResultOrBadLine, add_char, lines_of_text_if_all_ended, value_read}
 use Rattle.adb_dump.specs.Values.{IsOfBytes, IsNormalValueOfTable}
 use Rattle.adb_dump.proofs.Booleans.{chosen}
 use Rattle.adb_dump.proofs.ValueLaws.{only_values, read_back, text_split}
 use Rattle.adb_dump.proofs.TextLines.{line_first}
 use Rattle.adb_view.specs.Schema.{shape_of}
 use Rattle.adb_view.specs.declared.tables.Kind.TheVariants.{Obj}
-use Rattle.gen_core.specs.Dumps.{IsRootValue}
+use Rattle.gen_core.specs.Dumps.{IsNormalRootValueOfTable}
 use Rattle.gen_core.proofs.ReadBytes.{block_bytes}
-use Rattle.gen_core.specs.Generated.{DumpedRoot, TextLines, dumped_root, root_of_lines, root_of_table, root_read, root_tables, table_of_line, text_lines, unless_unfinished_line, lines_with_byte_in_front, lines_with_nonend_byte_in_front}
+use Rattle.gen_core.specs.Generated.{DumpedRoot, TextLines, dumped_root, root_of_lines, root_of_lines_after_first, dumped_root_of_value_read, root_tables, table_of_line, text_lines, unless_unfinished_line, lines_with_byte_in_front, lines_with_nonend_byte_in_front}
 
 -- ---- lines and texts
 
@@ -57,12 +57,12 @@ added c cs ls (Some []) h t e = absurd cc
 added c cs ls (Some (l ∷ xs)) h t e =
     ap (lines_with_byte_in_front c) (h (l ∷ xs) refl) ∙ ap (λ (b : Bool). cond {A = TextLines} b ([] ∷ l ∷ xs, []) (lines_with_nonend_byte_in_front c (l ∷ xs) [])) t ∙ ap (λ (x : List Line). (x, [])) (some_same ((c ∷ l) ∷ xs) ls e)
 
-pub whole_lines : (t : List ℕ) (ls : List Line) → split_lines t ≡ Some ls → text_lines t ≡ (ls, [])
+pub whole_lines : (t : List ℕ) (ls : List Line) → lines_of_text_if_all_ended t ≡ Some ls → text_lines t ≡ (ls, [])
 whole_lines [] ls e = ap (λ (x : List Line). (x, [])) (some_same [] ls e)
 whole_lines (c ∷ cs) ls e =
     elim (chosen (eqb c 10) _ _ _ e) [
-      | inl x ↦ ended c cs ls (split_lines cs) (whole_lines cs) x.0 x.1
-      | inr x ↦ added c cs ls (split_lines cs) (whole_lines cs) x.0 x.1
+      | inl x ↦ ended c cs ls (lines_of_text_if_all_ended cs) (whole_lines cs) x.0 x.1
+      | inr x ↦ added c cs ls (lines_of_text_if_all_ended cs) (whole_lines cs) x.0 x.1
     ]
 
 -- ---- the tables of roots
@@ -116,11 +116,11 @@ unfolding dumped_root
 split_same t ls e = ap (λ (x : TextLines). and_then (root_of_lines x.0) (unless_unfinished_line x.1 (length x.0))) e
 
 -- each dump is read as the root that it is of
-pub lines_are_read : (w : Which) (v : Plain) → IsRootValue w v → root_of_lines (dump_lines w v) ≡ Ok (record { which = w; value = v })
+pub lines_are_read : (w : Which) (v : Plain) → IsNormalRootValueOfTable w v → root_of_lines (dump_lines w v) ≡ Ok (record { which = w; value = v })
 lines_are_read w v is =
-    ap (λ (o : Option Which). root_of_table o (value_lines w v)) (line_of_root w is.root) ∙ ap (root_read w) (read_back w v is.normal is.bytes)
+    ap (λ (o : Option Which). root_of_lines_after_first o (value_lines w v)) (line_of_root w is.root) ∙ ap (dumped_root_of_value_read w) (read_back w v is.normal is.bytes)
 
-pub dump_is_read : (w : Which) (v : Plain) → IsRootValue w v → dumped_root (dump_text w v) ≡ Ok (record { which = w; value = v })
+pub dump_is_read : (w : Which) (v : Plain) → IsNormalRootValueOfTable w v → dumped_root (dump_text w v) ≡ Ok (record { which = w; value = v })
 dump_is_read w v is =
     let lines : text_lines (dump_text w v) ≡ (dump_lines w v, []) = whole_lines (dump_text w v) (dump_lines w v) (text_split w v is.normal.0) in
     split_same (dump_text w v) (dump_lines w v) lines
@@ -134,7 +134,7 @@ value_bytes w (l ∷ ls) v e = block_bytes (shape_of (Obj w)) (l ∷ ls) v e
 
 -- lines that are read are those of the dump of their root
 pub record AreLinesOf (ls : List Line) (root : DumpedRoot) : Type 0 where
-  pub is : IsRootValue root.which root.value
+  pub is : IsNormalRootValueOfTable root.which root.value
   pub lines : dump_lines root.which root.value ≡ ls
 
 abbrev ok_root : DumpedRoot → Result DumpedRoot ℕ
@@ -143,7 +143,7 @@ ok_root r = Ok r
 same_root : (p q : DumpedRoot) → ok_root p ≡ ok_root q → p ≡ q
 same_root p q e = cc
 
-value_lines_of : (l : Line) (ls : List Line) (w : Which) (r : ResultOrBadLine Plain) (root : DumpedRoot) → table_of_line l ≡ Some w → value_read w ls ≡ r → root_read w r ≡ Ok root → AreLinesOf (l ∷ ls) root
+value_lines_of : (l : Line) (ls : List Line) (w : Which) (r : ResultOrBadLine Plain) (root : DumpedRoot) → table_of_line l ≡ Some w → value_read w ls ≡ r → dumped_root_of_value_read w r ≡ Ok root → AreLinesOf (l ∷ ls) root
 value_lines_of l ls w (Err k) root t e ok = absurd cc
 value_lines_of l ls w (Ok v) root t e ok =
     let names = root_of_line l w t in
@@ -153,7 +153,7 @@ value_lines_of l ls w (Ok v) root t e ok =
       lines = ap (λ (x : Line). x ∷ value_lines w v) names.line ∙ ap (λ (x : List Line). l ∷ x) only.0;
     })
 
-table_lines_of : (l : Line) (ls : List Line) (o : Option Which) (root : DumpedRoot) → table_of_line l ≡ o → root_of_table o ls ≡ Ok root → AreLinesOf (l ∷ ls) root
+table_lines_of : (l : Line) (ls : List Line) (o : Option Which) (root : DumpedRoot) → table_of_line l ≡ o → root_of_lines_after_first o ls ≡ Ok root → AreLinesOf (l ∷ ls) root
 table_lines_of l ls None root t ok = absurd cc
 table_lines_of l ls (Some w) root t ok = value_lines_of l ls w (value_read w ls) root t refl ok
 
@@ -171,7 +171,7 @@ parts_read : (t : List ℕ) (root : DumpedRoot) → dumped_root t ≡ Ok root �
 unfolding dumped_root
 parts_read t root e = no_rest (root_of_lines (text_lines t).0) (text_lines t).1 (length (text_lines t).0) root e
 
-pub what_is_read : (t : List ℕ) (root : DumpedRoot) → dumped_root t ≡ Ok root → IsRootValue root.which root.value × (dump_text root.which root.value ≡ t)
+pub what_is_read : (t : List ℕ) (root : DumpedRoot) → dumped_root t ≡ Ok root → IsNormalRootValueOfTable root.which root.value × (dump_text root.which root.value ≡ t)
 what_is_read t root e =
     let (ok, rest) = parts_read t root e in
     let r = lines_of_root (text_lines t).0 root ok in (

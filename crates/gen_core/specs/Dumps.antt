@@ -1,5 +1,5 @@
 -- Roots and the lines of their dumps, and the first line of a text that no dump has after the lines
--- before it. By the definition of a dump text alone: no reader is needed.
+-- before it. These definitions use only the definition of a dump text, and no reader.
 -- The rule is in `docs/formats.md`, "Dump text". Serves the laws of `src/laws.rt`.
 use Rattle.std.specs.Prelude.{◌≡◌, ◌≢◌, ℕ, ◌+◌, ◌-◌, ◌≤◌, ◌⊎◌, List, [], ◌++◌, length, take, IsSome}
 use Rattle.adb_view.specs.Plain.{Plain}
@@ -10,7 +10,7 @@ use Rattle.adb_dump.specs.Values.{IsOfBytes, IsNormalValueOfTable}
 use Rattle.gen_core.specs.Generated.{text_lines}
 
 -- a value of a root: a normal one of bytes, of one of the four tables that a root may have
-pub record IsRootValue (which : Which) (value : Plain) : Type 0 where
+pub record IsNormalRootValueOfTable (which : Which) (value : Plain) : Type 0 where
   -- the table is that of a root
   pub root : IsSome (schema_word which)
   -- the value is a normal one of the table
@@ -25,7 +25,7 @@ pub record AreDumpLines (lines : List Line) : Type 0 where
   -- the value of the root
   pub value : Plain
   -- it is a value that the root may have
-  pub is : IsRootValue which value
+  pub is : IsNormalRootValueOfTable which value
   -- its dump has these lines
   pub lines_are : dump_lines which value ≡ lines
 
@@ -33,6 +33,7 @@ pub record AreDumpLines (lines : List Line) : Type 0 where
 pub record BeginsADump (front : List Line) : Type 0 where
   -- the other lines of the dump
   pub others : List Line
+  -- the given lines and then the others are the lines of a dump
   pub whole : AreDumpLines (front ++ others)
 
 -- the line with this number, from 1, is the first that no dump has after the lines before it. If another
@@ -40,6 +41,7 @@ pub record BeginsADump (front : List Line) : Type 0 where
 pub record IsFirstBadDumpLine (text : List ℕ) (number : ℕ) : Type 0 where
   -- lines are numbered from 1, up to the number of whole lines plus 1
   pub low : 1 ≤ number
+  -- at most one more than the number of whole lines
   pub high : number ≤ length (text_lines text).0 + 1
   -- a dump begins with the lines before it, if there are any
   pub before : number ≢ 1 → BeginsADump (take (number - 1) (text_lines text).0)

@@ -56,21 +56,21 @@ table_of_line l = find (λ which. bytes_eq l (schema_line (schema_word which))) 
 -- the root with the value that was read from the lines after the first; or the number of a bad line.
 -- That number counts from 0 after the first line; the result counts all lines from 1, so it is greater
 -- by 2
-abbrev pub root_read : Which → ResultOrBadLine Plain → Result DumpedRoot ℕ
-root_read which (Ok v) = Ok (record { which = which; value = v })
-root_read which (Err k) = Err (k + 2)
+abbrev pub dumped_root_of_value_read : Which → ResultOrBadLine Plain → Result DumpedRoot ℕ
+dumped_root_of_value_read which (Ok v) = Ok (record { which = which; value = v })
+dumped_root_of_value_read which (Err k) = Err (k + 2)
 
 -- the root that is read from the lines after the first (`ls`), as an object of the table that the
 -- first line names. Without a table line 1 is bad
-abbrev pub root_of_table : Option Which → List Line → Result DumpedRoot ℕ
-root_of_table None ls = Err 1
-root_of_table (Some which) ls = root_read which (value_read which ls)
+abbrev pub root_of_lines_after_first : Option Which → List Line → Result DumpedRoot ℕ
+root_of_lines_after_first None ls = Err 1
+root_of_lines_after_first (Some which) ls = dumped_root_of_value_read which (value_read which ls)
 
 -- the root that is read from some lines, or the number of the first bad line, counted from 1; without
 -- any line, line 1 is bad
 abbrev pub root_of_lines : List Line → Result DumpedRoot ℕ
 root_of_lines [] = Err 1
-root_of_lines (l ∷ ls) = root_of_table (table_of_line l) ls
+root_of_lines (l ∷ ls) = root_of_lines_after_first (table_of_line l) ls
 
 -- the root, unless bytes follow the last line end. These are a bad line, whose number is one more than
 -- the number of whole lines (`lines`)

@@ -50,6 +50,7 @@ impl<'a> Cursor<'a> {
 
     /// The place at the beginning of these bytes, where the line has this number.
     fn at(text: &'a [u8], number: u64) -> Cursor<'a>
+        // Line numbers fit into 64 bits.
         requires { number + length text.now < 2 ^ 64 }
         ensures { result ≡ cursor_from_parts (text_lines text.entry.now).0 number 0 }
     {
@@ -82,6 +83,7 @@ impl<'a> Cursor<'a> {
     /// The first line of the block of this depth, without its levels; None if the block has no
     /// line.
     pub(crate) fn at_depth(&self, depth: u32) -> Option<&'a [u8]>
+        // No more levels of the line's indentation were read than this depth.
         requires { self.now.levels ≤ depth }
         ensures { option_copied result ≡ line_of_block (block_at depth self.now.lines).0 }
     {
@@ -113,8 +115,10 @@ impl<'a> Cursor<'a> {
 /// The first line of a text, without its line end, and the bytes after it; None if the text has no
 /// line end.
 fn first_line(text: &[u8]) -> Option<(&[u8], &[u8])>
+    // The first line is the first of the text's lines, and the rest has the others.
     ensures lines { MatchOption result ((text_lines text.entry.now).0 ≡ [])
         (λ found. (text_lines text.entry.now).0 ≡ found.0.now ∷ (text_lines found.1.now).0) }
+    // Fewer bytes are left than before, so that a loop ends.
     ensures shorter { MatchOption result (0 ≤ length text.entry.now)
         (λ found. length found.1.now < length text.entry.now) }
 {

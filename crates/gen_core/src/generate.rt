@@ -22,7 +22,9 @@ use thiserror::Error;
 /// `Bad` with the number of the first line that no dump text has after the lines before it; else
 /// `TooLarge`, if the payload passes a limit of the writer. Or `Memory`.
 pub fn gen_(alloc: Global, text: &[u8]) -> Result<Vec<u8>, GenFault>
+    // On Ok, the file is the container of the text.
     ensures ok { IfOk result (λ file. generated_file text.now ≡ Ok file.items) }
+    // An error is that of the definition, or out of memory.
     ensures err { IfErr result (λ fault. IsGenFault fault (generated_file text.now)) }
 {
     let mut draft = Draft::new(alloc);
@@ -45,8 +47,10 @@ fn fault_of_writer(fault: WriteFault) -> GenFault
 
 /// Reads a text: adds the value of its root to the draft, and returns the table of the root.
 fn read_text(alloc: Global, draft: &mut Draft, text: &[u8]) -> Result<Which, GenFault>
+    // On Ok, the draft gets the value of the root, and the result is its table.
     ensures ok { IfOk result (λ which. table_and_draft_of_root (dumped_root text.now) draft.old
         ≡ Ok (which, draft.new)) }
+    // An error is the bad line of the definition, or out of memory.
     ensures err { IfErr result (λ fault. IsTextFault fault
         (table_and_draft_of_root (dumped_root text.now) draft.old)) }
 {
@@ -61,9 +65,13 @@ fn read_text(alloc: Global, draft: &mut Draft, text: &[u8]) -> Result<Which, Gen
 
 /// Reads the first line of a text, which names the table of its root.
 fn read_table(cursor: &mut Cursor<'_>) -> Result<Which, GenFault>
+    // No indentation of the first line was read.
     requires { cursor.old.levels ≡ 0 }
+    // On Ok, the result is the table that the first line names.
     ensures ok { IfOk result (λ which. table_read cursor.old.lines ≡ Some which) }
+    // On Ok, the cursor is after the first line.
     ensures next { OnOk result (cursor.new ≡ cursor_after_line cursor.old.lines cursor.old) }
+    // An error is the first line, which names no table.
     ensures err { IfErr result (λ fault. (fault ≡ Bad cursor.old.number)
         × (table_read cursor.old.lines ≡ None)) }
 {

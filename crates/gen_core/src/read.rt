@@ -31,6 +31,7 @@ pub(crate) fn read_root(
 ) -> Result<(), GenFault>
     // Nothing of the line's indentation was read yet.
     requires { cursor.old.levels ≡ 0 }
+    // On Ok, the draft gets the value of the root, and all lines are read.
     ensures ok { OnOk result (block_taken (value_read which cursor.old.lines) (cursor.old.lines, [])
         draft.old cursor.old ≡ Ok (draft.new, cursor.new)) }
     // An error is the bad line of the definition, or out of memory.
@@ -58,6 +59,7 @@ fn read_block(
     requires within { cursor.old.levels ≤ depth }
     // No value is so deep that its lines exceed the greatest depth.
     requires deep { depth + rank kind ≤ DEPTH_LIMIT }
+    // On Ok, the draft gets the value of the block, and the cursor is after the block.
     ensures ok { let block = block_at depth cursor.old.lines in OnOk result
         (block_taken (block_read (shape_of kind) block.0)
         block draft.old cursor.old ≡ Ok (draft.new, cursor.new)) }
@@ -86,6 +88,7 @@ fn read_only_line(
     requires within { cursor.old.levels ≤ depth }
     // A value of the kind has one line.
     requires line { has_one_line kind ≡ true }
+    // On Ok, the draft gets the value of the block, and the cursor is after the block.
     ensures ok { let block = block_at depth cursor.old.lines in OnOk result
         (block_taken (block_read (shape_of kind) block.0)
         block draft.old cursor.old ≡ Ok (draft.new, cursor.new)) }
@@ -109,6 +112,7 @@ fn read_line(
     kind: Kind,
     line: &[u8],
 ) -> Result<(), GenFault>
+    // On Ok, the draft gets the value of the line, and the cursor is after the line.
     ensures ok { OnOk result (draft_and_cursor_after_line (line_read
         (shape_of kind) line.now) draft.old cursor.old
         ≡ Ok (draft.new, cursor.new)) }
@@ -164,6 +168,7 @@ fn read_value(
 
 /// Tests that no further line belongs to a block of this depth.
 fn end_block(cursor: &Cursor<'_>, depth: u32) -> Result<(), GenFault>
+    // No more levels of the line's indentation were read than this depth.
     requires { cursor.now.levels ≤ depth }
     ensures { result ≡ end_or_bad_line (block_at depth cursor.now.lines).0 cursor.now.number }
 {
@@ -186,6 +191,7 @@ fn read_array(
     requires within { cursor.old.levels ≤ depth }
     // No value is so deep that its lines exceed the greatest depth.
     requires deep { depth + rank kind < DEPTH_LIMIT }
+    // On Ok, the draft gets the value of the block, and the cursor is after the block.
     ensures ok { let block = block_at depth cursor.old.lines in OnOk result
         (block_taken (block_read (array (shape_of kind)) block.0)
         block draft.old cursor.old ≡ Ok (draft.new, cursor.new)) }
@@ -216,6 +222,7 @@ fn read_entries(
     requires within { cursor.old.levels ≤ depth }
     // No value is so deep that its lines exceed the greatest depth.
     requires deep { depth + rank kind < DEPTH_LIMIT }
+    // On Ok, the draft gets the value of the block, and the cursor is after the block.
     ensures ok { let block = block_at depth cursor.old.lines in OnOk result
         (values_taken (entries_read (block_read (shape_of kind)) (length block.0) block.0)
         block draft.old cursor.old ≡ Ok (draft.new, cursor.new)) }
@@ -248,6 +255,7 @@ fn read_entry(
     requires within { cursor.old.levels ≤ depth }
     // No value is so deep that its lines exceed the greatest depth.
     requires deep { depth + rank kind ≤ DEPTH_LIMIT }
+    // On Ok, the draft gets the value of the block, and the cursor is after the block.
     ensures ok { let block = block_at depth cursor.old.lines in OnOk result
         (block_taken (entry_block_read (block_read (shape_of kind)) block.0)
         block draft.old cursor.old ≡ Ok (draft.new, cursor.new)) }
@@ -266,6 +274,7 @@ fn read_entry(
 
 /// Whether a block has the first line `null`.
 fn is_null_entry(cursor: &Cursor<'_>, depth: u32) -> bool
+    // No more levels of the line's indentation were read than this depth.
     requires { cursor.now.levels ≤ depth }
     ensures { result ≡ is_null_line (line_of_block (block_at depth cursor.now.lines).0) }
 {
@@ -289,6 +298,7 @@ fn read_object(
     requires within { cursor.old.levels ≤ depth }
     // No value is so deep that its lines exceed the greatest depth.
     requires deep { depth + rank (Kinds.Obj which) ≤ DEPTH_LIMIT }
+    // On Ok, the draft gets the value of the block, and the cursor is after the block.
     ensures ok { let block = block_at depth cursor.old.lines in OnOk result
         (block_taken (block_read (shape_of (Kinds.Obj which)) block.0)
         block draft.old cursor.old ≡ Ok (draft.new, cursor.new)) }
@@ -320,6 +330,7 @@ fn read_fields(
     requires within { cursor.old.levels ≤ depth }
     // No value is so deep that its lines exceed the greatest depth.
     requires deep { depth + rank_of_all fields.now < DEPTH_LIMIT }
+    // On Ok, the draft gets the value of the block, and the cursor is after the block.
     ensures ok { let block = block_at depth cursor.old.lines in OnOk result
         (values_taken (fields_read (shapes_of fields.now) block.0)
         block draft.old cursor.old ≡ Ok (draft.new, cursor.new)) }
@@ -372,6 +383,7 @@ fn read_named(
     requires deep { depth + rank kind < DEPTH_LIMIT }
     // The block has a line.
     requires some { 0 < length (block_at depth cursor.old.lines).0 }
+    // On Ok, the draft gets the value of the block, and the cursor is after the block.
     ensures ok { let block = block_at depth cursor.old.lines in OnOk result
         ((others : List Line → ResultOrBadLine Plains)
         → values_taken (named_read (shape_of kind) others (drop 1 block.0) value.now)

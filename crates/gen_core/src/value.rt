@@ -87,6 +87,7 @@ pub(crate) fn read_text(bytes: &mut Vec<u8>, line: &[u8]) -> Result<bool, AllocE
 
 /// Reads a text that is on its line as it is, without a quote in front.
 fn read_bare(bytes: &mut Vec<u8>, line: &[u8]) -> Result<bool, AllocError>
+    // The line does not begin with a quote (0x22).
     requires { begins_with_byte 0x22 line.now ≡ false }
     ensures { IfOk result (λ is. IsFormOf bare_or_quoted_text is bytes.new.items line.now) }
 {

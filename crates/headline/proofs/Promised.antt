@@ -1,12 +1,12 @@
 -- What a run recovers to, at each of its moments.
 use Rattle.std.proofs.Common.{◌≡◌, ◌⊎◌, inl, inr, ℕ, true, false, List, [], ◌∷◌, Ok, refl, subst, ◌∙◌}
-use Rattle.run_lists.specs.apk_front.Moments.{AnswersOutcome, IgnoresScratchOf, IsDurableState, MustOutcomeBeDurable}
+use Rattle.run_lists.specs.apk_front.Moments.{IsOkRefusedOrOutputFault, IgnoresScratchNameOfOutput, IsDurableAndLeavesFiles, MustOutcomeBeDurable}
 use Rattle.base_core.specs.Calls.{HoldsNow, IfObservable}
 use Rattle.base_core.specs.Undone.{IsDurable, IsCrashImage}
 use Rattle.base_core.specs.Files.{Files}
 use Rattle.base_core.specs.Tree.{TreeState, files_of}
 use Rattle.command_core.specs.Command.{CommandLine}
-use Rattle.run_lists.specs.journal_core.Recovery.{EachCrashLeaves, StateDependsOn, intent_name}
+use Rattle.run_lists.specs.journal_core.Recovery.{EachCrashLeavesStateOf, StateDependsOn, intent_name}
 use Rattle.run_lists.proofs.journal_core.More.{states_same}
 use Rattle.refusal_laws.specs.outcome.Effect.{Changes, does_recover, effect_of_arguments, effect_of, output}
 use Rattle.refusal_laws.specs.outcome.Outcome.{Outcome}
@@ -72,15 +72,15 @@ now_last (w ∷ rest) A B f a = f w refl a
 -- ---- after a list
 
 module _ (begins : (ignored : Ignored) (first v : TreeState) (events : List RootEvent) (words : List (List ℕ)) → ignored intent_name ≡ false → IsDurable (StateDependsOn ignored) first → Reaches first events v
-    → IsDurable (StateDependsOn (ignored_with_scratch (output words) (ignored_after ignored events))) v × IgnoresScratchOf (output words) (ignored_with_scratch (output words) (ignored_after ignored events)))
+    → IsDurable (StateDependsOn (ignored_with_scratch (output words) (ignored_after ignored events))) v × IgnoresScratchNameOfOutput (output words) (ignored_with_scratch (output words) (ignored_after ignored events)))
     (safe : (v : TreeState) (run : Run) → IsRunFrom v run → IsSafeAfterAnyEvents v run)
-    (one_state : (ignored : Ignored) (first v : TreeState) (events : List RootEvent) → ignored intent_name ≡ false → IsDurableState ignored (files_of first) first → ReachesOneCrashState first events v → IsDurableState (ignored_after ignored events) (files_of v) v)
+    (one_state : (ignored : Ignored) (first v : TreeState) (events : List RootEvent) → ignored intent_name ≡ false → IsDurableAndLeavesFiles ignored (files_of first) first → ReachesOneCrashState first events v → IsDurableAndLeavesFiles (ignored_after ignored events) (files_of v) v)
     (unbroken : (first v : TreeState) (events : List RootEvent) → Reaches first events v → HasNoUnfinishedRunSinceCrash events → ReachesOneCrashState first events v)
     (left : (ignored : Ignored) (first v m w : TreeState) (events later : List RootEvent) (run next : Run) → ignored intent_name ≡ false → IsDurable (StateDependsOn ignored) first → LeavesNoBadIntent first
     → ReachesWithoutBadIntent first events v → IsRunFrom v run → IsPossibleStop run m → ReachesWithoutCommit m later w → IsRunFrom w next → does_recover (effect_of_arguments (command_of next.words)) ≡ true
     → (image : Files) × IsCrashImage m image × IsRecoveredBy (HasSameState (ignored_with_all_touched later (ignored_during_run run (ignored_after ignored events))) image) w next)
-    (two : (ignored : Ignored) (v : TreeState) (run : Run) (files : Files) → EachCrashLeaves ignored (files_of v) v → HasStateOfCrashBeforeOrOutcome ignored v run files → HasStateAsReadOrOutcome ignored v run files)
-    (more_settled : (few many : Ignored) (files : Files) (v : TreeState) → AreMore few many → EachCrashLeaves few files v → EachCrashLeaves many files v)
+    (two : (ignored : Ignored) (v : TreeState) (run : Run) (files : Files) → EachCrashLeavesStateOf ignored (files_of v) v → HasStateOfCrashBeforeOrOutcome ignored v run files → HasStateAsReadOrOutcome ignored v run files)
+    (more_settled : (few many : Ignored) (files : Files) (v : TreeState) → AreMore few many → EachCrashLeavesStateOf few files v → EachCrashLeavesStateOf many files v)
     (unique : (words : List (List ℕ)) (files : Files) (a b : Outcome) → IsOutcome (command_of words) files a → IsOutcome (command_of words) files b → a ≡ b)
     (ended : (words : List (List ℕ)) (command : CommandLine) (files : Files) (o : Outcome) → command_of words ≡ Ok command → effect_of command.applet ≡ Changes → IsOutcome (command_of words) files o → EndsInTrueRefusalOrFirstSelection command files o)
     (v : TreeState) (run : Run) (is_run : IsRunFrom v run) (ignored : Ignored) (first : TreeState) (events : List RootEvent) (past : HasGoodPast ignored first events v) where
@@ -105,7 +105,7 @@ module _ (begins : (ignored : Ignored) (first v : TreeState) (events : List Root
   moments : (m : TreeState) → IsPossibleStop run m → RootRecoversTo (λ names. HasStateOfCrashBeforeOrOutcome names v run) Names m
   moments m stop = recovers_to Names m (left_at m stop) (λ names. HasStateOfCrashBeforeOrOutcome names v run) (either_rests v run) (either m stop)
 
-  one : EachCrashLeaves Names (files_of v) v → (m : TreeState) → IsPossibleStop run m → RootRecoversTo (λ names. HasStateAsReadOrOutcome names v run) Names m
+  one : EachCrashLeavesStateOf Names (files_of v) v → (m : TreeState) → IsPossibleStop run m → RootRecoversTo (λ names. HasStateAsReadOrOutcome names v run) Names m
   one settled m stop = recovers_to Names m (left_at m stop) (λ names. HasStateAsReadOrOutcome names v run) (old_rests v run) (λ image is. two Names v run image settled (either m stop image is))
 
   kept : IsRunWithoutCommit v run → (m : TreeState) → IsPossibleStop run m → RootRecoversTo (λ names. HasStateOfSomeCrashBefore names v) Names m
@@ -113,11 +113,11 @@ module _ (begins : (ignored : Ignored) (first v : TreeState) (events : List Root
       recovers_to Names m (left_at m (at, moment, torn)) (λ names. HasStateOfSomeCrashBefore names v) (before_rests v)
       (λ image is. (idle_moment Names v run is_run durable idle at moment).quiet image (torn_image at m torn image is))
 
-  ends_settled : (o : Outcome) → IsOutcomeFrom v run o → MustOutcomeBeDurable (effect_of_arguments (command_of run.words)) Names v o → (w : TreeState) → LeavesFilesOfAnsweredOutcome (ignored_after ignored events) v run w → EachCrashLeaves Names o.files w
+  ends_settled : (o : Outcome) → IsOutcomeFrom v run o → MustOutcomeBeDurable (effect_of_arguments (command_of run.words)) Names v o → (w : TreeState) → LeavesFilesOfAnsweredOutcome (ignored_after ignored events) v run w → EachCrashLeavesStateOf Names o.files w
   ends_settled o is settles w leaves =
-      subst (λ (p : Outcome). (MustOutcomeBeDurable (effect_of_arguments (command_of run.words)) Names v p → EachCrashLeaves Names p.files w)) (unique run.words (files_of v) leaves.outcome o leaves.is_outcome is) leaves.settled settles
+      subst (λ (p : Outcome). (MustOutcomeBeDurable (effect_of_arguments (command_of run.words)) Names v p → EachCrashLeavesStateOf Names p.files w)) (unique run.words (files_of v) leaves.outcome o leaves.is_outcome is) leaves.settled settles
 
-  answered : AnswersOutcome run.answer → (o : Outcome) → IsOutcomeFrom v run o → MustOutcomeBeDurable (effect_of_arguments (command_of run.words)) Names v o → HoldsNow run.now (RootRecoversTo (λ names. HasSameState names o.files) Names)
+  answered : IsOkRefusedOrOutputFault run.answer → (o : Outcome) → IsOutcomeFrom v run o → MustOutcomeBeDurable (effect_of_arguments (command_of run.words)) Names v o → HoldsNow run.now (RootRecoversTo (λ names. HasSameState names o.files) Names)
   answered answers o is settles =
       now_last run.now (LeavesFilesOfAnsweredOutcome (ignored_after ignored events) v run) (RootRecoversTo (λ names. HasSameState names o.files) Names)
       (λ w ends leaves. recovers_to Names w (left_at w (w, last_moment run v w is_run ends, torn_self w)) (λ names. HasSameState names o.files) (state_rests o.files) (ends_settled o is settles w leaves))
@@ -127,7 +127,7 @@ module _ (begins : (ignored : Ignored) (first v : TreeState) (events : List Root
   to_one (inl to) = to
   to_one (inr none) = unbroken first v events seen none
 
-  pub promised : IsAsPromised Names v run × (IsDurableState ignored (files_of first) first → ReachesOneCrashState first events v ⊎ HasNoUnfinishedRunSinceCrash events → EachCrashLeaves Names (files_of v) v)
+  pub promised : IsAsPromised Names v run × (IsDurableAndLeavesFiles ignored (files_of first) first → ReachesOneCrashState first events v ⊎ HasNoUnfinishedRunSinceCrash events → EachCrashLeavesStateOf Names (files_of v) v)
   promised = (
     record {
       moments = moments;

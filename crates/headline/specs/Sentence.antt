@@ -3,14 +3,14 @@
 -- (states), `outcome` (what a command comes to) and `refusal_laws` (what a refusal says).
 use Rattle.std.specs.Prelude.{◌≡◌, ◌⊎◌, ℕ, Bool, true, false, List, Some, None, Ok}
 use Rattle.run_lists.specs.apk_front.Answers.{IsAnswerOfSomeOutcome, LeavesFiles}
-use Rattle.run_lists.specs.apk_front.Moments.{AnswersOutcome, IsDurableState, MustOutcomeBeDurable}
+use Rattle.run_lists.specs.apk_front.Moments.{IsOkRefusedOrOutputFault, IsDurableAndLeavesFiles, MustOutcomeBeDurable}
 use Rattle.base_core.specs.Calls.{HoldsNow}
 use Rattle.base_core.specs.Undone.{IsDurable, IsCrashImage}
 use Rattle.base_core.specs.Faults.{IsFaultCountedWithCause}
 use Rattle.base_core.specs.Files.{Files}
 use Rattle.base_core.specs.Tree.{TreeState, files_of}
 use Rattle.command_core.specs.Command.{CommandLine}
-use Rattle.run_lists.specs.journal_core.Recovery.{EachCrashLeaves, StateDependsOn, intent_name}
+use Rattle.run_lists.specs.journal_core.Recovery.{EachCrashLeavesStateOf, StateDependsOn, intent_name}
 use Rattle.run_lists.specs.journal_core.Staged.{unstaged_files}
 use Rattle.refusal_laws.specs.outcome.ChangeEnd.{IsChangeEndOrIntentRefusal, TakesFirstPreferredSelection}
 use Rattle.refusal_laws.specs.outcome.Effect.{Changes, does_recover, effect_of_arguments, effect_of}
@@ -27,9 +27,13 @@ use Rattle.refusal_laws.specs.words_core.Grammar.{command_of}
 -- first, apart from the ignored names, and neither then nor later did others leave a bad intent.
 pub record HasGoodPast (ignored : List ℕ → Bool) (first : TreeState) (events : List RootEvent)
     (v : TreeState) : Type 0 where
+  -- the name of the intent is not ignored
   pub counts : ignored intent_name ≡ false
+  -- at first the tree was durable, apart from the ignored names
   pub durable : IsDurable (StateDependsOn ignored) first
+  -- at first no crash could leave a bad intent
   pub good : LeavesNoBadIntent first
+  -- the events led to the state v, and none of them put a bad intent there
   pub seen : ReachesWithoutBadIntent first events v
 
 -- From the state m on, a root recovers to files with the state *HasState*, apart from the ignored names.
@@ -38,7 +42,9 @@ pub record HasGoodPast (ignored : List ℕ → Bool) (first : TreeState) (events
 -- ignored too.
 pub record RootRecoversTo (HasState : (List ℕ → Bool) → Files → Type 0) (ignored : List ℕ → Bool)
     (m : TreeState) : Type 0 where
+  -- each crash leaves files of this state
   pub crash : (image : Files) → IsCrashImage m image → HasState ignored image
+  -- the next run that recovers works on files of this state
   pub next : (later : List RootEvent) (w : TreeState) (next : Run) → ReachesWithoutCommit m later w
       → IsRunFrom w next → does_recover (effect_of_arguments (command_of next.words)) ≡ true
       → IsRecoveredBy (HasState (ignored_with_all_touched later ignored)) w next
@@ -48,9 +54,13 @@ pub record RootRecoversTo (HasState : (List ℕ → Bool) → Files → Type 0) 
 -- unless the change is only simulated.
 pub record EndsInTrueRefusalOrFirstSelection (command : CommandLine) (files : Files)
     (o : Outcome) : Type 0 where
+  -- the outcome is one of the ends that a change can have
   pub end : IsChangeEndOrIntentRefusal command files o
+  -- if the outcome is a refusal, what it reports is so
   pub fault : (refusal : Refusal) → o.refusal ≡ Some refusal → IsFaultOfRun command files refusal
+  -- without a refusal the preferred selection is taken
   pub first : o.refusal ≡ None → TakesFirstPreferredSelection command (unstaged_files files) o
+  -- without a refusal the packages after a change that is made are the selected ones
   pub packages : o.refusal ≡ None → command.flags.simulate ≡ false
       → HasFaultlessFirstPreferredSelection command (unstaged_files files)
 
@@ -62,12 +72,12 @@ pub record IsAsPromised (ignored : List ℕ → Bool) (v : TreeState) (run : Run
       → RootRecoversTo (λ names. HasStateOfCrashBeforeOrOutcome names v run) ignored m
   -- Suppose that each crash before the run left the state of the files as read. The root then recovers
   -- to this state, or to that of the outcome, which commits.
-  pub one : EachCrashLeaves ignored (files_of v) v → (m : TreeState) → IsPossibleStop run m
+  pub one : EachCrashLeavesStateOf ignored (files_of v) v → (m : TreeState) → IsPossibleStop run m
       → RootRecoversTo (λ names. HasStateAsReadOrOutcome names v run) ignored m
   -- Suppose that the run answered by its outcome: Ok, a refusal, or a fault of an output stream. The root
   -- then recovers to the outcome's state, if this is made durable: the outcome commits, or each crash
   -- before the run left the state of the files as read, or an intent was found.
-  pub answered : AnswersOutcome run.answer → (o : Outcome) → IsOutcomeFrom v run o
+  pub answered : IsOkRefusedOrOutputFault run.answer → (o : Outcome) → IsOutcomeFrom v run o
       → MustOutcomeBeDurable (effect_of_arguments (command_of run.words)) ignored v o
       → HoldsNow run.now (RootRecoversTo (λ names. HasSameState names o.files) ignored)
   -- If the run is refused, runs out of memory, or commits nothing, the root recovers to a state from
@@ -91,6 +101,6 @@ IsAsPromisedAfterAnyEvents v run =
     (ignored : List ℕ → Bool) (first : TreeState) (events : List RootEvent)
     → HasGoodPast ignored first events v
     → IsAsPromised (ignored_during_run run (ignored_after ignored events)) v run
-    × (IsDurableState ignored (files_of first) first
+    × (IsDurableAndLeavesFiles ignored (files_of first) first
     → ReachesOneCrashState first events v ⊎ HasNoUnfinishedRunSinceCrash events
-    → EachCrashLeaves (ignored_during_run run (ignored_after ignored events)) (files_of v) v)
+    → EachCrashLeavesStateOf (ignored_during_run run (ignored_after ignored events)) (files_of v) v)

@@ -1,7 +1,7 @@
 //! The sentence, of a call of `apk`, beside those clauses of `apk` that are about every tree, or
 //! about one run alone.
 ghost use Rattle.std.specs.Prelude.{◌≡◌, IsTrue};
-ghost use Rattle.run_lists.specs.apk_front.Answers.{is_command_named, IsAnswerExplainedByCounts, IsAnswerOfSomeOutcome, AnswersOutcomeUnlessMemory, IsFaultless, IsAnsweredInFullUnlessMemory, HasNoPlannedFailure, LeavesAnyFiles, LeavesFiles};
+ghost use Rattle.run_lists.specs.apk_front.Answers.{is_applet_help_or_version_named, IsAnswerExplainedByCounts, IsAnswerOfSomeOutcome, AnswersOutcomeUnlessMemory, IsFaultless, IsAnsweredInFullUnlessMemory, HasNoPlannedFailure, LeavesAnyFiles, LeavesFiles};
 ghost use Rattle.run_lists.specs.apk_front.Moments.{AreRecoveryTargetsAccepted, AreRunPathsFree};
 ghost use Rattle.base_core.specs.Calls.{IfObservable};
 ghost use Rattle.base_core.specs.Faults.{CountsOnlyRise, IsFaultCountedWithCause};
@@ -42,21 +42,26 @@ pub fn apk_as_promised<T: Tree, O: Sink, E: Sink>(
 
     // ---- the clauses of `apk` that *IsRunFrom* does not have, as they are there
 
+    // If no count of faults rose, the answer is the outcome's, or memory ran out.
     ensures complete { IfObservable (T.history tree.old) (λ v.
         IsFaultless (T.counts tree.old) (T.counts tree.new)
         (sink_before_and_after O.bytes O.counts out.old out.new)
         (sink_before_and_after E.bytes E.counts err.old err.new)
         → AnswersOutcomeUnlessMemory words.now (files_of v) result) }
+    // An outcome that depends on the arguments alone is answered on every tree.
     ensures every_tree { IsTrue (depends_only_on_arguments (command_of words.now))
         → IsAnswerOfSomeOutcome (IsOutcome (command_of words.now) no_names) LeavesAnyFiles ⊥ result
         (sink_before_and_after O.bytes O.counts out.old out.new)
         (sink_before_and_after E.bytes E.counts err.old err.new) }
+    // On every tree the answer is that of a possible outcome.
     ensures found { IsAnswerOfSomeOutcome (IsPossibleOutcome (command_of words.now)) LeavesAnyFiles
         (IsFaultCountedWithCause (T.counts tree.old) (T.counts tree.new)) result
         (sink_before_and_after O.bytes O.counts out.old out.new)
         (sink_before_and_after E.bytes E.counts err.old err.new) }
+    // A change asks the tree about each name before it commits.
     ensures asked { effect_of_arguments (command_of words.now) ≡ Changes
         → AreRecoveryTargetsAccepted T.accepts (T.history tree.old) (T.history tree.new) }
+    // The counts of the tree and of the sinks explain the answer.
     ensures causes { IsAnswerExplainedByCounts result (T.counts tree.old) (T.counts tree.new)
         (sink_before_and_after O.bytes O.counts out.old out.new)
         (sink_before_and_after E.bytes E.counts err.old err.new) }
@@ -65,9 +70,11 @@ pub fn apk_as_promised<T: Tree, O: Sink, E: Sink>(
         (sink_before_and_after O.bytes O.counts out.old out.new) }
     ensures err_counts { IsUseWithoutMisuse
         (sink_before_and_after E.bytes E.counts err.old err.new) }
-    ensures memory { result ≡ Answer.Memory → IsTrue (is_command_named words.now) }
+    ensures memory { result ≡ Answer.Memory → IsTrue (is_applet_help_or_version_named words.now) }
+    // No call is a misuse of the tree, if the paths to be written are free.
     ensures proper { IfObservable (T.history tree.old) (λ v. AreRunPathsFree words.now (files_of v)
         → (T.counts tree.new).misuses ≡ (T.counts tree.old).misuses) }
+    // If no failure is planned, the run ends as its outcome says, unless memory runs out.
     ensures unless_memory { IfObservable (T.history tree.old) (λ v.
         AreRunPathsFree words.now (files_of v) → HasNoPlannedFailure (T.counts tree.old)
         → HasNoPlannedFailure (O.counts out.old) → HasNoPlannedFailure (E.counts err.old)
@@ -81,6 +88,7 @@ pub fn apk_as_promised<T: Tree, O: Sink, E: Sink>(
     ensures same { IsTrue (reads_only (command_of words.now))
         → T.history tree.new ≡ T.history tree.old }
 {
+    // Laws that the proof needs; they have no effect at run time.
     the_sentence_holds();
     a_run_is_safe_after_any_events();
     apk(alloc, words, tree, out, err)

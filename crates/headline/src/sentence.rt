@@ -20,6 +20,7 @@ use run_lists::{
 pub fn the_sentence_holds()
     ensures { (v : TreeState) (run : Run) → IsRunFrom v run → IsAsPromisedAfterAnyEvents v run }
 {
+    // Laws that the proof needs; they have no effect at run time.
     a_run_is_safe_after_any_events();
     a_stopped_run_is_recovered();
     more_names_may_be_ignored();

@@ -4,11 +4,11 @@ use Rattle.std.specs.Prelude.{IfErr}
 use Rattle.std.proofs.lemmas.List.{take_more}
 use Rattle.base_core.specs.Faults.{Counts}
 use Rattle.base_core.specs.Read.{OnlyReads}
-use Rattle.base_core.specs.Sink.{Adds, SinkBeforeAndAfter}
+use Rattle.base_core.specs.Sink.{AddsBytesToSink, SinkBeforeAndAfter}
 use Rattle.base_core.specs.Tree.{TreeState, files_of}
 use Rattle.base_core.specs.declared.tree.TreeFault.{TreeFault}
 use Rattle.base_core.specs.declared.tree.TreeFault.TheVariants as Trees
-use Rattle.base_core.proofs.Added.{Adds-none}
+use Rattle.base_core.proofs.Added.{AddsBytesToSink-none}
 use Rattle.report_core.specs.declared.refusal.Refusal.{Refusal}
 use Rattle.report_core.proofs.Behind.{Between}
 use Rattle.report_core.proofs.Fronts.{Chains}
@@ -47,7 +47,7 @@ is_found_now (v ∷ earlier) (Some name) = refl
 
 -- a call that wrote nothing failed
 pub tells_nothing : {T E : Type 0} (lines : List ℕ) (told : Option (List ℕ)) (before after : Counts) (fault : E) → Tells {T = T} lines (Between told before told after) (Err fault)
-tells_nothing lines told before after fault = record { ok = tt; err = record { front = []; rest = lines; whole = refl; added = Adds-none told } }
+tells_nothing lines told before after fault = record { ok = tt; err = record { front = []; rest = lines; whole = refl; added = AddsBytesToSink-none told } }
 
 pub silent : (words : List (List ℕ)) (refusal : Refusal) (found : Option (List ℕ)) → is_explained (command_of words) ≡ false → hint_lines_after_refusal words refusal found ≡ []
 silent words refusal found own = ap (λ b. if b then hint_lines (hints_of words refusal found) else []) own
@@ -57,7 +57,7 @@ told_all words refusal found own = ap (λ b. if b then hint_lines (hints_of word
 
 -- nothing was to be written
 pub tells_none : {T E : Type 0} (lines : List ℕ) (told : Option (List ℕ)) (before after : Counts) (x : T) → lines ≡ [] → Tells {E = E} lines (Between told before told after) (Ok x)
-tells_none lines told before after x none = record { ok = subst (Adds told told) (sym none) (Adds-none told); err = tt }
+tells_none lines told before after x none = record { ok = subst (AddsBytesToSink told told) (sym none) (AddsBytesToSink-none told); err = tt }
 
 pub tells_same : {T E : Type 0} (a b : List ℕ) (sink : SinkBeforeAndAfter) (result : Result T E) → a ≡ b → Tells a sink result → Tells b sink result
 tells_same a b sink result same tells = subst (λ lines. Tells lines sink result) same tells

@@ -7,30 +7,30 @@ use Rattle.std.specs.Str.{bytes_eq}
 use Rattle.std.proofs.lemmas.Option.{none-some, same_Some}
 use Rattle.std.proofs.lemmas.Slice.Eq.{bytes_eq-Decides}
 use Rattle.base_core.specs.Calls.{IfObservable}
-use Rattle.base_core.specs.Listed.{IsListOf}
+use Rattle.base_core.specs.Listed.{IsSortedListingOfFolder}
 use Rattle.base_core.specs.Tree.{TreeState, files_of}
 use Rattle.command_core.specs.declared.operands.Operand.{Operand}
 use Rattle.dep_core.specs.Repositories.{Repository, repositories_of}
 use Rattle.root_names.specs.RootNames.{repositories_name}
 use Rattle.words_core.proofs.OneMore.{left_at}
-use Rattle.hint_core.specs.Warnings.{HasFileBelow, WarnsOfFolder, WarnsOfTags, empty_folder_line, is_tag_of, has_repository_with_tag, unknown_tag_line, tag_of, tag_warning, tag_warnings, text_of_found, tag_warnings_if_read}
+use Rattle.hint_core.specs.Warnings.{HasFileBelow, WarnsOfFolder, WarnsOfTags, empty_folder_line, is_tag_of, has_repository_with_tag, unknown_tag_line, tag_of, warning_if_tag_unknown, tag_warnings, text_of_found, tag_warnings_if_read}
 
 -- ---- a folder
 
-nothing_below : (v : TreeState) (folder : List ℕ) (names : List (List ℕ)) → IsListOf folder v names → length names ≡ 0 → HasFileBelow v folder → ⊥
+nothing_below : (v : TreeState) (folder : List ℕ) (names : List (List ℕ)) → IsSortedListingOfFolder folder v names → length names ≡ 0 → HasFileBelow v folder → ⊥
 nothing_below v folder names listed none has =
     let at = (listed.each has.0).1 (has.1, has.2) in omega (arith, at.1, none)
 
-something_below : (v : TreeState) (folder : List ℕ) (names : List (List ℕ)) → IsListOf folder v names → (length names ≡ 0 → ⊥) → HasFileBelow v folder
+something_below : (v : TreeState) (folder : List ℕ) (names : List (List ℕ)) → IsSortedListingOfFolder folder v names → (length names ≡ 0 → ⊥) → HasFileBelow v folder
 something_below v folder [] listed some = absurd (some refl)
 something_below v folder (name ∷ names) listed some =
     let at = (listed.each name).0 (0, omega arith, refl) in (name, at.0, at.1)
 
-pub warned_below : (history : List TreeState) (folder lines : List ℕ) (names : List (List ℕ)) → IfObservable history (λ v. IsListOf folder v names) → length names ≡ 0 → lines ≡ empty_folder_line folder → IfObservable history (WarnsOfFolder folder lines)
+pub warned_below : (history : List TreeState) (folder lines : List ℕ) (names : List (List ℕ)) → IfObservable history (λ v. IsSortedListingOfFolder folder v names) → length names ≡ 0 → lines ≡ empty_folder_line folder → IfObservable history (WarnsOfFolder folder lines)
 warned_below [] folder lines names listed none is = tt
 warned_below (v ∷ earlier) folder lines names listed none is = inr (is, nothing_below v folder names listed none)
 
-pub silent_below : (history : List TreeState) (folder lines : List ℕ) (names : List (List ℕ)) → IfObservable history (λ v. IsListOf folder v names) → (length names ≡ 0 → ⊥) → lines ≡ [] → IfObservable history (WarnsOfFolder folder lines)
+pub silent_below : (history : List TreeState) (folder lines : List ℕ) (names : List (List ℕ)) → IfObservable history (λ v. IsSortedListingOfFolder folder v names) → (length names ≡ 0 → ⊥) → lines ≡ [] → IfObservable history (WarnsOfFolder folder lines)
 silent_below [] folder lines names listed some is = tt
 silent_below (v ∷ earlier) folder lines names listed some is = inl (is, something_below v folder names listed some)
 
@@ -41,11 +41,11 @@ tags_read [] operands found lines same is = tt
 tags_read (v ∷ earlier) operands found lines same is =
     is ∙ ap (λ f. tag_warnings_if_read (repositories_of (text_of_found f)) operands) same
 
-pub warning_more : (rs : List Repository) (os : List Operand) (i : ℕ) (o : Operand) (lines now text : List ℕ) → slice_get os i ≡ Some o → text ≡ o.text → now ≡ lines ++ tag_warning rs (tag_of text)
+pub warning_more : (rs : List Repository) (os : List Operand) (i : ℕ) (o : Operand) (lines now text : List ℕ) → slice_get os i ≡ Some o → text ≡ o.text → now ≡ lines ++ warning_if_tag_unknown rs (tag_of text)
     → lines ++ tag_warnings rs (drop i os) ≡ tag_warnings rs os → now ++ tag_warnings rs (drop (i + 1) os) ≡ tag_warnings rs os
 warning_more rs os i o lines now text at is so h =
-    ap (λ (l : List ℕ). l ++ tag_warnings rs (drop (i + 1) os)) (so ∙ ap (λ (t : List ℕ). lines ++ tag_warning rs (tag_of t)) is)
-    ∙ append_assoc lines (tag_warning rs (tag_of o.text)) (tag_warnings rs (drop (i + 1) os))
+    ap (λ (l : List ℕ). l ++ tag_warnings rs (drop (i + 1) os)) (so ∙ ap (λ (t : List ℕ). lines ++ warning_if_tag_unknown rs (tag_of t)) is)
+    ∙ append_assoc lines (warning_if_tag_unknown rs (tag_of o.text)) (tag_warnings rs (drop (i + 1) os))
     ∙ ap (λ (l : List Operand). lines ++ tag_warnings rs l) (sym (left_at os i o at)) ∙ h
 
 -- the repository at an index, of which the tag is known
@@ -106,10 +106,10 @@ tagged (x ∷ rs) tag zero r lt is e =
 tagged (x ∷ rs) tag (suc k) r lt is e =
     ap (λ b. is_tag_of tag x.tag || b) (tagged rs tag k r (omega (arith, lt)) is e) ∙ or_true (is_tag_of tag x.tag)
 
-pub warned_if_none : (rs : List Repository) (tag : List ℕ) → ((r : Repository) → Contains rs r → r.tag ≡ Some tag → ⊥) → tag_warning rs (Some tag) ≡ unknown_tag_line tag
+pub warned_if_none : (rs : List Repository) (tag : List ℕ) → ((r : Repository) → Contains rs r → r.tag ≡ Some tag → ⊥) → warning_if_tag_unknown rs (Some tag) ≡ unknown_tag_line tag
 warned_if_none rs tag none = rw (untagged rs tag none) refl
 
-pub silent_if_one : (rs : List Repository) (tag : List ℕ) (r : Repository) → Contains rs r → r.tag ≡ Some tag → tag_warning rs (Some tag) ≡ []
+pub silent_if_one : (rs : List Repository) (tag : List ℕ) (r : Repository) → Contains rs r → r.tag ≡ Some tag → warning_if_tag_unknown rs (Some tag) ≡ []
 silent_if_one rs tag r at e = rw (tagged rs tag at.0 r at.1 at.2 e) refl
 
 -- ---- what a call says

@@ -70,16 +70,16 @@ unknown_tag_line tag = texts_joined
     (codes "apk: no repository has the tag @" ∷ (printed_text tag ∷ (codes "\n" ∷ [])))
 
 -- what is printed of a tag, if there is one: the line if no repository has it
-abbrev pub tag_warning : List Repository → Option (List ℕ) → List ℕ
-tag_warning repositories None = []
-tag_warning repositories (Some tag) =
+abbrev pub warning_if_tag_unknown : List Repository → Option (List ℕ) → List ℕ
+warning_if_tag_unknown repositories None = []
+warning_if_tag_unknown repositories (Some tag) =
     if has_repository_with_tag repositories tag then [] else unknown_tag_line tag
 
 -- what is printed of the tags of operands
 abbrev pub tag_warnings : List Repository → List Operand → List ℕ
 tag_warnings repositories [] = []
 tag_warnings repositories (operand ∷ operands) =
-    tag_warning repositories (tag_of operand.text) ++ tag_warnings repositories operands
+    warning_if_tag_unknown repositories (tag_of operand.text) ++ tag_warnings repositories operands
 
 -- the lines of *tag_warnings* for the repositories that were read; nothing if a line of their list is bad
 abbrev pub tag_warnings_if_read : Result (List Repository) ℕ → List Operand → List ℕ

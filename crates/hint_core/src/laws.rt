@@ -5,7 +5,7 @@ ghost use Rattle.dep_core.specs.Repositories.{Repository};
 ghost use Rattle.report_core.specs.declared.refusal.Refusal.{Refusal};
 ghost use Rattle.hint_core.specs.Hints.{hints_of};
 ghost use Rattle.hint_core.specs.Truths.{IsTrueHint};
-ghost use Rattle.hint_core.specs.Warnings.{unknown_tag_line, tag_warning};
+ghost use Rattle.hint_core.specs.Warnings.{unknown_tag_line, warning_if_tag_unknown};
 
 /// Both hints of a refusal, on its subject and on its cause, are true of the words and of the file
 /// that the refusal is about.
@@ -20,8 +20,8 @@ pub fn hints_are_so()
 pub fn tags_without_a_repository_are_warned_of()
     ensures none { (repositories : List Repository) (tag : List ℕ)
         → ((r : Repository) → Contains repositories r → r.tag ≡ Some tag → ⊥)
-        → tag_warning repositories (Some tag) ≡ unknown_tag_line tag }
+        → warning_if_tag_unknown repositories (Some tag) ≡ unknown_tag_line tag }
     ensures one { (repositories : List Repository) (tag : List ℕ) (r : Repository)
         → Contains repositories r → r.tag ≡ Some tag
-        → tag_warning repositories (Some tag) ≡ [] }
+        → warning_if_tag_unknown repositories (Some tag) ≡ [] }
 {}

@@ -8,7 +8,7 @@ ghost use Rattle.base_core.specs.Sink.{sink_before_and_after};
 ghost use Rattle.dep_core.specs.Repositories.{Repository, repositories_of};
 ghost use Rattle.words_core.specs.Grammar.{command_of};
 ghost use Rattle.hint_core.specs.Told.{IsNotDiskFault, Tells};
-ghost use Rattle.hint_core.specs.Warnings.{WarnsForApplet, WarnsIfGiven, WarnsOfFolder, WarnsOfTags, Warns, empty_folder_line, is_tag_of, has_repository_with_tag, folder_to_pack, unknown_tag_line, tag_of, tag_warning, tag_warnings, text_of_found, tag_warnings_if_read};
+ghost use Rattle.hint_core.specs.Warnings.{WarnsForApplet, WarnsIfGiven, WarnsOfFolder, WarnsOfTags, Warns, empty_folder_line, is_tag_of, has_repository_with_tag, folder_to_pack, unknown_tag_line, tag_of, warning_if_tag_unknown, tag_warnings, text_of_found, tag_warnings_if_read};
 
 use crate::printed::{printed, push_texts};
 use crate::telling::HintFault;
@@ -206,7 +206,7 @@ fn push_warning(
     operand: &[u8],
 ) -> Result<(), AllocError>
     ensures { OnOk result (lines.new.items
-        ≡ lines.old.items ++ tag_warning repos.now (tag_of operand.now)) }
+        ≡ lines.old.items ++ warning_if_tag_unknown repos.now (tag_of operand.now)) }
 {
     match tag_of(operand) {
         Some(tag) => push_unless_tagged(alloc, lines, repos, tag),
@@ -222,7 +222,7 @@ fn push_unless_tagged(
     tag: &[u8],
 ) -> Result<(), AllocError>
     ensures { OnOk result (lines.new.items
-        ≡ lines.old.items ++ tag_warning repos.now (Some tag.now)) }
+        ≡ lines.old.items ++ warning_if_tag_unknown repos.now (Some tag.now)) }
 {
     if has_repository_with_tag(repos, tag) {
         return Ok(());

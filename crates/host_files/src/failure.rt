@@ -10,7 +10,7 @@ use std::io::{ErrorKind, Write};
 pub enum Reason {
     /// A path is a symbolic link, which is never followed.
     Link,
-    /// A path is a pipe, a device or a socket.
+    /// There is a pipe, a device or a socket at a path.
     Special,
     /// There is a folder in the place of a file.
     Folder,
@@ -18,23 +18,23 @@ pub enum Reason {
     NoFolder,
     /// There is nothing at a path.
     Nothing,
-    /// A file is shorter than what is read of it.
+    /// A file ends before the last byte that is to be read.
     EndsEarly,
     /// The opened file is not the one that was found before.
     Swapped,
     /// A path is no name of a file.
     NoName,
-    /// The host once failed to write something through.
+    /// An earlier sync failed, so that the host may have lost a write.
     LostWrite,
     /// Another run of this program works in the folder.
     Locked,
     /// The lock's folder cannot be made, so that nothing is written.
     NoLockFolder,
-    /// Both names of a rename are one.
+    /// Both names of a rename are the same.
     SameName,
     /// A file cannot be renamed to a path, since another file system is mounted there.
     OtherFileSystem,
-    /// A path belongs to the program itself, which uses it for its lock and its questions.
+    /// A path is reserved for the program itself, for its lock and for tests of the host.
     Reserved,
 }
 
@@ -63,14 +63,16 @@ impl Reason {
 /// Why something on the host fails.
 #[derive(Drop)]
 pub enum HostFault {
-    /// There was no memory.
+    /// The program or the host was out of memory.
     Memory,
-    /// The host's own reason, and its path, if that is not the call's own.
+    /// An error of the host, and the path `at` that it concerns, if this is not the path of the
+    /// call.
     Host {
         error: io::Error,
         at: Option<Vec<u8>>,
     },
-    /// A reason of this program, and its path, if that is not the call's own.
+    /// A reason of this program, and the path `at` that it concerns, if this is not the path of the
+    /// call.
     Own {
         reason: Reason,
         at: Option<Vec<u8>>,
@@ -78,12 +80,13 @@ pub enum HostFault {
 }
 
 impl HostFault {
-    /// A reason of this program that concerns the call's own path.
+    /// The fault with a reason of this program that concerns the path of the call.
     pub fn own(reason: Reason) -> HostFault {
         HostFault::Own { reason, at: None }
     }
 
-    /// A reason of this program that concerns a path. Without memory for the path it is left out.
+    /// The fault with a reason of this program that concerns this path. If there is no memory for
+    /// the path, it is left out.
     pub fn at(alloc: Global, reason: Reason, path: &[u8]) -> HostFault {
         HostFault::Own {
             reason,
@@ -91,7 +94,8 @@ impl HostFault {
         }
     }
 
-    /// The host's error on a path. Without memory for the path it is left out.
+    /// The fault with an error of the host that concerns this path. If there is no memory for the
+    /// path, it is left out.
     pub fn host_at(alloc: Global, error: io::Error, path: &[u8]) -> HostFault {
         if error.kind() == ErrorKind::OutOfMemory {
             return HostFault::Memory;
@@ -104,7 +108,7 @@ impl HostFault {
 }
 
 impl From<AllocError> for HostFault {
-    /// Out of memory is a fault of its own.
+    /// The fault of a call that is out of memory.
     fn from(_: AllocError) -> HostFault {
         HostFault::Memory
     }
@@ -123,18 +127,19 @@ impl From<io::Error> for HostFault {
 /// The call that failed first, the paths that it was given, and why it failed.
 #[derive(Drop)]
 pub struct Failure {
-    // The call in words, as `rename`.
+    // The name of the call that is printed, such as `rename`.
     call: &'static str,
-    // The path that it was given; empty if there is none to print.
+    // The path that the call was given; empty if there is none to print.
     path: Vec<u8>,
     // The second path of a rename; empty for other calls.
     target: Vec<u8>,
+    // Why the call failed.
     fault: HostFault,
 }
 
 impl Failure {
-    /// The failure of a call on a path, and on a second path or none (empty). Without memory for a
-    /// path it is left out.
+    /// The failure of a call on a path. `target` is the second path of a rename, and empty for
+    /// other calls. If there is no memory for a path, it is left out.
     pub fn new(
         alloc: Global,
         call: &'static str,
@@ -150,8 +155,8 @@ impl Failure {
         }
     }
 
-    /// Prints one line: `apk: CALL PATH: REASON`, or `apk: CALL PATH to TARGET: REASON`. A stream
-    /// that fails ends it.
+    /// Prints one line: `apk: CALL PATH: REASON`, or `apk: CALL PATH to TARGET: REASON`. If a write
+    /// fails, nothing more is printed.
     pub fn print<W: Write>(&self, alloc: Global, to: &mut W) -> io::Result<()> {
         to.write_all(b"apk: ")?;
         to.write_all(self.call.as_bytes())?;
@@ -168,7 +173,8 @@ impl Failure {
         to.write_all(b"\n")
     }
 
-    /// Prints why the call failed; a path that the call's line does not have precedes the reason.
+    /// Prints why the call failed. If the reason concerns another path than those of the call, this
+    /// path is printed first.
     fn print_reason<W: Write>(&self, alloc: Global, to: &mut W) -> io::Result<()> {
         match &self.fault {
             HostFault::Memory => to.write_all(b"Cannot allocate memory"),
@@ -183,7 +189,7 @@ impl Failure {
         }
     }
 
-    /// Prints the path of a reason, unless the call's line has it.
+    /// Prints the path `at` that a reason concerns, and a colon, unless it is a path of the call.
     fn print_place<W: Write>(&self, at: &Option<Vec<u8>>, to: &mut W) -> io::Result<()> {
         if let Some(at) = at
             && !self.names(at)
@@ -194,7 +200,7 @@ impl Failure {
         Ok(())
     }
 
-    /// Whether a path is one that the call was given.
+    /// Whether a path is one of those that the call was given.
     fn names(&self, path: &[u8]) -> bool {
         path == self.path.as_slice() || path == self.target.as_slice()
     }
@@ -215,12 +221,12 @@ pub fn write_path<W: Write>(path: &[u8], to: &mut W) -> io::Result<()> {
     Ok(())
 }
 
-/// Whether a byte is no text, but moves or colors what a terminal shows.
+/// Whether a byte is a control character, which could change what a terminal shows.
 fn acts_on_terminal(byte: u8) -> bool {
     byte < 0x20 || byte == 0x7f
 }
 
-/// The digit of a number below 16.
+/// The hexadecimal digit of a number below 16.
 fn hex_digit(n: u8) -> u8 {
     match n {
         0..=9 => b'0' + n,
@@ -228,7 +234,7 @@ fn hex_digit(n: u8) -> u8 {
     }
 }
 
-/// The host's text for its error, without the error's number.
+/// Prints the host's text for its error, without the error's number.
 fn print_host_reason<W: Write>(alloc: Global, error: &io::Error, to: &mut W) -> io::Result<()> {
     let Ok(text) = format!(in alloc; "{error}") else {
         return to.write_all(b"Unknown error");

@@ -1,4 +1,4 @@
-//! What the host has at a path, and what its errors mean.
+//! Finds what the host has at a path: nothing, a folder or a regular file.
 //! The rules are in `docs/crash-safety.md`, "What the host's tree does", the row of each call on
 //! a path and that of `size`.
 
@@ -13,11 +13,11 @@ use std::{fs, io, str};
 /// What the host has at a path.
 #[derive(Clone, Copy)]
 pub enum Found {
-    /// No file and no folder.
+    /// There is nothing at the path.
     Nothing,
-    /// A folder.
+    /// There is a folder.
     Folder,
-    /// A regular file.
+    /// There is a regular file, with this metadata.
     File(LookedAt),
 }
 
@@ -25,9 +25,9 @@ pub enum Found {
 /// host.
 #[derive(Clone, Copy)]
 pub struct LookedAt {
-    /// Its length in bytes.
+    /// The length of the file in bytes.
     pub len: u64,
-    /// Its mode and owner.
+    /// The mode and the owner of the file.
     pub rights: Rights,
     // The host's number of the device that the file is on.
     device: u64,
@@ -36,7 +36,7 @@ pub struct LookedAt {
 }
 
 impl LookedAt {
-    /// The file with this metadata of the host.
+    /// The regular file with this metadata of the host.
     fn of(data: &Metadata) -> LookedAt {
         LookedAt {
             len: data.len(),
@@ -46,7 +46,7 @@ impl LookedAt {
         }
     }
 
-    /// Whether the host's metadata of an open file is that of this regular file.
+    /// Whether metadata of the host, of an open file, is that of this same regular file.
     pub fn is(&self, data: &Metadata) -> bool {
         data.is_file() && data.dev() == self.device && data.ino() == self.number
     }
@@ -59,9 +59,9 @@ impl Found {
     }
 }
 
-/// What is at a path itself, for the host as `host_path`. A symbolic link is not followed: it is a
-/// fault, as is all else that is neither a regular file nor a folder. A name that is too long for
-/// the host has no file.
+/// What is at `path`, which the host finds under `host_path`. A symbolic link is not followed: it
+/// is a fault, as is anything else that is neither a regular file nor a folder. At a path with a
+/// name that is too long for the host there is nothing.
 pub fn look<R: Files>(
     rt: &R,
     alloc: Global,
@@ -74,13 +74,13 @@ pub fn look<R: Files>(
     }
 }
 
-/// What is at a path itself, where a file is to be written: as `look`, but a name that is too long
-/// for the host is a fault.
+/// What is at a path at which a file is to be written. This is as in `look`, but a name that is too
+/// long for the host is a fault.
 pub fn look_to_write<R: Files>(rt: &R, alloc: Global, path: &[u8]) -> Result<Found, HostFault> {
     found_of(alloc, path, fs::symlink_metadata(rt, path_text(path)?))
 }
 
-/// What the host's answer to a look at a path says.
+/// What is at a path, given the host's metadata of it, or its error.
 fn found_of(alloc: Global, path: &[u8], looked: io::Result<Metadata>) -> Result<Found, HostFault> {
     let data = match looked {
         Ok(data) => data,
@@ -111,7 +111,7 @@ fn is_absence(kind: ErrorKind) -> bool {
     matches!(kind, ErrorKind::NotFound | ErrorKind::NotADirectory)
 }
 
-/// A path in the host's form: as text.
+/// A path as text, as the host takes it. A path that is no UTF-8 text is a fault.
 pub fn path_text(path: &[u8]) -> Result<&str, HostFault> {
     match str::from_utf8(path) {
         Ok(text) => Ok(text),
@@ -119,7 +119,7 @@ pub fn path_text(path: &[u8]) -> Result<&str, HostFault> {
     }
 }
 
-/// The folder of a path. The root is the empty path.
+/// The path of the folder that contains a path. The root is the empty path.
 pub fn parent_of(path: &[u8]) -> &[u8] {
     match path.iter().rposition(|byte| *byte == b'/') {
         Some(end) => &path[..end],

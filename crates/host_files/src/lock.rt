@@ -1,4 +1,4 @@
-//! The lock on the root: one run writes there, or any number read.
+//! The lock on the root, with which either one run may write in the root, or several runs may read.
 //! The rules are in `docs/crash-safety.md`, "What the host's tree does", the point of the lock.
 
 use super::Host;
@@ -14,12 +14,12 @@ use std::{fs, io, thread};
 /// and removed by the last.
 pub const LOCK_FOLDER: &str = ".apk-lock";
 
-/// Who else may work in the root while a run does.
+/// Which lock a run takes: who else may work in the root at the same time.
 #[derive(Clone, Copy)]
 pub enum Lock {
-    /// Other runs that share it.
+    /// Other runs with a shared lock may.
     Shared,
-    /// No other run.
+    /// No other run may.
     Exclusive,
 }
 
@@ -32,7 +32,7 @@ const MOST_SECONDS: u64 = 60;
 /// The number of seconds after which the run prints on standard error that it waits.
 const SILENT_SECONDS: u64 = 1;
 
-/// A lock on the root, which the run holds until the folder is closed.
+/// A lock on the root that this run holds, until the locked folder is closed.
 #[derive(Drop)]
 pub struct Held {
     /// The locked folder: the lock's folder, or the root.
@@ -48,23 +48,23 @@ impl Held {
     }
 }
 
-/// The result of a try to take the lock.
+/// The result of one try to take the lock.
 #[derive(Drop)]
 enum Try {
-    /// The lock is held.
+    /// This run holds the lock now.
     Held(Held),
-    /// Another run holds it.
+    /// Another run holds a conflicting lock.
     Taken,
-    /// Another run has made or removed the lock's folder meanwhile.
+    /// The lock's folder was made or removed meanwhile: the next try may succeed.
     Changed,
 }
 
-/// Waits until no other run holds a conflicting lock, 60 seconds at most, and prints once that it
-/// waits.
+/// Takes the lock on the root. If another run holds a conflicting lock, it waits up to 60 seconds,
+/// and prints once that it waits. Then it is a fault.
 pub fn lock_root<R: Host>(rt: &R, lock: Lock) -> Result<Held, HostFault> {
     let start = Instant::now(rt)?;
     let mut silent = true;
-    // The clock ends this; the bound shows the checker that it ends.
+    // The clock ends the loop; the bound shows the checker that the loop ends.
     for _ in 0..u64::MAX {
         match try_lock_root(rt, lock)? {
             Try::Held(held) => return Ok(held),
@@ -92,26 +92,29 @@ fn try_lock_root<R: Host>(rt: &R, lock: Lock) -> Result<Try, HostFault> {
         Err(e) if e.kind() == ErrorKind::NotFound => match make_lock_folder(rt) {
             Ok(()) => Ok(Try::Changed),
             Err(e) if e.kind() == ErrorKind::AlreadyExists => see_lock_folder(rt),
-            Err(e) => try_lock(fs::open(rt, ".")?, lock, stays(e.kind())),
+            // With the lock on the root itself, this run may write only if the reason lasts.
+            Err(e) => try_lock(fs::open(rt, ".")?, lock, is_lasting(e.kind())),
         },
         Err(e) if e.kind() == ErrorKind::PermissionDenied => {
+            // `true`: with the lock on the root itself, this run may write.
             try_lock(fs::open(rt, ".")?, lock, true)
         }
         Err(e) => Err(HostFault::host_at(rt.alloc(), e, LOCK_FOLDER.as_bytes())),
     }
 }
 
-/// Whether this reason for a missing folder of the lock stays: the user may not write in the root.
-/// Any other reason, such as a full disk, may pass while the run goes on. The next run could then
-/// make and lock the folder, so this run only reads.
-fn stays(kind: ErrorKind) -> bool {
+/// Whether the reason why the lock's folder cannot be made lasts: the user may not write in the
+/// root. Any other reason, such as a full disk, may end during this run. The next run could then
+/// make and lock the folder, so this run may only read.
+fn is_lasting(kind: ErrorKind) -> bool {
     matches!(
         kind,
         ErrorKind::PermissionDenied | ErrorKind::ReadOnlyFilesystem
     )
 }
 
-/// Tells that the lock is tried again, unless something else is in the place of its folder.
+/// `Changed`, after which the lock is tried again, or a fault if something at the path of the
+/// lock's folder is no folder.
 fn see_lock_folder<R: Host>(rt: &R) -> Result<Try, HostFault> {
     match fs::symlink_metadata(rt, LOCK_FOLDER) {
         Ok(found) if !found.is_dir() => Err(HostFault::at(
@@ -123,17 +126,21 @@ fn see_lock_folder<R: Host>(rt: &R) -> Result<Try, HostFault> {
     }
 }
 
-/// Tries to lock the lock's folder, which may have been removed since it was opened.
+/// Tries to lock the lock's folder, which is open. If it was removed or replaced since it was
+/// opened, the lock does not count.
 fn try_lock_folder<R: Host>(rt: &R, folder: File, lock: Lock) -> Result<Try, HostFault> {
     let opened = folder.metadata()?;
+    // `true`: with the lock on the lock's folder, this run may write.
     let tried = try_lock(folder, lock, true)?;
     match fs::symlink_metadata(rt, LOCK_FOLDER) {
         Ok(found) if found.is_dir() && is_same(&found, &opened) => Ok(tried),
+        // The open folder is not the lock's folder any more.
         _ => see_lock_folder(rt),
     }
 }
 
-/// Takes the lock on an open folder if nobody holds it. It waits for no one.
+/// Takes the lock on an open folder, or returns `Taken` at once if another run holds it.
+/// `may_write` says whether the lock keeps out all other runs that write.
 fn try_lock(folder: File, lock: Lock, may_write: bool) -> Result<Try, HostFault> {
     let tried = match lock {
         Lock::Shared => folder.try_lock_shared(),

@@ -1,5 +1,5 @@
-//! The folder of the last paths, and a shorter way to its files if it is deep. The rules are in
-//! `docs/crash-safety.md`, "What the host's tree does", the point of a deep folder.
+//! The folder of the last paths that were used, and shorter paths to its files if it is deep. The
+//! rules are in `docs/crash-safety.md`, "What the host's tree does", the point of a deep folder.
 
 use super::Host;
 use super::failure::HostFault;
@@ -9,26 +9,26 @@ use std::fs;
 use std::fs::{File, OpenFile};
 use std::os::fd::AsRawFd;
 
-/// The fewest folders around a file at which it is reached through its open folder: the host walks
-/// a shorter path as fast as that detour.
+/// The number of folders above a file from which on the file is reached through its open folder.
+/// With fewer folders, the host resolves the path itself as fast.
 const DEEP: usize = 32;
 
-/// How many paths in a row must be in a folder before it is opened.
+/// After this many paths in a row in one folder, the folder is opened.
 const PATHS_IN_A_ROW: u32 = 4;
 
-/// The folder of the last paths. The root is the empty path.
+/// The folder that has the last paths that were used. The root is the empty path.
 #[derive(Drop)]
 pub struct LastFolder {
-    // Its path.
+    // The path of the folder.
     path: Vec<u8>,
-    // How many paths in a row were in it.
+    // How many paths in a row were in the folder.
     paths: u32,
     // The open folder, if it is deep and was used often enough.
     opened: Option<OpenFolder>,
 }
 
 impl LastFolder {
-    /// The folder at a path, without a path in it so far.
+    /// The folder at a path, in which no path was used so far.
     pub fn new(path: Vec<u8>) -> LastFolder {
         LastFolder {
             path,
@@ -37,12 +37,13 @@ impl LastFolder {
         }
     }
 
-    /// Whether it is the folder at a path.
+    /// Whether this is the folder at a path.
     pub fn is(&self, path: &[u8]) -> bool {
         self.path.as_slice() == path
     }
 
-    /// The host's form of a path in this folder, which counts as one more path in a row.
+    /// The path by which the host finds `path`, which is in this folder: shorter if the folder is
+    /// open. It counts as one more path in a row.
     pub fn host_path<'b, R: Host>(
         &'b mut self,
         rt: &R,
@@ -65,20 +66,20 @@ fn is_deep(folder: &[u8]) -> bool {
     folder.iter().filter(|byte| **byte == b'/').count() >= DEEP - 1
 }
 
-/// An open folder, and the path by which the host leads to it in one step.
+/// An open folder, and the short path by which the host finds it, `/proc/self/fd/N/`.
 #[derive(Drop)]
 struct OpenFolder {
     // The open folder, which stays open as long as the path is used.
     _file: File,
-    // The path of the folder and a slash, with the part that was asked for last.
+    // The short path of the folder with its slash, followed by the last part that was asked for.
     path: Vec<u8>,
-    // How long the path of the folder and the slash are.
+    // The length of the short path of the folder with its slash, in bytes.
     folder_len: usize,
 }
 
 impl OpenFolder {
-    /// Opens a folder, or nothing if the host has no such path or shows something else there: the
-    /// plain path works too.
+    /// Opens a folder. Returns None if that fails, or if its short path does not lead to it: then
+    /// the path itself is used.
     fn open<R: Host>(
         rt: &R,
         alloc: Global,
@@ -100,7 +101,7 @@ impl OpenFolder {
         }))
     }
 
-    /// The host's form of the path of a file or a folder in the open folder, by its last part.
+    /// The short path of a file or folder in the open folder, given the last part of its path.
     fn path_to(&mut self, part: &[u8]) -> Result<&str, HostFault> {
         self.path.truncate(self.folder_len);
         self.path.extend_from_slice(part)?;
@@ -108,7 +109,7 @@ impl OpenFolder {
     }
 }
 
-/// Whether an open file is the one at a path itself.
+/// Whether an open file is the file at a path, without following a symbolic link.
 fn leads_to<R: Host>(rt: &R, path: &str, file: &File) -> bool {
     match (fs::symlink_metadata(rt, path), file.metadata()) {
         (Ok(found), Ok(opened)) => is_same(&found, &opened),

@@ -15,16 +15,19 @@ use std::os::unix::fs::OpenOptionsExt;
 /// read, if that is known.
 #[derive(Drop)]
 pub struct Opened {
+    // The path under which the file was opened.
     path: Vec<u8>,
+    // The open file.
     file: File,
-    // Its number of bytes, as far as this run knows.
+    // The number of bytes of the file, as far as this run knows.
     len: u64,
     // The offset of the next read; None if that is not known.
     at: Option<u64>,
 }
 
 impl Opened {
-    /// The file that was opened at a path. It is the regular file that was found there before.
+    /// The file that was opened at a path. If it is not the regular file `looked_at`, which was
+    /// found at this path before, this is a fault.
     pub fn of(
         alloc: Global,
         path: &[u8],
@@ -43,7 +46,8 @@ impl Opened {
         })
     }
 
-    /// Makes a file at a path where there is nothing, to append to it.
+    /// Makes an empty file at a path, and opens it to append to it. Anything at the path is a
+    /// fault.
     pub fn make<R: Host>(rt: &R, alloc: Global, path: &[u8]) -> Result<Opened, HostFault> {
         let copy = Vec::from_slice(alloc, path)?;
         let mut how = OpenOptions::new();
@@ -60,7 +64,8 @@ impl Opened {
         })
     }
 
-    /// Fills the buffer with the bytes from `at` on.
+    /// Fills the buffer with the bytes of the file from the offset `at` on. A file that is too
+    /// short for this is a fault.
     pub fn fill(&mut self, at: u64, into: &mut [u8]) -> Result<(), HostFault> {
         if at > self.len || into.len() as u64 > self.len - at {
             return Err(HostFault::own(Reason::EndsEarly));
@@ -68,6 +73,7 @@ impl Opened {
         if self.at != Some(at) {
             self.file.seek(SeekFrom::Start(at))?;
         }
+        // If the read fails, the offset of the next read is not known.
         self.at = None;
         match self.file.read_exact(into) {
             Ok(()) => {
@@ -82,25 +88,25 @@ impl Opened {
         }
     }
 
-    /// Appends a piece to the file. After a fault a prefix of it may be there.
+    /// Appends a piece to the file. After a fault, the file may end with a prefix of the piece.
     pub fn add(&mut self, piece: &[u8]) -> Result<(), HostFault> {
         self.file.write_all(piece)?;
         self.len = self.len.saturating_add(piece.len() as u64);
         Ok(())
     }
 
-    /// Cuts off what a failed `add` has written. Returns whether that is done.
+    /// Cuts off what a failed `add` has written. Returns whether that succeeded.
     pub fn cut_back(&mut self) -> bool {
         self.file.set_len(self.len).is_ok()
     }
 
-    /// Lets the host write the bytes of the file through to the disk.
+    /// Syncs the file, so that its bytes survive a crash.
     pub fn write_through(&self) -> Result<(), HostFault> {
         Ok(self.file.sync_all()?)
     }
 }
 
-/// Whether the file at a path is the open one.
+/// Whether `slot` has the open file of this path.
 pub fn is_open(slot: &Option<Opened>, path: &[u8]) -> bool {
     match slot {
         Some(opened) => opened.path.as_slice() == path,
@@ -108,7 +114,7 @@ pub fn is_open(slot: &Option<Opened>, path: &[u8]) -> bool {
     }
 }
 
-/// Closes the file at a path, if it is open.
+/// Closes the file in `slot`, if it is the open file of this path.
 pub fn close(slot: &mut Option<Opened>, path: &[u8]) {
     if is_open(slot, path) {
         *slot = None;

@@ -16,22 +16,22 @@ pub const FILE_MODE: u32 = 0o644;
 pub const FOLDER_MODE: u32 = 0o755;
 
 /// The bits of a mode that a program may set: the rights of the owner, the group and the others,
-/// and the three bits for programs and folders above them.
+/// and the bits setuid, setgid and sticky.
 const ALL_BITS: u32 = 0o7777;
 
-/// The rights to execute a file, of the owner, the group and the others.
+/// The bits of a mode by which the owner, the group and the others may execute the file.
 const EXECUTE_BITS: u32 = 0o111;
 
-/// The rights of the owner, the group and the others.
+/// The bits of a mode with the rights of the owner, the group and the others.
 const RIGHTS_BITS: u32 = 0o777;
 
-/// The rights of the owner to read and to write.
+/// The bits of a mode by which the owner may read and write the file.
 const OWNER_BITS: u32 = 0o600;
 
 /// The mode and the owner of a file.
 #[derive(Clone, Copy, PartialEq, Eq)]
 pub struct Rights {
-    // The bits that a program may set.
+    // The bits of the mode that a program may set.
     mode: u32,
     // The number of the user who owns the file.
     user: u32,
@@ -54,7 +54,7 @@ impl Rights {
         self.mode & EXECUTE_BITS != 0
     }
 
-    /// Whether user and group are equal.
+    /// Whether user and group of both are equal.
     fn has_owner_of(&self, other: Rights) -> bool {
         self.user == other.user && self.group == other.group
     }
@@ -65,7 +65,7 @@ impl Rights {
     ///
     /// # Errors
     ///
-    /// The host's own, if it did not sync them.
+    /// The host's error, if the host did not sync the rights.
     pub fn change_to<R: Files>(
         &self,
         rt: &R,
@@ -73,18 +73,19 @@ impl Rights {
         wanted: Rights,
     ) -> Result<(), HostFault> {
         let path = path_text(path)?;
-        // It is opened before its mode changes, since the new mode may not allow that.
+        // The file is opened before its mode changes, since the new mode may not allow to open it.
         let file = open_to_sync(rt, path)?;
         let is_given = self.has_owner_of(wanted) || give_away(rt, path, wanted);
         let kept = if is_given { ALL_BITS } else { RIGHTS_BITS };
-        // A host without modes refuses this, and then has none to keep.
+        // A file system without modes refuses this. It then has no mode to set, so the error is
+        // ignored.
         let _ = fs::set_permissions(rt, path, Permissions::from_mode(wanted.mode & kept));
         Ok(file.sync_all()?)
     }
 }
 
-/// Opens a file to sync it. An umask may keep even its owner from that, so the owner then gets the
-/// rights first.
+/// Opens a file to sync it. If an umask has left even the owner no right to read it, the owner
+/// first gets the rights to read and write.
 fn open_to_sync<R: Files>(rt: &R, path: &str) -> io::Result<R::File> {
     match fs::open(rt, path) {
         Err(e) if e.kind() == ErrorKind::PermissionDenied => {
@@ -95,8 +96,8 @@ fn open_to_sync<R: Files>(rt: &R, path: &str) -> io::Result<R::File> {
     }
 }
 
-/// Gives a file to another owner, or to its group alone, if the caller may not do more. Returns
-/// whether both are set.
+/// Sets the owner and the group of a file, or the group alone if the caller may not set the owner.
+/// Returns whether both were set.
 fn give_away<R: Files>(rt: &R, path: &str, wanted: Rights) -> bool {
     if lchown(rt, path, Some(wanted.user), Some(wanted.group)).is_ok() {
         return true;

@@ -1,5 +1,6 @@
-//! Folders: those on the way to a file, those without files, and those whose names changed. The
-//! rules are in `docs/crash-safety.md`, "What the host's tree does".
+//! The folders below the root: finds and makes the folders above a file, removes folders without
+//! files, and syncs the folders in which names changed. The rules are in `docs/crash-safety.md`,
+//! "What the host's tree does".
 
 use host_files::{
     FOLDER_MODE, Found, Host, HostFault, LastFolder, Reason, look, parent_of, path_text,
@@ -11,23 +12,25 @@ use std::fs::{DirBuilder, Files, OpenFile};
 use std::io::ErrorKind;
 use std::os::unix::fs::DirBuilderExt;
 
-/// The known folders below the root. Only this run writes there, so what it has found once remains
-/// true.
+/// The folders below the root that this run has found, made or changed. Only this run writes there,
+/// so a folder that it has found once is still there.
 #[derive(Drop)]
 pub struct Folders {
+    // Where memory is taken.
     alloc: Global,
     // The folders that this run has found or made.
     known: BTreeSet<Vec<u8>>,
-    // The folder of the previous path, which is a known one, or the root: a deep one is held open.
+    // The folder of the previous path, which is a known folder or the root. If it is deep, it may
+    // be held open, for shorter paths to its files.
     last: LastFolder,
-    // The folders whose names changed since they were last synced.
+    // The folders in which names changed, or will change, and that must still be synced.
     changed: BTreeSet<Vec<u8>>,
-    // The folders that were noted once together with all folders above them.
+    // The folders for which `note_way` has noted all folders above them.
     ways: BTreeSet<Vec<u8>>,
 }
 
 impl Folders {
-    /// No folder is known, and none has changed names.
+    /// The state before the first call: no folder is known, and no folder has changed names.
     pub fn new(alloc: Global) -> Folders {
         Folders {
             alloc,
@@ -38,13 +41,13 @@ impl Folders {
         }
     }
 
-    /// Whether everything on the way to a path is a folder.
+    /// Whether each part of a path before the last one is a folder that exists.
     pub fn ensure_folders<R: Files>(&mut self, rt: &R, path: &[u8]) -> Result<bool, HostFault> {
         Ok(self.deepest_known_folder(rt, path)? == parent_of(path))
     }
 
-    /// The deepest existing folder on the way to a path, as a prefix of the path; the root is the
-    /// empty one. The search ends at anything on the way that is no folder.
+    /// The deepest existing folder above a path, as a prefix of the path; the root is the empty
+    /// prefix. The search ends at the first part of the path that is no folder.
     pub fn deepest_known_folder<'p, R: Files>(
         &mut self,
         rt: &R,
@@ -65,7 +68,7 @@ impl Folders {
         Ok(folder)
     }
 
-    /// What a path leads to: nothing if something on the way is no folder.
+    /// What is at a path: nothing if a part of the path before the last one is no folder.
     pub fn find<R: Host>(&mut self, rt: &R, path: &[u8]) -> Result<Found, HostFault> {
         if !self.ensure_folders(rt, path)? {
             return Ok(Found::Nothing);
@@ -74,7 +77,8 @@ impl Folders {
         look(rt, alloc, path, self.host_path(rt, path)?)
     }
 
-    /// A path in the host's form: the shorter way, if its folder is the last one, and deep.
+    /// A path as the host is given it: the path itself, or a shorter one if its folder is the
+    /// folder of the previous path and is held open.
     pub fn host_path<'b, R: Host>(
         &'b mut self,
         rt: &R,
@@ -87,26 +91,26 @@ impl Folders {
         self.last.host_path(rt, self.alloc, path)
     }
 
-    /// Makes the folders on the way to a path that are absent. A file on the way is a fault.
+    /// Makes the absent folders above a path. A file in the place of such a folder is a fault.
     fn make_missing_folders<R: Files>(&mut self, rt: &R, path: &[u8]) -> Result<(), HostFault> {
         if self.knows_folders(path)? {
             return Ok(());
         }
         for (i, byte) in path.iter().enumerate() {
             if *byte == b'/' {
-                self.make(rt, &path[..i])?;
+                self.make_if_absent(rt, &path[..i])?;
             }
         }
         Ok(())
     }
 
-    /// Remembers that there is a folder at a path.
+    /// Remembers that there is a folder at a path, so that the host is not asked for it again.
     pub fn keep_known(&mut self, folder: &[u8]) -> Result<(), HostFault> {
         keep(self.alloc, &mut self.known, folder)
     }
 
-    /// Notes a folder whose names will change. It is noted before they do, so that none is
-    /// forgotten.
+    /// Notes a folder in which names will change: the next sync of the names syncs it. It is noted
+    /// before its names change, so that no change is left unsynced.
     pub fn note(&mut self, folder: &[u8]) -> Result<(), HostFault> {
         if self.changed.contains(folder) {
             return Ok(());
@@ -114,8 +118,8 @@ impl Folders {
         keep(self.alloc, &mut self.changed, folder)
     }
 
-    /// Notes each existing folder on the way to a path, and the root, once per run: an earlier run
-    /// may have changed their names and not synced them.
+    /// Notes the root and each existing folder above a path for the next sync of the names, once
+    /// per run: an earlier run may have changed names in them and not synced them.
     pub fn note_way<R: Files>(&mut self, rt: &R, path: &[u8]) -> Result<(), HostFault> {
         let around = parent_of(path);
         if self.ways.contains(around) {
@@ -139,14 +143,14 @@ impl Folders {
         self.make_missing_folders(rt, path)?;
         let found = look_at(rt, self.alloc, path)?;
         if found.is_folder() {
-            self.clear(rt, path)?;
+            self.remove_folders_at(rt, path)?;
         }
         Ok(found)
     }
 
-    /// Removes folders without files that are in the place of a new file. A file or anything else
-    /// below them is a fault, and then nothing changes.
-    fn clear<R: Host>(&mut self, rt: &R, path: &[u8]) -> Result<(), HostFault> {
+    /// Removes the folder at the path of a new file, and the folders below it. If there is anything
+    /// but folders below it, this is a fault, and nothing is removed.
+    fn remove_folders_at<R: Host>(&mut self, rt: &R, path: &[u8]) -> Result<(), HostFault> {
         let folders = empty_tree(rt, self.alloc, path)?;
         for folder in folders.iter().rev() {
             self.remove_empty(rt, folder)?;
@@ -154,7 +158,7 @@ impl Folders {
         Ok(())
     }
 
-    /// Removes an empty folder.
+    /// Removes an empty folder, and notes its parent for the next sync of the names.
     fn remove_empty<R: Files>(&mut self, rt: &R, folder: &[u8]) -> Result<(), HostFault> {
         self.note(parent_of(folder))?;
         fs::remove_dir(rt, path_text(folder)?)?;
@@ -162,17 +166,18 @@ impl Folders {
         Ok(())
     }
 
-    /// Removes the folders whose last file was removed, the deepest first, and never the root.
+    /// Removes the empty folders above a path whose file was removed, the deepest first, and never
+    /// the root. It ends at the first folder that is not empty.
     pub fn prune<R: Files>(&mut self, rt: &R, path: &[u8]) -> Result<(), HostFault> {
         for i in (0..path.len()).rev() {
-            if path[i] == b'/' && !self.take_away(rt, &path[..i])? {
+            if path[i] == b'/' && !self.remove_if_empty(rt, &path[..i])? {
                 break;
             }
         }
         Ok(())
     }
 
-    /// Syncs each folder, once, whose names changed.
+    /// Syncs each folder that was noted since the last sync.
     pub fn write_through<R: Files>(&mut self, rt: &R) -> Result<(), HostFault> {
         for folder in &self.changed {
             write_folder(rt, folder)?;
@@ -181,7 +186,8 @@ impl Folders {
         Ok(())
     }
 
-    /// Whether the folder of a path is known, which is then the last one.
+    /// Whether the folder of a path is known. If it is, it is remembered as the folder of the
+    /// previous path.
     fn knows_folders(&mut self, path: &[u8]) -> Result<bool, HostFault> {
         let folder = parent_of(path);
         if self.last.is(folder) {
@@ -194,7 +200,7 @@ impl Folders {
         Ok(true)
     }
 
-    /// Whether there is a folder at a path.
+    /// Whether there is a folder at a path. A folder that is found is then known.
     fn has<R: Files>(&mut self, rt: &R, path: &[u8]) -> Result<bool, HostFault> {
         if self.known.contains(path) {
             return Ok(true);
@@ -206,8 +212,8 @@ impl Folders {
         Ok(true)
     }
 
-    /// Makes an absent folder, and notes the folder that gets its name.
-    fn make<R: Files>(&mut self, rt: &R, folder: &[u8]) -> Result<(), HostFault> {
+    /// Makes a folder if it is absent, and notes its parent for the next sync of the names.
+    fn make_if_absent<R: Files>(&mut self, rt: &R, folder: &[u8]) -> Result<(), HostFault> {
         if self.known.contains(folder) {
             return Ok(());
         }
@@ -224,8 +230,8 @@ impl Folders {
         self.keep_known(folder)
     }
 
-    /// Removes a folder if it is empty. Returns whether it is removed.
-    fn take_away<R: Files>(&mut self, rt: &R, folder: &[u8]) -> Result<bool, HostFault> {
+    /// Removes a folder if it is empty. Returns whether it is absent afterwards.
+    fn remove_if_empty<R: Files>(&mut self, rt: &R, folder: &[u8]) -> Result<bool, HostFault> {
         let around = parent_of(folder);
         let was_noted = self.changed.contains(around);
         self.note(around)?;
@@ -235,16 +241,17 @@ impl Folders {
                 return Ok(true);
             }
             Err(e) if is_absent(e.kind()) => true,
-            Err(e) if stays(e.kind()) => false,
+            Err(e) if keeps_folder(e.kind()) => false,
             Err(e) => return Err(e.into()),
         };
+        // No name in the parent changed, so that it is noted only if it was noted before.
         if !was_noted {
             self.changed.remove(around);
         }
         Ok(is_gone)
     }
 
-    /// Forgets a removed folder: it is neither known nor to be synced.
+    /// Forgets a removed folder: it is no longer known, and no longer noted for the next sync.
     fn forget(&mut self, folder: &[u8]) {
         self.known.remove(folder);
         self.changed.remove(folder);
@@ -254,12 +261,12 @@ impl Folders {
     }
 }
 
-/// What is at a path itself, found by the plain path; a symbolic link is a fault.
+/// What is at a path, for which the host is given the path itself. A symbolic link is a fault.
 pub fn look_at<R: Files>(rt: &R, alloc: Global, path: &[u8]) -> Result<Found, HostFault> {
     look(rt, alloc, path, path_text(path)?)
 }
 
-/// Adds a folder to a set. Without memory the set is unchanged.
+/// Adds a folder to a set. If out of memory, the set is unchanged.
 pub fn keep(
     alloc: Global,
     folders: &mut BTreeSet<Vec<u8>>,
@@ -271,12 +278,13 @@ pub fn keep(
     }
 }
 
-/// The folders of a tree of folders without files and anything else, each after its parent.
+/// The folder `root` and all folders below it, each after its parent. Anything below it that is no
+/// folder is a fault.
 fn empty_tree<R: Host>(rt: &R, alloc: Global, root: &[u8]) -> Result<Vec<Vec<u8>>, HostFault> {
     let mut folders = Vec::new(alloc);
     push(alloc, &mut folders, root)?;
-    // The list grows while it is walked over: each folder adds those in it. The bound shows the
-    // checker that this ends.
+    // The list grows during this loop: each folder adds the folders in it. The bound shows the
+    // checker that the loop ends.
     for next in 0..usize::MAX {
         if next >= folders.len() {
             break;
@@ -287,16 +295,17 @@ fn empty_tree<R: Host>(rt: &R, alloc: Global, root: &[u8]) -> Result<Vec<Vec<u8>
     Ok(folders)
 }
 
-/// What a folder may have in it.
+/// What a folder may contain without a fault.
 #[derive(Clone, Copy)]
 pub enum Contents {
-    /// Folders.
+    /// Folders alone.
     Folders,
     /// Folders and regular files.
     FoldersAndFiles,
 }
 
-/// Adds the folders in a folder. Anything in it that it may not have is a fault.
+/// Adds the paths of the folders in a folder to `folders`. Anything in it that `contents` does not
+/// allow is a fault.
 pub fn push_folders<R: Host>(
     rt: &R,
     alloc: Global,
@@ -317,7 +326,8 @@ pub fn push_folders<R: Host>(
     Ok(())
 }
 
-/// Adds the folder at a path. If there is none, this is a fault, unless a file may be there.
+/// Adds a path to `folders` if there is a folder at it. Otherwise this is a fault, unless
+/// `contents` allows files.
 fn push_folder<R: Files>(
     rt: &R,
     alloc: Global,
@@ -334,7 +344,7 @@ fn push_folder<R: Files>(
     }
 }
 
-/// Appends a path.
+/// Appends a copy of a path to a list.
 pub fn push(alloc: Global, list: &mut Vec<Vec<u8>>, path: &[u8]) -> Result<(), HostFault> {
     match list.push(Vec::from_slice(alloc, path)?) {
         Ok(()) => Ok(()),
@@ -342,20 +352,22 @@ pub fn push(alloc: Global, list: &mut Vec<Vec<u8>>, path: &[u8]) -> Result<(), H
     }
 }
 
-/// Writes the names in a folder through to the disk.
+/// Syncs a folder, so that the names in it survive a crash. The root is the empty path.
 fn write_folder<R: Files>(rt: &R, folder: &[u8]) -> Result<(), HostFault> {
     let path: &[u8] = if folder.is_empty() { b"." } else { folder };
     Ok(fs::open(rt, path_text(path)?)?.sync_all()?)
 }
 
-/// Whether an error says that there is no such folder: a run that was killed may have removed it.
+/// Whether an error of removing a folder says that there is no such folder: a run that was killed
+/// may have removed it.
 fn is_absent(kind: ErrorKind) -> bool {
     matches!(kind, ErrorKind::NotFound | ErrorKind::NotADirectory)
 }
 
-/// Whether an error says that a folder is not empty, that it is a mount point, or that its parent
-/// may not be written, which the host may say before it tests whether the folder is empty.
-fn stays(kind: ErrorKind) -> bool {
+/// Whether an error of removing a folder says that it is not empty, that it is a mount point, or
+/// that its parent may not be written. The host may report the latter before it tests whether it is
+/// empty.
+fn keeps_folder(kind: ErrorKind) -> bool {
     matches!(
         kind,
         ErrorKind::DirectoryNotEmpty

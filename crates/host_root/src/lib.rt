@@ -1,6 +1,6 @@
-//! The folder that a program runs in, with what each call of a tree does on the host: the files
-//! that stay open, the folders on the way to a file, those whose names changed, and what the host
-//! would refuse later.
+//! What each call of a tree does on the host, in the folder that a program runs in: `root` has the
+//! calls, `folders` the folders above a file and those that must be synced, and `targets` tests
+//! what the host will allow later.
 //!
 //! This crate is trusted: no contract can say what a host does. Read it with `host_tree`, which
 //! uses it, against the table in `docs/crash-safety.md`, "What the host's tree does".

@@ -1,6 +1,7 @@
-//! The root: the folder that the program runs in, with the files that stay open between calls. The
-//! rules are in `docs/crash-safety.md`, "What the host's tree does": the rows of its table, and
-//! what follows the table.
+//! The root, which is the folder that the program runs in: what each call of a tree does on the
+//! host. The last files that were read and written stay open between calls. The rules are in
+//! `docs/crash-safety.md`, "What the host's tree does": the rows of its table, and what follows the
+//! table.
 
 use super::folders::Folders;
 use super::targets::{Targets, check_remove};
@@ -12,11 +13,11 @@ use std::alloc::Global;
 use std::fs;
 use std::fs::OpenOptions;
 
-/// The path of the journal's entry while a change that was committed is not done
+/// The path of the journal entry, which is there while a committed change is not done
 /// (`docs/crash-safety.md`, "A change of several files").
 const INTENT: &[u8] = b"lib/apk/intent";
 
-/// How the name ends under which a new file is laid beside one that the user changed
+/// The end of the name under which a new file is written beside a file that the user modified
 /// (`docs/commands.md`, "What a change does with files").
 const ASIDE_ENDING: &[u8] = b".apk-new";
 
@@ -24,8 +25,9 @@ const ASIDE_ENDING: &[u8] = b".apk-new";
 /// this program that writes there.
 #[derive(Drop)]
 pub struct Root<'a, R: Host> {
-    // The runtime that the host is asked by.
+    // The runtime, through which the host is called.
     rt: &'a R,
+    // Where memory is taken.
     alloc: Global,
     // Which lock the first call takes: shared, or for this run alone.
     lock: Lock,
@@ -35,19 +37,20 @@ pub struct Root<'a, R: Host> {
     reader: Option<Opened>,
     // The file that is being written.
     writer: Option<Opened>,
-    // The file that was found last, unless something was written since.
+    // The path of the regular file that was found last, with its metadata, unless something was
+    // written since.
     seen: Option<(Vec<u8>, LookedAt)>,
-    // The known folders below the root.
+    // The folders below the root that this run has found, made or changed.
     folders: Folders,
-    // The names to which files can be renamed, as far as this run has asked.
+    // The folders to which the host lets files be renamed, as far as this run has tested them.
     targets: Targets,
-    // Whether this run finishes what an earlier one committed.
+    // Whether this run has found a journal entry (`INTENT`), and has not removed it yet.
     recovers: bool,
-    // Whether the host once failed to sync something, or to cut off the beginning of a piece. The
-    // host may have dropped what it could not write, and a second sync would then succeed without
-    // writing it: so no later sync is trusted.
+    // Whether the host once failed to sync, or to cut off a piece that it had written in part. The
+    // host may have dropped what it could not write. A later sync would then succeed without
+    // writing it, so every later sync is an error.
     has_lost: bool,
-    // The target of a rename that is not written through yet.
+    // The target of the last rename, if it is not synced yet.
     maybe_renamed_name: Option<Vec<u8>>,
 }
 
@@ -70,8 +73,8 @@ impl<'a, R: Host> Root<'a, R> {
         }
     }
 
-    /// The name that may have its new file although the run failed: it was renamed, and that was
-    /// not written through.
+    /// The name that may lead to its new file although the run failed: a file was renamed to it,
+    /// and the names were not synced since.
     pub fn maybe_renamed_name(&self) -> Option<&[u8]> {
         match &self.maybe_renamed_name {
             Some(name) => Some(name),
@@ -79,8 +82,8 @@ impl<'a, R: Host> Root<'a, R> {
         }
     }
 
-    /// Whether a change is committed and not done yet: the next command finishes it. A run without
-    /// the lock does not know, since another run may be doing the change.
+    /// Whether there is a journal entry: a change is committed and not done yet, and the next
+    /// command finishes it. False without the lock, since another run may be doing the change.
     pub fn has_unfinished_change(&self) -> bool {
         match path_text(INTENT) {
             Ok(path) => self.held.is_some() && fs::symlink_metadata(self.rt, path).is_ok(),
@@ -93,8 +96,8 @@ impl<'a, R: Host> Root<'a, R> {
         self.recovers
     }
 
-    /// Notes the folders on the way to a path, which the next sync of the names syncs even if this
-    /// run changes no name in them.
+    /// Notes the folders above a path: the next sync of the names syncs them even if this run
+    /// changes no name in them.
     pub fn note_way(&mut self, path: &[u8]) -> Result<(), HostFault> {
         self.take_lock()?;
         self.folders.note_way(self.rt, path)
@@ -108,17 +111,17 @@ impl<'a, R: Host> Root<'a, R> {
         self.held = None;
     }
 
-    /// The runtime that the host is asked by.
+    /// The runtime, through which the host is called.
     pub fn runtime(&self) -> &'a R {
         self.rt
     }
 
-    /// What a path leads to, in a root whose lock is held.
+    /// What is at a path. The lock has to be held.
     pub fn find(&mut self, path: &[u8]) -> Result<Found, HostFault> {
         self.folders.find(self.rt, path)
     }
 
-    /// Remembers that there is a folder at a path.
+    /// Remembers that there is a folder at a path, so that the host is not asked for it again.
     pub fn keep_known(&mut self, folder: &[u8]) -> Result<(), HostFault> {
         self.folders.keep_known(folder)
     }
@@ -131,7 +134,8 @@ impl<'a, R: Host> Root<'a, R> {
         Ok(())
     }
 
-    /// Takes the lock for a call that writes, or that asks whether it can be written.
+    /// Takes the lock for a call that writes, or that tests whether the host allows a write. It is
+    /// a fault if the lock does not keep out other runs that write.
     fn take_lock_to_write(&mut self) -> Result<(), HostFault> {
         self.take_lock()?;
         match &self.held {
@@ -145,6 +149,7 @@ impl<'a, R: Host> Root<'a, R> {
         self.take_lock()?;
         match self.folders.find(self.rt, path)? {
             Found::File(looked_at) => {
+                // A journal entry was found, whose change is to be finished.
                 self.recovers |= path == INTENT;
                 self.seen = Some((Vec::from_slice(self.alloc, path)?, looked_at));
                 Ok(Some(looked_at.len))
@@ -153,7 +158,8 @@ impl<'a, R: Host> Root<'a, R> {
         }
     }
 
-    /// The regular file at a path, as it was found just before, or as it is now.
+    /// The metadata of the regular file at a path: as found by the last call of `length_of`, if
+    /// that was for this path and nothing was written since, or as it is now.
     fn look_at(&mut self, path: &[u8]) -> Result<LookedAt, HostFault> {
         if let Some((seen, looked_at)) = &self.seen
             && seen.as_slice() == path
@@ -187,8 +193,8 @@ impl<'a, R: Host> Root<'a, R> {
         Ok(())
     }
 
-    /// Makes an empty file at a path, which stays open, with the folders on the way to it. Folders
-    /// without files are removed; anything else there is kept, and is a fault.
+    /// Makes an empty file at a path, which stays open, and the folders above it. Folders at the
+    /// path are removed if there are only folders below them. Anything else at the path is a fault.
     pub fn begin(&mut self, path: &[u8]) -> Result<(), HostFault> {
         self.take_lock_to_write()?;
         self.seen = None;
@@ -237,7 +243,7 @@ impl<'a, R: Host> Root<'a, R> {
         added
     }
 
-    /// Lets the host write the file at a path through, and closes it.
+    /// Syncs the file at a path, and closes it.
     pub fn write_file_through(&mut self, path: &[u8]) -> Result<(), HostFault> {
         let written = self.open_to_write(path)?.write_through();
         self.has_lost = written.is_err();
@@ -245,8 +251,8 @@ impl<'a, R: Host> Root<'a, R> {
         written
     }
 
-    /// Renames the file of `from` to `to`, in one step of the host. Folders without files at `to`
-    /// are removed. The file first gets mode and owner of the one that it replaces.
+    /// Renames the file at `from` to `to`, in one call of the host. Folders without files at `to`
+    /// are removed first. The file first gets the mode and the owner of the file that it replaces.
     pub fn move_file(&mut self, from: &[u8], to: &[u8]) -> Result<(), HostFault> {
         self.take_lock_to_write()?;
         if from == to {
@@ -257,6 +263,7 @@ impl<'a, R: Host> Root<'a, R> {
         self.forget(to);
         let replaced = self.folders.make_room(self.rt, to)?;
         self.keep_rights(from, moved, to, replaced)?;
+        // Names change in both folders, so both are noted for the next sync.
         self.folders.note(parent_of(from))?;
         self.folders.note(parent_of(to))?;
         let target = Vec::from_slice(self.alloc, to)?;
@@ -265,9 +272,9 @@ impl<'a, R: Host> Root<'a, R> {
         Ok(())
     }
 
-    /// Gives a file that is to be renamed mode and owner of the file that it replaces, or beside
-    /// which it is written. Equal ones were synced with the file's bytes, unless a run that was
-    /// killed has set them.
+    /// Gives the file at `from` the mode and the owner of the file `replaced`, or of `PATH` if `to`
+    /// is `PATH.apk-new`. If they are equal already, they were synced with the file's bytes, unless
+    /// an earlier run that was killed has set them.
     fn keep_rights(
         &mut self,
         from: &[u8],
@@ -290,8 +297,8 @@ impl<'a, R: Host> Root<'a, R> {
         kept
     }
 
-    /// Asks whether a file can be renamed to a path later, from a source, or whether the path can
-    /// be removed later, if there is no source.
+    /// Returns Ok if the host will let a file be renamed from the path `source` to `path` later,
+    /// or, without a `source`, if it will let the file at `path` be removed.
     pub fn check_target(&mut self, path: &[u8], source: Option<&[u8]>) -> Result<(), HostFault> {
         self.take_lock_to_write()?;
         match source {
@@ -302,9 +309,9 @@ impl<'a, R: Host> Root<'a, R> {
         }
     }
 
-    /// Removes the file at a path, if there is one, and the folders that then have no file. In a
-    /// recovery these folders are removed even if the file is gone already: the run that was killed
-    /// may not have removed them.
+    /// Removes the file at a path, if there is one, and then each empty folder above it. If this
+    /// run recovers, these folders are removed even if there is no file: an earlier run that was
+    /// killed may have removed the file and not the folders.
     pub fn remove_file_at(&mut self, path: &[u8]) -> Result<(), HostFault> {
         self.take_lock_to_write()?;
         if self.length_of(path)?.is_none() {
@@ -316,11 +323,12 @@ impl<'a, R: Host> Root<'a, R> {
         self.forget(path);
         self.folders.note(parent_of(path))?;
         fs::remove_file(self.rt, path_text(path)?)?;
+        // Removing the journal entry ends a recovery.
         self.recovers &= path != INTENT;
         self.folders.prune(self.rt, path)
     }
 
-    /// Syncs the folders whose names changed.
+    /// Syncs the folders in which names changed since their last sync.
     pub fn write_names_through(&mut self) -> Result<(), HostFault> {
         self.take_lock_to_write()?;
         if self.has_lost {
@@ -334,7 +342,8 @@ impl<'a, R: Host> Root<'a, R> {
         written
     }
 
-    /// Forgets the file at a path, since the path will lead elsewhere.
+    /// Closes the file at a path, and forgets its metadata, since the path will lead to another
+    /// file.
     fn forget(&mut self, path: &[u8]) {
         self.seen = None;
         close(&mut self.reader, path);
@@ -342,7 +351,8 @@ impl<'a, R: Host> Root<'a, R> {
     }
 }
 
-/// Renames in one step of the host, by the plain paths.
+/// Renames the file at `from` to `to`, in one call of the host, which is given the paths
+/// themselves.
 fn rename_path<R: Host>(rt: &R, from: &[u8], to: &[u8]) -> Result<(), HostFault> {
     Ok(fs::rename(rt, path_text(from)?, path_text(to)?)?)
 }

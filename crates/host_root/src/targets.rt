@@ -1,4 +1,4 @@
-//! What the host would refuse later: whether a file can be renamed to a path, or be removed.
+//! Tests, before a change, whether the host will let a file be renamed to a path, or be removed.
 //! The rules are in `docs/crash-safety.md`, "What the host's tree does", the row of `check_target`.
 
 use super::folders::{Contents, Folders, keep, look_at, push, push_folders};
@@ -12,21 +12,23 @@ use std::fs::Files;
 use std::io::ErrorKind;
 use std::os::unix::fs::MetadataExt;
 
-/// The last part of the folder that is made, renamed and removed to test what the host allows.
+/// The name of the probe: an empty folder that is made, renamed and removed to test what the host
+/// allows.
 const PROBE: &[u8] = b".apk-probe";
 
-/// The folders to which a file can be renamed, as far as this run has asked.
+/// The folders to which the host lets a file be renamed, as far as this run has tested them.
 #[derive(Drop)]
 pub struct Targets {
+    // Where memory is taken.
     alloc: Global,
-    // The source folder of the files.
+    // The folder from which files were renamed in the tests so far.
     source: Vec<u8>,
-    // The folders to which the host renamed something from there.
+    // The folders whose test succeeded: the host renamed the probe between them and `source`.
     asked: BTreeSet<Vec<u8>>,
 }
 
 impl Targets {
-    /// No folder was asked for.
+    /// The state before the first test: no folder was tested.
     pub fn new(alloc: Global) -> Targets {
         Targets {
             alloc,
@@ -35,8 +37,8 @@ impl Targets {
         }
     }
 
-    /// Asks whether a file can be renamed to a path, from a source, which need not exist yet.
-    /// Absent folders are not made: the deepest existing one is tested.
+    /// Returns Ok if the host will let a file be renamed from the path `source` to `path`. Neither
+    /// need exist yet. Absent folders are not made: the deepest existing folders are tested.
     pub fn check_write<R: Host>(
         &mut self,
         rt: &R,
@@ -58,8 +60,9 @@ impl Targets {
         self.check_folder(rt, folder, source)
     }
 
-    /// Asks, once per run, whether a file can be renamed from one folder to another: a folder is
-    /// made in the one, renamed to the other, and removed there. The model does not see this.
+    /// Tests, once per run, whether the host lets a file be renamed between two folders: the probe
+    /// is made in `folder`, renamed to `source`, and removed there. Contracts do not mention the
+    /// probe.
     fn check_folder<R: Files>(
         &mut self,
         rt: &R,
@@ -76,6 +79,7 @@ impl Targets {
         let probe = below(self.alloc, folder, PROBE)?;
         let moved = below(self.alloc, source, PROBE)?;
         make_probe(rt, &probe)?;
+        // The probe is under `moved` afterwards, also if both folders are the same.
         if folder != source {
             rename_probe(rt, &probe, &moved)?;
         }
@@ -84,8 +88,8 @@ impl Targets {
     }
 }
 
-/// Whether a path is one of the program's own, or below one: the lock's folder, or the folder with
-/// which the host is tested.
+/// Whether a path is, or is below, a path that the program itself uses: the folder of the lock, or
+/// the probe.
 fn is_reserved(path: &[u8]) -> bool {
     for (i, part) in path.split(is_slash).enumerate() {
         if part == PROBE || (i == 0 && part == LOCK_FOLDER.as_bytes()) {
@@ -95,13 +99,13 @@ fn is_reserved(path: &[u8]) -> bool {
     false
 }
 
-/// Whether a byte ends a part of a path.
+/// Whether a byte is the slash between two parts of a path.
 fn is_slash(byte: &u8) -> bool {
     *byte == b'/'
 }
 
-/// Asks whether the host has names as long as the untested parts of a path, in the folder that they
-/// begin in.
+/// Tests whether the host allows names as long as these parts of a path. `parts` is what follows
+/// the existing folder `folder` in the path.
 fn check_parts<R: Files>(
     rt: &R,
     alloc: Global,
@@ -120,9 +124,9 @@ fn check_parts<R: Files>(
     Ok(())
 }
 
-/// Asks whether the host has names as long as the last part of a path, and whether a file can
+/// Tests whether the host allows a name as long as the last part of a path, and whether a file can
 /// replace what is there: a regular file that may be removed, or folders. Regular files below these
-/// are a question of the model.
+/// folders are no fault of this test.
 fn check_place<R: Host>(rt: &R, alloc: Global, path: &[u8]) -> Result<(), HostFault> {
     match look_to_write(rt, alloc, path)? {
         Found::Nothing => Ok(()),
@@ -131,7 +135,7 @@ fn check_place<R: Host>(rt: &R, alloc: Global, path: &[u8]) -> Result<(), HostFa
     }
 }
 
-/// Asks whether a file at a path can be removed, if there is one.
+/// Returns Ok if the host will let the file at a path be removed, or if there is no file.
 pub fn check_remove<R: Host>(
     rt: &R,
     alloc: Global,
@@ -147,9 +151,9 @@ pub fn check_remove<R: Host>(
     }
 }
 
-/// Asks whether the regular file at a path may be removed or replaced. The host is called to remove
-/// a folder there: it checks the rights of the file and of its folder first, and then finds that
-/// there is no folder.
+/// Tests whether the host will let the regular file at a path be removed or replaced. It is called
+/// to remove a folder at this path: it tests the rights on the file and on its folder first, and
+/// then reports that there is no folder.
 fn check_removal<R: Files>(rt: &R, path: &[u8]) -> Result<(), HostFault> {
     match fs::remove_dir(rt, path_text(path)?) {
         Ok(()) => Ok(()),
@@ -158,13 +162,14 @@ fn check_removal<R: Files>(rt: &R, path: &[u8]) -> Result<(), HostFault> {
     }
 }
 
-/// Asks whether a file can replace folders: all on one file system, that of their parent, and with
-/// nothing below them except folders and regular files.
+/// Tests whether a file can replace the folder at a path: this folder and all below it are on the
+/// file system of their parent, and contain only folders and regular files.
 fn check_folders_below<R: Host>(rt: &R, alloc: Global, path: &[u8]) -> Result<(), HostFault> {
+    // The device of the parent.
     let around = device_of(rt, parent_of(path))?;
     let mut folders = Vec::new(alloc);
     push(alloc, &mut folders, path)?;
-    // A walk ends when no folder is left; the bound shows the checker that it ends.
+    // The loop ends when no folder is left; the bound shows the checker that it ends.
     for _ in 0..u64::MAX {
         let Some(folder) = folders.pop() else {
             break;
@@ -177,13 +182,13 @@ fn check_folders_below<R: Host>(rt: &R, alloc: Global, path: &[u8]) -> Result<()
     Ok(())
 }
 
-/// The host's number of the device that a folder is on. The root is the empty path.
+/// The host's number of the device (file system) that a folder is on. The root is the empty path.
 fn device_of<R: Files>(rt: &R, folder: &[u8]) -> Result<u64, HostFault> {
     let folder: &[u8] = if folder.is_empty() { b"." } else { folder };
     Ok(fs::symlink_metadata(rt, path_text(folder)?)?.dev())
 }
 
-/// Makes the folder with which the host is tested. One that a killed run has left is removed first.
+/// Makes the probe at this path. A probe that a killed run has left is removed first.
 fn make_probe<R: Files>(rt: &R, probe: &[u8]) -> Result<(), HostFault> {
     let path = path_text(probe)?;
     match fs::create_dir(rt, path) {
@@ -196,7 +201,7 @@ fn make_probe<R: Files>(rt: &R, probe: &[u8]) -> Result<(), HostFault> {
     }
 }
 
-/// Renames the folder by which the host is asked; if that fails, it is removed.
+/// Renames the probe. If that fails, the probe is removed.
 fn rename_probe<R: Files>(rt: &R, probe: &[u8], moved: &[u8]) -> Result<(), HostFault> {
     let Err(e) = fs::rename(rt, path_text(probe)?, path_text(moved)?) else {
         return Ok(());
@@ -208,7 +213,7 @@ fn rename_probe<R: Files>(rt: &R, probe: &[u8], moved: &[u8]) -> Result<(), Host
     Err(e.into())
 }
 
-/// The path of a part in a folder. The root is the empty path.
+/// The path of the part `part` in a folder. The root is the empty path.
 fn below(alloc: Global, folder: &[u8], part: &[u8]) -> Result<Vec<u8>, HostFault> {
     let mut path = Vec::from_slice(alloc, folder)?;
     if !folder.is_empty() {

@@ -18,9 +18,9 @@ const MOST_BYTES: u128 = 1_000_000;
 /// The folder that the program runs in, and its tree.
 #[derive(Drop)]
 struct HostFolder<'a, R: Host> {
-    /// The runtime that the host is asked by.
+    /// The runtime, by which rows also call the host without the tree.
     rt: &'a R,
-    /// The tree of the folder.
+    /// The tested tree, whose root is the folder.
     tree: HostTree<'a, R>,
 }
 
@@ -33,6 +33,7 @@ impl<'a, R: Host> Subject for HostFolder<'a, R> {
         answer: &mut Vec<u8>,
     ) -> Result<(), AllocError> {
         let question = word_at(words, 0);
+        // The only question without a name.
         if question == b"sync_names".as_slice() {
             return add_outcome(answer, self.tree.sync_names());
         }
@@ -56,14 +57,14 @@ impl<'a, R: Host> Subject for HostFolder<'a, R> {
 }
 
 impl<'a, R: Host> HostFolder<'a, R> {
-    /// Makes a file of these bytes by three calls, of which the last syncs it.
+    /// Answers `write`: makes a file of these bytes by three calls, of which the last syncs it.
     fn write(&mut self, name: &Name, bytes: &[u8]) -> Result<(), Disk> {
         self.tree.create(name)?;
         self.tree.append(name, bytes)?;
         self.tree.sync(name)
     }
 
-    /// Renames a file, and adds how that ended.
+    /// Answers `rename`: renames a file, and adds whether that succeeds.
     fn add_rename(
         &mut self,
         alloc: Global,
@@ -77,8 +78,8 @@ impl<'a, R: Host> HostFolder<'a, R> {
         }
     }
 
-    /// Asks whether a file can be renamed to a name later, from a source, or whether the name can
-    /// be removed later, if the source is empty. Adds the result.
+    /// Answers `check NAME SOURCE`: adds whether the file SOURCE can be renamed to NAME later, or,
+    /// if SOURCE is empty, whether NAME can be removed later.
     fn add_check(
         &mut self,
         alloc: Global,
@@ -92,7 +93,7 @@ impl<'a, R: Host> HostFolder<'a, R> {
         }
     }
 
-    /// Adds the length of a file.
+    /// Answers `size`: adds the length of a file, or `none` if it is absent.
     fn add_size(
         &mut self,
         alloc: Global,
@@ -106,7 +107,7 @@ impl<'a, R: Host> HostFolder<'a, R> {
         }
     }
 
-    /// Adds the bytes of a file, from an offset on, as many as the row says.
+    /// Answers `read NAME AT LEN`: adds LEN bytes of a file from the offset AT on.
     fn add_read(
         &mut self,
         alloc: Global,
@@ -128,7 +129,7 @@ impl<'a, R: Host> HostFolder<'a, R> {
         }
     }
 
-    /// Adds the names of a listing.
+    /// Answers `list`: adds the names of all files below a folder.
     fn add_list(
         &mut self,
         alloc: Global,
@@ -161,15 +162,18 @@ impl<'a, R: Host> HostFolder<'a, R> {
             return answer.extend_from_slice(b"no text");
         };
         match question {
+            // Whether the path leads to something.
             b"stands" => add_yes_or_no(answer, matches!(fs::exists(self.rt, path), Ok(true))),
+            // Makes a symbolic link to the target at the path.
             b"link" => add_outcome(answer, symlink(self.rt, target, path)),
+            // Removes the file at the path.
             b"unlink" => add_outcome(answer, fs::remove_file(self.rt, path)),
             _ => answer.extend_from_slice(b"no question"),
         }
     }
 }
 
-/// Adds how a call ended: `ok` or `fault`.
+/// Adds whether a call succeeded: `ok` or `fault`.
 fn add_outcome<E: Drop>(answer: &mut Vec<u8>, outcome: Result<(), E>) -> Result<(), AllocError> {
     match outcome {
         Ok(()) => answer.extend_from_slice(b"ok"),
@@ -185,6 +189,7 @@ fn main(rt: HostRuntime) -> io::Result<ExitCode> {
         tree: HostTree::new(&rt, alloc, Lock::Exclusive),
     };
     let code = run_program(&rt, alloc, &mut folder);
+    // Releases the lock on the folder.
     folder.tree.leave();
     code
 }

@@ -1,5 +1,5 @@
--- The counts of a part of the host. The rules are in `docs/crash-safety.md`, "Misuses, faults and
--- counts".
+-- The counts of the host's tree and of the host's output streams. The rules are in `docs/crash-safety.md`, "Misuses,
+-- faults and counts".
 use Rattle.std.specs.Prelude.{ℕ, true}
 use Rattle.base_core.specs.Faults.{Counts}
 

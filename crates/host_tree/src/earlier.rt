@@ -5,11 +5,12 @@ use host_root::{Host, HostFault, Root};
 use journal_intent::{PreparedIntent, ReadFault, intent_name};
 use std::alloc::Global;
 
-/// A path in the staging area. All folders of the journal are on its way.
+/// A path in the staging area. All folders that the journal uses are above it.
 const STAGED: &[u8] = b"lib/apk/stage/0";
 
-/// Notes these folders, so that the next sync of the names covers earlier runs: the folders of the
-/// journal, and those of each name of a change that is committed and not done.
+/// Notes folders for the next sync of the names, which then also syncs what earlier runs changed:
+/// the folders above the journal, and those above each name in the journal entry of an unfinished
+/// change.
 pub(crate) fn note_earlier_changes<R: Host>(
     root: &mut Root<'_, R>,
     alloc: Global,
@@ -30,7 +31,8 @@ pub(crate) fn note_earlier_changes<R: Host>(
     Ok(())
 }
 
-/// The intent of the root, or None if its file is no intent: recovery refuses such a file.
+/// The journal entry of the root, or None if there is none, or if its file is no valid entry, which
+/// recovery refuses.
 fn read_intent<R: Host>(
     root: &mut Root<'_, R>,
     alloc: Global,

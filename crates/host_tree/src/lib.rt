@@ -1,4 +1,5 @@
-//! The folder that a program runs in, as a tree.
+//! The folder that a program runs in, as a `Tree`: each call is made on the host, and its faults
+//! are counted.
 //!
 //! This crate is trusted: no contract can say what a host does. Read it against the table in
 //! `docs/crash-safety.md`, "What the host's tree does".
@@ -24,17 +25,18 @@ use std::alloc::Global;
 /// is neither a regular file nor a folder.
 #[derive(Drop)]
 pub struct HostTree<'a, R: Host> {
-    /// The allocator.
+    /// Where memory is taken.
     alloc: Global,
-    /// The folder, with the files that stay open.
+    /// The folder that the program runs in, with the files that stay open between calls.
     root: Root<'a, R>,
     /// The number of calls that failed.
     faults: u64,
     /// The first failure, for the line after `ERROR: the tree failed`.
     failure: Option<Failure>,
-    /// Whether the folders are noted that an earlier run may have changed and not synced.
+    /// Whether those folders are noted for the next sync in which an earlier run may have changed
+    /// names without syncing them.
     has_noted_earlier_changes: bool,
-    /// Whether the last list with names omitted an execute permission or an empty folder.
+    /// Whether the last list with names left out that a file is executable or a folder is empty.
     has_omitted: bool,
 }
 
@@ -42,6 +44,7 @@ impl<'a, R: Host> HostTree<'a, R> {
     /// The tree of the folder that the program runs in. The host is called at the first call on a
     /// file, and then takes this lock.
     pub fn new(rt: &'a R, alloc: Global, lock: Lock) -> HostTree<'a, R>
+        // No fault is counted yet.
         ensures { result.faults ≡ 0 }
     {
         HostTree {
@@ -59,8 +62,8 @@ impl<'a, R: Host> HostTree<'a, R> {
         self.failure.as_ref()
     }
 
-    /// The name that may have its new file although the run failed: it was renamed, and that was
-    /// not synced.
+    /// The name that may lead to its new file although the run failed: a file was renamed to it,
+    /// and the names were not synced since.
     pub fn maybe_renamed_name(&self) -> Option<&[u8]> {
         self.root.maybe_renamed_name()
     }
@@ -70,9 +73,10 @@ impl<'a, R: Host> HostTree<'a, R> {
         self.root.has_unfinished_change()
     }
 
-    /// Whether a list since the last such call had names, and omitted that a file is executable or
-    /// that a folder is empty (`docs/commands.md`, "Warnings").
+    /// Whether the last list with names since the last call of this function left out that a file
+    /// is executable or that a folder is empty (`docs/commands.md`, "Warnings").
     pub fn take_omitted(&mut self) -> bool
+        // No fault is counted.
         ensures faults { self.new.faults ≡ self.old.faults }
     {
         let taken = self.has_omitted;
@@ -82,14 +86,16 @@ impl<'a, R: Host> HostTree<'a, R> {
 
     /// Releases the lock on the root. No call follows this one.
     pub fn leave(&mut self)
+        // No fault is counted.
         ensures faults { self.new.faults ≡ self.old.faults }
     {
         self.root.leave();
     }
 
-    /// Syncs the folders whose names changed. The first time, these are also the folders that an
-    /// earlier run may have changed and not synced.
+    /// Syncs the folders in which names changed. The first call also syncs the folders in which an
+    /// earlier run may have changed names without syncing them.
     fn write_names_through(&mut self) -> Result<(), HostFault>
+        // No fault is counted.
         ensures faults { self.new.faults ≡ self.old.faults }
     {
         if !self.has_noted_earlier_changes {
@@ -108,7 +114,9 @@ impl<'a, R: Host> HostTree<'a, R> {
         target: &[u8],
         fault: HostFault,
     ) -> Disk
+        // One more fault is counted, up to 2^64 - 1.
         ensures faults { self.new.faults ≡ saturating_increment self.old.faults }
+        // The count of faults does not fall.
         ensures later { self.old.faults ≤ self.new.faults }
     {
         if self.failure.is_none() {
@@ -118,16 +126,18 @@ impl<'a, R: Host> HostTree<'a, R> {
         Disk
     }
 
-    /// The result of a call on a name, with its fault counted. Out of memory is a fault too.
+    /// The result of a call on a name. An error is counted as a fault, also if it is out of memory.
     fn note_answer<T>(
         &mut self,
         call: &'static str,
         name: &Name,
         answer: Result<T, HostFault>,
     ) -> Result<T, Disk>
+        // On success no fault is counted.
         ensures ok { OnOk result (self.new.faults ≡ self.old.faults) }
+        // An error is counted as one fault.
         ensures err { OnErr result (self.new.faults ≡ saturating_increment self.old.faults) }
-        // No count falls.
+        // The count of faults does not fall.
         ensures later { self.old.faults ≤ self.new.faults }
     {
         match answer {
@@ -147,10 +157,10 @@ impl<'a, R: Host> Tree for HostTree<'a, R> {
     // The counts are those of a host's tree with this many faults.
     ghost counts = { λ tree. host_counts tree.faults };
 
-    // Each state of the history is whole, as there is none.
+    // The proof that each state of the history is well formed: the history has no state.
     ghost whole = { λ tree. All-nil IsWellFormed };
 
-    // Nobody else knows what the host answered.
+    // No statement is made about which files the host accepts under which names.
     ghost accepts = { λ source name. Unit {0} };
 
     // The number of bytes of the file under a name, or None if there is none.
@@ -199,7 +209,7 @@ impl<'a, R: Host> Tree for HostTree<'a, R> {
         self.note_answer("remove", name, answer)
     }
 
-    // Syncs the folders whose names changed.
+    // Syncs the folders in which names changed.
     fn sync_names(&mut self) -> Result<(), Disk> {
         match self.write_names_through() {
             Ok(()) => Ok(()),
@@ -207,8 +217,8 @@ impl<'a, R: Host> Tree for HostTree<'a, R> {
         }
     }
 
-    // The files below a folder, by their names; running out of memory for the result is no fault of
-    // the tree.
+    // The names of all files below a folder. If there is no memory for the result, this is no fault
+    // of the tree.
     fn list(&mut self, alloc: Global, folder: &Name) -> Result<Names, TreeFault> {
         let mut has_omitted = false;
         match list_below(&mut self.root, alloc, folder, &mut has_omitted) {
@@ -224,7 +234,8 @@ impl<'a, R: Host> Tree for HostTree<'a, R> {
         }
     }
 
-    // Asks whether the host lets a file be renamed to the name later, or lets the name be removed.
+    // Returns Ok if the host will let the file of `source` be renamed to the name later, or,
+    // without a `source`, if it will let the name be removed.
     fn check_target(&mut self, name: &Name, source: Option<&Name>) -> Result<(), Disk> {
         let source = source.map(|source| source.as_bytes());
         let answer = self.root.check_target(name.as_bytes(), source);

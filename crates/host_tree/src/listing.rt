@@ -1,27 +1,27 @@
-//! The files below a folder. The rule is in `docs/crash-safety.md`,
-//! "What the host's tree does", the row of `list`.
+//! Lists the files below a folder, for the call `list` of the tree. The rule is in
+//! `docs/crash-safety.md`, "What the host's tree does", the row of `list`.
 ghost use Rattle.std.specs.Prelude.{◌≡◌, ◌↔◌, ◌-◌, [], ◌∷◌, ◌++◌, ℕ, List, All, Contains, IfOk, IsTrue, OnErr, OnOk, Some, length, slice_get};
 ghost use Rattle.std.specs.Cmp.Lexicographic.{slice_cmp};
 ghost use Rattle.std.specs.List.Sorted.{IsSorted};
 ghost use Rattle.std.specs.Ordering.{nat_cmp};
 ghost use Rattle.base_core.specs.Files.{IsFolderOf};
-ghost use Rattle.base_core.specs.Listed.{AreNamesBelow, AreSortedDistinctNames};
+ghost use Rattle.base_core.specs.Listed.{AreSortedNamesBelowFolder, AreSortedDistinctNames};
 
 use base_core::{Name, Names, is_folder_of};
 use host_root::{Found, Host, HostFault, Reason, Root, path_text};
 use std::alloc::{AllocError, Global};
 use std::fs;
 
-/// The names of all regular files below a folder, at any depth, in byte order, each once. They omit
-/// which files are executable and which folders are empty: `has_omitted` is set if there is such a
-/// file or folder.
+/// The names of all regular files below a folder, at any depth, in byte order, each once. Names do
+/// not show which files are executable and which folders are empty, so `has_omitted` is set if
+/// there is such a file or folder.
 pub fn list_below<R: Host>(
     root: &mut Root<'_, R>,
     alloc: Global,
     folder: &Name,
     has_omitted: &mut bool,
 ) -> Result<Names, HostFault>
-    ensures { IfOk result (AreNamesBelow folder.now) }
+    ensures { IfOk result (AreSortedNamesBelowFolder folder.now) }
 {
     root.take_lock()?;
     let mut walk = Walk {
@@ -32,7 +32,7 @@ pub fn list_below<R: Host>(
     if root.find(folder.as_bytes())?.is_folder() {
         keep(&mut walk.folders, folder.copy(alloc)?)?;
     }
-    // A walk ends when no folder is left; a bound shows the checker that it ends.
+    // The loop ends when no folder is left; the bound shows the checker that the loop ends.
     for _ in 0..u64::MAX {
         let Some(next) = walk.folders.pop() else {
             break;
@@ -46,6 +46,7 @@ pub fn list_below<R: Host>(
 /// The folders that are still to be visited, and the files that were found.
 #[derive(Drop)]
 struct Walk {
+    /// Where memory is taken.
     alloc: Global,
     /// The folders that are still to be visited.
     folders: Vec<Name>,
@@ -54,7 +55,8 @@ struct Walk {
 }
 
 impl Walk {
-    /// Finds what is in a folder, which is the top one or below it.
+    /// Adds the files and folders in `folder`, which is the folder `top` of the list or below it.
+    /// Sets `has_omitted` if it is empty, or has an executable file.
     fn visit<R: Host>(
         &mut self,
         root: &mut Root<'_, R>,
@@ -62,7 +64,9 @@ impl Walk {
         folder: &Name,
         has_omitted: &mut bool,
     ) -> Result<(), HostFault>
+        // All files that were found so far are below the top folder.
         requires { All (IsFolderOf top.now) self.old.files.items }
+        // All files that were found are below the top folder.
         ensures { All (IsFolderOf top.now) self.new.files.items }
     {
         let mut is_empty = true;
@@ -77,8 +81,8 @@ impl Walk {
         Ok(())
     }
 
-    /// Adds what is at a path. A path that is no name is a fault, so the walk is at most as deep as
-    /// a name; so is a path that is not below the top folder.
+    /// Adds the file or folder at a path. A path that is no name of a file is a fault, which limits
+    /// the depth; so is a path that is not below the top folder.
     fn meet<R: Host>(
         &mut self,
         root: &mut Root<'_, R>,
@@ -86,7 +90,9 @@ impl Walk {
         path: &[u8],
         has_omitted: &mut bool,
     ) -> Result<(), HostFault>
+        // All files that were found so far are below the top folder.
         requires { All (IsFolderOf top.now) self.old.files.items }
+        // All files that were found are below the top folder.
         ensures { All (IsFolderOf top.now) self.new.files.items }
     {
         let Some(name) = Name::read(self.alloc, path)? else {
@@ -107,23 +113,28 @@ impl Walk {
         }
     }
 
-    /// The files that were found, in byte order, each once: a host that changes under a walk may
-    /// show one twice.
+    /// The names of the files that were found, in byte order, each once: a folder that changes
+    /// while it is read may show a file twice.
     fn into_names(mut self) -> Result<Names, AllocError>
+        // If all found files are below a folder, the result has only names below this folder.
         ensures { (root : List ℕ) → All (IsFolderOf root) self.files.items
-            → IfOk result (AreNamesBelow root) }
+            → IfOk result (AreSortedNamesBelowFolder root) }
     {
         self.files.sort_by(|a, b| a.as_bytes().cmp(b.as_bytes()))?;
         let names = each_once(self.alloc, self.files)?;
+        // A law for the proof, which computes nothing: each element of `names` is a name.
         names.are_names();
         Ok(names)
     }
 }
 
-/// Names in byte order, each once: of adjacent equal ones one is left.
+/// The names of a sorted list, each once: of equal names, which are adjacent, one is left.
 fn each_once(alloc: Global, sorted: Vec<Name>) -> Result<Names, AllocError>
+    // The list is sorted in byte order.
     requires { IsSorted (slice_cmp nat_cmp) sorted.items }
+    // The result is in byte order, each name once.
     ensures rising { IfOk result AreSortedDistinctNames }
+    // Each name of the result is one of the list.
     ensures each { IfOk result (All (Contains sorted.items)) }
 {
     let mut names = Names::new(alloc);
@@ -146,9 +157,11 @@ fn is_last(names: &Names, name: &Name) -> bool
     names.get(names.len() - 1).as_bytes() == name.as_bytes()
 }
 
-/// Appends a name; without memory the list is unchanged.
+/// Appends a name to a list. If out of memory, the list is unchanged.
 fn keep(list: &mut Vec<Name>, name: Name) -> Result<(), AllocError>
+    // On success the name is added at the end.
     ensures ok { OnOk result (list.new.items ≡ list.old.items ++ name ∷ []) }
+    // An error leaves the list as it was.
     ensures err { OnErr result (list.new.items ≡ list.old.items) }
 {
     list.push(name)?;

@@ -7,22 +7,22 @@ use Rattle.command_core.specs.declared.operands.Operand.{Operand}
 use Rattle.report_core.specs.declared.refusal.Refusal.{Refusal}
 use Rattle.report_core.specs.declared.refusal.Refusal.TheVariants.{NotInstalled}
 use Rattle.installed_info.specs.Info.{info_refusal}
-use Rattle.installed_info.specs.Packages.{package_meant_by}
+use Rattle.installed_info.specs.Packages.{package_meant_by_operand_text}
 use Rattle.installed_info.specs.declared.telling.Form.{Form}
 use Rattle.installed_info.proofs.LineSteps.{left_at}
 
 module _ (form : Form) (packages : List Plain) (operands : List Operand) (i : ℕ) (o : Operand) (at : slice_get operands i ≡ Some o) where
-  pub refusal_here : (t : Bool) → t ≡ is_some (package_meant_by form packages o.text)
+  pub refusal_here : (t : Bool) → t ≡ is_some (package_meant_by_operand_text form packages o.text)
       → info_refusal form packages (drop i operands) ≡ (if t then info_refusal form packages (drop (i + 1) operands) else Some (NotInstalled o.place))
   refusal_here t is =
       ap (info_refusal form packages) (left_at operands i o at)
       ∙ ap (λ b. if b then info_refusal form packages (drop (i + 1) operands) else Some (NotInstalled o.place)) (sym is)
 
-  pub refused : (t : Bool) → t ≡ is_some (package_meant_by form packages o.text) → t ≡ false → info_refusal form packages (drop i operands) ≡ Some (NotInstalled o.place)
+  pub refused : (t : Bool) → t ≡ is_some (package_meant_by_operand_text form packages o.text) → t ≡ false → info_refusal form packages (drop i operands) ≡ Some (NotInstalled o.place)
   refused t is no_package =
       refusal_here t is ∙ ap (λ b. if b then info_refusal form packages (drop (i + 1) operands) else Some (NotInstalled o.place)) no_package
 
-  pub passed : (t : Bool) → t ≡ is_some (package_meant_by form packages o.text) → t ≡ true → info_refusal form packages (drop i operands) ≡ info_refusal form packages (drop (i + 1) operands)
+  pub passed : (t : Bool) → t ≡ is_some (package_meant_by_operand_text form packages o.text) → t ≡ true → info_refusal form packages (drop i operands) ≡ info_refusal form packages (drop (i + 1) operands)
   passed t is found =
       refusal_here t is ∙ ap (λ b. if b then info_refusal form packages (drop (i + 1) operands) else Some (NotInstalled o.place)) found
 

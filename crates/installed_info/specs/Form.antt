@@ -6,8 +6,8 @@ use Rattle.installed_info.specs.declared.telling.Form.{Form}
 use Rattle.installed_info.specs.declared.telling.Form.TheVariants.{Contents, Depends, Description, Installed, Owner}
 
 -- the form that flags select; without a flag that of descriptions
-abbrev pub form_of : Flags → Form
-form_of flags =
+abbrev pub info_form_of_flags : Flags → Form
+info_form_of_flags flags =
     if flags.who_owns then Owner else
     if flags.installed then Installed else
     if flags.contents then Contents else

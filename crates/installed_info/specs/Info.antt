@@ -18,8 +18,8 @@ use Rattle.candidate_core.specs.Candidates.{dependencies_in}
 use Rattle.report_core.specs.Reports.{contents_section, depends_section, description_section, owner_text, report_line, report_lines}
 use Rattle.report_core.specs.declared.refusal.Refusal.{Refusal}
 use Rattle.report_core.specs.declared.refusal.Refusal.TheVariants.{NotInstalled}
-use Rattle.installed_info.specs.Form.{form_of}
-use Rattle.installed_info.specs.Packages.{package_meant_by}
+use Rattle.installed_info.specs.Form.{info_form_of_flags}
+use Rattle.installed_info.specs.Packages.{package_meant_by_operand_text}
 use Rattle.installed_info.specs.declared.telling.ReportAndRefusal.{ReportAndRefusal}
 use Rattle.installed_info.specs.declared.telling.Form.{Form}
 use Rattle.installed_info.specs.declared.telling.Form.TheVariants.{Contents, Depends, Description, Installed, Owner}
@@ -60,7 +60,7 @@ package_info Owner path pkg = owner_line (without_slash path) pkg
 -- the report on an operand: nothing if its package is not installed
 abbrev pub operand_info : Form → List Plain → Operand → List ℕ
 operand_info form packages o =
-    option_map_or (package_info form o.text) (package_meant_by form packages o.text) []
+    option_map_or (package_info form o.text) (package_meant_by_operand_text form packages o.text) []
 
 -- the report on operands, in the order given
 abbrev pub operands_info : Form → List Plain → List Operand → List ℕ
@@ -70,14 +70,14 @@ operands_info form packages operands = flat_map (operand_info form packages) ope
 abbrev pub info_refusal : Form → List Plain → List Operand → Option Refusal
 info_refusal form packages [] = None
 info_refusal form packages (o ∷ operands) =
-    if is_some (package_meant_by form packages o.text) then info_refusal form packages operands else
+    if is_some (package_meant_by_operand_text form packages o.text) then info_refusal form packages operands else
     Some (NotInstalled o.place)
 
 -- ---- of a database
 
 -- a line with the name of each package, in byte order of the names
-abbrev pub names_info : List Plain → List ℕ
-names_info packages = report_lines (sorted_by bytes_cmp (map package_name packages))
+abbrev pub sorted_package_name_lines : List Plain → List ℕ
+sorted_package_name_lines packages = report_lines (sorted_by bytes_cmp (map package_name packages))
 
 -- ---- the result
 
@@ -100,10 +100,10 @@ abbrev pub form_info : Form → List Plain → List Operand → Result ReportAnd
 form_info Installed packages operands =
     Ok (report_and_refusal (operands_info Installed packages operands)
     (info_refusal Installed packages operands))
-form_info Description packages [] = Ok (report_and_refusal (names_info packages) None)
+form_info Description packages [] = Ok (report_and_refusal (sorted_package_name_lines packages) None)
 form_info form packages operands =
     info_unless_refused (info_refusal form packages operands) (operands_info form packages operands)
 
 -- the result of a command for some packages, or why it is refused
 unfoldable pub info_of : CommandLine → List Plain → Result ReportAndRefusal Refusal
-info_of command packages = form_info (form_of command.flags) packages command.operands
+info_of command packages = form_info (info_form_of_flags command.flags) packages command.operands

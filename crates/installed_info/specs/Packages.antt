@@ -18,6 +18,6 @@ path_owner packages path = find (lists_path path) packages
 
 -- the package that an operand means: the operand is a path, with or without one leading `/`, or the
 -- name of a package
-abbrev pub package_meant_by : Form → List Plain → List ℕ → Option Plain
-package_meant_by Owner packages path = path_owner packages (without_slash path)
-package_meant_by form packages name = package_named packages name
+abbrev pub package_meant_by_operand_text : Form → List Plain → List ℕ → Option Plain
+package_meant_by_operand_text Owner packages path = path_owner packages (without_slash path)
+package_meant_by_operand_text form packages name = package_named packages name

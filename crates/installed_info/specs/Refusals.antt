@@ -7,6 +7,6 @@ use Rattle.report_core.specs.declared.refusal.Refusal.{Refusal}
 use Rattle.report_core.specs.declared.refusal.Refusal.TheVariants.{NotInstalled}
 
 -- a refusal is that of one of the operands, whose package is not installed
-abbrev pub IsRefusalOfSomeOperand : List Operand → Refusal → Type 0
-IsRefusalOfSomeOperand operands refusal =
+abbrev pub IsNotInstalledRefusalOfOperand : List Operand → Refusal → Type 0
+IsNotInstalledRefusalOfOperand operands refusal =
     (o : Operand) × IsIn o operands × (refusal ≡ NotInstalled o.place)

@@ -3,7 +3,7 @@
 ghost use Rattle.candidate_core.specs.adb_fields.Repeated.{package_name};
 ghost use Rattle.adb_view.specs.Plain.{Plain};
 ghost use Rattle.file_owners.specs.db_core.Seen.{packages_of};
-ghost use Rattle.installed_info.specs.Info.{report_and_refusal, names_info};
+ghost use Rattle.installed_info.specs.Info.{report_and_refusal, sorted_package_name_lines};
 ghost use Rattle.base_core.specs.ByteOrder.{bytes_cmp};
 ghost use Rattle.base_core.specs.Sorted.{sorted_by};
 ghost use Rattle.report_core.specs.Reports.{report_lines};
@@ -19,7 +19,8 @@ use std::marker::PhantomData;
 
 /// The report of `info` without operands: a line for each package, in byte order of their names.
 pub(crate) fn report_names(alloc: Global, db: &Db<'_>) -> Result<ReportAndRefusal, AllocError>
-    ensures { IfOk result (λ done. done ≡ report_and_refusal (names_info (packages_of db.now))
+    ensures { IfOk result (λ done. done
+        ≡ report_and_refusal (sorted_package_name_lines (packages_of db.now))
         None) }
 {
     let mut names = names_of(alloc, db)?;

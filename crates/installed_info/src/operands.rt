@@ -3,7 +3,7 @@
 
 ghost use Rattle.file_owners.specs.db_core.Seen.{packages_of};
 ghost use Rattle.installed_info.specs.Info.{report_and_refusal, info_refusal, info_unless_refused, operands_info, package_info};
-ghost use Rattle.installed_info.specs.Packages.{package_meant_by, package_named, path_owner};
+ghost use Rattle.installed_info.specs.Packages.{package_meant_by_operand_text, package_named, path_owner};
 ghost use Rattle.report_core.specs.declared.refusal.Refusal.TheVariants.{NotInstalled};
 ghost use Rattle.std.specs.Option.{option_map_or, option_or, option_and_then};
 ghost use Rattle.std.specs.Prelude.{◌≡◌, ◌++◌, [], None, Some, if◌then◌else◌, is_some, IfOk, ◌<◌, length, slice_get, IfSome};
@@ -28,6 +28,7 @@ pub(crate) fn report_operands(
     operands: &Operands,
     db: &Db<'_>,
 ) -> Result<Result<ReportAndRefusal, Refusal>, AllocError>
+    // The refusal of the first operand that is not installed, or the lines of all operands.
     ensures { IfOk result (λ told. told ≡ info_unless_refused
         (info_refusal form (packages_of db.now) operands.now)
         (operands_info form (packages_of db.now) operands.now)) }
@@ -55,6 +56,7 @@ pub(crate) fn report_installed(
     operands: &Operands,
     db: &Db<'_>,
 ) -> Result<ReportAndRefusal, AllocError>
+    // The lines of all operands that are installed, and the refusal of the first that is not.
     ensures { IfOk result (λ done. done ≡ report_and_refusal
         (operands_info form (packages_of db.now) operands.now)
         (info_refusal form (packages_of db.now) operands.now)) }
@@ -92,10 +94,12 @@ fn push_operand(
     text: &[u8],
 ) -> Result<bool, AllocError>
     ensures found { IfOk result
-        (λ found. found ≡ is_some (package_meant_by form (packages_of db.now) text.now)) }
+        (λ found. found ≡ is_some (package_meant_by_operand_text form
+        (packages_of db.now) text.now)) }
+    // What the operand asks for is appended, if the package is installed.
     ensures told { IfOk result (λ _. report.new.items ≡ report.old.items
         ++ option_map_or (package_info form text.now)
-        (package_meant_by form (packages_of db.now) text.now) []) }
+        (package_meant_by_operand_text form (packages_of db.now) text.now) []) }
 {
     match place_asked(alloc, form, db, text)? {
         Some(place) => {
@@ -114,7 +118,7 @@ pub(crate) fn place_asked(
     text: &[u8],
 ) -> Result<Option<usize>, AllocError>
     ensures found { IfOk result (λ place. option_and_then (slice_get (packages_of db.now)) place
-        ≡ package_meant_by form (packages_of db.now) text.now) }
+        ≡ package_meant_by_operand_text form (packages_of db.now) text.now) }
     ensures within { IfOk result
         (λ place. IfSome place (λ i. i < length (packages_of db.now))) }
 {

@@ -42,7 +42,7 @@ pub(crate) fn push_package<'a>(
     push_info(alloc, report, form, &pkg, text)
 }
 
-// Adds the report of a form on a package.
+// Adds what `info` prints of a package in this form.
 fn push_info(
     alloc: Global,
     report: &mut Vec<u8>,
@@ -111,9 +111,9 @@ fn push_owner(report: &mut Vec<u8>, path: &[u8], pkg: &PackageView<'_>) -> Resul
     Ok(())
 }
 
-// Adds a line that begins with a package's name and version, `NAME-VERSION`, and ends with the
-// rest.
+// Adds the line `NAME-VERSION`, followed by the text `rest`.
 fn push_heading(report: &mut Vec<u8>, pkg: &PackageView<'_>, rest: &[u8]) -> Result<(), AllocError>
+    // The line `NAME-VERSION`, followed by `rest`, is appended.
     ensures { OnOk result (report.new.items ≡ report.old.items
         ++ report_line (name_dash_version (package_name (package_value pkg.now))
         (package_version_text (package_value pkg.now)) ++ rest.now)) }
@@ -126,7 +126,7 @@ fn push_heading(report: &mut Vec<u8>, pkg: &PackageView<'_>, rest: &[u8]) -> Res
     Ok(())
 }
 
-/// Adds the dependencies of a list, a line each. A list's entries count from 1.
+/// Adds a line for each dependency of a list. The entries of the list count from 1.
 pub(crate) fn push_dependencies<'a>(
     alloc: Global,
     report: &mut Vec<u8>,
@@ -143,6 +143,7 @@ pub(crate) fn push_dependencies<'a>(
 
 // Adds the line of an entry, unless its value breaks the rule of dependencies.
 fn push_entry(alloc: Global, report: &mut Vec<u8>, entry: &DepView<'_>) -> Result<(), AllocError>
+    // The line of this dependency is appended; none if the entry is no dependency.
     ensures { OnOk result (report.new.items ≡ report.old.items
         ++ option_map_or (λ d. report_line (dep_text d))
         (dependency_in (dependency_value entry.now)) []) }

@@ -18,6 +18,7 @@ pub(crate) fn push_paths<'a>(
     report: &mut Vec<u8>,
     folders: &List<'a, DirInfo<'a>>,
 ) -> Result<(), AllocError>
+    // A line for each file of these folders is appended.
     ensures { OnOk result (report.new.items ≡ report.old.items
         ++ report_lines (flat_map paths_of_folder_files (list_of (entries_in
         (list_value folders.now))))) }
@@ -51,6 +52,7 @@ fn push_files<'a>(
     folder: &[u8],
     files: &List<'a, FileInfo<'a>>,
 ) -> Result<(), AllocError>
+    // A line for each of these files of the folder is appended.
     ensures { OnOk result (report.new.items ≡ report.old.items ++ report_lines
         (map (λ file. path_of folder.now (name_of file))
         (list_of (entries_in (list_value files.now))))) }

@@ -4,7 +4,7 @@
 ghost use Rattle.file_owners.specs.db_core.Seen.{packages_of};
 ghost use Rattle.installed_info.specs.Info.{form_info, info_of};
 ghost use Rattle.std.specs.Prelude.{◌≡◌, IfOk, ℕ, List, true, Some, Ok, Err};
-ghost use Rattle.installed_info.specs.Form.{form_of};
+ghost use Rattle.installed_info.specs.Form.{info_form_of_flags};
 ghost use Rattle.candidate_core.specs.adb_fields.FirstPair.{IsIn};
 ghost use Rattle.candidate_core.specs.adb_fields.Once.{HasNoRepeatedName};
 ghost use Rattle.candidate_core.specs.adb_fields.Repeated.{entries_at, package_name, paths_of_package_files};
@@ -13,7 +13,7 @@ ghost use Rattle.adb_view.specs.declared.tables.Which.TheVariants.{Idb};
 ghost use Rattle.adb_view.specs.Plain.{Plain};
 ghost use Rattle.command_core.specs.Command.{CommandLine};
 ghost use Rattle.installed_info.specs.Packages.{package_named, path_owner};
-ghost use Rattle.installed_info.specs.Refusals.{IsRefusalOfSomeOperand};
+ghost use Rattle.installed_info.specs.Refusals.{IsNotInstalledRefusalOfOperand};
 ghost use Rattle.installed_info.specs.declared.telling.ReportAndRefusal.{ReportAndRefusal};
 ghost use Rattle.report_core.specs.declared.refusal.Refusal.{Refusal};
 
@@ -86,7 +86,7 @@ pub(crate) enum Form {
 impl Form {
     /// The form that flags select; at most one is given.
     pub(crate) fn of(flags: Flags) -> Form
-        ensures { result ≡ form_of flags }
+        ensures { result ≡ info_form_of_flags flags }
     {
         if flags.who_owns {
             return Form::Owner;
@@ -118,11 +118,11 @@ pub struct ReportAndRefusal {
 pub fn info_refuses_only_for_an_operand()
     // A refusal in place of the report.
     ensures refused { (c : CommandLine) (packages : List Plain) (refusal : Refusal)
-        → info_of c packages ≡ Err refusal → IsRefusalOfSomeOperand c.operands refusal }
+        → info_of c packages ≡ Err refusal → IsNotInstalledRefusalOfOperand c.operands refusal }
     // A refusal after the report.
     ensures following_refusal { (c : CommandLine) (packages : List Plain) (done : ReportAndRefusal)
         (refusal : Refusal) → info_of c packages ≡ Ok done → done.following_refusal ≡ Some refusal
-        → (c.flags.installed ≡ true) × IsRefusalOfSomeOperand c.operands refusal }
+        → (c.flags.installed ≡ true) × IsNotInstalledRefusalOfOperand c.operands refusal }
 {}
 
 /// A package that owns a path is installed and lists it; if no path is repeated, as in a database,

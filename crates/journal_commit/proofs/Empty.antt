@@ -4,8 +4,8 @@ use Rattle.std.specs.List.{list_any}
 use Rattle.std.specs.Str.{bytes_eq}
 use Rattle.base_core.specs.Files.{Files, drop_name, put_name}
 use Rattle.base_core.proofs.AtName.{name_cases, off_name}
-use Rattle.journal_core.specs.Recovery.{Intent, files_after_actions, files_after_moves, is_staged, move_if_present, stage_name, without_names}
-use Rattle.journal_core.specs.Staged.{IsEmptyStage, files_with_staged}
+use Rattle.journal_core.specs.Recovery.{Intent, files_after_actions, files_after_staged_moves_from, is_staged, move_if_present, stage_name, files_without_names}
+use Rattle.journal_core.specs.Staged.{HasNoStagedNames, files_with_staged}
 use Rattle.journal_core.proofs.Replayed.{move_if_present-off}
 use Rattle.journal_core.proofs.journal_intent.AtName.{drop_name-at, put_name-off}
 use Rattle.journal_core.specs.journal_intent.FreeNames.{AreFreeNames, HasFreeDistinctNames}
@@ -37,7 +37,7 @@ moved_at : (F : Files) (a b q : List ℕ) (o : Option (List ℕ)) → F a ≡ o 
 moved_at F a b q None none is off = ap F is ∙ none
 moved_at F a b q (Some x) some is off = put_name-off (drop_name F a) b x q off ∙ drop_name-at F a q is
 
-moves_empty : (q : List ℕ) → is_staged q ≡ true → (names : List (List ℕ)) (k : ℕ) (F : Files) → AreFreeNames names → AtPlace q F k (k + length names) → files_after_moves k names F q ≡ None
+moves_empty : (q : List ℕ) → is_staged q ≡ true → (names : List (List ℕ)) (k : ℕ) (F : Files) → AreFreeNames names → AtPlace q F k (k + length names) → files_after_staged_moves_from k names F q ≡ None
 moves_empty q waits [] k F free (inl none) = none
 moves_empty q waits [] k F free (inr (j, from, until, is)) = absurd (omega (arith, from, until))
 moves_empty q waits (name ∷ names) k F free at =
@@ -61,13 +61,13 @@ none_or : (b : Bool) (o : Option (List ℕ)) → o ≡ None → cond b None o �
 none_or true o none = refl
 none_or false o none = none
 
-without_at : (q : List ℕ) (names : List (List ℕ)) (F : Files) (from until : ℕ) → AtPlace q F from until → AtPlace q (without_names names F) from until
+without_at : (q : List ℕ) (names : List (List ℕ)) (F : Files) (from until : ℕ) → AtPlace q F from until → AtPlace q (files_without_names names F) from until
 without_at q names F from until (inl none) = inl (none_or (list_any (bytes_eq q) names) (F q) none)
 without_at q names F from until (inr at) = inr at
 
-pub change_empties : (intent : Intent) (contents : List (List ℕ)) (files : Files) → HasFreeDistinctNames intent → length contents ≡ length intent.writes → IsEmptyStage files → IsEmptyStage (files_after_actions intent (files_with_staged 1 contents files))
+pub change_empties : (intent : Intent) (contents : List (List ℕ)) (files : Files) → HasFreeDistinctNames intent → length contents ≡ length intent.writes → HasNoStagedNames files → HasNoStagedNames (files_after_actions intent (files_with_staged 1 contents files))
 change_empties intent contents files free same empty q waits =
-    moves_empty q waits intent.writes 1 (without_names intent.removals (files_with_staged 1 contents files)) free.writes
+    moves_empty q waits intent.writes 1 (files_without_names intent.removals (files_with_staged 1 contents files)) free.writes
     (without_at q intent.removals (files_with_staged 1 contents files) 1 (1 + length intent.writes) (as_many (staged_at q contents 1 files (omega arith) (inl (empty q waits)))))
   where
     as_many : AtPlace q (files_with_staged 1 contents files) 1 (1 + length contents) → AtPlace q (files_with_staged 1 contents files) 1 (1 + length intent.writes)

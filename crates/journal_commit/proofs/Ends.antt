@@ -7,7 +7,7 @@ use Rattle.base_core.specs.Files.{Files}
 use Rattle.base_core.specs.Tree.{files_of}
 use Rattle.journal_core.specs.Acting.{IsDuringActions}
 use Rattle.journal_core.specs.Quiet.{StateIsUnchanged}
-use Rattle.journal_core.specs.Recovery.{EachCrashLeaves, StateDependsOn, intent_name}
+use Rattle.journal_core.specs.Recovery.{EachCrashLeavesStateOf, StateDependsOn, intent_name}
 use Rattle.journal_core.specs.Staged.{AreJournalPathsFree, IsCarryingOutActions, Staging}
 use Rattle.journal_core.proofs.Chain.{by_now}
 use Rattle.journal_core.proofs.History.{History, observable_map}
@@ -24,11 +24,11 @@ module _ (first next : Staging) (old mid new : History)
     end_moments last = rowed_called first next old mid new rowed last
 
     pub end_settled : {T E : Type 0} (r : Result T E)
-        → IfObservable mid (λ u. (ignored : List ℕ → Bool) (files : Files) → IsDurable (StateDependsOn ignored) u → IsCarryingOutActions next files u → OnOk r (HoldsNow new (EachCrashLeaves ignored files)))
-        → IfObservable old (λ v. (ignored : List ℕ → Bool) (files : Files) → IsDurable (StateDependsOn ignored) v → IsCarryingOutActions first files v → OnOk r (HoldsNow new (EachCrashLeaves ignored files)))
+        → IfObservable mid (λ u. (ignored : List ℕ → Bool) (files : Files) → IsDurable (StateDependsOn ignored) u → IsCarryingOutActions next files u → OnOk r (HoldsNow new (EachCrashLeavesStateOf ignored files)))
+        → IfObservable old (λ v. (ignored : List ℕ → Bool) (files : Files) → IsDurable (StateDependsOn ignored) v → IsCarryingOutActions first files v → OnOk r (HoldsNow new (EachCrashLeavesStateOf ignored files)))
     end_settled r last = observable_map old _ _ rowed (λ v runs ignored files is_durable at.
-        by_now mid (IsDuringActions ignored files next v) (OnOk r (HoldsNow new (EachCrashLeaves ignored files))) (runs ignored files is_durable at).now
-        (observable_map mid _ (λ u. IsDuringActions ignored files next v u → OnOk r (HoldsNow new (EachCrashLeaves ignored files))) last (λ u t goes. t ignored files goes.is_unchanged.is_durable goes.acting)))
+        by_now mid (IsDuringActions ignored files next v) (OnOk r (HoldsNow new (EachCrashLeavesStateOf ignored files))) (runs ignored files is_durable at).now
+        (observable_map mid _ (λ u. IsDuringActions ignored files next v u → OnOk r (HoldsNow new (EachCrashLeavesStateOf ignored files))) last (λ u t goes. t ignored files goes.is_unchanged.is_durable goes.acting)))
 
   pub end_files : {T E : Type 0} (r : Result T E) → IfObservable mid (λ u. (files : Files) → IsCarryingOutActions next files u → OnOk r (HoldsNow new (λ w. (files_of w ≡ files) × (w.names intent_name ≡ None))))
       → IfObservable old (λ v. (files : Files) → IsCarryingOutActions first files v → OnOk r (HoldsNow new (λ w. (files_of w ≡ files) × (w.names intent_name ≡ None))))

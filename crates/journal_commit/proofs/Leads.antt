@@ -6,23 +6,23 @@ use Rattle.base_core.specs.Undone.{IsDurable}
 use Rattle.base_core.specs.Files.{Files}
 use Rattle.base_core.specs.Restart.{EachMoment, SinceGivenEarlier}
 use Rattle.base_core.specs.Tree.{TreeState, File, bytes_of_file_number, files_of}
-use Rattle.journal_core.specs.Kept.{HasOldOrNewBytes, IsRestoredByNoCrash, KeepsFilesExcept, KeepsCrashMapsExcept, KeepsOldOrNewBytes, RecoversTo, NamesOutsideJournalAreDurable}
+use Rattle.journal_core.specs.Kept.{HasOldOrNewBytesOutsideJournal, IsRestoredByNoCrash, KeepsFilesExcept, KeepsCrashMapsExcept, KeepsOldOrNewBytes, RecoversTo, NamesOutsideJournalAreDurable}
 use Rattle.journal_core.specs.Quiet.{StateIsUnchanged}
-use Rattle.journal_core.specs.Recovery.{Intent, EachCrashLeaves, StateDependsOn, files_after_actions, intent_in_file, intent_name, stage_name}
-use Rattle.journal_core.specs.Staged.{WasCommittedFor, IsCarryingOutActions, IsEmptyStage, IsOldUntilCommit, IsStaged, CommittedBy, Staging}
+use Rattle.journal_core.specs.Recovery.{Intent, EachCrashLeavesStateOf, StateDependsOn, files_after_actions, intent_in_file, intent_name, stage_name}
+use Rattle.journal_core.specs.Staged.{HasMomentOfPublishedIntentForFiles, IsCarryingOutActions, HasNoStagedNames, IsOldUntilCommit, HasStagedContents, IsHistoryThatCommitsFiles, Staging}
 use Rattle.journal_core.proofs.Between.{no_intent_read}
 use Rattle.journal_core.proofs.Chain.{by_now, now_both}
 use Rattle.journal_core.proofs.History.{History, now_map, now_since, observable_at, observable_map, on_observable, since_on, since_weaker}
 use Rattle.journal_core.proofs.Lasting.{some_none}
 use Rattle.journal_core.proofs.OnTheWay.{way_after}
 use Rattle.journal_core.specs.journal_intent.FreeNames.{HasFreeDistinctNames}
-use Rattle.journal_commit.specs.StageRun.{IsStateDuringChange, IsRunOfStagedChange, IsStagedChangeComplete, IsStaging, NamesAreDurableWithoutIntent}
+use Rattle.journal_commit.specs.StageRun.{IsStateDuringChangeToNewFromOld, IsRunOfStagedChange, IsStagedChangeComplete, IsRunThatStagedContents, NamesAreDurableWithoutIntent}
 use Rattle.journal_commit.proofs.Empty.{change_empties}
 use Rattle.journal_commit.proofs.Joins.{now_of, since_and}
 use Rattle.journal_commit.proofs.Waits.{none_entering, shown_last}
 use Rattle.journal_commit.proofs.Ways.{G, Lasts, Reads, Waits, Way, entered_bytes, append_file_to, read_entering, run_led, same_files, still_now}
 
-way_now : (ignored : List ℕ → Bool) (files : Files) (u : TreeState) (added old : History) → WasCommittedFor ignored files u.made added → EachMoment (IsOldUntilCommit ignored files u) added → HoldsNow (added ++ old) (λ x. IsDurable (StateDependsOn ignored) x × (u.made ≤ x.made))
+way_now : (ignored : List ℕ → Bool) (files : Files) (u : TreeState) (added old : History) → HasMomentOfPublishedIntentForFiles ignored files u.made added → EachMoment (IsOldUntilCommit ignored files u) added → HoldsNow (added ++ old) (λ x. IsDurable (StateDependsOn ignored) x × (u.made ≤ x.made))
 way_now ignored files u [] old published each = absurd published
 way_now ignored files u (w ∷ added) old published each = (each.0.is_durable, each.0.made)
 
@@ -30,14 +30,14 @@ names_some : (files : ℕ → File) (o : Option ℕ) (intent : Intent) → inten
 names_some files None intent is = absurd (cc (is))
 names_some files (Some n) intent is = refl
 
-module _ (stage : Staging) (contents : List (List ℕ)) (v : TreeState) (first mid : History) (s : IsStaging stage contents None v first mid) (all : stage.staged ≡ length stage.intent.writes) (free : HasFreeDistinctNames stage.intent) where
+module _ (stage : Staging) (contents : List (List ℕ)) (v : TreeState) (first mid : History) (s : IsRunThatStagedContents stage contents None v first mid) (all : stage.staged ≡ length stage.intent.writes) (free : HasFreeDistinctNames stage.intent) where
   abbrev pub H : Files
   H = G stage contents v first mid s
 
   abbrev pub W : TreeState → Type 0
   W = Waits stage contents v first mid s
 
-  empty : (u : TreeState) → W u → IsEmptyStage H
+  empty : (u : TreeState) → W u → HasNoStagedNames H
   empty u waits = change_empties stage.intent contents (files_of v) free (waits.count ∙ all) s.empty
 
   same : (u : TreeState) → W u → files_after_actions stage.intent (files_of u) ≡ H
@@ -47,14 +47,14 @@ module _ (stage : Staging) (contents : List (List ℕ)) (v : TreeState) (first m
 
   module _ (now : History) where
     abbrev pub IsCommittedFor : Type 0
-    IsCommittedFor = IfObservable mid (λ u. (ignored : List ℕ → Bool) (cs : List (List ℕ)) (base : Files) → IsDurable (StateDependsOn ignored) u → IsStaged stage cs None base u → SinceGivenEarlier (IsOldUntilCommit ignored (files_after_actions stage.intent (files_of u)) u) mid now)
+    IsCommittedFor = IfObservable mid (λ u. (ignored : List ℕ → Bool) (cs : List (List ℕ)) (base : Files) → IsDurable (StateDependsOn ignored) u → HasStagedContents stage cs None base u → SinceGivenEarlier (IsOldUntilCommit ignored (files_after_actions stage.intent (files_of u)) u) mid now)
 
     publish_way : IsCommittedFor → Way stage contents v first mid s now
     publish_way moments = observable_map mid _ (λ u. (ignored : List ℕ → Bool) → IsDurable (StateDependsOn ignored) u → W u → SinceGivenEarlier (IsOldUntilCommit ignored H u) mid now) moments (λ u t ignored is_durable waits.
         subst (λ (F : Files). SinceGivenEarlier (IsOldUntilCommit ignored F u) mid now) (same u waits) (t ignored contents (files_of v) is_durable waits))
 
     abbrev pub PublishReads : Type 0
-    PublishReads = IfObservable mid (λ u. (cs : List (List ℕ)) (base : Files) → IsStaged stage cs None base u → Since (λ w. IsSome (w.names intent_name) → RecoversTo (files_after_actions stage.intent (files_of u)) w) mid now)
+    PublishReads = IfObservable mid (λ u. (cs : List (List ℕ)) (base : Files) → HasStagedContents stage cs None base u → Since (λ w. IsSome (w.names intent_name) → RecoversTo (files_after_actions stage.intent (files_of u)) w) mid now)
 
     abbrev pub PublishOthers : Type 0
     PublishOthers = IfObservable mid (λ u. Since (KeepsFilesExcept (λ q. (q ≡ intent_name) ⊎ (q ≡ stage_name 0)) u) mid now)
@@ -68,9 +68,9 @@ module _ (stage : Staging) (contents : List (List ℕ)) (v : TreeState) (first m
 
     publish_reads : PublishReads → PublishOthers → Reads stage contents v first mid s now
     publish_reads reads others =
-        both mid _ _ (λ u. W u → Since (IsStateDuringChange H (files_of u)) mid now) reads others (λ u read keeps waits.
+        both mid _ _ (λ u. W u → Since (IsStateDuringChangeToNewFromOld H (files_of u)) mid now) reads others (λ u read keeps waits.
         let recovers = subst (λ (F : Files). Since (λ w. IsSome (w.names intent_name) → RecoversTo F w) mid now) (same u waits) (read contents (files_of v) waits) in
-        since_weaker (λ w. KeepsFilesExcept (λ q. (q ≡ intent_name) ⊎ (q ≡ stage_name 0)) u w × (IsSome (w.names intent_name) → RecoversTo H w)) (IsStateDuringChange H (files_of u)) mid now
+        since_weaker (λ w. KeepsFilesExcept (λ q. (q ≡ intent_name) ⊎ (q ≡ stage_name 0)) u w × (IsSome (w.names intent_name) → RecoversTo H w)) (IsStateDuringChangeToNewFromOld H (files_of u)) mid now
         (λ w q. read_entering H (empty u waits) u w (no_intent_read stage contents (files_of v) u waits) q.0 q.1)
         (since_and (KeepsFilesExcept (λ q. (q ≡ intent_name) ⊎ (q ≡ stage_name 0)) u) (λ w. IsSome (w.names intent_name) → RecoversTo H w) mid now keeps recovers))
 
@@ -84,9 +84,9 @@ module _ (stage : Staging) (contents : List (List ℕ)) (v : TreeState) (first m
     -- ---- and all actions behind it
 
     module _ (next : Staging)
-        (published : IfObservable mid (λ u. (ignored : List ℕ → Bool) (cs : List (List ℕ)) (base : Files) → IsDurable (StateDependsOn ignored) u → IsStaged stage cs None base u → CommittedBy ignored (files_after_actions stage.intent (files_of u)) u mid now))
-        (settled : IfObservable mid (λ u. (ignored : List ℕ → Bool) (cs : List (List ℕ)) (base : Files) → IsDurable (StateDependsOn ignored) u → IsStaged stage cs None base u → HoldsNow now (EachCrashLeaves ignored (files_after_actions stage.intent (files_of u)))))
-        (acting : IfObservable mid (λ u. (cs : List (List ℕ)) (base : Files) → IsStaged stage cs None base u → HoldsNow now (IsCarryingOutActions next (files_after_actions stage.intent (files_of u)))))
+        (published : IfObservable mid (λ u. (ignored : List ℕ → Bool) (cs : List (List ℕ)) (base : Files) → IsDurable (StateDependsOn ignored) u → HasStagedContents stage cs None base u → IsHistoryThatCommitsFiles ignored (files_after_actions stage.intent (files_of u)) u mid now))
+        (settled : IfObservable mid (λ u. (ignored : List ℕ → Bool) (cs : List (List ℕ)) (base : Files) → IsDurable (StateDependsOn ignored) u → HasStagedContents stage cs None base u → HoldsNow now (EachCrashLeavesStateOf ignored (files_after_actions stage.intent (files_of u)))))
+        (acting : IfObservable mid (λ u. (cs : List (List ℕ)) (base : Files) → HasStagedContents stage cs None base u → HoldsNow now (IsCarryingOutActions next (files_after_actions stage.intent (files_of u)))))
         (new : History) where
       abbrev Acts : TreeState → Type 0
       Acts = IsCarryingOutActions next H
@@ -100,15 +100,15 @@ module _ (stage : Staging) (contents : List (List ℕ)) (v : TreeState) (first m
       EnactMoments = IfObservable now (λ x. (ignored : List ℕ → Bool) (files : Files) → IsDurable (StateDependsOn ignored) x → IsCarryingOutActions next files x → Since (StateIsUnchanged ignored x) now new)
 
       -- behind the publishing
-      module _ (ignored : List ℕ → Bool) (u : TreeState) (waits : W u) (by_publish : CommittedBy ignored H u mid now) (here : HoldsNow now (EachCrashLeaves ignored H)) where
+      module _ (ignored : List ℕ → Bool) (u : TreeState) (waits : W u) (by_publish : IsHistoryThatCommitsFiles ignored H u mid now) (here : HoldsNow now (EachCrashLeavesStateOf ignored H)) where
         abbrev Here : TreeState → Type 0
-        Here x = (IsDurable (StateDependsOn ignored) x × (u.made ≤ x.made)) × (EachCrashLeaves ignored H x × Acts x)
+        Here x = (IsDurable (StateDependsOn ignored) x × (u.made ≤ x.made)) × (EachCrashLeavesStateOf ignored H x × Acts x)
 
         all_here : HoldsNow now Here
         all_here =
             now_both now _ _
             (subst (λ (l : History). HoldsNow l (λ x. IsDurable (StateDependsOn ignored) x × (u.made ≤ x.made))) (sym by_publish.is) (way_now ignored H u by_publish.added mid by_publish.published by_publish.each))
-            (now_both now (EachCrashLeaves ignored H) Acts here acts_now)
+            (now_both now (EachCrashLeavesStateOf ignored H) Acts here acts_now)
 
         enact_way_at : EnactMoments → SinceGivenEarlier (IsOldUntilCommit ignored H u) mid new
         enact_way_at moments = by_now now Here (SinceGivenEarlier (IsOldUntilCommit ignored H u) mid new) all_here
@@ -117,11 +117,11 @@ module _ (stage : Staging) (contents : List (List ℕ)) (v : TreeState) (first m
         durable_at : HoldsNow now (IsDurable (StateDependsOn ignored))
         durable_at = now_map now Here (IsDurable (StateDependsOn ignored)) all_here (λ x at. at.0.0)
 
-      published_at : (ignored : List ℕ → Bool) (u : TreeState) → W u → CommittedBy ignored (files_after_actions stage.intent (files_of u)) u mid now → CommittedBy ignored H u mid now
-      published_at ignored u waits by_publish = subst (λ (F : Files). CommittedBy ignored F u mid now) (same u waits) by_publish
+      published_at : (ignored : List ℕ → Bool) (u : TreeState) → W u → IsHistoryThatCommitsFiles ignored (files_after_actions stage.intent (files_of u)) u mid now → IsHistoryThatCommitsFiles ignored H u mid now
+      published_at ignored u waits by_publish = subst (λ (F : Files). IsHistoryThatCommitsFiles ignored F u mid now) (same u waits) by_publish
 
-      settled_at : (ignored : List ℕ → Bool) (u : TreeState) → W u → HoldsNow now (EachCrashLeaves ignored (files_after_actions stage.intent (files_of u))) → HoldsNow now (EachCrashLeaves ignored H)
-      settled_at ignored u waits here = subst (λ (F : Files). HoldsNow now (EachCrashLeaves ignored F)) (same u waits) here
+      settled_at : (ignored : List ℕ → Bool) (u : TreeState) → W u → HoldsNow now (EachCrashLeavesStateOf ignored (files_after_actions stage.intent (files_of u))) → HoldsNow now (EachCrashLeavesStateOf ignored H)
+      settled_at ignored u waits here = subst (λ (F : Files). HoldsNow now (EachCrashLeavesStateOf ignored F)) (same u waits) here
 
       enact_way : EnactMoments → Way stage contents v first mid s new
       enact_way moments = both mid _ _ (λ u. (ignored : List ℕ → Bool) → IsDurable (StateDependsOn ignored) u → W u → SinceGivenEarlier (IsOldUntilCommit ignored H u) mid new) published settled (λ u p h ignored is_durable waits.
@@ -134,15 +134,15 @@ module _ (stage : Staging) (contents : List (List ℕ)) (v : TreeState) (first m
       EnactBytes = IfObservable now (λ x. (files : Files) → IsCarryingOutActions next files x → KeepsOldOrNewBytes files x now new)
 
       enact_reads : PublishReads → PublishOthers → EnactReads → EnactBytes → Reads stage contents v first mid s new
-      enact_reads reads others more bytes = on_observable mid (λ u. W u → Since (IsStateDuringChange H (files_of u)) mid new) (λ u rest is waits.
+      enact_reads reads others more bytes = on_observable mid (λ u. W u → Since (IsStateDuringChangeToNewFromOld H (files_of u)) mid new) (λ u rest is waits.
           let Keeps = KeepsFilesExcept (λ q. (q ≡ intent_name) ⊎ (q ≡ stage_name 0)) u in
           let keeps = observable_at mid u rest is (λ x. Since (KeepsFilesExcept (λ q. (q ≡ intent_name) ⊎ (q ≡ stage_name 0)) x) mid now) others in
-          since_on (IsStateDuringChange H (files_of u)) mid now new
-          (observable_at mid u rest is (λ x. W x → Since (IsStateDuringChange H (files_of x)) mid now) (publish_reads reads others) waits)
-          (by_now now (λ x. Acts x × Keeps x) (Since (IsStateDuringChange H (files_of u)) now new) (now_both now Acts Keeps acts_now (now_since Keeps mid now u rest is (λ q off. refl) keeps))
-          (both now _ _ (λ x. Acts x × Keeps x → Since (IsStateDuringChange H (files_of u)) now new) more bytes (λ x k b q.
-          since_weaker (λ w. RecoversTo H w × HasOldOrNewBytes (files_of u) H w) (IsStateDuringChange H (files_of u)) now new (λ w r. append_file_to H (files_of u) (empty u waits) w r.0 r.1)
-          (since_and (RecoversTo H) (HasOldOrNewBytes (files_of u) H) now new (k H q.0) (b H q.0 (files_of u) (entered_bytes H u x q.1)))))))
+          since_on (IsStateDuringChangeToNewFromOld H (files_of u)) mid now new
+          (observable_at mid u rest is (λ x. W x → Since (IsStateDuringChangeToNewFromOld H (files_of x)) mid now) (publish_reads reads others) waits)
+          (by_now now (λ x. Acts x × Keeps x) (Since (IsStateDuringChangeToNewFromOld H (files_of u)) now new) (now_both now Acts Keeps acts_now (now_since Keeps mid now u rest is (λ q off. refl) keeps))
+          (both now _ _ (λ x. Acts x × Keeps x → Since (IsStateDuringChangeToNewFromOld H (files_of u)) now new) more bytes (λ x k b q.
+          since_weaker (λ w. RecoversTo H w × HasOldOrNewBytesOutsideJournal (files_of u) H w) (IsStateDuringChangeToNewFromOld H (files_of u)) now new (λ w r. append_file_to H (files_of u) (empty u waits) w r.0 r.1)
+          (since_and (RecoversTo H) (HasOldOrNewBytesOutsideJournal (files_of u) H) now new (k H q.0) (b H q.0 (files_of u) (entered_bytes H u x q.1)))))))
 
       abbrev pub EnactLasts : Type 0
       EnactLasts = IfObservable now (λ x. IsSome (x.names intent_name) → Since NamesAreDurableWithoutIntent now new)
@@ -178,16 +178,16 @@ module _ (stage : Staging) (contents : List (List ℕ)) (v : TreeState) (first m
         EnactFiles r = IfObservable now (λ x. (files : Files) → IsCarryingOutActions next files x → OnOk r (HoldsNow new (λ w. (files_of w ≡ files) × (w.names intent_name ≡ None))))
 
         abbrev pub EnactSettled : Result T E → Type 0
-        EnactSettled r = IfObservable now (λ x. (ignored : List ℕ → Bool) (files : Files) → IsDurable (StateDependsOn ignored) x → IsCarryingOutActions next files x → OnOk r (HoldsNow new (EachCrashLeaves ignored files)))
+        EnactSettled r = IfObservable now (λ x. (ignored : List ℕ → Bool) (files : Files) → IsDurable (StateDependsOn ignored) x → IsCarryingOutActions next files x → OnOk r (HoldsNow new (EachCrashLeavesStateOf ignored files)))
 
         end_files : (r : Result T E) → EnactFiles r → OnOk r (HoldsNow new (λ w. (files_of w ≡ H) × (w.names intent_name ≡ None)))
         end_files r files = by_now now Acts (OnOk r (HoldsNow new (λ w. (files_of w ≡ H) × (w.names intent_name ≡ None)))) acts_now
             (observable_map now _ (λ x. Acts x → OnOk r (HoldsNow new (λ w. (files_of w ≡ H) × (w.names intent_name ≡ None)))) files (λ x k acts. k H acts))
 
-        end_settled : (r : Result T E) → EnactSettled r → (ignored : List ℕ → Bool) → IsDurable (StateDependsOn ignored) v → OnOk r (HoldsNow new (EachCrashLeaves ignored H))
+        end_settled : (r : Result T E) → EnactSettled r → (ignored : List ℕ → Bool) → IsDurable (StateDependsOn ignored) v → OnOk r (HoldsNow new (EachCrashLeavesStateOf ignored H))
         end_settled r ends ignored is_durable =
-            by_now now (λ x. IsDurable (StateDependsOn ignored) x × Acts x) (OnOk r (HoldsNow new (EachCrashLeaves ignored H))) (now_both now (IsDurable (StateDependsOn ignored)) Acts durable_now acts_now)
-            (observable_map now _ (λ x. IsDurable (StateDependsOn ignored) x × Acts x → OnOk r (HoldsNow new (EachCrashLeaves ignored H))) ends (λ x k q. k ignored H q.0 q.1))
+            by_now now (λ x. IsDurable (StateDependsOn ignored) x × Acts x) (OnOk r (HoldsNow new (EachCrashLeavesStateOf ignored H))) (now_both now (IsDurable (StateDependsOn ignored)) Acts durable_now acts_now)
+            (observable_map now _ (λ x. IsDurable (StateDependsOn ignored) x × Acts x → OnOk r (HoldsNow new (EachCrashLeavesStateOf ignored H))) ends (λ x k q. k ignored H q.0 q.1))
           where
             durable_now : HoldsNow now (IsDurable (StateDependsOn ignored))
             durable_now =
@@ -198,7 +198,7 @@ module _ (stage : Staging) (contents : List (List ℕ)) (v : TreeState) (first m
         pub enact_done : (r : Result T E) → EnactLasts → EnactFiles r → EnactSettled r → OnOk r (IfObservable new (IsRestoredByNoCrash intent_name)) → OnOk r (IsStagedChangeComplete H v new)
         enact_done r lasts files ends gone = by r (end_files r files) (end_settled r ends) gone
           where
-            by : (x : Result T E) → OnOk x (HoldsNow new (λ w. (files_of w ≡ H) × (w.names intent_name ≡ None))) → ((ignored : List ℕ → Bool) → IsDurable (StateDependsOn ignored) v → OnOk x (HoldsNow new (EachCrashLeaves ignored H)))
+            by : (x : Result T E) → OnOk x (HoldsNow new (λ w. (files_of w ≡ H) × (w.names intent_name ≡ None))) → ((ignored : List ℕ → Bool) → IsDurable (StateDependsOn ignored) v → OnOk x (HoldsNow new (EachCrashLeavesStateOf ignored H)))
                 → OnOk x (IfObservable new (IsRestoredByNoCrash intent_name)) → OnOk x (IsStagedChangeComplete H v new)
             by (Ok x) reads settles none = record {
               reads = reads;

@@ -8,7 +8,7 @@ use Rattle.base_core.proofs.AtName.{other_name}
 use Rattle.journal_core.specs.Kept.{KeepsFilesExcept, KeepsCrashMapsExcept, NamesOutsideJournalAreDurable}
 use Rattle.journal_core.specs.Recovery.{intent_name, is_staged, stage_name}
 use Rattle.journal_core.specs.journal_intent.FreeNames.{IsNoneOf}
-use Rattle.journal_commit.specs.StageRun.{HasFilesExceptStaged}
+use Rattle.journal_commit.specs.StageRun.{HasSameFilesExceptStaged}
 
 true_false : true ≡ false → ⊥
 true_false e = cc
@@ -23,7 +23,7 @@ none_waiting place q waits shown = ap (λ b. b || false) (other_name q place (sh
 pub none_entering : (q : List ℕ) → q ≢ intent_name → is_staged q ≡ false → IsNoneOf q (intent_name ∷ stage_name 0 ∷ [])
 none_entering q off shown = ap (λ b. b || list_any (bytes_eq q) (stage_name 0 ∷ [])) (other_name q intent_name off) ∙ none_waiting (stage_name 0) q refl shown
 
-pub shown_files : (place : List ℕ) → is_staged place ≡ true → (u w : TreeState) → KeepsFilesExcept (λ q. q ≡ place) u w → HasFilesExceptStaged (files_of u) w
+pub shown_files : (place : List ℕ) → is_staged place ≡ true → (u w : TreeState) → KeepsFilesExcept (λ q. q ≡ place) u w → HasSameFilesExceptStaged (files_of u) w
 shown_files place waits u w keeps q shown = keeps q (shown_off place q waits shown)
 
 -- where no name that is shown is among these, a crash undoes no change of a shown name

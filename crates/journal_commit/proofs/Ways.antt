@@ -8,10 +8,10 @@ use Rattle.base_core.specs.Files.{Files}
 use Rattle.base_core.specs.Restart.{EachMoment, SinceGivenEarlier}
 use Rattle.base_core.specs.Tree.{TreeState, bytes_of_file_number, files_of}
 use Rattle.base_core.proofs.AtName.{name_cases, off_name}
-use Rattle.journal_core.specs.Kept.{HasOldOrNewBytes, IsJournalName, KeepsFilesExcept, RecoversTo, NamesOutsideJournalAreDurable}
+use Rattle.journal_core.specs.Kept.{HasOldOrNewBytesOutsideJournal, IsJournalName, KeepsFilesExcept, RecoversTo, NamesOutsideJournalAreDurable}
 use Rattle.journal_core.specs.Quiet.{StateIsUnchanged}
 use Rattle.journal_core.specs.Recovery.{StateDependsOn, files_after_actions, intent_name, is_staged, recovered_files, stage_name}
-use Rattle.journal_core.specs.Staged.{IsEmptyStage, IsOldUntilCommit, IsStaged, Staging, unstaged_files, files_with_staged}
+use Rattle.journal_core.specs.Staged.{HasNoStagedNames, IsOldUntilCommit, HasStagedContents, Staging, unstaged_files, files_with_staged}
 use Rattle.journal_core.proofs.Chain.{by_now, now_both}
 use Rattle.journal_core.proofs.History.{History, observable_map, since_on, since_weaker}
 use Rattle.journal_core.proofs.OnTheWay.{way_before}
@@ -19,7 +19,7 @@ use Rattle.journal_core.proofs.Published.{since_by, still_on_the_way}
 use Rattle.journal_core.proofs.Waiting.{still_self}
 use Rattle.journal_core.proofs.Cleaned.{none_recovered}
 use Rattle.journal_core.proofs.journal_intent.StageNames.{stage_name_staged}
-use Rattle.journal_commit.specs.StageRun.{HasFilesExceptStaged, IsStateDuringChange, IsRunOfStagedChange, IsStaging, IsStagingRun, NamesAreDurableWithoutIntent}
+use Rattle.journal_commit.specs.StageRun.{HasSameFilesExceptStaged, IsStateDuringChangeToNewFromOld, IsRunOfStagedChange, IsRunThatStagedContents, IsStagingRun, NamesAreDurableWithoutIntent}
 use Rattle.journal_commit.proofs.Joins.{so_far_now}
 use Rattle.journal_commit.proofs.Waits.{shown_off}
 
@@ -44,13 +44,13 @@ still_way ignored G v old new since = since_by (IsOldUntilCommit ignored G v) ol
 pub staging_leads : (G : Files) (v : TreeState) (first now : History) → IsStagingRun v first now → IsRunOfStagedChange G v first now
 staging_leads G v first now run = record {
   moments = λ ignored is_durable. still_way ignored G v first now (run.moments ignored is_durable);
-  reads = since_weaker (HasFilesExceptStaged (files_of v)) (IsStateDuringChange G (files_of v)) first now (λ w reads. inl reads) run.reads;
+  reads = since_weaker (HasSameFilesExceptStaged (files_of v)) (IsStateDuringChangeToNewFromOld G (files_of v)) first now (λ w reads. inl reads) run.reads;
   last = λ last. since_weaker NamesOutsideJournalAreDurable NamesAreDurableWithoutIntent first now (λ w lasts none. lasts) (run.last last);
 }
 
 -- ---- what is read
 
-emptied_at : (G : Files) → IsEmptyStage G → (w : TreeState) → RecoversTo G w → unstaged_files (files_of w) ≡ G
+emptied_at : (G : Files) → HasNoStagedNames G → (w : TreeState) → RecoversTo G w → unstaged_files (files_of w) ≡ G
 emptied_at G empty w recovers i q = by (is_staged q) refl i
   where
     by : (b : Bool) → is_staged q ≡ b → unstaged_files (files_of w) q ≡ G q
@@ -58,24 +58,24 @@ emptied_at G empty w recovers i q = by (is_staged q) refl i
     by false is = ap (λ b. cond b None (recovered_files (files_of w) q)) is ∙ ap (λ (F : Files). F q) recovers
 
 -- the intent is read and leads to the files, or they are read
-pub append_file_to : (G old : Files) → IsEmptyStage G → (w : TreeState) → RecoversTo G w → HasOldOrNewBytes old G w → IsStateDuringChange G old w
+pub append_file_to : (G old : Files) → HasNoStagedNames G → (w : TreeState) → RecoversTo G w → HasOldOrNewBytesOutsideJournal old G w → IsStateDuringChangeToNewFromOld G old w
 append_file_to G old empty w recovers bytes = by (w.names intent_name) refl
   where
-    by : (o : Option ℕ) → w.names intent_name ≡ o → IsStateDuringChange G old w
+    by : (o : Option ℕ) → w.names intent_name ≡ o → IsStateDuringChangeToNewFromOld G old w
     by None none = inr (inr (sym (none_recovered w none) ∙ recovers))
     by (Some n) some = inr (inl (record { intent = subst IsSome (sym some) refl; leads = emptied_at G empty w recovers; bytes = bytes }))
 
 Committing : List ℕ → Type 0
 Committing q = (q ≡ intent_name) ⊎ (q ≡ stage_name 0)
 
-pub entered_bytes : (G : Files) (u w : TreeState) → KeepsFilesExcept (λ q. (q ≡ intent_name) ⊎ (q ≡ stage_name 0)) u w → HasOldOrNewBytes (files_of u) G w
+pub entered_bytes : (G : Files) (u w : TreeState) → KeepsFilesExcept (λ q. (q ≡ intent_name) ⊎ (q ≡ stage_name 0)) u w → HasOldOrNewBytesOutsideJournal (files_of u) G w
 entered_bytes G u w keeps q shown = inl (keeps q (λ either. shown (⊎_elim (λ intent. inl intent) (λ place. inr (ap is_staged place ∙ stage_name_staged 0)) either)))
 
 -- at a moment at which the intent moves to its name
-pub read_entering : (G : Files) → IsEmptyStage G → (u w : TreeState) → files_of u intent_name ≡ None → KeepsFilesExcept (λ q. (q ≡ intent_name) ⊎ (q ≡ stage_name 0)) u w → (IsSome (w.names intent_name) → RecoversTo G w) → IsStateDuringChange G (files_of u) w
+pub read_entering : (G : Files) → HasNoStagedNames G → (u w : TreeState) → files_of u intent_name ≡ None → KeepsFilesExcept (λ q. (q ≡ intent_name) ⊎ (q ≡ stage_name 0)) u w → (IsSome (w.names intent_name) → RecoversTo G w) → IsStateDuringChangeToNewFromOld G (files_of u) w
 read_entering G empty u w unread keeps reads = by (w.names intent_name) refl
   where
-    by : (o : Option ℕ) → w.names intent_name ≡ o → IsStateDuringChange G (files_of u) w
+    by : (o : Option ℕ) → w.names intent_name ≡ o → IsStateDuringChangeToNewFromOld G (files_of u) w
     by None none = inl (λ q shown. ⊎_elim
         (λ is. ap (files_of w) is ∙ ap (bytes_of_file_number w.files) none ∙ sym (ap (files_of u) is ∙ unread))
         (λ off. keeps q (λ either. ⊎_elim (off_name q intent_name off) (shown_off (stage_name 0) q refl shown) either))
@@ -84,7 +84,7 @@ read_entering G empty u w unread keeps reads = by (w.names intent_name) refl
         let has = subst IsSome (sym some) refl in
         inr (inl (record { intent = has; leads = emptied_at G empty w (reads has); bytes = entered_bytes G u w keeps }))
 
-pub read_from : (G old : Files) (u w : TreeState) → HasFilesExceptStaged old u → IsStateDuringChange G (files_of u) w → IsStateDuringChange G old w
+pub read_from : (G old : Files) (u w : TreeState) → HasSameFilesExceptStaged old u → IsStateDuringChangeToNewFromOld G (files_of u) w → IsStateDuringChangeToNewFromOld G old w
 read_from G old u w before (inl reads) = inl (λ q shown. reads q shown ∙ before q shown)
 read_from G old u w before (inr (inl leads)) = inr (inl (record { intent = leads.intent; leads = leads.leads; bytes = bytes }))
   where
@@ -92,18 +92,18 @@ read_from G old u w before (inr (inl leads)) = inr (inl (record { intent = leads
     unstaged q shown true is = absurd (shown (inr is))
     unstaged q shown false is = is
 
-    bytes : HasOldOrNewBytes old G w
+    bytes : HasOldOrNewBytesOutsideJournal old G w
     bytes q shown = ⊎_elim (λ was. inl (was ∙ before q (unstaged q shown (is_staged q) refl))) (λ new. inr new) (leads.bytes q shown)
 read_from G old u w before (inr (inr reads)) = inr (inr reads)
 
 -- ---- a run
 
-module _ (stage : Staging) (contents : List (List ℕ)) (v : TreeState) (first mid : History) (s : IsStaging stage contents None v first mid) where
+module _ (stage : Staging) (contents : List (List ℕ)) (v : TreeState) (first mid : History) (s : IsRunThatStagedContents stage contents None v first mid) where
   abbrev pub G : Files
   G = files_after_actions stage.intent (files_with_staged 1 contents (files_of v))
 
   abbrev pub Waits : TreeState → Type 0
-  Waits = IsStaged stage contents None (files_of v)
+  Waits = HasStagedContents stage contents None (files_of v)
 
   pub same_files : (u : TreeState) → Waits u → files_after_actions stage.intent (files_of u) ≡ G
   same_files u waits = ap (files_after_actions stage.intent) waits.reads
@@ -114,7 +114,7 @@ module _ (stage : Staging) (contents : List (List ℕ)) (v : TreeState) (first m
     Way = IfObservable mid (λ u. (ignored : List ℕ → Bool) → IsDurable (StateDependsOn ignored) u → Waits u → SinceGivenEarlier (IsOldUntilCommit ignored G u) mid new)
 
     abbrev pub Reads : Type 0
-    Reads = IfObservable mid (λ u. Waits u → Since (IsStateDuringChange G (files_of u)) mid new)
+    Reads = IfObservable mid (λ u. Waits u → Since (IsStateDuringChangeToNewFromOld G (files_of u)) mid new)
 
     abbrev pub Lasts : Type 0
     Lasts = IfObservable mid (λ u. Waits u → NamesOutsideJournalAreDurable u → Since NamesAreDurableWithoutIntent mid new)
@@ -129,12 +129,12 @@ module _ (stage : Staging) (contents : List (List ℕ)) (v : TreeState) (first m
           (observable_map mid _ (λ u. StateIsUnchanged ignored v u × Waits u → SinceGivenEarlier (IsOldUntilCommit ignored G v) first new) way (λ u t q.
           way_from ignored G v u q.0 first mid new (still_way ignored G v first mid (s.run.moments ignored is_durable)) (t ignored q.0.is_durable q.1)));
       reads =
-          since_on (IsStateDuringChange G (files_of v)) first mid new
-          (since_weaker (HasFilesExceptStaged (files_of v)) (IsStateDuringChange G (files_of v)) first mid (λ w reads. inl reads) s.run.reads)
-          (by_now mid (λ u. HasFilesExceptStaged (files_of v) u × Waits u) (Since (IsStateDuringChange G (files_of v)) mid new)
-          (now_both mid (HasFilesExceptStaged (files_of v)) Waits (so_far_now (HasFilesExceptStaged (files_of v)) Waits v first mid mid s.start (λ q shown. refl) s.run.reads) s.waiting)
-          (observable_map mid _ (λ u. HasFilesExceptStaged (files_of v) u × Waits u → Since (IsStateDuringChange G (files_of v)) mid new) reads (λ u t q.
-          since_weaker (IsStateDuringChange G (files_of u)) (IsStateDuringChange G (files_of v)) mid new (λ w. read_from G (files_of v) u w q.0) (t q.1))));
+          since_on (IsStateDuringChangeToNewFromOld G (files_of v)) first mid new
+          (since_weaker (HasSameFilesExceptStaged (files_of v)) (IsStateDuringChangeToNewFromOld G (files_of v)) first mid (λ w reads. inl reads) s.run.reads)
+          (by_now mid (λ u. HasSameFilesExceptStaged (files_of v) u × Waits u) (Since (IsStateDuringChangeToNewFromOld G (files_of v)) mid new)
+          (now_both mid (HasSameFilesExceptStaged (files_of v)) Waits (so_far_now (HasSameFilesExceptStaged (files_of v)) Waits v first mid mid s.start (λ q shown. refl) s.run.reads) s.waiting)
+          (observable_map mid _ (λ u. HasSameFilesExceptStaged (files_of v) u × Waits u → Since (IsStateDuringChangeToNewFromOld G (files_of v)) mid new) reads (λ u t q.
+          since_weaker (IsStateDuringChangeToNewFromOld G (files_of u)) (IsStateDuringChangeToNewFromOld G (files_of v)) mid new (λ w. read_from G (files_of v) u w q.0) (t q.1))));
       last = λ last.
           since_on NamesAreDurableWithoutIntent first mid new
           (since_weaker NamesOutsideJournalAreDurable NamesAreDurableWithoutIntent first mid (λ w lasts none. lasts) (s.run.last last))

@@ -8,29 +8,32 @@ use Rattle.base_core.specs.Undone.{IsDurable}
 use Rattle.base_core.specs.Files.{Files}
 use Rattle.base_core.specs.Restart.{SinceGivenEarlier}
 use Rattle.base_core.specs.Tree.{TreeState, files_of}
-use Rattle.journal_core.specs.Kept.{HasOldOrNewBytes, IsRestoredByNoCrash, NamesOutsideJournalAreDurable}
+use Rattle.journal_core.specs.Kept.{HasOldOrNewBytesOutsideJournal, IsRestoredByNoCrash, NamesOutsideJournalAreDurable}
 use Rattle.journal_core.specs.Quiet.{StateIsUnchanged}
-use Rattle.journal_core.specs.Recovery.{EachCrashLeaves, StateDependsOn, intent_name, is_staged}
-use Rattle.journal_core.specs.Staged.{IsEmptyStage, IsOldUntilCommit, IsStaged, Staging, unstaged_files}
+use Rattle.journal_core.specs.Recovery.{EachCrashLeavesStateOf, StateDependsOn, intent_name, is_staged}
+use Rattle.journal_core.specs.Staged.{HasNoStagedNames, IsOldUntilCommit, HasStagedContents, Staging, unstaged_files}
 
 -- ---- what is read
 
 -- the files as read are `files`, except for staged files
-abbrev pub HasFilesExceptStaged : Files → TreeState → Type 0
-HasFilesExceptStaged files w = (q : List ℕ) → is_staged q ≡ false → files_of w q ≡ files q
+abbrev pub HasSameFilesExceptStaged : Files → TreeState → Type 0
+HasSameFilesExceptStaged files w = (q : List ℕ) → is_staged q ≡ false → files_of w q ≡ files q
 
 -- an intent is under its name, and a recovery leaves the new files; each name outside the staging
 -- area has its old bytes or its new ones
-pub record RecoversByIntent (new old : Files) (w : TreeState) : Type 0 where
+pub record RecoversToNewByIntentFromOld (new old : Files) (w : TreeState) : Type 0 where
+  -- the name of the intent leads to a file
   pub intent : IsSome (w.names intent_name)
+  -- recovery of the files as read leaves the new files
   pub leads : unstaged_files (files_of w) ≡ new
-  pub bytes : HasOldOrNewBytes old new w
+  -- each name outside the staging area has its old bytes or its new ones
+  pub bytes : HasOldOrNewBytesOutsideJournal old new w
 
 -- the files as read are the old ones, except for staged files; or an intent that is read leads to the
 -- new ones; or they are the new ones
-abbrev pub IsStateDuringChange : Files → Files → TreeState → Type 0
-IsStateDuringChange new old w =
-    HasFilesExceptStaged old w ⊎ (RecoversByIntent new old w ⊎ (files_of w ≡ new))
+abbrev pub IsStateDuringChangeToNewFromOld : Files → Files → TreeState → Type 0
+IsStateDuringChangeToNewFromOld new old w =
+    HasSameFilesExceptStaged old w ⊎ (RecoversToNewByIntentFromOld new old w ⊎ (files_of w ≡ new))
 
 -- if no intent is read, a crash undoes no change of a name outside the staging area
 abbrev pub NamesAreDurableWithoutIntent : TreeState → Type 0
@@ -46,7 +49,7 @@ pub record IsRunOfStagedChange (files : Files) (v : TreeState) (old now : List T
       → SinceGivenEarlier (IsOldUntilCommit ignored files v) old now
   -- the files as read are the old ones, except for staged files, or an intent leads to the new ones, or
   -- they are the new ones
-  pub reads : Since (IsStateDuringChange files (files_of v)) old now
+  pub reads : Since (IsStateDuringChangeToNewFromOld files (files_of v)) old now
   -- if no intent is read, a crash undoes no change of a name outside the staging area, if none could be
   -- undone at the start
   pub last : NamesOutsideJournalAreDurable v → Since NamesAreDurableWithoutIntent old now
@@ -58,7 +61,7 @@ pub record IsStagedChangeComplete (files : Files) (v : TreeState) (now : List Tr
   pub reads : HoldsNow now (λ w. (files_of w ≡ files) × (w.names intent_name ≡ None))
   -- if the tree was durable at the start, each crash leaves the state of the new files
   pub settled : (ignored : List ℕ → Bool) → IsDurable (StateDependsOn ignored) v
-      → HoldsNow now (EachCrashLeaves ignored files)
+      → HoldsNow now (EachCrashLeavesStateOf ignored files)
   -- no crash undoes a change of a name outside the journal
   pub last : HoldsNow now NamesOutsideJournalAreDurable
   -- no crash restores the intent
@@ -73,15 +76,19 @@ pub record IsStagingRun (v : TreeState) (old now : List TreeState) : Type 0 wher
   pub moments : (ignored : List ℕ → Bool) → IsDurable (StateDependsOn ignored) v
       → Since (StateIsUnchanged ignored v) old now
   -- at each moment the files as read are the same, except for staged files
-  pub reads : Since (HasFilesExceptStaged (files_of v)) old now
+  pub reads : Since (HasSameFilesExceptStaged (files_of v)) old now
   -- no crash undoes a change of a name outside the journal, if none could at the start
   pub last : NamesOutsideJournalAreDurable v → Since NamesOutsideJournalAreDurable old now
 
 -- a staging run that began with an empty staging area. Now files with the bytes `contents` are
 -- staged, and, if there is a file that is begun, one with its bytes
-pub record IsStaging (stage : Staging) (contents : List (List ℕ)) (begun : Option (List ℕ))
+pub record IsRunThatStagedContents (stage : Staging) (contents : List (List ℕ)) (begun : Option (List ℕ))
     (v : TreeState) (old now : List TreeState) : Type 0 where
+  -- `v` is the newest state at the start of staging
   pub start : HoldsNow old (λ w. w ≡ v)
-  pub empty : IsEmptyStage (files_of v)
+  -- nothing was staged then
+  pub empty : HasNoStagedNames (files_of v)
+  -- the moments since then are those of a staging run
   pub run : IsStagingRun v old now
-  pub waiting : HoldsNow now (IsStaged stage contents begun (files_of v))
+  -- the newest state has the staged files
+  pub waiting : HoldsNow now (HasStagedContents stage contents begun (files_of v))

@@ -8,19 +8,19 @@ use Rattle.base_core.specs.Faults.{Counts}
 use Rattle.base_core.specs.Tree.{TreeState, files_of}
 use Rattle.journal_core.specs.CallCounts.{IsResultExplainedByCounts}
 use Rattle.journal_core.specs.Staged.{Staging, AreJournalPathsFree}
-use Rattle.journal_commit.specs.StageRun.{IsStaging, IsStagingRun}
+use Rattle.journal_commit.specs.StageRun.{IsRunThatStagedContents, IsStagingRun}
 
 -- how a call changes the tree and its counts, if no staged file is begun before it
 pub record ChangesOnlyStagedFiles {T E : Type 0} (stage : Staging) (old now : List TreeState)
     (before after : Counts) (result : Result T E) : Type 0 where
   -- whatever it returns, only staged files have changed at each moment
   pub run : (contents : List (List ℕ)) (v : TreeState) (first : List TreeState)
-      → IsStaging stage contents None v first old → IsStagingRun v first now
+      → IsRunThatStagedContents stage contents None v first old → IsStagingRun v first now
   -- how the tree's counts explain the result
   pub counts : IsResultExplainedByCounts before after result
   -- no call is a misuse if the paths of the stage are free
   pub proper : (contents : List (List ℕ)) (v : TreeState) (first : List TreeState)
-      → IsStaging stage contents None v first old → AreJournalPathsFree (files_of v)
+      → IsRunThatStagedContents stage contents None v first old → AreJournalPathsFree (files_of v)
       → after.misuses ≡ before.misuses
 
 -- how a call changes the tree and its counts, if a staged file is begun before it; the call needs
@@ -29,12 +29,12 @@ pub record ChangesOnlyBegunFile {T E : Type 0} (stage : Staging) (old now : List
     (before after : Counts) (result : Result T E) : Type 0 where
   -- whatever it returns, only staged files have changed at each moment
   pub run : (contents : List (List ℕ)) (so_far : List ℕ) (v : TreeState) (first : List TreeState)
-      → IsStaging stage contents (Some so_far) v first old → IsStagingRun v first now
+      → IsRunThatStagedContents stage contents (Some so_far) v first old → IsStagingRun v first now
   -- how the tree's counts explain the result
   pub counts : IsResultExplainedByCounts before after result
   -- no call is a misuse
   pub proper : (contents : List (List ℕ)) (so_far : List ℕ) (v : TreeState) (first : List TreeState)
-      → IsStaging stage contents (Some so_far) v first old → after.misuses ≡ before.misuses
+      → IsRunThatStagedContents stage contents (Some so_far) v first old → after.misuses ≡ before.misuses
 
 -- a call that stages one whole file with these bytes, and changes the stage to `next`
 pub record StagesFile {T E : Type 0} (stage next : Staging) (bytes : List ℕ) (old now : List TreeState)
@@ -43,7 +43,7 @@ pub record StagesFile {T E : Type 0} (stage next : Staging) (bytes : List ℕ) (
   pub only : ChangesOnlyStagedFiles stage old now before after result
   -- once it has returned Ok, the bytes are staged after the files staged before
   pub staging : (contents : List (List ℕ)) (v : TreeState) (first : List TreeState)
-      → IsStaging stage contents None v first old
-      → OnOk result (IsStaging next (contents ++ bytes ∷ []) None v first now)
+      → IsRunThatStagedContents stage contents None v first old
+      → OnOk result (IsRunThatStagedContents next (contents ++ bytes ∷ []) None v first now)
   -- the next write of the stage has its file then
   pub view : OnOk result (next ≡ record stage { staged = stage.staged + 1 })

@@ -4,10 +4,10 @@
 
 ghost use Rattle.std.specs.Prelude.{◌≡◌, ◌<◌, ◌+◌, ◌++◌, ◌∷◌, [], ℕ, true, false, List, Some, None, length, OnOk, OnErr};
 ghost use Rattle.base_core.specs.Tree.{TreeState, files_of};
-ghost use Rattle.journal_core.specs.Staged.{IsEmptyStage, new_stage, files_with_staged};
+ghost use Rattle.journal_core.specs.Staged.{HasNoStagedNames, new_stage_of_removals_and_writes, files_with_staged};
 ghost use Rattle.journal_commit.specs.Asked.{TargetsAreAccepted};
 ghost use Rattle.journal_commit.specs.StagingCalls.{ChangesOnlyBegunFile, ChangesOnlyStagedFiles, StagesFile};
-ghost use Rattle.journal_commit.specs.StageRun.{IsStaging, IsStagingRun, IsRunOfStagedChange};
+ghost use Rattle.journal_commit.specs.StageRun.{IsRunThatStagedContents, IsStagingRun, IsRunOfStagedChange};
 ghost use Rattle.base_core.specs.Calls.{IfObservable};
 ghost use Rattle.base_core.specs.Files.{Files};
 ghost use Rattle.journal_core.specs.Recovery.{Intent, files_after_actions, intent_name};
@@ -18,7 +18,9 @@ use journal_core::Stage;
 
 /// Makes an empty file for the next write.
 pub fn begin_file<T: Tree>(stage: &mut Stage, tree: &mut T) -> Result<(), Disk>
+    // No staged file is begun.
     requires closed { stage.old.is_open ≡ false }
+    // A write is left whose file is not staged.
     requires more { stage.old.staged < length stage.old.intent.writes }
 
     // Whatever it returns, only staged files have changed at each moment; and no call is a misuse
@@ -27,8 +29,9 @@ pub fn begin_file<T: Tree>(stage: &mut Stage, tree: &mut T) -> Result<(), Disk>
         (T.counts tree.old) (T.counts tree.new) result }
     // Once it has returned Ok, an empty file is staged, which is begun.
     ensures staging { (contents : List (List ℕ)) (v : TreeState) (first : List TreeState)
-        → IsStaging stage.old contents None v first (T.history tree.old)
-        → OnOk result (IsStaging stage.new contents (Some []) v first (T.history tree.new)) }
+        → IsRunThatStagedContents stage.old contents None v first (T.history tree.old)
+        → OnOk result (IsRunThatStagedContents stage.new contents (Some []) v first
+        (T.history tree.new)) }
     // The stage then has an open file; after an error it is as before.
     ensures view { OnOk result (stage.new ≡ record stage.old { is_open = true }) }
     ensures err { OnErr result (stage.new ≡ stage.old) }
@@ -39,13 +42,17 @@ pub fn begin_file<T: Tree>(stage: &mut Stage, tree: &mut T) -> Result<(), Disk>
 /// Adds bytes to the file that is begun. The clauses are those of `begin_file`; it needs no free
 /// path.
 pub fn append_piece<T: Tree>(stage: &mut Stage, tree: &mut T, piece: &[u8]) -> Result<(), Disk>
+    // A staged file is begun.
     requires { stage.old.is_open ≡ true }
+    // Whatever it returns, only the begun file has changed.
     ensures only { ChangesOnlyBegunFile stage.old (T.history tree.old) (T.history tree.new)
         (T.counts tree.old) (T.counts tree.new) result }
+    // On Ok, the begun file has these bytes after its earlier ones.
     ensures staging { (contents : List (List ℕ)) (so_far : List ℕ) (v : TreeState)
         (first : List TreeState)
-        → IsStaging stage.old contents (Some so_far) v first (T.history tree.old)
-        → OnOk result (IsStaging stage.new contents (Some (so_far ++ piece.now)) v first
+        → IsRunThatStagedContents stage.old contents (Some so_far) v first (T.history tree.old)
+        → OnOk result (IsRunThatStagedContents stage.new contents (Some (so_far
+        ++ piece.now)) v first
         (T.history tree.new)) }
     ensures view { stage.new ≡ stage.old }
 {
@@ -55,14 +62,18 @@ pub fn append_piece<T: Tree>(stage: &mut Stage, tree: &mut T, piece: &[u8]) -> R
 /// Ends the file that is begun: its bytes are made durable. The clauses are those of `begin_file`;
 /// it needs no free path.
 pub fn end_file<T: Tree>(stage: &mut Stage, tree: &mut T) -> Result<(), Disk>
+    // A staged file is begun.
     requires { stage.old.is_open ≡ true }
+    // Whatever it returns, only the begun file has changed.
     ensures only { ChangesOnlyBegunFile stage.old (T.history tree.old) (T.history tree.new)
         (T.counts tree.old) (T.counts tree.new) result }
+    // On Ok, the begun file is one of the staged files.
     ensures staging { (contents : List (List ℕ)) (so_far : List ℕ) (v : TreeState)
         (first : List TreeState)
-        → IsStaging stage.old contents (Some so_far) v first (T.history tree.old)
-        → OnOk result (IsStaging stage.new (contents ++ so_far ∷ []) None v first
+        → IsRunThatStagedContents stage.old contents (Some so_far) v first (T.history tree.old)
+        → OnOk result (IsRunThatStagedContents stage.new (contents ++ so_far ∷ []) None v first
         (T.history tree.new)) }
+    // On Ok, one more file is staged, and none is begun.
     ensures view { OnOk result
         (stage.new ≡ record stage.old { staged = stage.old.staged + 1; is_open = false }) }
     ensures err { OnErr result (stage.new ≡ stage.old) }
@@ -73,7 +84,9 @@ pub fn end_file<T: Tree>(stage: &mut Stage, tree: &mut T) -> Result<(), Disk>
 /// Stages one whole file with these bytes. The clauses are those of `begin_file`, for the three
 /// calls.
 pub fn stage_bytes<T: Tree>(stage: &mut Stage, tree: &mut T, bytes: &[u8]) -> Result<(), Disk>
+    // No staged file is begun.
     requires closed { stage.old.is_open ≡ false }
+    // A write is left whose file is not staged.
     requires more { stage.old.staged < length stage.old.intent.writes }
     ensures { StagesFile stage.old stage.new bytes.now (T.history tree.old) (T.history tree.new)
         (T.counts tree.old) (T.counts tree.new) result }
@@ -91,7 +104,9 @@ pub fn stage_pieces<T: Tree>(
     first_piece: &[u8],
     last_piece: &[u8],
 ) -> Result<(), Disk>
+    // No staged file is begun.
     requires closed { stage.old.is_open ≡ false }
+    // A write is left whose file is not staged.
     requires more { stage.old.staged < length stage.old.intent.writes }
     ensures { StagesFile stage.old stage.new (first_piece.now ++ last_piece.now)
         (T.history tree.old) (T.history tree.new) (T.counts tree.old) (T.counts tree.new) result }
@@ -105,7 +120,9 @@ pub fn stage_pieces<T: Tree>(
 /// The statement about accepted targets holds of a run that has added no moment. If reads come
 /// first, it holds of the run if it holds of the part after the reads.
 pub fn runs_with_accepted_targets_begin_with_reads<T: Tree>()
+    // A run that adds no moment has such targets.
     ensures same { (old now : List TreeState) → now ≡ old → TargetsAreAccepted T.accepts old now }
+    // The run has such targets if the part after the reads has them.
     ensures later { (old mid now : List TreeState) → mid ≡ old
         → TargetsAreAccepted T.accepts mid now
         → TargetsAreAccepted T.accepts old now }
@@ -114,8 +131,9 @@ pub fn runs_with_accepted_targets_begin_with_reads<T: Tree>()
 /// A new stage begins a staging run, if no intent is read and nothing is staged.
 pub fn a_new_stage_is_staging()
     ensures { (removals writes : List (List ℕ)) (now : List TreeState) → IfObservable now (λ v.
-        v.names intent_name ≡ None → IsEmptyStage (files_of v)
-        → IsStaging (new_stage removals writes) [] None v now now) }
+        v.names intent_name ≡ None → HasNoStagedNames (files_of v)
+        → IsRunThatStagedContents
+        (new_stage_of_removals_and_writes removals writes) [] None v now now) }
 {}
 
 /// A run that only stages files is a run of a staged change, whatever files this is to lead to.
@@ -128,6 +146,7 @@ pub fn a_staging_run_is_a_stage_run()
 /// were staged.
 pub fn a_change_leaves_nothing_staged()
     ensures { (intent : Intent) (contents : List (List ℕ)) (files : Files)
-        → HasFreeDistinctNames intent → length contents ≡ length intent.writes → IsEmptyStage files
-        → IsEmptyStage (files_after_actions intent (files_with_staged 1 contents files)) }
+        → HasFreeDistinctNames intent → length contents ≡ length intent.writes
+        → HasNoStagedNames files
+        → HasNoStagedNames (files_after_actions intent (files_with_staged 1 contents files)) }
 {}

@@ -9,7 +9,7 @@ use Rattle.base_core.specs.Tree.{TreeState, File, bytes_of_file_number, files_un
 use Rattle.base_core.specs.Undone.{IsDurable, IsCrashImage, IsCrashMap, with_change_replayed}
 use Rattle.base_core.proofs.Undone.{change_whole, left_only, read_may_be_left}
 use Rattle.base_core.proofs.AtName.{same_name, name_cases, off_name}
-use Rattle.journal_core.specs.Recovery.{Intent, IsStagedNameOf, EachCrashLeaves, StateDependsOn, intent_name, intent_in_file, intent_of, is_hidden, move_if_present, recovered_files, stage_name, state_of, without_names}
+use Rattle.journal_core.specs.Recovery.{Intent, IsStagedNameOf, EachCrashLeavesStateOf, StateDependsOn, intent_name, intent_in_file, intent_of, is_hidden, move_if_present, recovered_files, stage_name, state_of, files_without_names}
 use Rattle.journal_core.specs.Quiet.{StateIsUnchanged}
 use Rattle.journal_core.specs.Staged.{Staging, AreActionsDone, IsCarryingOutActions, IsStillNeeded, NeededNamesAreDurable, action_count}
 use Rattle.journal_core.proofs.Changes.{change_dropped, change_moved, left_here, synced_left}
@@ -387,10 +387,10 @@ module _ (stage : Staging) (files : Files) (v : TreeState) (acting : IsCarryingO
       let low = get_below stage.intent.removals at.0 q at.1 in
       acting.done.removed at.0 q (omega (arith, low, behind)) at.1
 
-  without_same : without_names stage.intent.removals (files_of v) ≡ files_of v
+  without_same : files_without_names stage.intent.removals (files_of v) ≡ files_of v
   without_same i q = by (list_any (bytes_eq q) stage.intent.removals) refl i
     where
-      by : (b : Bool) → list_any (bytes_eq q) stage.intent.removals ≡ b → without_names stage.intent.removals (files_of v) q ≡ files_of v q
+      by : (b : Bool) → list_any (bytes_eq q) stage.intent.removals ≡ b → files_without_names stage.intent.removals (files_of v) q ≡ files_of v q
       by true is = ap (λ b. cond b None (files_of v q)) is ∙ sym (removal_absent q is)
       by false is = ap (λ b. cond b None (files_of v q)) is
 
@@ -439,7 +439,7 @@ sync_still ignored v is_durable = record {
   made = omega arith;
 }
 
-pub sync_settled : CrashLaws → (ignored : List ℕ → Bool) (v : TreeState) → IsDurable (StateDependsOn ignored) v → EachCrashLeaves ignored (files_of v) (after_sync_names v)
+pub sync_settled : CrashLaws → (ignored : List ℕ → Bool) (v : TreeState) → IsDurable (StateDependsOn ignored) v → EachCrashLeavesStateOf ignored (files_of v) (after_sync_names v)
 sync_settled laws ignored v is_durable = settled_by_maps laws ignored (files_of v) (after_sync_names v) (sync_still ignored v is_durable).is_durable each
   where
     each : (m : NameMap) → IsCrashMap (after_sync_names v) m → state_of ignored (files_under_map v m) ≡ state_of ignored (files_of v)

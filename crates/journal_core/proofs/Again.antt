@@ -3,7 +3,7 @@ use Rattle.std.proofs.Common.{◌≡◌, ℕ, Bool, List, [], ◌∷◌, None, O
 use Rattle.base_core.specs.Files.{Files}
 use Rattle.base_core.specs.Tree.{TreeState, files_of}
 use Rattle.base_core.specs.Calls.{IfObservable, HoldsNow}
-use Rattle.journal_core.specs.Staged.{Staging, IsCarryingOutActions, IsStaged}
+use Rattle.journal_core.specs.Staged.{Staging, IsCarryingOutActions, HasStagedContents}
 use Rattle.journal_core.proofs.History.{History, now_map, observable_map}
 use Rattle.base_core.specs.Crash.{Since}
 use Rattle.base_core.specs.Undone.{IsDurable}
@@ -38,27 +38,27 @@ after_as a b next now old new intent acted same_intent same_acted told =
     observable_map old _ _ told (λ v t files acting. acting_now next now files new same_intent same_acted (t files (acting_as a b files v intent acted acting)))
 
 -- what waits is the same for each stage that has as many files
-pub staged_as : (a b : Staging) (contents : List (List ℕ)) (begun : Option (List ℕ)) (base : Files) (v : TreeState) → a.staged ≡ b.staged → IsStaged a contents begun base v → IsStaged b contents begun base v
+pub staged_as : (a b : Staging) (contents : List (List ℕ)) (begun : Option (List ℕ)) (base : Files) (v : TreeState) → a.staged ≡ b.staged → HasStagedContents a contents begun base v → HasStagedContents b contents begun base v
 staged_as a b contents begun base v same staged = record { count = staged.count ∙ same; absent = staged.absent; reads = staged.reads; synced = staged.synced; alone = staged.alone; gone = staged.gone }
 
 -- and what a full stage does, each stage does that has the same intent and all files
 pub publish_as : (P : Intent → Files → TreeState → Type 0) (i : Intent) (stage : Staging) (old : History) → i ≡ stage.intent → stage.staged ≡ length stage.intent.writes
-    → IfObservable old (λ v. (contents : List (List ℕ)) (base : Files) → IsStaged (fully_staged_stage i) contents None base v → P i base v)
-    → IfObservable old (λ v. (contents : List (List ℕ)) (base : Files) → IsStaged stage contents None base v → P stage.intent base v)
+    → IfObservable old (λ v. (contents : List (List ℕ)) (base : Files) → HasStagedContents (fully_staged_stage i) contents None base v → P i base v)
+    → IfObservable old (λ v. (contents : List (List ℕ)) (base : Files) → HasStagedContents stage contents None base v → P stage.intent base v)
 publish_as P i stage old same all told =
-    subst (λ (j : Intent). IfObservable old (λ v. (contents : List (List ℕ)) (base : Files) → IsStaged stage contents None base v → P j base v)) same
+    subst (λ (j : Intent). IfObservable old (λ v. (contents : List (List ℕ)) (base : Files) → HasStagedContents stage contents None base v → P j base v)) same
     (observable_map old _ _ told (λ v t contents base staged. t contents base (staged_as stage (fully_staged_stage i) contents None base v (all ∙ ap (λ (j : Intent). length j.writes) (sym same)) staged)))
 
 pub publish_durable : (P : (List ℕ → Bool) → Intent → TreeState → Type 0) (i : Intent) (stage : Staging) (old : History) → i ≡ stage.intent → stage.staged ≡ length stage.intent.writes
-    → IfObservable old (λ v. (ignored : List ℕ → Bool) (contents : List (List ℕ)) (base : Files) → IsDurable (StateDependsOn ignored) v → IsStaged (fully_staged_stage i) contents None base v → P ignored i v)
-    → IfObservable old (λ v. (ignored : List ℕ → Bool) (contents : List (List ℕ)) (base : Files) → IsDurable (StateDependsOn ignored) v → IsStaged stage contents None base v → P ignored stage.intent v)
+    → IfObservable old (λ v. (ignored : List ℕ → Bool) (contents : List (List ℕ)) (base : Files) → IsDurable (StateDependsOn ignored) v → HasStagedContents (fully_staged_stage i) contents None base v → P ignored i v)
+    → IfObservable old (λ v. (ignored : List ℕ → Bool) (contents : List (List ℕ)) (base : Files) → IsDurable (StateDependsOn ignored) v → HasStagedContents stage contents None base v → P ignored stage.intent v)
 publish_durable P i stage old same all told =
-    subst (λ (j : Intent). IfObservable old (λ v. (ignored : List ℕ → Bool) (contents : List (List ℕ)) (base : Files) → IsDurable (StateDependsOn ignored) v → IsStaged stage contents None base v → P ignored j v)) same
+    subst (λ (j : Intent). IfObservable old (λ v. (ignored : List ℕ → Bool) (contents : List (List ℕ)) (base : Files) → IsDurable (StateDependsOn ignored) v → HasStagedContents stage contents None base v → P ignored j v)) same
     (observable_map old _ _ told (λ v t ignored contents base is_durable staged. t ignored contents base is_durable (staged_as stage (fully_staged_stage i) contents None base v (all ∙ ap (λ (j : Intent). length j.writes) (sym same)) staged)))
 
 -- the actions of the stage as it is behind the publishing
 pub acting_published : (stage now : Staging) (old new : History) → now.intent ≡ stage.intent → now.acted ≡ 0
-    → IfObservable old (λ v. (contents : List (List ℕ)) (base : Files) → IsStaged stage contents None base v → HoldsNow new (IsCarryingOutActions (stage_with_actions_done stage.intent 0) (files_after_actions stage.intent (files_of v))))
-    → IfObservable old (λ v. (contents : List (List ℕ)) (base : Files) → IsStaged stage contents None base v → HoldsNow new (IsCarryingOutActions now (files_after_actions stage.intent (files_of v))))
+    → IfObservable old (λ v. (contents : List (List ℕ)) (base : Files) → HasStagedContents stage contents None base v → HoldsNow new (IsCarryingOutActions (stage_with_actions_done stage.intent 0) (files_after_actions stage.intent (files_of v))))
+    → IfObservable old (λ v. (contents : List (List ℕ)) (base : Files) → HasStagedContents stage contents None base v → HoldsNow new (IsCarryingOutActions now (files_after_actions stage.intent (files_of v))))
 acting_published stage now old new same none told =
     observable_map old _ _ told (λ v t contents base staged. acting_now (stage_with_actions_done stage.intent 0) now (files_after_actions stage.intent (files_of v)) new (sym same) (sym none) (t contents base staged))

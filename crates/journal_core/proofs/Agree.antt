@@ -3,14 +3,14 @@ use Rattle.std.proofs.Common.{◌≡◌, inl, inr, ℕ, ◌+◌, ◌≤◌, ◌<
 use Rattle.std.specs.List.{list_any}
 use Rattle.std.specs.Str.{bytes_eq}
 use Rattle.base_core.specs.Files.{Files}
-use Rattle.journal_core.specs.Recovery.{intent_name, stage_name, Intent, intent_in_file, intent_of, without_names, move_if_present, files_after_moves, files_after_intent, recovered_files, is_hidden, state_of, IsStagedNameOf, StateDependsOn}
+use Rattle.journal_core.specs.Recovery.{intent_name, stage_name, Intent, intent_in_file, intent_of, files_without_names, move_if_present, files_after_staged_moves_from, files_after_intent, recovered_files, is_hidden, state_of, IsStagedNameOf, StateDependsOn}
 
 -- two trees of files agree at these names
 abbrev pub Agree : (List ℕ → Type 0) → Files → Files → Type 0
 Agree S F G = (q : List ℕ) → S q → F q ≡ G q
 
 module _ (S : List ℕ → Type 0) where
-  pub agree-without : (names : List (List ℕ)) (F G : Files) → Agree S F G → Agree S (without_names names F) (without_names names G)
+  pub agree-without : (names : List (List ℕ)) (F G : Files) → Agree S F G → Agree S (files_without_names names F) (files_without_names names G)
   agree-without names F G h q s = ap (cond (list_any (bytes_eq q) names) None) (h q s)
 
   agree_moved : (from to : List ℕ) (o : Option (List ℕ)) (F G : Files) → Agree S F G → Agree S (move_if_present F from to o) (move_if_present G from to o)
@@ -21,7 +21,7 @@ module _ (S : List ℕ → Type 0) where
   agree-move_if_present from to F G at h =
       subst (λ o. Agree S (move_if_present F from to (F from)) (move_if_present G from to o)) (h from at) (agree_moved from to (F from) F G h)
 
-  pub agree-unstaged : (names : List (List ℕ)) (k : ℕ) (F G : Files) → ((j : ℕ) → k ≤ j → j < k + length names → S (stage_name j)) → Agree S F G → Agree S (files_after_moves k names F) (files_after_moves k names G)
+  pub agree-unstaged : (names : List (List ℕ)) (k : ℕ) (F G : Files) → ((j : ℕ) → k ≤ j → j < k + length names → S (stage_name j)) → Agree S F G → Agree S (files_after_staged_moves_from k names F) (files_after_staged_moves_from k names G)
   agree-unstaged [] k F G at h = h
   agree-unstaged (name ∷ names) k F G at h =
       agree-unstaged names (k + 1) _ _ (λ j from below. at j (omega arith) (omega arith)) (agree-move_if_present (stage_name k) name F G (at k (omega arith) (omega arith)) h)

@@ -5,7 +5,7 @@ use Rattle.base_core.specs.Files.{Files, HasNoFileAsFolder, put_name}
 use Rattle.base_core.specs.Tree.{TreeState, File, bytes_of_file_number, CanCreate}
 use Rattle.base_core.proofs.AtName.{name_cases, off_name}
 use Rattle.journal_core.specs.Recovery.{stage_name}
-use Rattle.journal_core.specs.Staged.{Staging, IsPresentOrOfJournal, AreJournalPathsFree, AreStagingPathsFree, IsStaged, files_with_staged}
+use Rattle.journal_core.specs.Staged.{Staging, IsPresentOrOfJournal, AreJournalPathsFree, AreStagingPathsFree, HasStagedContents, files_with_staged}
 use Rattle.journal_intent.proofs.AtName.{put_name-off}
 use Rattle.journal_intent.proofs.StageNames.{stage_names_apart}
 
@@ -30,7 +30,7 @@ staged_held (b ∷ bs) k base F stage_with_actions_done q some = staged_held bs 
     at r has (inl is) = inr (inr (k, is))
     at r has (inr off) = stage_with_actions_done r (subst IsSome (put_name-off F (stage_name k) b r (off_name r (stage_name k) off)) has)
 
-module _ (stage : Staging) (contents : List (List ℕ)) (base : Files) (v : TreeState) (few : 1 + length contents < 2 ^ 64) (staged : IsStaged stage contents None base v) where
+module _ (stage : Staging) (contents : List (List ℕ)) (base : Files) (v : TreeState) (few : 1 + length contents < 2 ^ 64) (staged : HasStagedContents stage contents None base v) where
   pub read_held : (q : List ℕ) → IsSome (v.names q) → IsPresentOrOfJournal base q
   read_held q some = staged_held contents 1 base base (λ r has. inl has) q (subst (λ (F : Files). IsSome (F q)) staged.reads (as_read v.files (v.names q) some))
 

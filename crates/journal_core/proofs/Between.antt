@@ -8,7 +8,7 @@ use Rattle.base_core.specs.Undone.{IsDurable}
 use Rattle.journal_core.specs.Recovery.{StateDependsOn, intent_name, stage_name}
 use Rattle.journal_core.specs.Quiet.{StateIsUnchanged}
 use Rattle.journal_core.specs.Kept.{IsRestoredByNoCrash}
-use Rattle.journal_core.specs.Staged.{Staging, HasNoOtherIntent, IsStaged, files_with_staged}
+use Rattle.journal_core.specs.Staged.{Staging, HasNoOtherIntent, HasStagedContents, files_with_staged}
 use Rattle.base_core.proofs.Undone.{read_may_be_left}
 use Rattle.base_core.proofs.AtName.{name_cases, off_name}
 use Rattle.journal_core.proofs.Changes.{gone_created, gone_synced}
@@ -33,11 +33,11 @@ name_of_next name staged count is same = is ∙ ap stage_name (omega (arith, sam
 pub few_next : (staged count most : ℕ) → count ≡ staged → staged < most → most < 2 ^ 63 → 1 + count < 2 ^ 64
 few_next staged count most same below few = omega (arith, same, below, few)
 
-pub no_intent_read : (stage : Staging) (contents : List (List ℕ)) (base : Files) (v : TreeState) → IsStaged stage contents None base v → files_of v intent_name ≡ None
+pub no_intent_read : (stage : Staging) (contents : List (List ℕ)) (base : Files) (v : TreeState) → HasStagedContents stage contents None base v → files_of v intent_name ≡ None
 no_intent_read stage contents base v staged = ap (λ (F : Files). F intent_name) staged.reads ∙ staged_off contents 1 base intent_name (λ j le e. stage_name_no_intent j (sym e)) ∙ staged.absent
 
 -- once a file is staged, no crash restores an intent
-pub gone_once : (stage : Staging) (contents : List (List ℕ)) (base : Files) (v : TreeState) (k : ℕ) → IsStaged stage contents None base v → stage.staged ≡ suc k → IsRestoredByNoCrash intent_name v
+pub gone_once : (stage : Staging) (contents : List (List ℕ)) (base : Files) (v : TreeState) (k : ℕ) → HasStagedContents stage contents None base v → stage.staged ≡ suc k → IsRestoredByNoCrash intent_name v
 gone_once stage [] base v k staged some = absurd (let none = staged.count in omega (arith, none, some))
 gone_once stage (bytes ∷ contents) base v k staged some = staged.gone
 
@@ -50,10 +50,10 @@ unread files None is = refl
 unread files (Some n) is = absurd (cc)
 
 -- the names are synced
-pub gone_once_synced : (stage : Staging) (contents : List (List ℕ)) (base : Files) (v : TreeState) → IsStaged stage contents None base v → IsRestoredByNoCrash intent_name (after_sync_names v)
+pub gone_once_synced : (stage : Staging) (contents : List (List ℕ)) (base : Files) (v : TreeState) → HasStagedContents stage contents None base v → IsRestoredByNoCrash intent_name (after_sync_names v)
 gone_once_synced stage contents base v staged = gone_synced intent_name v (unread v.files (v.names intent_name) (no_intent_read stage contents base v staged))
 
-pub staged_synced : (stage : Staging) (contents : List (List ℕ)) (base : Files) (v : TreeState) → IsStaged stage contents None base v → IsStaged stage contents None base (after_sync_names v)
+pub staged_synced : (stage : Staging) (contents : List (List ℕ)) (base : Files) (v : TreeState) → HasStagedContents stage contents None base v → HasStagedContents stage contents None base (after_sync_names v)
 staged_synced stage contents base v staged = record {
   count = staged.count;
   absent = staged.absent;
@@ -69,7 +69,7 @@ staged_synced stage contents base v staged = record {
 
 -- ---- a file is begun
 
-module _ (laws : CrashLaws) (stage : Staging) (contents : List (List ℕ)) (base : Files) (v : TreeState) (few : 1 + length contents < 2 ^ 64) (staged : IsStaged stage contents None base v) (gone : IsRestoredByNoCrash intent_name v) (whole : IsWellFormed v) where
+module _ (laws : CrashLaws) (stage : Staging) (contents : List (List ℕ)) (base : Files) (v : TreeState) (few : 1 + length contents < 2 ^ 64) (staged : HasStagedContents stage contents None base v) (gone : IsRestoredByNoCrash intent_name v) (whole : IsWellFormed v) where
   abbrev next : List ℕ
   next = stage_name (1 + length contents)
 
@@ -86,7 +86,7 @@ module _ (laws : CrashLaws) (stage : Staging) (contents : List (List ℕ)) (base
   kept_file : (n : ℕ) → n ≢ v.made → (after_create next v).files n ≡ v.files n
   kept_file n ne = let same : Some ((after_create next v).files n) ≡ Some (v.files n) = file_at-set_file v.files v.made _ (Some n) (λ e. ne (cc)) in cc
 
-  staged_begun_at : (now : Staging) → now.staged ≡ stage.staged → IsStaged now contents (Some []) base (after_create next v)
+  staged_begun_at : (now : Staging) → now.staged ≡ stage.staged → HasStagedContents now contents (Some []) base (after_create next v)
   staged_begun_at now same = record {
     count = staged.count ∙ sym same;
     absent = staged.absent;
@@ -102,15 +102,15 @@ module _ (laws : CrashLaws) (stage : Staging) (contents : List (List ℕ)) (base
     pub still_begun : (ignored : List ℕ → Bool) → IsDurable (StateDependsOn ignored) v → StateIsUnchanged ignored v (after_create name v)
     still_begun ignored is_durable = subst (λ (n : List ℕ). StateIsUnchanged ignored v (after_create n v)) (sym is) (still_begun_at ignored is_durable)
 
-    pub staged_begun : (now : Staging) → now.staged ≡ stage.staged → IsStaged now contents (Some []) base (after_create name v)
-    staged_begun now same = subst (λ (n : List ℕ). IsStaged now contents (Some []) base (after_create n v)) (sym is) (staged_begun_at now same)
+    pub staged_begun : (now : Staging) → now.staged ≡ stage.staged → HasStagedContents now contents (Some []) base (after_create name v)
+    staged_begun now same = subst (λ (n : List ℕ). HasStagedContents now contents (Some []) base (after_create n v)) (sym is) (staged_begun_at now same)
 
     pub others_begun : (q : List ℕ) → q ≢ name → files_of (after_create name v) q ≡ files_of v q
     others_begun = create_others name v whole
 
 -- ---- it grows, and is synced
 
-module _ (laws : CrashLaws) (stage : Staging) (contents : List (List ℕ)) (so_far : List ℕ) (base : Files) (v : TreeState) (few : 1 + length contents < 2 ^ 64) (staged : IsStaged stage contents (Some so_far) base v) where
+module _ (laws : CrashLaws) (stage : Staging) (contents : List (List ℕ)) (so_far : List ℕ) (base : Files) (v : TreeState) (few : 1 + length contents < 2 ^ 64) (staged : HasStagedContents stage contents (Some so_far) base v) where
   abbrev place : List ℕ
   place = stage_name (1 + length contents)
 
@@ -166,7 +166,7 @@ module _ (laws : CrashLaws) (stage : Staging) (contents : List (List ℕ)) (so_f
           let at : v.names (stage_name k) ≡ Some n = sym (ap (λ (m : NameMap). m (stage_name k)) same_names) ∙ there in
           ap (λ (f : File). f.synced) (kept_number n (other_number k n below at)) ∙ staged.synced k n from below at
 
-      staged_grown_at : now.staged ≡ stage.staged → IsStaged now contents (Some bytes) base w
+      staged_grown_at : now.staged ≡ stage.staged → HasStagedContents now contents (Some bytes) base w
       staged_grown_at kept = record {
         count = staged.count ∙ sym kept;
         absent = staged.absent;
@@ -186,7 +186,7 @@ module _ (laws : CrashLaws) (stage : Staging) (contents : List (List ℕ)) (so_f
           let n_is : n ≡ staged.alone.number = cc in
           ap (λ (u : TreeState). (u.files n).synced) w_at ∙ ap (λ (f : File). f.synced) (set_file-at v.files staged.alone.number (change (v.files staged.alone.number)) n n_is) ∙ flag
 
-      staged_ended_at : now.staged ≡ stage.staged + 1 → (change (v.files staged.alone.number)).synced ≡ true → IsStaged now (contents ++ bytes ∷ []) None base w
+      staged_ended_at : now.staged ≡ stage.staged + 1 → (change (v.files staged.alone.number)).synced ≡ true → HasStagedContents now (contents ++ bytes ∷ []) None base w
       staged_ended_at more flag = record {
         count = count_more contents ∙ ap (λ n. n + 1) staged.count ∙ sym more;
         absent = staged.absent;
@@ -211,12 +211,12 @@ module _ (laws : CrashLaws) (stage : Staging) (contents : List (List ℕ)) (so_f
     pub others_grown : (change : File → File) (q : List ℕ) → q ≢ name → files_of (with_file_changed change v (v.names name)) q ≡ files_of v q
     others_grown change q ne = subst (λ (n : List ℕ). files_of (with_file_changed change v (v.names n)) q ≡ files_of v q) (sym is) (grown_others change q (λ e. ne (e ∙ sym is)))
 
-    pub staged_grown : (now : Staging) (piece : List ℕ) → now.staged ≡ stage.staged → IsStaged now contents (Some (so_far ++ piece)) base (after_append name piece v)
-    staged_grown now piece kept = subst (λ (n : List ℕ). IsStaged now contents (Some (so_far ++ piece)) base (after_append n piece v)) (sym is)
+    pub staged_grown : (now : Staging) (piece : List ℕ) → now.staged ≡ stage.staged → HasStagedContents now contents (Some (so_far ++ piece)) base (after_append name piece v)
+    staged_grown now piece kept = subst (λ (n : List ℕ). HasStagedContents now contents (Some (so_far ++ piece)) base (after_append n piece v)) (sym is)
         (staged_grown_at (λ f. record { bytes = f.bytes ++ piece; synced = false }) now (so_far ++ piece) (ap (λ (b : List ℕ). b ++ piece) bytes_now) kept)
 
-    pub staged_ended : (now : Staging) → now.staged ≡ stage.staged + 1 → IsStaged now (contents ++ so_far ∷ []) None base (after_sync name v)
-    staged_ended now more = subst (λ (n : List ℕ). IsStaged now (contents ++ so_far ∷ []) None base (after_sync n v)) (sym is)
+    pub staged_ended : (now : Staging) → now.staged ≡ stage.staged + 1 → HasStagedContents now (contents ++ so_far ∷ []) None base (after_sync name v)
+    staged_ended now more = subst (λ (n : List ℕ). HasStagedContents now (contents ++ so_far ∷ []) None base (after_sync n v)) (sym is)
         (staged_ended_at (λ f. record { bytes = f.bytes; synced = true }) now so_far bytes_now more refl)
 
     -- the bytes as read stay where only the flag changes

@@ -6,7 +6,7 @@ use Rattle.base_core.specs.Calls.{IfObservable, HoldsNow}
 use Rattle.base_core.specs.Crash.{Since}
 use Rattle.base_core.specs.Undone.{IsDurable}
 use Rattle.journal_core.specs.Recovering.{IsIntentReplayed}
-use Rattle.journal_core.specs.Recovery.{EachCrashLeaves, StateDependsOn, intent_name, intent_in_file, read_intent, recovered_files}
+use Rattle.journal_core.specs.Recovery.{EachCrashLeavesStateOf, StateDependsOn, intent_name, intent_in_file, read_intent, recovered_files}
 use Rattle.journal_core.specs.Kept.{RecoversTo}
 use Rattle.journal_core.specs.Quiet.{StateIsUnchanged}
 use Rattle.journal_core.specs.Staged.{Staging, AreJournalPathsFree, AreReplayPathsFree, IsCarryingOutActions, action_count}
@@ -59,12 +59,12 @@ module _ (first next : Staging) (file : List ℕ) (spells : read_intent file ≡
         → IfObservable old (λ v. files_of v intent_name ≡ Some file → v.older ≡ [] → Since (RecoversTo (recovered_files (files_of v))) old new)
     end_reads reads acting last = observable_map old _ _ (reads_called first next old mid new acting reads last) (λ v t there one. t (recovered_files (files_of v)) (acting_found first file v there one spells none))
 
-    pub end_settled : Moments → Acting → IfObservable mid (λ u. (ignored : List ℕ → Bool) (files : Files) → IsDurable (StateDependsOn ignored) u → IsCarryingOutActions next files u → HoldsNow new (EachCrashLeaves ignored files))
-        → IfObservable old (λ v. (ignored : List ℕ → Bool) → IsDurable (StateDependsOn ignored) v → files_of v intent_name ≡ Some file → v.older ≡ [] → HoldsNow new (EachCrashLeaves ignored (recovered_files (files_of v))))
+    pub end_settled : Moments → Acting → IfObservable mid (λ u. (ignored : List ℕ → Bool) (files : Files) → IsDurable (StateDependsOn ignored) u → IsCarryingOutActions next files u → HoldsNow new (EachCrashLeavesStateOf ignored files))
+        → IfObservable old (λ v. (ignored : List ℕ → Bool) → IsDurable (StateDependsOn ignored) v → files_of v intent_name ≡ Some file → v.older ≡ [] → HoldsNow new (EachCrashLeavesStateOf ignored (recovered_files (files_of v))))
     end_settled moments acting last = observable_map old _ _ (rowed moments acting) (λ v r ignored is_durable there one.
         let runs = r ignored (recovered_files (files_of v)) is_durable (acting_found first file v there one spells none) in
-        by_now mid (IsDuringActions ignored (recovered_files (files_of v)) next v) (HoldsNow new (EachCrashLeaves ignored (recovered_files (files_of v)))) runs.now
-        (observable_map mid _ (λ u. IsDuringActions ignored (recovered_files (files_of v)) next v u → HoldsNow new (EachCrashLeaves ignored (recovered_files (files_of v)))) last (λ u t goes. t ignored (recovered_files (files_of v)) goes.is_unchanged.is_durable goes.acting)))
+        by_now mid (IsDuringActions ignored (recovered_files (files_of v)) next v) (HoldsNow new (EachCrashLeavesStateOf ignored (recovered_files (files_of v)))) runs.now
+        (observable_map mid _ (λ u. IsDuringActions ignored (recovered_files (files_of v)) next v u → HoldsNow new (EachCrashLeavesStateOf ignored (recovered_files (files_of v)))) last (λ u t goes. t ignored (recovered_files (files_of v)) goes.is_unchanged.is_durable goes.acting)))
 
     pub end_replayed : Acting → IfObservable mid (λ u. (files : Files) → IsCarryingOutActions next files u → HoldsNow new (λ w. (files_of w ≡ files) × (w.names intent_name ≡ None)))
         → IfObservable old (λ v. files_of v intent_name ≡ Some file → v.older ≡ [] → HoldsNow new (IsIntentReplayed v))

@@ -7,7 +7,7 @@ use Rattle.std.proofs.lemmas.List.Elements.{All-weaker}
 use Rattle.std.proofs.lemmas.Map.Views.{Contains-from_any, list_any-from_Contains}
 use Rattle.std.specs.Cmp.{IsEquivalence}
 use Rattle.base_core.specs.Files.{Files, IsFolderOf}
-use Rattle.base_core.specs.Listed.{AreNamesBelow, IsListOf, IsNameBelow}
+use Rattle.base_core.specs.Listed.{AreSortedNamesBelowFolder, IsSortedListingOfFolder, IsValidNameBelowFolder}
 use Rattle.base_core.specs.Tree.{TreeState, File, bytes_of_file_number, files_of}
 use Rattle.base_core.specs.Calls.{IfObservable, HoldsNow}
 use Rattle.base_core.specs.Crash.{Since}
@@ -15,9 +15,9 @@ use Rattle.base_core.specs.Undone.{IsDurable}
 use Rattle.base_core.proofs.AtName.{is_name, other_name, same_name, name_cases, off_name}
 use Rattle.journal_core.specs.Kept.{RecoversTo}
 use Rattle.journal_core.specs.Recovering.{AreStagedNames, HasEmptiedStage, IsIntentReplayed, HasRemovedNames, without_staged_names}
-use Rattle.journal_core.specs.Recovery.{Intent, EachCrashLeaves, StateDependsOn, intent_name, intent_in_file, intent_of, is_staged, recovered_files, files_after_intent, files_after_actions, stage_folder, state_of}
+use Rattle.journal_core.specs.Recovery.{Intent, EachCrashLeavesStateOf, StateDependsOn, intent_name, intent_in_file, intent_of, is_staged, recovered_files, files_after_intent, files_after_actions, stage_folder, state_of}
 use Rattle.journal_core.specs.Quiet.{StateIsUnchanged}
-use Rattle.journal_core.specs.Staged.{IsEmptyStage, unstaged_files}
+use Rattle.journal_core.specs.Staged.{HasNoStagedNames, unstaged_files}
 use Rattle.journal_core.proofs.Acts.{state_same, still_on}
 use Rattle.journal_core.proofs.Below.{begins, is_below}
 use Rattle.journal_intent.proofs.AtName.{drop_name-at}
@@ -29,8 +29,8 @@ use Rattle.journal_core.proofs.Waiting.{still_self}
 
 -- ---- a name below the stage
 
-pub all_staged : (folder : List ℕ) (names : List (List ℕ)) → folder ≡ stage_folder → AreNamesBelow folder names → AreStagedNames names
-all_staged folder names is below = All-weaker (IsNameBelow folder) (λ name. is_staged name ≡ true) (λ name at. begins stage_folder name (subst (λ (f : List ℕ). IsFolderOf f name) is at.below)) names below.each
+pub all_staged : (folder : List ℕ) (names : List (List ℕ)) → folder ≡ stage_folder → AreSortedNamesBelowFolder folder names → AreStagedNames names
+all_staged folder names is below = All-weaker (IsValidNameBelowFolder folder) (λ name. is_staged name ≡ true) (λ name at. begins stage_folder name (subst (λ (f : List ℕ). IsFolderOf f name) is at.below)) names below.each
 
 -- ---- what is listed is what waits
 
@@ -47,7 +47,7 @@ alike = record {
 any_of : (q : List ℕ) (names : List (List ℕ)) → Contains names q → list_any (bytes_eq q) names ≡ true
 any_of q names has = list_any-from_Contains alike q names has
 
-module _ (names : List (List ℕ)) (folder : List ℕ) (folder_is : folder ≡ stage_folder) (v : TreeState) (listed : IsListOf folder v names) where
+module _ (names : List (List ℕ)) (folder : List ℕ) (folder_is : folder ≡ stage_folder) (v : TreeState) (listed : IsSortedListingOfFolder folder v names) where
   listed_cond : (q : List ℕ) → cond (list_any (bytes_eq q) names) None (v.names q) ≡ without_staged_names v.names q
   listed_cond q = by (list_any (bytes_eq q) names) refl (is_staged q) refl (v.names q) refl
     where
@@ -63,9 +63,9 @@ module _ (names : List (List ℕ)) (folder : List ℕ) (folder_is : folder ≡ s
       by false x false y o z = refl
 
   pub emptied : (w : TreeState) → HasRemovedNames names v w → HasEmptiedStage v w
-  emptied w without_names = record { map = λ q. without_names.map q ∙ listed_cond q; files = without_names.files }
+  emptied w files_without_names = record { map = λ q. files_without_names.map q ∙ listed_cond q; files = files_without_names.files }
 
-pub none_listed : (names : List (List ℕ)) (folder : List ℕ) → folder ≡ stage_folder → (v : TreeState) → IsListOf folder v names → IsEmptyStage v.names → names ≡ []
+pub none_listed : (names : List (List ℕ)) (folder : List ℕ) → folder ≡ stage_folder → (v : TreeState) → IsSortedListingOfFolder folder v names → HasNoStagedNames v.names → names ≡ []
 none_listed [] folder is v listed none = refl
 none_listed (n ∷ ns) folder is v listed none =
     let at = (listed.each n).0 (Contains-from_any is_name n (n ∷ ns) (ap (λ b. b || list_any (bytes_eq n) ns) (same_name n n refl))) in
@@ -77,21 +77,21 @@ module _ (names : List (List ℕ)) (folder : List ℕ) (folder_is : folder ≡ s
   back : (B : TreeState → Type 0) → IfObservable mid B → IfObservable old B
   back B told = subst (λ (l : History). IfObservable l B) same told
 
-  pub empty_moments : AreNamesBelow folder names → IfObservable mid (λ v. (ignored : List ℕ → Bool) → IsDurable (StateDependsOn ignored) v → v.names intent_name ≡ None → AreStagedNames names → Since (StateIsUnchanged ignored v) mid new)
+  pub empty_moments : AreSortedNamesBelowFolder folder names → IfObservable mid (λ v. (ignored : List ℕ → Bool) → IsDurable (StateDependsOn ignored) v → v.names intent_name ≡ None → AreStagedNames names → Since (StateIsUnchanged ignored v) mid new)
       → IfObservable old (λ v. (ignored : List ℕ → Bool) → IsDurable (StateDependsOn ignored) v → v.names intent_name ≡ None → Since (StateIsUnchanged ignored v) old new)
   empty_moments below told = observable_map old _ _ (back _ told) (λ v t ignored is_durable none. subst (λ (l : History). Since (StateIsUnchanged ignored v) l new) same (t ignored is_durable none (all_staged folder names folder_is below)))
 
-  pub empty_shown : AreNamesBelow folder names → IfObservable mid (λ v. AreStagedNames names → Since (KeepsShown v) mid new) → IfObservable old (λ v. Since (KeepsShown v) old new)
+  pub empty_shown : AreSortedNamesBelowFolder folder names → IfObservable mid (λ v. AreStagedNames names → Since (KeepsShown v) mid new) → IfObservable old (λ v. Since (KeepsShown v) old new)
   empty_shown below told = observable_map old _ _ (back _ told) (λ v t. subst (λ (l : History). Since (KeepsShown v) l new) same (t (all_staged folder names folder_is below)))
 
   both_told : (h : History) (A B C : TreeState → Type 0) → ((v : TreeState) → A v → B v → C v) → IfObservable h A → IfObservable h B → IfObservable h C
   both_told [] A B C f a b = tt
   both_told (v ∷ h) A B C f a b = f v a b
 
-  pub empty_emptied : IfObservable old (λ v. IsListOf folder v names) → IfObservable mid (λ v. HoldsNow new (HasRemovedNames names v)) → IfObservable old (λ v. HoldsNow new (HasEmptiedStage v))
+  pub empty_emptied : IfObservable old (λ v. IsSortedListingOfFolder folder v names) → IfObservable mid (λ v. HoldsNow new (HasRemovedNames names v)) → IfObservable old (λ v. HoldsNow new (HasEmptiedStage v))
   empty_emptied listed told = both_told old _ _ _ (λ v l t. now_map new (HasRemovedNames names v) (HasEmptiedStage v) t (λ w. emptied names folder folder_is v l w)) listed (back _ told)
 
-  pub empty_idle : IfObservable old (λ v. IsListOf folder v names) → (names ≡ [] → new ≡ mid) → IfObservable old (λ v. IsEmptyStage v.names → new ≡ old)
+  pub empty_idle : IfObservable old (λ v. IsSortedListingOfFolder folder v names) → (names ≡ [] → new ≡ mid) → IfObservable old (λ v. HasNoStagedNames v.names → new ≡ old)
   empty_idle listed told = observable_map old _ _ listed (λ v l none. told (none_listed names folder folder_is v l none) ∙ same)
 
 -- ---- all of a recovery
@@ -133,26 +133,26 @@ module _ (old mid new : History) where
       by_now mid (IsIntentReplayed v) (HoldsNow new (λ w. (files_of w ≡ unstaged_files (files_of v)) × (w.names intent_name ≡ None))) here
       (observable_map mid _ (λ u. IsIntentReplayed v u → HoldsNow new (λ w. (files_of w ≡ unstaged_files (files_of v)) × (w.names intent_name ≡ None))) emptied (λ u now replay. now_map new (HasEmptiedStage u) (λ w. (files_of w ≡ unstaged_files (files_of v)) × (w.names intent_name ≡ None)) now (λ w e. cleaned_of v u w replay e))))
 
-  pub all_settled : Replays → IfObservable old (λ v. HoldsNow mid (IsIntentReplayed v)) → IfObservable old (λ v. (ignored : List ℕ → Bool) → IsDurable (StateDependsOn ignored) v → IsSome (intent_of (files_of v)) → HoldsNow mid (EachCrashLeaves ignored (recovered_files (files_of v)))) → Empties
-      → IfObservable old (λ v. (ignored : List ℕ → Bool) → IsDurable (StateDependsOn ignored) v → IsSome (intent_of (files_of v)) → HoldsNow new (EachCrashLeaves ignored (files_of v)))
+  pub all_settled : Replays → IfObservable old (λ v. HoldsNow mid (IsIntentReplayed v)) → IfObservable old (λ v. (ignored : List ℕ → Bool) → IsDurable (StateDependsOn ignored) v → IsSome (intent_of (files_of v)) → HoldsNow mid (EachCrashLeavesStateOf ignored (recovered_files (files_of v)))) → Empties
+      → IfObservable old (λ v. (ignored : List ℕ → Bool) → IsDurable (StateDependsOn ignored) v → IsSome (intent_of (files_of v)) → HoldsNow new (EachCrashLeavesStateOf ignored (files_of v)))
   all_settled replays replayed settled empties = on_observable old _ (λ v rest is ignored is_durable some.
       let first = observable_at old v rest is (λ u. (Y : List ℕ → Bool) → IsDurable (StateDependsOn Y) u → Since (StateIsUnchanged Y u) old mid) replays ignored is_durable in
       let is_unchanged = now_both mid (StateIsUnchanged ignored v) (IsIntentReplayed v) (now_since (StateIsUnchanged ignored v) old mid v rest is (still_self ignored v is_durable) first) (observable_at old v rest is (λ u. HoldsNow mid (IsIntentReplayed u)) replayed) in
-      let here = now_both mid (EachCrashLeaves ignored (recovered_files (files_of v))) (λ u. StateIsUnchanged ignored v u × IsIntentReplayed v u) (observable_at old v rest is (λ u. (Y : List ℕ → Bool) → IsDurable (StateDependsOn Y) u → IsSome (intent_of (files_of u)) → HoldsNow mid (EachCrashLeaves Y (recovered_files (files_of u)))) settled ignored is_durable some) is_unchanged in
+      let here = now_both mid (EachCrashLeavesStateOf ignored (recovered_files (files_of v))) (λ u. StateIsUnchanged ignored v u × IsIntentReplayed v u) (observable_at old v rest is (λ u. (Y : List ℕ → Bool) → IsDurable (StateDependsOn Y) u → IsSome (intent_of (files_of u)) → HoldsNow mid (EachCrashLeavesStateOf Y (recovered_files (files_of u)))) settled ignored is_durable some) is_unchanged in
       settled_at mid refl ignored v empties here)
     where
       settled_at : (m : History) → m ≡ mid → (ignored : List ℕ → Bool) (v : TreeState) → IfObservable m (λ u. (Y : List ℕ → Bool) → IsDurable (StateDependsOn Y) u → u.names intent_name ≡ None → Since (StateIsUnchanged Y u) mid new)
-          → HoldsNow m (λ u. EachCrashLeaves ignored (recovered_files (files_of v)) u × (StateIsUnchanged ignored v u × IsIntentReplayed v u)) → HoldsNow new (EachCrashLeaves ignored (files_of v))
+          → HoldsNow m (λ u. EachCrashLeavesStateOf ignored (recovered_files (files_of v)) u × (StateIsUnchanged ignored v u × IsIntentReplayed v u)) → HoldsNow new (EachCrashLeavesStateOf ignored (files_of v))
       settled_at [] is ignored v told here = absurd here
       settled_at (u ∷ m) is ignored v told here =
           let since = told ignored here.1.0.is_durable here.1.1.absent in
-          now_map new (StateIsUnchanged ignored u) (EachCrashLeaves ignored (files_of v)) (now_since (StateIsUnchanged ignored u) mid new u m (sym is) (still_self ignored u here.1.0.is_durable) since)
+          now_map new (StateIsUnchanged ignored u) (EachCrashLeavesStateOf ignored (files_of v)) (now_since (StateIsUnchanged ignored u) mid new u m (sym is) (still_self ignored u here.1.0.is_durable) since)
           (λ w is_unchanged image at. settled_quiet ignored (recovered_files (files_of v)) u w here.0 is_unchanged.quiet image at ∙ state_recovered ignored (files_of v))
 
-  pub all_idle : IfObservable old (λ v. v.names intent_name ≡ None → mid ≡ old) → IfObservable mid (λ u. IsEmptyStage u.names → new ≡ mid) → IfObservable old (λ v. v.names intent_name ≡ None → IsEmptyStage v.names → new ≡ old)
+  pub all_idle : IfObservable old (λ v. v.names intent_name ≡ None → mid ≡ old) → IfObservable mid (λ u. HasNoStagedNames u.names → new ≡ mid) → IfObservable old (λ v. v.names intent_name ≡ None → HasNoStagedNames v.names → new ≡ old)
   all_idle first then = on_observable old _ (λ v rest is none empty.
       let same = observable_at old v rest is (λ u. u.names intent_name ≡ None → mid ≡ old) first none in
-      observable_at mid v rest (same ∙ is) (λ u. IsEmptyStage u.names → new ≡ mid) then empty ∙ same)
+      observable_at mid v rest (same ∙ is) (λ u. HasNoStagedNames u.names → new ≡ mid) then empty ∙ same)
 
   pub all_proper : (a b c : ℕ) (P : TreeState → Type 0) → IfObservable old (λ v. P v → b ≡ a) → IfObservable old (λ v. HoldsNow mid (IsIntentReplayed v)) → IfObservable mid (λ u. c ≡ b) → IfObservable old (λ v. P v → c ≡ a)
   all_proper a b c P first replayed then = on_observable old _ (λ v rest is room.
@@ -200,5 +200,5 @@ module _ (old mid new : History) where
 pub empty_none : (old new : History) → new ≡ old → IfObservable old (λ v. (ignored : List ℕ → Bool) → IsDurable (StateDependsOn ignored) v → v.names intent_name ≡ None → Since (StateIsUnchanged ignored v) old new)
 empty_none old new same = on_observable old _ (λ v rest is ignored is_durable none. no_more (StateIsUnchanged ignored v) old old new (none_since (StateIsUnchanged ignored v) old) same)
 
-pub empty_idle_none : (old new : History) → new ≡ old → IfObservable old (λ v. IsEmptyStage v.names → new ≡ old)
+pub empty_idle_none : (old new : History) → new ≡ old → IfObservable old (λ v. HasNoStagedNames v.names → new ≡ old)
 empty_idle_none old new same = on_observable old _ (λ v rest is none. same)

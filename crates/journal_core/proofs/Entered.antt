@@ -9,10 +9,10 @@ use Rattle.base_core.specs.Crash.{Since}
 use Rattle.base_core.specs.Undone.{IsDurable, IsCrashImage, IsCrashMap}
 use Rattle.journal_core.specs.Committing.{HasCommittedIntent, IsCommitting, IsReadyToPublish}
 use Rattle.journal_core.specs.Acting.{stage_with_actions_done}
-use Rattle.journal_core.specs.Recovery.{Intent, IsStagedNameOf, StateDependsOn, files_after_actions, intent_name, intent_in_file, intent_of, is_staged, read_intent, recovered_files, files_after_intent, stage_name, state_of, files_after_moves, without_names}
+use Rattle.journal_core.specs.Recovery.{Intent, IsStagedNameOf, StateDependsOn, files_after_actions, intent_name, intent_in_file, intent_of, is_staged, read_intent, recovered_files, files_after_intent, stage_name, state_of, files_after_staged_moves_from, files_without_names}
 use Rattle.journal_core.specs.Kept.{RecoversTo}
 use Rattle.journal_core.specs.Quiet.{StateIsUnchanged}
-use Rattle.journal_core.specs.Staged.{IsCarryingOutActions, IsCommittedFor}
+use Rattle.journal_core.specs.Staged.{IsCarryingOutActions, HasPublishedIntentForFiles}
 use Rattle.journal_core.proofs.Agree.{agree-without, agree-unstaged}
 use Rattle.journal_intent.proofs.AtName.{put_name-at, put_name-off, drop_name-at, drop_name-off}
 use Rattle.base_core.proofs.Undone.{read_may_be_left}
@@ -31,7 +31,7 @@ use Rattle.journal_core.proofs.Waiting.{still_self}
 
 -- ---- the state once an intent stands is that of its actions done
 
-unstaged_intent : (names : List (List ℕ)) (k : ℕ) (F : Files) → AreFreeNames names → files_after_moves k names F intent_name ≡ F intent_name
+unstaged_intent : (names : List (List ℕ)) (k : ℕ) (F : Files) → AreFreeNames names → files_after_staged_moves_from k names F intent_name ≡ F intent_name
 unstaged_intent [] k F free = refl
 unstaged_intent (name ∷ names) k F free =
     unstaged_intent names (k + 1) _ free.1 ∙ move_if_present-off F (stage_name k) name (F (stage_name k)) intent_name (λ e. stage_name_no_intent k (sym e)) (λ e. free.0.no_intent (sym e))
@@ -42,7 +42,7 @@ module _ (F : Files) (intent : Intent) (bytes : List ℕ) (spells : read_intent 
   none_both false o none = none
 
   gone : files_after_actions intent F intent_name ≡ None
-  gone = unstaged_intent intent.writes 1 (without_names intent.removals F) proper.writes ∙ none_both (list_any (bytes_eq intent_name) intent.removals) (F intent_name) absent
+  gone = unstaged_intent intent.writes 1 (files_without_names intent.removals F) proper.writes ∙ none_both (list_any (bytes_eq intent_name) intent.removals) (F intent_name) absent
 
   has : intent_of (put_name F intent_name bytes) ≡ Some intent
   has = ap intent_in_file (put_name-at F intent_name bytes intent_name refl) ∙ spells
@@ -52,7 +52,7 @@ module _ (F : Files) (intent : Intent) (bytes : List ℕ) (spells : read_intent 
 
   agrees : (q : List ℕ) → q ≢ intent_name → files_after_actions intent (put_name F intent_name bytes) q ≡ files_after_actions intent F q
   agrees q ne =
-      agree-unstaged Off intent.writes 1 (without_names intent.removals (put_name F intent_name bytes)) (without_names intent.removals F) (λ j from below. stage_name_no_intent j)
+      agree-unstaged Off intent.writes 1 (files_without_names intent.removals (put_name F intent_name bytes)) (files_without_names intent.removals F) (λ j from below. stage_name_no_intent j)
       (agree-without Off intent.removals (put_name F intent_name bytes) F (λ r off. put_name-off F intent_name bytes r off)) q ne
 
   pub recovered_published : recovered_files (put_name F intent_name bytes) ≡ files_after_actions intent F
@@ -189,14 +189,14 @@ module _ (laws : CrashLaws) (ignored : List ℕ → Bool) (intent : Intent) (bas
     is_durable : IsDurable (StateDependsOn ignored) w
     moment : P w
     state : state_of ignored (files_of w) ≡ state_of ignored G
-    publishes : IsCommittedFor ignored G made w
+    publishes : HasPublishedIntentForFiles ignored G made w
 
   behind_at : (v : TreeState) (b : Before v) → v.older ≡ [] → Behind (with_names v (entered_map intent base made v b.ready))
   behind_at v b one =
       let is_durable = durable_at intent base made v b.ready ignored one b.is_unchanged.is_durable in
       let new_state = state_new intent base made v b.ready ignored one b.is_unchanged.is_durable in
       let (n, at, later) = entered_at intent base made v b.ready in
-      let publishes : IsCommittedFor ignored G made (with_names v (entered_map intent base made v b.ready)) = (n, at, later, new_state) in
+      let publishes : HasPublishedIntentForFiles ignored G made (with_names v (entered_map intent base made v b.ready)) = (n, at, later, new_state) in
       record {
         is_durable = is_durable;
         moment = record {

@@ -5,7 +5,7 @@ use Rattle.base_core.specs.Tree.{TreeState, bytes_of_file_number, files_of, afte
 use Rattle.base_core.specs.Calls.{HoldsNow, ChangesHistory}
 use Rattle.base_core.specs.Crash.{Since}
 use Rattle.base_core.specs.Undone.{IsDurable}
-use Rattle.journal_core.specs.Recovery.{EachCrashLeaves, StateDependsOn, intent_in_file, intent_name, files_after_intent}
+use Rattle.journal_core.specs.Recovery.{EachCrashLeavesStateOf, StateDependsOn, intent_in_file, intent_name, files_after_intent}
 use Rattle.journal_core.specs.Kept.{RecoversTo}
 use Rattle.journal_core.specs.Quiet.{StateIsUnchanged}
 use Rattle.journal_core.specs.Staged.{Staging, IsCarryingOutActions, action_count}
@@ -61,8 +61,8 @@ module _ (laws : CrashLaws) (stage : Staging) (all : stage.acted ≡ action_coun
     pub last_called : (r : Result T E) → Runs P Gone old h → ChangesHistory IsAlwaysAllowed after_sync_names unchanged_after_failed_call h new r → Since P old new
     last_called r runs moves = run_called P Gone old h new r runs moves (λ v q. still_on ignored start v (after_sync_names v) q.is_unchanged (sync_still ignored v q.is_unchanged.is_durable)) (λ v may q. q.is_unchanged)
 
-    pub last_settled : (r : Result T E) → Runs P Gone old h → ChangesHistory IsAlwaysAllowed after_sync_names unchanged_after_failed_call h new r → OnOk r (HoldsNow new (EachCrashLeaves ignored files))
-    last_settled r runs moves = step_called Gone (EachCrashLeaves ignored files) new r h runs.now moves (λ v q. subst (λ (F : Files). EachCrashLeaves ignored F (after_sync_names v)) q.gone.reads (sync_settled laws ignored v q.is_unchanged.is_durable))
+    pub last_settled : (r : Result T E) → Runs P Gone old h → ChangesHistory IsAlwaysAllowed after_sync_names unchanged_after_failed_call h new r → OnOk r (HoldsNow new (EachCrashLeavesStateOf ignored files))
+    last_settled r runs moves = step_called Gone (EachCrashLeavesStateOf ignored files) new r h runs.now moves (λ v q. subst (λ (F : Files). EachCrashLeavesStateOf ignored F (after_sync_names v)) q.gone.reads (sync_settled laws ignored v q.is_unchanged.is_durable))
 
 -- what is read, whatever the order
 module _ (laws : CrashLaws) (stage : Staging) (all : stage.acted ≡ action_count stage.intent) (name : List ℕ) (name_is : name ≡ intent_name) (files : Files) (start : TreeState) (old rest : History) (is : old ≡ start ∷ rest) (acting : IsCarryingOutActions stage files start) where

@@ -5,11 +5,11 @@ use Rattle.std.specs.Str.{bytes_eq}
 use Rattle.base_core.specs.Calls.{IfObservable, HoldsNow, ChangesHistory}
 use Rattle.base_core.specs.Crash.{Since}
 use Rattle.base_core.specs.Files.{drop_name}
-use Rattle.base_core.specs.Listed.{AreNamesBelow}
+use Rattle.base_core.specs.Listed.{AreSortedNamesBelowFolder}
 use Rattle.base_core.specs.Tree.{TreeState, after_remove, after_rename, after_sync_names, bytes_of_file_number, files_of, with_file_moved, with_name_removed, unchanged_after_failed_call, IsAlwaysAllowed}
 use Rattle.base_core.proofs.AtName.{other_name, name_cases, off_name}
 use Rattle.journal_core.specs.Acting.{MovesIfPresent}
-use Rattle.journal_core.specs.Kept.{JournalOnlyShrinks, IsJournalName, KeepsIntent, NamesAreDurableExcept, NamesOutsideJournalAreDurable}
+use Rattle.journal_core.specs.Kept.{JournalOnlyShrinks, IsJournalName, KeepsIntentWhileStageShrinks, NamesAreDurableExcept, NamesOutsideJournalAreDurable}
 use Rattle.journal_core.specs.Recovering.{AreStagedNames, IsIntentReplayed}
 use Rattle.journal_core.specs.Recovery.{Intent, intent_name, is_staged, stage_folder, stage_name}
 use Rattle.journal_core.proofs.Acts.{free_at}
@@ -52,10 +52,10 @@ less_same v q waits = inr refl
 pub less_on : (a b c : TreeState) → JournalOnlyShrinks a b → JournalOnlyShrinks b c → JournalOnlyShrinks a c
 less_on a b c first then q waits = ⊎_elim (λ none. inl none) (λ is. ⊎_elim (λ none. inl (is ∙ none)) (λ was. inr (is ∙ was)) (first q waits)) (then q waits)
 
-pub keeps_same : (v : TreeState) → KeepsIntent v v
+pub keeps_same : (v : TreeState) → KeepsIntentWhileStageShrinks v v
 keeps_same v = record { intent = refl; waiting = less_same v }
 
-pub keeps_on : (a b c : TreeState) → KeepsIntent a b → KeepsIntent b c → KeepsIntent a c
+pub keeps_on : (a b c : TreeState) → KeepsIntentWhileStageShrinks a b → KeepsIntentWhileStageShrinks b c → KeepsIntentWhileStageShrinks a c
 keeps_on a b c first then = record { intent = then.intent ∙ first.intent; waiting = less_on a b c first.waiting then.waiting }
 
 less_removed_at : (name : List ℕ) (v : TreeState) (o : Option ℕ) → v.names name ≡ o → JournalOnlyShrinks v (with_name_removed name v o)
@@ -81,7 +81,7 @@ names_moved : (from to : List ℕ) (v : TreeState) (o : Option ℕ) (q : List �
 names_moved from to v None q nf nt = refl
 names_moved from to v (Some n) q nf nt = put_name-off (drop_name v.names from) to n q nt ∙ drop_name-off v.names from q nf
 
-keeps_removed_free : (name : List ℕ) → IsFreeName name → (v : TreeState) → KeepsIntent v (after_remove name v)
+keeps_removed_free : (name : List ℕ) → IsFreeName name → (v : TreeState) → KeepsIntentWhileStageShrinks v (after_remove name v)
 keeps_removed_free name free v = record {
   intent = names_removed name v (v.names name) intent_name (waiting_off name free intent_name (inl refl));
   waiting = less_removed name v;
@@ -93,7 +93,7 @@ less_moved_at k from to from_is free v o is q waits = ⊎_elim
     (λ off. inr (moved_others from to v o q (off_name q from off) (waiting_off to free q waits)))
     (name_cases q from)
 
-keeps_moved_free : (k : ℕ) (from to : List ℕ) → from ≡ stage_name k → IsFreeName to → (v : TreeState) → KeepsIntent v (after_rename from to v)
+keeps_moved_free : (k : ℕ) (from to : List ℕ) → from ≡ stage_name k → IsFreeName to → (v : TreeState) → KeepsIntentWhileStageShrinks v (after_rename from to v)
 keeps_moved_free k from to from_is free v = record {
   intent = names_moved from to v (v.names from) intent_name (λ e. stage_name_no_intent k (sym (e ∙ from_is))) (waiting_off to free intent_name (inl refl));
   waiting = less_moved_at k from to from_is free v (v.names from) refl;
@@ -105,18 +105,18 @@ module _ (intent : Intent) (free : HasFreeDistinctNames intent) (few : length in
   proper : IsProper intent
   proper = proper_of intent free (omega (arith, few))
 
-  pub removal_waiting : {T E : Type 0} (i : ℕ) (name : List ℕ) → slice_get intent.removals i ≡ Some name → (r : Result T E) → ChangesHistory IsAlwaysAllowed (after_remove name) (after_remove name) old new r → IfObservable old (λ v. Since (KeepsIntent v) old new)
+  pub removal_waiting : {T E : Type 0} (i : ℕ) (name : List ℕ) → slice_get intent.removals i ≡ Some name → (r : Result T E) → ChangesHistory IsAlwaysAllowed (after_remove name) (after_remove name) old new r → IfObservable old (λ v. Since (KeepsIntentWhileStageShrinks v) old new)
   removal_waiting i name at r moves =
       let is_free = free_at intent.removals i name proper.removals at in
-      told_called KeepsIntent old new r moves (keeps_removed_free name is_free) (keeps_removed_free name is_free)
+      told_called KeepsIntentWhileStageShrinks old new r moves (keeps_removed_free name is_free) (keeps_removed_free name is_free)
 
   module _ (j : ℕ) (place name : List ℕ) (place_is : place ≡ stage_name (j + 1)) (at : slice_get intent.writes j ≡ Some name) where
-    by_case : (v : TreeState) → (new ≡ old) ⊎ (new ≡ after_rename place name v ∷ old) → Since (KeepsIntent v) old new
+    by_case : (v : TreeState) → (new ≡ old) ⊎ (new ≡ after_rename place name v ∷ old) → Since (KeepsIntentWhileStageShrinks v) old new
     by_case v = ⊎_elim
-        (λ none. no_more (KeepsIntent v) old old new (none_since (KeepsIntent v) old) none)
-        (λ more. one_more (KeepsIntent v) old old new (after_rename place name v) (none_since (KeepsIntent v) old) more (keeps_moved_free (j + 1) place name place_is (free_at intent.writes j name proper.writes at) v))
+        (λ none. no_more (KeepsIntentWhileStageShrinks v) old old new (none_since (KeepsIntentWhileStageShrinks v) old) none)
+        (λ more. one_more (KeepsIntentWhileStageShrinks v) old old new (after_rename place name v) (none_since (KeepsIntentWhileStageShrinks v) old) more (keeps_moved_free (j + 1) place name place_is (free_at intent.writes j name proper.writes at) v))
 
-    pub move_waiting : {T E : Type 0} (r : Result T E) → MovesIfPresent place name old new r → IfObservable old (λ v. Since (KeepsIntent v) old new)
+    pub move_waiting : {T E : Type 0} (r : Result T E) → MovesIfPresent place name old new r → IfObservable old (λ v. Since (KeepsIntentWhileStageShrinks v) old new)
     move_waiting (Ok x) moves = observable_map old _ _ moves.ok (λ v told. by_case v (⊎_elim (λ none. inl none.1) (λ more. inr more) told))
     move_waiting (Err e) moves = observable_map old _ _ moves.err (λ v told. by_case v told)
 
@@ -134,14 +134,14 @@ waiting_on = told_on JournalOnlyShrinks less_same less_on
 pub waiting_start : (old : History) → IfObservable old (λ v. Since (JournalOnlyShrinks v) old old)
 waiting_start = told_start JournalOnlyShrinks less_same less_on
 
-pub intent_on : (old h new : History) → IfObservable old (λ v. Since (KeepsIntent v) old h) → IfObservable h (λ u. Since (KeepsIntent u) h new) → IfObservable old (λ v. Since (KeepsIntent v) old new)
-intent_on = told_on KeepsIntent keeps_same keeps_on
+pub intent_on : (old h new : History) → IfObservable old (λ v. Since (KeepsIntentWhileStageShrinks v) old h) → IfObservable h (λ u. Since (KeepsIntentWhileStageShrinks u) h new) → IfObservable old (λ v. Since (KeepsIntentWhileStageShrinks v) old new)
+intent_on = told_on KeepsIntentWhileStageShrinks keeps_same keeps_on
 
-pub intent_start : (old : History) → IfObservable old (λ v. Since (KeepsIntent v) old old)
-intent_start = told_start KeepsIntent keeps_same keeps_on
+pub intent_start : (old : History) → IfObservable old (λ v. Since (KeepsIntentWhileStageShrinks v) old old)
+intent_start = told_start KeepsIntentWhileStageShrinks keeps_same keeps_on
 
-pub intent_waiting : (old new : History) → IfObservable old (λ v. Since (KeepsIntent v) old new) → IfObservable old (λ v. Since (JournalOnlyShrinks v) old new)
-intent_waiting old new told = observable_map old _ _ told (λ v t. since_weaker (KeepsIntent v) (JournalOnlyShrinks v) old new (λ w k. k.waiting) t)
+pub intent_waiting : (old new : History) → IfObservable old (λ v. Since (KeepsIntentWhileStageShrinks v) old new) → IfObservable old (λ v. Since (JournalOnlyShrinks v) old new)
+intent_waiting old new told = observable_map old _ _ told (λ v t. since_weaker (KeepsIntentWhileStageShrinks v) (JournalOnlyShrinks v) old new (λ w k. k.waiting) t)
 
 -- a call that changed nothing came before, or none came
 pub waiting_back : (old mid new : History) → mid ≡ old → IfObservable mid (λ v. Since (JournalOnlyShrinks v) mid new) → IfObservable old (λ v. Since (JournalOnlyShrinks v) old new)
@@ -158,18 +158,18 @@ NamesAreDurableWithoutIntent w = w.names intent_name ≡ None → NamesOutsideJo
 abbrev pub Lasts : History → History → Type 0
 Lasts old new = IfObservable old (λ v. IsSome (v.names intent_name) → Since NamesAreDurableWithoutIntent old new)
 
-kept_lasts : (v w : TreeState) → IsSome (v.names intent_name) → KeepsIntent v w → NamesAreDurableWithoutIntent w
+kept_lasts : (v w : TreeState) → IsSome (v.names intent_name) → KeepsIntentWhileStageShrinks v w → NamesAreDurableWithoutIntent w
 kept_lasts v w some keeps none = absurd (some_none (v.names intent_name) (sym keeps.intent ∙ none) some)
 
-pub act_lasts : (old new : History) → IfObservable old (λ v. Since (KeepsIntent v) old new) → Lasts old new
-act_lasts old new told = observable_map old _ _ told (λ v t some. since_weaker (KeepsIntent v) NamesAreDurableWithoutIntent old new (λ w k. kept_lasts v w some k) t)
+pub act_lasts : (old new : History) → IfObservable old (λ v. Since (KeepsIntentWhileStageShrinks v) old new) → Lasts old new
+act_lasts old new told = observable_map old _ _ told (λ v t some. since_weaker (KeepsIntentWhileStageShrinks v) NamesAreDurableWithoutIntent old new (λ w k. kept_lasts v w some k) t)
 
-pub end_lasts : (old mid new : History) → IfObservable old (λ v. Since (KeepsIntent v) old mid) → IfObservable mid (λ u. IsSome (u.names intent_name) → Since (λ w. w.names intent_name ≡ None → NamesAreDurableExcept (intent_name ∷ []) w) mid new) → Lasts old new
+pub end_lasts : (old mid new : History) → IfObservable old (λ v. Since (KeepsIntentWhileStageShrinks v) old mid) → IfObservable mid (λ u. IsSome (u.names intent_name) → Since (λ w. w.names intent_name ≡ None → NamesAreDurableExcept (intent_name ∷ []) w) mid new) → Lasts old new
 end_lasts old mid new told last = on_observable old _ (λ v rest is some.
-    let since = observable_at old v rest is (λ u. Since (KeepsIntent u) old mid) told in
-    since_on NamesAreDurableWithoutIntent old mid new (since_weaker (KeepsIntent v) NamesAreDurableWithoutIntent old mid (λ w k. kept_lasts v w some k) since)
-    (by_now mid (KeepsIntent v) (Since NamesAreDurableWithoutIntent mid new) (now_since (KeepsIntent v) old mid v rest is (keeps_same v) since)
-    (observable_map mid _ (λ u. KeepsIntent v u → Since NamesAreDurableWithoutIntent mid new) last (λ u t k.
+    let since = observable_at old v rest is (λ u. Since (KeepsIntentWhileStageShrinks u) old mid) told in
+    since_on NamesAreDurableWithoutIntent old mid new (since_weaker (KeepsIntentWhileStageShrinks v) NamesAreDurableWithoutIntent old mid (λ w k. kept_lasts v w some k) since)
+    (by_now mid (KeepsIntentWhileStageShrinks v) (Since NamesAreDurableWithoutIntent mid new) (now_since (KeepsIntentWhileStageShrinks v) old mid v rest is (keeps_same v) since)
+    (observable_map mid _ (λ u. KeepsIntentWhileStageShrinks v u → Since NamesAreDurableWithoutIntent mid new) last (λ u t k.
     since_weaker (λ w. w.names intent_name ≡ None → NamesAreDurableExcept (intent_name ∷ []) w) NamesAreDurableWithoutIntent mid new (λ w p none map among q off unstaged. p none map among q (none_of q off)) (t (subst IsSome (sym k.intent) some))))))
   where
     none_of : (q : List ℕ) → q ≢ intent_name → list_any (bytes_eq q) (intent_name ∷ []) ≡ false
@@ -210,7 +210,7 @@ lasting_ends all old h lasting = observable_map old _ _ lasting (λ v runs stage
 abbrev pub EmptyLasts : History → History → Type 0
 EmptyLasts old new = IfObservable old (λ v. NamesOutsideJournalAreDurable v → Since NamesOutsideJournalAreDurable old new)
 
-pub empty_lasts : (names : List (List ℕ)) (folder : List ℕ) → folder ≡ stage_folder → (old mid new : History) → mid ≡ old → AreNamesBelow folder names → IfObservable mid (λ v. AreStagedNames names → NamesOutsideJournalAreDurable v → Since NamesOutsideJournalAreDurable mid new) → EmptyLasts old new
+pub empty_lasts : (names : List (List ℕ)) (folder : List ℕ) → folder ≡ stage_folder → (old mid new : History) → mid ≡ old → AreSortedNamesBelowFolder folder names → IfObservable mid (λ v. AreStagedNames names → NamesOutsideJournalAreDurable v → Since NamesOutsideJournalAreDurable mid new) → EmptyLasts old new
 empty_lasts names folder folder_is old mid new same below told =
     subst (λ (l : History). EmptyLasts l new) same (observable_map mid _ (λ v. NamesOutsideJournalAreDurable v → Since NamesOutsideJournalAreDurable mid new) told (λ v t. t (all_staged folder names folder_is below)))
 

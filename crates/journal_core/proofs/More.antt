@@ -3,7 +3,7 @@ use Rattle.std.proofs.Common.{◌≡◌, inl, inr, ⊎_elim, Bool, true, false, 
 use Rattle.base_core.specs.Files.{Files}
 use Rattle.base_core.specs.Tree.{TreeState}
 use Rattle.journal_core.specs.Quiet.{EachCrashLeavesOld}
-use Rattle.journal_core.specs.Recovery.{is_hidden, is_staged, recovered_files, state_of, EachCrashLeavesOldOrNew, EachCrashLeaves, StateDependsOn}
+use Rattle.journal_core.specs.Recovery.{is_hidden, is_staged, recovered_files, state_of, EachCrashLeavesOldOrNew, EachCrashLeavesStateOf, StateDependsOn}
 
 module _ (few many : List ℕ → Bool) (up : (q : List ℕ) → few q ≡ true → many q ≡ true) where
   smaller : (a b c : Bool) → (b ≡ true → c ≡ true) → (a || c) ≡ false → (a || b) ≡ false
@@ -30,7 +30,7 @@ module _ (few many : List ℕ → Bool) (up : (q : List ℕ) → few q ≡ true 
   pub quiet_more : (start v : TreeState) → EachCrashLeavesOld few start v → EachCrashLeavesOld many start v
   quiet_more start v quiet image is = let was = quiet image is in (was.0, was.1, states_same image was.0 was.2)
 
-  pub settled_more : (files : Files) (v : TreeState) → EachCrashLeaves few files v → EachCrashLeaves many files v
+  pub settled_more : (files : Files) (v : TreeState) → EachCrashLeavesStateOf few files v → EachCrashLeavesStateOf many files v
   settled_more files v settled image is = states_same image files (settled image is)
 
   pub old_or_new_more : (start : TreeState) (files : Files) (v : TreeState) → EachCrashLeavesOldOrNew few start files v → EachCrashLeavesOldOrNew many start files v

@@ -4,7 +4,7 @@ use Rattle.std.specs.List.{list_any}
 use Rattle.std.specs.Str.{bytes_eq}
 use Rattle.base_core.specs.Files.{Files, drop_name, move_name}
 use Rattle.base_core.proofs.AtName.{other_name, name_cases}
-use Rattle.journal_core.specs.Recovery.{Intent, intent_name, intent_in_file, intent_of, stage_name, without_names, move_if_present, files_after_moves, files_after_intent, recovered_files}
+use Rattle.journal_core.specs.Recovery.{Intent, intent_name, intent_in_file, intent_of, stage_name, files_without_names, move_if_present, files_after_staged_moves_from, files_after_intent, recovered_files}
 use Rattle.journal_intent.specs.FreeNames.{AreFreeNames, HaveNoRepeats, HasFreeDistinctNames, IsFreeName, IsNoneOf, IsOneOf}
 use Rattle.journal_intent.proofs.AtName.{put_name-off, drop_name-off, drop_name-at}
 use Rattle.journal_intent.proofs.StageNames.{stage_names_apart, stage_name_no_intent}
@@ -29,7 +29,7 @@ cond_same : {X : Type 0} (b : Bool) (x y z : X) → (b ≡ false → y ≡ z) �
 cond_same true x y z same = refl
 cond_same false x y z same = same refl
 
-without_dropped : (names : List (List ℕ)) (F : Files) (r : List ℕ) → IsOneOf r names → without_names names (drop_name F r) ≡ without_names names F
+without_dropped : (names : List (List ℕ)) (F : Files) (r : List ℕ) → IsOneOf r names → files_without_names names (drop_name F r) ≡ files_without_names names F
 without_dropped names F r among i q =
     cond_same (list_any (bytes_eq q) names) None (drop_name F r q) (F q) (λ out. drop_name-off F r q (λ is. let here : list_any (bytes_eq q) names ≡ true = ap (λ (x : List ℕ). list_any (bytes_eq x) names) is ∙ among in absurd (cc (here, out)))) i
 
@@ -37,7 +37,7 @@ pub recovered-removed : (F : Files) (intent : Intent) (r : List ℕ) → intent_
 recovered-removed F intent r has ne among =
     let there : intent_of (drop_name F r) ≡ Some intent = same_intent (drop_name F r) F (drop_name-off F r intent_name (λ is. ne (sym is))) ∙ has in
     ap (λ o. files_after_intent o (drop_name F r)) there
-    ∙ ap (λ (G : Files). drop_name (files_after_moves 1 intent.writes G) intent_name) (without_dropped intent.removals F r among)
+    ∙ ap (λ (G : Files). drop_name (files_after_staged_moves_from 1 intent.writes G) intent_name) (without_dropped intent.removals F r among)
     ∙ sym (ap (λ o. files_after_intent o F) has)
 
 -- ---- a waiting file that is moved
@@ -102,17 +102,17 @@ pub data IsNumbered : ℕ → List (List ℕ) → ℕ → List ℕ → Type 0 wh
   later : (k : ℕ) (head : List ℕ) (names : List (List ℕ)) (j : ℕ) (name : List ℕ) → k < j → head ≢ name → IsFreeName head → IsNumbered (k + 1) names j name → IsNumbered k (head ∷ names) j name
 
 -- a write done early is done
-files_after_moves-moved : (k : ℕ) (names : List (List ℕ)) (j : ℕ) (name : List ℕ) (F : Files) → j < 2 ^ 64 → IsFreeName name → IsNumbered k names j name
-    → files_after_moves k names (moved F (stage_name j) name) ≡ files_after_moves k names F
-files_after_moves-moved k names j name F small free (here k' name' rest) = ap (files_after_moves (k + 1) rest) (moved_twice F (stage_name k) name (λ is. free.no_place k (sym is)))
-files_after_moves-moved k names j name F small free (later k' head rest j' name' less other others_free numbered) =
-    ap (files_after_moves (k + 1) rest) (moved_commute F (stage_name j) name (stage_name k) head (record {
+files_after_staged_moves_from-moved : (k : ℕ) (names : List (List ℕ)) (j : ℕ) (name : List ℕ) (F : Files) → j < 2 ^ 64 → IsFreeName name → IsNumbered k names j name
+    → files_after_staged_moves_from k names (moved F (stage_name j) name) ≡ files_after_staged_moves_from k names F
+files_after_staged_moves_from-moved k names j name F small free (here k' name' rest) = ap (files_after_staged_moves_from (k + 1) rest) (moved_twice F (stage_name k) name (λ is. free.no_place k (sym is)))
+files_after_staged_moves_from-moved k names j name F small free (later k' head rest j' name' less other others_free numbered) =
+    ap (files_after_staged_moves_from (k + 1) rest) (moved_commute F (stage_name j) name (stage_name k) head (record {
       ac = λ is. absurd (let same = stage_names_apart j k small (omega (arith, small, less)) is in omega (arith, less, same));
       ad = λ is. others_free.no_place j (sym is);
       bc = free.no_place k;
       bd = λ is. other (sym is);
     }))
-    ∙ files_after_moves-moved (k + 1) rest j name (moved F (stage_name k) head) small free numbered
+    ∙ files_after_staged_moves_from-moved (k + 1) rest j name (moved F (stage_name k) head) small free numbered
 
 not_among : (names : List (List ℕ)) (name q : List ℕ) → IsNoneOf name names → list_any (bytes_eq q) names ≡ true → bytes_eq q name ≡ true → ⊥
 not_among names name q out there is = ⊎_elim
@@ -120,13 +120,13 @@ not_among names name q out there is = ⊎_elim
     (λ off. let e : true ≡ false = sym is ∙ off in cc (e, e))
     (name_cases q name)
 
-without_at : (names : List (List ℕ)) (F : Files) (a : List ℕ) → IsNoneOf a names → without_names names F a ≡ F a
+without_at : (names : List (List ℕ)) (F : Files) (a : List ℕ) → IsNoneOf a names → files_without_names names F a ≡ F a
 without_at names F a out = ap (λ b. cond b None (F a)) out
 
-without_moved : (names : List (List ℕ)) (F : Files) (a b : List ℕ) → IsNoneOf a names → IsNoneOf b names → without_names names (moved F a b) ≡ moved (without_names names F) a b
-without_moved names F a b out_a out_b = by (F a) ∙ sym (ap (λ o. move_if_present (without_names names F) a b o) (without_at names F a out_a))
+without_moved : (names : List (List ℕ)) (F : Files) (a b : List ℕ) → IsNoneOf a names → IsNoneOf b names → files_without_names names (moved F a b) ≡ moved (files_without_names names F) a b
+without_moved names F a b out_a out_b = by (F a) ∙ sym (ap (λ o. move_if_present (files_without_names names F) a b o) (without_at names F a out_a))
   where
-    by : (o : Option (List ℕ)) → without_names names (move_if_present F a b o) ≡ move_if_present (without_names names F) a b o
+    by : (o : Option (List ℕ)) → files_without_names names (move_if_present F a b o) ≡ move_if_present (files_without_names names F) a b o
     by None = refl
     by (Some x) = λ i q.
         let some_x : Option (List ℕ) = Some x in
@@ -147,22 +147,22 @@ recovered-moved F intent k name has proper small free numbered out =
     let there : intent_of (moved F (stage_name k) name) ≡ Some intent =
     same_intent (moved F (stage_name k) name) F (move_if_present-off F (stage_name k) name (F (stage_name k)) intent_name (λ is. stage_name_no_intent k (sym is)) (λ is. free.no_intent (sym is))) ∙ has in
     ap (λ o. files_after_intent o (moved F (stage_name k) name)) there
-    ∙ ap (λ (G : Files). drop_name (files_after_moves 1 intent.writes G) intent_name) (without_moved intent.removals F (stage_name k) name (place_not_among intent.removals k proper.removals) out)
-    ∙ ap (λ (G : Files). drop_name G intent_name) (files_after_moves-moved 1 intent.writes k name (without_names intent.removals F) small free numbered)
+    ∙ ap (λ (G : Files). drop_name (files_after_staged_moves_from 1 intent.writes G) intent_name) (without_moved intent.removals F (stage_name k) name (place_not_among intent.removals k proper.removals) out)
+    ∙ ap (λ (G : Files). drop_name G intent_name) (files_after_staged_moves_from-moved 1 intent.writes k name (files_without_names intent.removals F) small free numbered)
     ∙ sym (ap (λ o. files_after_intent o F) has)
 
 -- ---- the intent is dropped
 
-unstaged_none : (k : ℕ) (names : List (List ℕ)) (F : Files) → ((i : ℕ) → k ≤ i → i < k + length names → F (stage_name i) ≡ None) → files_after_moves k names F ≡ F
+unstaged_none : (k : ℕ) (names : List (List ℕ)) (F : Files) → ((i : ℕ) → k ≤ i → i < k + length names → F (stage_name i) ≡ None) → files_after_staged_moves_from k names F ≡ F
 unstaged_none k [] F none = refl
 unstaged_none k (name ∷ names) F none =
-    ap (λ o. files_after_moves (k + 1) names (move_if_present F (stage_name k) name o)) (none k (omega arith) (omega arith)) ∙ unstaged_none (k + 1) names F (λ i from below. none i (omega arith) (omega arith))
+    ap (λ o. files_after_staged_moves_from (k + 1) names (move_if_present F (stage_name k) name o)) (none k (omega arith) (omega arith)) ∙ unstaged_none (k + 1) names F (λ i from below. none i (omega arith) (omega arith))
 
--- all actions are done: the files stand for themselves without_names the intent
-pub recovered-done : (F : Files) (intent : Intent) → intent_of F ≡ Some intent → without_names intent.removals F ≡ F → ((i : ℕ) → 1 ≤ i → i < 1 + length intent.writes → F (stage_name i) ≡ None) → recovered_files F ≡ drop_name F intent_name
+-- all actions are done: the files stand for themselves files_without_names the intent
+pub recovered-done : (F : Files) (intent : Intent) → intent_of F ≡ Some intent → files_without_names intent.removals F ≡ F → ((i : ℕ) → 1 ≤ i → i < 1 + length intent.writes → F (stage_name i) ≡ None) → recovered_files F ≡ drop_name F intent_name
 recovered-done F intent has removed none =
     ap (λ o. files_after_intent o F) has
-    ∙ ap (λ (G : Files). drop_name (files_after_moves 1 intent.writes G) intent_name) removed
+    ∙ ap (λ (G : Files). drop_name (files_after_staged_moves_from 1 intent.writes G) intent_name) removed
     ∙ ap (λ (G : Files). drop_name G intent_name) (unstaged_none 1 intent.writes F none)
 
 pub recovered-dropped : (F : Files) → recovered_files (drop_name F intent_name) ≡ drop_name F intent_name

@@ -5,7 +5,7 @@ use Rattle.std.specs.Str.{bytes_eq}
 use Rattle.base_core.specs.Files.{Files, put_name, drop_name}
 use Rattle.base_core.specs.Tree.{TreeState, files_of, CanRename}
 use Rattle.base_core.proofs.AtName.{name_cases, off_name}
-use Rattle.journal_core.specs.Recovery.{Intent, intent_name, intent_in_file, intent_of, move_if_present, recovered_files, files_after_intent, stage_name, files_after_moves, without_names}
+use Rattle.journal_core.specs.Recovery.{Intent, intent_name, intent_in_file, intent_of, move_if_present, recovered_files, files_after_intent, stage_name, files_after_staged_moves_from, files_without_names}
 use Rattle.journal_core.specs.Staged.{Staging, IsCarryingOutActions, IsPresentOrOfJournal, AreJournalPathsFree}
 use Rattle.journal_intent.proofs.AtName.{put_name-at, put_name-off, drop_name-off}
 use Rattle.journal_intent.proofs.StageNames.{stage_name_no_intent}
@@ -29,7 +29,7 @@ moved_kept F k name q ne some = by (F (stage_name k)) (name_cases q name)
     by (Some b) (inl is) = subst IsSome (sym (put_name-at (drop_name F (stage_name k)) name b q is)) refl
     by (Some b) (inr off) = subst IsSome (sym (put_name-off (drop_name F (stage_name k)) name b q (off_name q name off) ∙ drop_name-off F (stage_name k) q ne)) some
 
-unstaged_kept : (names : List (List ℕ)) (k : ℕ) (F : Files) (q : List ℕ) → IsSome (F q) → Kept (files_after_moves k names F) q
+unstaged_kept : (names : List (List ℕ)) (k : ℕ) (F : Files) (q : List ℕ) → IsSome (F q) → Kept (files_after_staged_moves_from k names F) q
 unstaged_kept [] k F q some = inl some
 unstaged_kept (name ∷ names) k F q some = ⊎_elim
     (λ is. inr (k, is))
@@ -41,9 +41,9 @@ pub recovered_held : (F : Files) (intent : Intent) (q : List ℕ) → intent_of 
 recovered_held F intent q has out some = ⊎_elim
     (λ is. inr (inl is))
     (λ off. ⊎_elim
-    (λ kept. inl (subst IsSome (sym (ap (λ o. files_after_intent o F q) has ∙ drop_name-off (files_after_moves 1 intent.writes (without_names intent.removals F)) intent_name q (off_name q intent_name off))) kept))
+    (λ kept. inl (subst IsSome (sym (ap (λ o. files_after_intent o F q) has ∙ drop_name-off (files_after_staged_moves_from 1 intent.writes (files_without_names intent.removals F)) intent_name q (off_name q intent_name off))) kept))
     (λ place. inr (inr place))
-    (unstaged_kept intent.writes 1 (without_names intent.removals F) q (subst IsSome (sym (ap (λ b. cond b None (F q)) out)) some)))
+    (unstaged_kept intent.writes 1 (files_without_names intent.removals F) q (subst IsSome (sym (ap (λ b. cond b None (F q)) out)) some)))
     (name_cases q intent_name)
 
 module _ (stage : Staging) (files : Files) (v : TreeState) (place name : List ℕ) (j k : ℕ) (acting : IsCarryingOutActions stage files v) (proper : IsProper stage.intent)

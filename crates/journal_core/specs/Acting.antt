@@ -45,14 +45,18 @@ pub record MovesIfPresent {T E : Type 0} (place name : List ℕ) (old new : List
 
 -- the name of the next write's staged file; its number has at most 64 bits
 pub record IsNextStagedName (name : List ℕ) (stage : Staging) : Type 0 where
+  -- the number of the staged file is one more than that of the last one
   pub is : name ≡ stage_name (stage.staged + 1)
+  -- this number has at most 64 bits
   pub few : stage.staged + 1 < 2 ^ 64
 
 -- a moment of the actions: the state is unchanged since the start, and this many of the stage's actions
 -- are done
 pub record IsDuringActions (ignored : List ℕ → Bool) (files : Files) (stage : Staging)
     (start v : TreeState) : Type 0 where
+  -- the state of files is the one at the start
   pub is_unchanged : StateIsUnchanged ignored start v
+  -- the first actions of the stage are done, as many as it says
   pub acting : IsCarryingOutActions stage files v
 
 -- what a call that does actions of a stage preserves, if the actions that the stage counts as done

@@ -10,10 +10,10 @@ use Rattle.base_core.specs.Tree.{TreeState, File, files_of}
 use Rattle.base_core.specs.Undone.{IsDurable}
 use Rattle.journal_core.specs.Filling.{synced_file}
 use Rattle.journal_core.specs.Kept.{KeepsCrashMapsExcept, KeepsFilesExcept, NamesAreDurableExcept, RecoversTo}
-use Rattle.journal_core.specs.Recovery.{Intent, EachCrashLeavesOldOrNew, EachCrashLeaves, StateDependsOn, files_after_actions, intent_name, read_intent, stage_name}
+use Rattle.journal_core.specs.Recovery.{Intent, EachCrashLeavesOldOrNew, EachCrashLeavesStateOf, StateDependsOn, files_after_actions, intent_name, read_intent, stage_name}
 use Rattle.journal_intent.specs.FreeNames.{HasFreeDistinctNames}
 use Rattle.journal_core.specs.Quiet.{EachCrashLeavesOld}
-use Rattle.journal_core.specs.Staged.{Staging, CommittedBy, IsCommittedFor, IsOldUntilCommit, IsStaged}
+use Rattle.journal_core.specs.Staged.{Staging, IsHistoryThatCommitsFiles, HasPublishedIntentForFiles, IsOldUntilCommit, HasStagedContents}
 
 -- the tree `v` differs from `start` only by a file under a name that was absent: the file was made
 -- since
@@ -45,18 +45,22 @@ pub record IsReadyToPublish (intent : Intent) (base : Files) (made : ℕ) (v : T
   pub reads : (q : List ℕ) → q ≢ stage_name 0 → files_of v q ≡ base q
   -- these bytes encode the intent
   pub bytes : List ℕ
+  -- the bytes are read as this intent
   pub spells : read_intent bytes ≡ Some intent
   -- the staged file of the intent has these bytes, is synced, and was made since then
   pub number : ℕ
+  -- the file's number is not below the number of files made before
   pub later : made ≤ number
+  -- the name of the staged intent leads to this file
   pub there : v.names (stage_name 0) ≡ Some number
+  -- the file has exactly these bytes, and is synced
   pub holds : v.files number ≡ synced_file bytes
   -- the staged file of each write is synced; the writes are numbered from 1
   pub synced : (k n : ℕ) → 1 ≤ k → k < 1 + length intent.writes → v.names (stage_name k) ≡ Some n
       → (v.files n).synced ≡ true
-  -- its writes can be numbered in 64 bits, and its actions do not change the intent and the staging
-  -- area
+  -- its writes can be numbered in 64 bits
   pub few : length intent.writes < 2 ^ 63
+  -- no action changes the journal, no name is written twice, and none is both written and removed
   pub free : HasFreeDistinctNames intent
 
 -- a moment of the commit, at which the intent may have been moved to its name: a crash leaves a
@@ -69,16 +73,19 @@ pub record IsCommitting (ignored : List ℕ → Bool) (files : Files) (number : 
   -- each crash leaves a state that a crash at the start might have left, or that of `files`
   pub old_or_new : EachCrashLeavesOldOrNew ignored start files v
   -- as long as no intent made since leads to these files, each crash leaves a state from before
-  pub unpublished : (IsCommittedFor ignored files number v → ⊥) → EachCrashLeavesOld ignored start v
-  -- files may have been made since the start
+  pub unpublished : (HasPublishedIntentForFiles ignored files number v → ⊥)
+      → EachCrashLeavesOld ignored start v
+  -- no fewer files have been made than at the start
   pub made : start.made ≤ v.made
 
 -- a moment after the commit: each crash leaves the state of these files, and the intent is under
 -- its name
 pub record HasCommittedIntent (ignored : List ℕ → Bool) (files : Files) (made : ℕ)
     (v : TreeState) : Type 0 where
-  pub settled : EachCrashLeaves ignored files v
-  pub publishes : IsCommittedFor ignored files made v
+  -- each crash leaves the state of these files
+  pub settled : EachCrashLeavesStateOf ignored files v
+  -- the intent is under its name, in a file made after the given number of files
+  pub publishes : HasPublishedIntentForFiles ignored files made v
 
 -- only the intent's name, and that under which the intent is written, have changed
 pub record ChangesOnlyIntentNames (old now : List TreeState) : Type 0 where
@@ -100,21 +107,23 @@ pub record PublishesIntent {T E : Type 0} (stage : Staging) (old now : List Tree
   -- at each moment a crash leaves an old state or the one with all actions done; before an intent of
   -- this call that yields it is under its name, a crash leaves an old one
   pub moments : IfObservable old (λ v. (ignored : List ℕ → Bool) (contents : List (List ℕ)) (base : Files)
-      → IsDurable (StateDependsOn ignored) v → IsStaged stage contents None base v
+      → IsDurable (StateDependsOn ignored) v → HasStagedContents stage contents None base v
       → SinceGivenEarlier (IsOldUntilCommit ignored (files_after_actions stage.intent (files_of v)) v)
       old now)
+  -- once it has returned Ok, the change is committed by an intent of this call
   pub published : IfObservable old (λ v. (ignored : List ℕ → Bool) (contents : List (List ℕ)) (base : Files)
-      → IsDurable (StateDependsOn ignored) v → IsStaged stage contents None base v
-      → OnOk result (CommittedBy ignored (files_after_actions stage.intent (files_of v)) v old now))
+      → IsDurable (StateDependsOn ignored) v → HasStagedContents stage contents None base v
+      → OnOk result (IsHistoryThatCommitsFiles ignored
+      (files_after_actions stage.intent (files_of v)) v old now))
   -- once it has returned Ok, each crash leaves the state of the actions done
   pub settled : IfObservable old (λ v. (ignored : List ℕ → Bool) (contents : List (List ℕ)) (base : Files)
-      → IsDurable (StateDependsOn ignored) v → IsStaged stage contents None base v
+      → IsDurable (StateDependsOn ignored) v → HasStagedContents stage contents None base v
       → OnOk result (HoldsNow now
-      (EachCrashLeaves ignored (files_after_actions stage.intent (files_of v)))))
+      (EachCrashLeavesStateOf ignored (files_after_actions stage.intent (files_of v)))))
   -- at each moment at which the intent is read, recovery of the files as read yields those of the
   -- actions done
   pub reads : IfObservable old (λ v. (contents : List (List ℕ)) (base : Files)
-      → IsStaged stage contents None base v → Since (λ w. IsSome (w.names intent_name)
+      → HasStagedContents stage contents None base v → Since (λ w. IsSome (w.names intent_name)
       → RecoversTo (files_after_actions stage.intent (files_of v)) w) old now)
   -- whatever it returns, every other name is unchanged
   pub names : ChangesOnlyIntentNames old now

@@ -37,19 +37,22 @@ JournalOnlyShrinks start v = (q : List ℕ) → IsJournalName q
     → (files_of v q ≡ None) ⊎ (files_of v q ≡ files_of start q)
 
 -- each name that is no name of the journal has the bytes of the old files or those of the new ones
-abbrev pub HasOldOrNewBytes : Files → Files → TreeState → Type 0
-HasOldOrNewBytes old new v =
+abbrev pub HasOldOrNewBytesOutsideJournal : Files → Files → TreeState → Type 0
+HasOldOrNewBytesOutsideJournal old new v =
     (q : List ℕ) → (IsJournalName q → ⊥) → (files_of v q ≡ old q) ⊎ (files_of v q ≡ new q)
 
 -- at each added moment each name that is no name of the journal has the bytes of `base` or those of
 -- `files`. `base` is any files for which this held at the start
 abbrev pub KeepsOldOrNewBytes : Files → TreeState → List TreeState → List TreeState → Type 0
 KeepsOldOrNewBytes files v old new =
-    (base : Files) → HasOldOrNewBytes base files v → Since (HasOldOrNewBytes base files) old new
+    (base : Files) → HasOldOrNewBytesOutsideJournal base files v
+    → Since (HasOldOrNewBytesOutsideJournal base files) old new
 
 -- the intent is as it was at the start, and each staged file is unchanged or gone
-pub record KeepsIntent (start v : TreeState) : Type 0 where
+pub record KeepsIntentWhileStageShrinks (start v : TreeState) : Type 0 where
+  -- the intent's name leads to the same file as at the start
   pub intent : v.names intent_name ≡ start.names intent_name
+  -- each file of the journal and the staging area is unchanged or gone
   pub waiting : JournalOnlyShrinks start v
 
 -- ---- the maps of names
@@ -86,5 +89,7 @@ KeepsCrashMapsExcept these start v = (map : NameMap) → IsCrashMap v map
 -- there is one map of names, so no crash undoes a change of them; and the file under this name is
 -- synced
 pub record IsSyncedAt (name : List ℕ) (v : TreeState) : Type 0 where
+  -- there is no older map of names
   pub one_map : v.older ≡ []
+  -- the file under the name, if there is one, is synced
   pub file : (n : ℕ) → v.names name ≡ Some n → (v.files n).synced ≡ true

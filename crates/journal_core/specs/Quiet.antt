@@ -21,5 +21,5 @@ pub record StateIsUnchanged (ignored : List ℕ → Bool) (start v : TreeState) 
   pub quiet : EachCrashLeavesOld ignored start v
   -- the state of the files as read is that at the start
   pub reads : state_of ignored (files_of v) ≡ state_of ignored (files_of start)
-  -- files may have been made since the start
+  -- no fewer files have been made than at the start
   pub made : start.made ≤ v.made

@@ -4,14 +4,14 @@
 use Rattle.std.specs.Prelude.{◌≡◌, ◌≢◌, ◌⊎◌, ℕ, List}
 use Rattle.base_core.specs.Files.{Files}
 use Rattle.base_core.specs.Tree.{TreeState, files_of}
-use Rattle.journal_core.specs.Replacing.{replaced_files_through_scratch, scratch_name_of}
+use Rattle.journal_core.specs.Replacing.{files_after_replacement_through_scratch, scratch_name_of}
 
 -- the files `now` are the old ones, apart from the scratch name, or they are the new ones, with these
 -- bytes at the name
 abbrev pub IsOldOrReplaced : List ℕ → List ℕ → List ℕ → Files → Files → Type 0
 IsOldOrReplaced scratch name bytes old now =
     ((q : List ℕ) → q ≢ scratch → now q ≡ old q)
-    ⊎ (now ≡ replaced_files_through_scratch scratch name bytes old)
+    ⊎ (now ≡ files_after_replacement_through_scratch scratch name bytes old)
 
 -- the files as read are the old ones, apart from the scratch name of this name, or the new ones
 abbrev pub ReadsOldOrReplaced : List ℕ → List ℕ → Files → TreeState → Type 0

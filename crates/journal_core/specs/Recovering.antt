@@ -41,12 +41,16 @@ AreStagedNames names = All (λ name. is_staged name ≡ true) names
 -- the tree `v` is the tree `start` without these names: they lead nowhere, and all others to the
 -- same files. No file has changed
 pub record HasRemovedNames (names : List (List ℕ)) (start v : TreeState) : Type 0 where
+  -- each of the names leads nowhere, and each other name to the same file as before
   pub map : (q : List ℕ) → v.names q
       ≡ (if list_any (bytes_eq q) names then None else start.names q)
+  -- no file's bytes have changed, nor whether it is synced
   pub files : v.files ≡ start.files
 
 -- the tree `v` is the tree `start` without staged files: no name in the staging area leads
 -- anywhere. No file has changed
 pub record HasEmptiedStage (start v : TreeState) : Type 0 where
+  -- no staged name leads anywhere, and each other name leads to the same file as before
   pub map : (q : List ℕ) → v.names q ≡ without_staged_names start.names q
+  -- no file's bytes have changed, nor whether it is synced
   pub files : v.files ≡ start.files

@@ -25,8 +25,8 @@ intent_of files = intent_in_file (files intent_name)
 -- ---- its actions
 
 -- the files without those of some names
-abbrev pub without_names : List (List ℕ) → Files → Files
-without_names names files q = if list_any (bytes_eq q) names then None else files q
+abbrev pub files_without_names : List (List ℕ) → Files → Files
+files_without_names names files q = if list_any (bytes_eq q) names then None else files q
 
 -- the files after the file at `from` is moved to `to`, given its bytes; unchanged if there is no
 -- file at `from`
@@ -36,15 +36,17 @@ move_if_present files from to (Some bytes) = move_name files from to bytes
 
 -- the files after the staged files from the number k on are moved to the names of a list, one by
 -- one; a staged file that is absent was moved before
-abbrev pub files_after_moves : ℕ → List (List ℕ) → Files → Files
-files_after_moves k [] files = files
-files_after_moves k (name ∷ names) files =
-    files_after_moves (k + 1) names (move_if_present files (stage_name k) name (files (stage_name k)))
+abbrev pub files_after_staged_moves_from : ℕ → List (List ℕ) → Files → Files
+files_after_staged_moves_from k [] files = files
+files_after_staged_moves_from k (name ∷ names) files =
+    files_after_staged_moves_from (k + 1) names
+    (move_if_present files (stage_name k) name (files (stage_name k)))
 
 -- the files after all actions of an intent: first the removals, then the moves, of which the first
 -- moves the staged file with the number 1
 abbrev pub files_after_actions : Intent → Files → Files
-files_after_actions intent files = files_after_moves 1 intent.writes (without_names intent.removals files)
+files_after_actions intent files =
+    files_after_staged_moves_from 1 intent.writes (files_without_names intent.removals files)
 
 -- ---- what recovery yields
 
@@ -84,8 +86,8 @@ StateDependsOn ignored files q =
 -- ---- what a crash leaves, as states
 
 -- each crash leaves the state of these files
-abbrev pub EachCrashLeaves : (List ℕ → Bool) → Files → TreeState → Type 0
-EachCrashLeaves ignored files v =
+abbrev pub EachCrashLeavesStateOf : (List ℕ → Bool) → Files → TreeState → Type 0
+EachCrashLeavesStateOf ignored files v =
     (image : Files) → IsCrashImage v image → state_of ignored image ≡ state_of ignored files
 
 -- each crash leaves a state that a crash at the start might have left, or the state of these files

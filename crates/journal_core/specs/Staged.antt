@@ -17,10 +17,15 @@ use Rattle.journal_core.specs.Quiet.{EachCrashLeavesOld}
 -- a stage for its calls: its actions, how many of its writes have their staged files, whether the next
 -- one's file is begun, whether the intent is published, and how many actions are done
 pub record Staging : Type 0 where
+  -- the removals and moves of the change
   pub intent : Intent
+  -- how many of the writes have a complete staged file
   pub staged : ℕ
+  -- whether the staged file of the next write is begun
   pub is_open : Bool
+  -- whether the intent is under its final name
   pub published : Bool
+  -- how many actions are done
   pub acted : ℕ
 
 -- how many actions an intent has: its removals and its writes
@@ -28,8 +33,8 @@ abbrev pub action_count : Intent → ℕ
 action_count intent = length intent.removals + length intent.writes
 
 -- a stage of these actions at its start
-abbrev pub new_stage : List (List ℕ) → List (List ℕ) → Staging
-new_stage removals writes = record {
+abbrev pub new_stage_of_removals_and_writes : List (List ℕ) → List (List ℕ) → Staging
+new_stage_of_removals_and_writes removals writes = record {
   intent = record { removals = removals; writes = writes };
   staged = 0;
   is_open = false;
@@ -60,6 +65,7 @@ files_with_begun_file k (Some bytes) files = put_name files (stage_name k) bytes
 -- a file is under the name, and under no other name in any map; and in none of these maps an action of
 -- the intent uses it
 pub record IsOnlyNameOfFile (name : List ℕ) (v : TreeState) : Type 0 where
+  -- the number of the file
   pub number : ℕ
   -- the name leads to the file with this number
   pub there : v.names name ≡ Some number
@@ -84,7 +90,7 @@ HasNoOtherIntent [] None v = Unit {0}
 -- Only a stage's calls have written the tree since the files as read were `base`, without an intent.
 -- Files with these bytes are staged and synced, and one with the bytes of the file that is begun is
 -- staged.
-pub record IsStaged (stage : Staging) (contents : List (List ℕ)) (begun : Option (List ℕ))
+pub record HasStagedContents (stage : Staging) (contents : List (List ℕ)) (begun : Option (List ℕ))
     (base : Files) (v : TreeState) : Type 0 where
   -- as many files are staged and ended as the stage counts
   pub count : length contents ≡ stage.staged
@@ -145,15 +151,15 @@ abbrev pub unstaged_files : Files → Files
 unstaged_files files q = if is_staged q then None else recovered_files files q
 
 -- a map or files have nothing staged: no name in the staging area leads anywhere
-abbrev pub IsEmptyStage : {X : Type 0} → (List ℕ → Option X) → Type 0
-IsEmptyStage files = (q : List ℕ) → is_staged q ≡ true → files q ≡ None
+abbrev pub HasNoStagedNames : {X : Type 0} → (List ℕ → Option X) → Type 0
+HasNoStagedNames files = (q : List ℕ) → is_staged q ≡ true → files q ≡ None
 
 -- ---- moments
 
 -- the intent's name has a file whose number is `made` or larger, so it was made since then; and
 -- recovery of the files as read yields the state of these files
-abbrev pub IsCommittedFor : (List ℕ → Bool) → Files → ℕ → TreeState → Type 0
-IsCommittedFor ignored files made v =
+abbrev pub HasPublishedIntentForFiles : (List ℕ → Bool) → Files → ℕ → TreeState → Type 0
+HasPublishedIntentForFiles ignored files made v =
     (n : ℕ)
     × (v.names intent_name ≡ Some n)
     × (made ≤ n)
@@ -161,10 +167,11 @@ IsCommittedFor ignored files made v =
 
 -- at one of these moments the intent's name had a file whose number is `made` or larger; and
 -- recovery of the files as read would have yielded the state of these files
-abbrev pub WasCommittedFor : (List ℕ → Bool) → Files → ℕ → List TreeState → Type 0
-WasCommittedFor ignored files made [] = ⊥
-WasCommittedFor ignored files made (v ∷ earlier) =
-    IsCommittedFor ignored files made v ⊎ WasCommittedFor ignored files made earlier
+abbrev pub HasMomentOfPublishedIntentForFiles : (List ℕ → Bool) → Files → ℕ → List TreeState → Type 0
+HasMomentOfPublishedIntentForFiles ignored files made [] = ⊥
+HasMomentOfPublishedIntentForFiles ignored files made (v ∷ earlier) =
+    HasPublishedIntentForFiles ignored files made v
+    ⊎ HasMomentOfPublishedIntentForFiles ignored files made earlier
 
 -- A moment of a run that leads to these files. A crash leaves a state that a crash at the start
 -- might have left, or the state of these files. Until an intent of this run has been under its
@@ -176,14 +183,14 @@ pub record IsOldUntilCommit (ignored : List ℕ → Bool) (files : Files) (start
   -- each crash leaves a state that a crash at the start might have left, or that of `files`
   pub old_or_new : EachCrashLeavesOldOrNew ignored start files v
   -- before the commit each crash leaves a state from before
-  pub unpublished : (WasCommittedFor ignored files start.made (v ∷ earlier) → ⊥)
+  pub unpublished : (HasMomentOfPublishedIntentForFiles ignored files start.made (v ∷ earlier) → ⊥)
       → EachCrashLeavesOld ignored start v
-  -- files may have been made since the start
+  -- no fewer files have been made than at the start
   pub made : start.made ≤ v.made
 
 -- the moments of a run that leads to these files; at one of them an intent of this run, for which
 -- recovery yields their state, was under its name
-pub record CommittedBy (ignored : List ℕ → Bool) (files : Files) (start : TreeState)
+pub record IsHistoryThatCommitsFiles (ignored : List ℕ → Bool) (files : Files) (start : TreeState)
     (old new : List TreeState) : Type 0 where
   -- the states that were added, the newest first
   pub added : List TreeState
@@ -192,7 +199,7 @@ pub record CommittedBy (ignored : List ℕ → Bool) (files : Files) (start : Tr
   -- each of them is on the way to `files`
   pub each : EachMoment (IsOldUntilCommit ignored files start) added
   -- at one of them an intent made since the start led to `files`
-  pub published : WasCommittedFor ignored files start.made added
+  pub published : HasMomentOfPublishedIntentForFiles ignored files start.made added
 
 -- ---- free paths
 
@@ -211,7 +218,8 @@ pub record AreJournalPathsFree (files : Files) : Type 0 where
 -- added
 pub record AreStagingPathsFree (files : Files) : Type 0 where
   -- nothing is staged yet
-  pub empty : IsEmptyStage files
+  pub empty : HasNoStagedNames files
+  -- no name becomes a folder of another if the intent and all staged files are added
   pub beside : AreJournalPathsFree files
 
 -- if an intent is found, the paths of its actions are free

@@ -18,5 +18,7 @@ AreWritesAccepted accepts names = (i : ℕ) (name : List ℕ) → slice_get name
 -- of `name`.
 pub record AreAccepted (accepts : Option (List ℕ) → List ℕ → Type 0) (intent : Intent) :
     Type 0 where
+  -- the tree accepts the removal of each name
   pub removals : AreRemovalsAccepted accepts intent.removals
+  -- the tree accepts each move of a staged file
   pub writes : AreWritesAccepted accepts intent.writes

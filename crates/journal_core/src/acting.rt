@@ -8,7 +8,7 @@ ghost use Rattle.base_core.specs.Files.{Files};
 ghost use Rattle.base_core.specs.Tree.{CanRename};
 ghost use Rattle.journal_core.specs.Acting.{CarriesOutActions, MovesIfPresent, stage_with_actions_done};
 ghost use Rattle.journal_core.specs.CallCounts.{IsResultExplainedByCounts};
-ghost use Rattle.journal_core.specs.Kept.{IsNameOfNextAction, KeepsFilesExcept, KeepsIntent};
+ghost use Rattle.journal_core.specs.Kept.{IsNameOfNextAction, KeepsFilesExcept, KeepsIntentWhileStageShrinks};
 ghost use Rattle.journal_core.specs.Staged.{AreJournalPathsFree, IsCarryingOutActions, action_count};
 
 use crate::calls::{remove, rename};
@@ -32,7 +32,7 @@ pub(crate) fn act<T: Tree>(
         (IsCarryingOutActions (stage_with_actions_done intent.now next) files))) }
     // At each moment the intent is unchanged, and each staged file is unchanged or gone.
     ensures waiting { IfObservable (T.history tree.old) (λ v.
-        Since (KeepsIntent v) (T.history tree.old) (T.history tree.new)) }
+        Since (KeepsIntentWhileStageShrinks v) (T.history tree.old) (T.history tree.new)) }
     // Whatever it returns, only the names of this action have changed.
     ensures others { IfObservable (T.history tree.old) (λ v.
         HoldsNow (T.history tree.new) (KeepsFilesExcept (IsNameOfNextAction intent.now acted) v)) }
@@ -68,6 +68,7 @@ pub(crate) fn act<T: Tree>(
 /// Does the removal with this index, if the removals before it are done. The clauses are those of
 /// `act`, for a removal.
 fn remove_one<T: Tree>(intent: &PreparedIntent, i: usize, tree: &mut T) -> Result<(), Disk>
+    // The index is that of an element.
     requires { i < length intent.now.removals }
     // If the actions that are counted are done at the start, the state is unchanged at each moment.
     ensures actions { CarriesOutActions (stage_with_actions_done intent.now i)
@@ -79,7 +80,7 @@ fn remove_one<T: Tree>(intent: &PreparedIntent, i: usize, tree: &mut T) -> Resul
         (IsCarryingOutActions (stage_with_actions_done intent.now (i + 1)) files))) }
     // At each moment the intent is unchanged, and each staged file is unchanged or gone.
     ensures waiting { IfObservable (T.history tree.old) (λ v.
-        Since (KeepsIntent v) (T.history tree.old) (T.history tree.new)) }
+        Since (KeepsIntentWhileStageShrinks v) (T.history tree.old) (T.history tree.new)) }
     // Whatever it returns, only the names of this action have changed.
     ensures others { IfObservable (T.history tree.old) (λ v.
         HoldsNow (T.history tree.new) (KeepsFilesExcept (IsNameOfNextAction intent.now i) v)) }
@@ -102,7 +103,9 @@ fn move_one<T: Tree>(
     acted: usize,
     tree: &mut T,
 ) -> Result<(), Disk>
+    // The index is that of one of the writes.
     requires within { j < length intent.now.writes }
+    // `acted` counts all removals and the first `j` writes.
     requires behind { acted ≡ length intent.now.removals + j }
     // If the actions that are counted are done at the start, the state is unchanged at each moment.
     ensures actions { CarriesOutActions (stage_with_actions_done intent.now acted)
@@ -114,7 +117,7 @@ fn move_one<T: Tree>(
         (IsCarryingOutActions (stage_with_actions_done intent.now (acted + 1)) files))) }
     // At each moment the intent is unchanged, and each staged file is unchanged or gone.
     ensures waiting { IfObservable (T.history tree.old) (λ v.
-        Since (KeepsIntent v) (T.history tree.old) (T.history tree.new)) }
+        Since (KeepsIntentWhileStageShrinks v) (T.history tree.old) (T.history tree.new)) }
     // Whatever it returns, only the names of this action have changed.
     ensures others { IfObservable (T.history tree.old) (λ v.
         HoldsNow (T.history tree.new) (KeepsFilesExcept (IsNameOfNextAction intent.now acted) v)) }

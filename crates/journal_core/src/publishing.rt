@@ -14,7 +14,7 @@ ghost use Rattle.journal_core.specs.Filling.{synced_file};
 ghost use Rattle.journal_core.specs.Kept.{KeepsFilesExcept, KeepsCrashMapsExcept, RecoversTo};
 ghost use Rattle.journal_core.specs.Quiet.{StateIsUnchanged};
 ghost use Rattle.journal_core.specs.Recovery.{Intent, StateDependsOn, files_after_actions, intent_name, stage_name};
-ghost use Rattle.journal_core.specs.Staged.{AreStagingPathsFree, IsCarryingOutActions, IsStaged};
+ghost use Rattle.journal_core.specs.Staged.{AreStagingPathsFree, IsCarryingOutActions, HasStagedContents};
 
 use crate::calls::{append, create, rename, sync_all_names, sync_file};
 use base_core::{Disk, Name, Tree};
@@ -29,7 +29,7 @@ pub(crate) fn publish_intent<T: Tree>(tree: &mut T, intent: &PreparedIntent) -> 
         (T.history tree.old) (T.history tree.new) result }
     // Once it has returned Ok, the intent is committed, and none of its actions is done.
     ensures acting { IfObservable (T.history tree.old) (λ v. (contents : List (List ℕ))
-        (base : Files) → IsStaged (fully_staged_stage intent.now) contents None base v
+        (base : Files) → HasStagedContents (fully_staged_stage intent.now) contents None base v
         → OnOk result (HoldsNow (T.history tree.new)
         (IsCarryingOutActions (stage_with_actions_done intent.now 0)
         (files_after_actions intent.now (files_of v))))) }
@@ -38,7 +38,7 @@ pub(crate) fn publish_intent<T: Tree>(tree: &mut T, intent: &PreparedIntent) -> 
 
     // If the paths of the stage are free, no call is a misuse.
     ensures proper { IfObservable (T.history tree.old) (λ v. (contents : List (List ℕ))
-        (base : Files) → IsStaged (fully_staged_stage intent.now) contents None base v
+        (base : Files) → HasStagedContents (fully_staged_stage intent.now) contents None base v
         → AreStagingPathsFree base → (T.counts tree.new).misuses ≡ (T.counts tree.old).misuses) }
 {
     // A law that the proof needs; it computes nothing.
@@ -50,7 +50,9 @@ pub(crate) fn publish_intent<T: Tree>(tree: &mut T, intent: &PreparedIntent) -> 
 /// Makes the staged file 0 with these bytes, and syncs it, so that no crash leaves other bytes
 /// under the intent's name.
 fn write_waiting<T: Tree>(tree: &mut T, place: &Name, bytes: &[u8]) -> Result<(), Disk>
+    // The name is that of the staged file 0.
     requires { place.now ≡ stage_name 0 }
+    // From a durable tree without an intent on, each moment is durable, and the state is unchanged.
     ensures moments { IfObservable (T.history tree.old) (λ v. (ignored : List ℕ → Bool)
         → IsDurable (StateDependsOn ignored) v → files_of v intent_name ≡ None
         → Since (StateIsUnchanged ignored v) (T.history tree.old) (T.history tree.new)) }
@@ -88,8 +90,11 @@ fn write_waiting<T: Tree>(tree: &mut T, place: &Name, bytes: &[u8]) -> Result<()
 /// intent without one of its staged files, and after, so that no crash undoes the publishing. The
 /// clauses are those of `publish_intent`, from the moment at which all files are staged.
 fn enter<T: Tree>(tree: &mut T, place: &Name, name: &Name) -> Result<(), Disk>
+    // The source is the staged file 0.
     requires place { place.now ≡ stage_name 0 }
+    // The target is the intent's name.
     requires name { name.now ≡ intent_name }
+    // From a tree that is ready to publish on, each moment is one of the commit.
     ensures moments { IfObservable (T.history tree.old) (λ v. (ignored : List ℕ → Bool)
         (intent : Intent) (base : Files) (made : ℕ) → IsDurable (StateDependsOn ignored) v
         → IsReadyToPublish intent base made v

@@ -13,12 +13,12 @@ ghost use Rattle.base_core.specs.declared.cause.Cause.{Cause};
 ghost use Rattle.journal_core.specs.Acting.{CarriesOutActions, IsNextStagedName};
 ghost use Rattle.journal_core.specs.CallCounts.{IsResultExplainedByCounts};
 ghost use Rattle.journal_core.specs.Committing.{PublishesIntent};
-ghost use Rattle.journal_core.specs.Kept.{IsRestoredByNoCrash, JournalOnlyShrinks, IsNameOfNextAction, KeepsFilesExcept, KeepsIntent, KeepsCrashMapsExcept, NamesAreDurableExcept, RecoversTo};
+ghost use Rattle.journal_core.specs.Kept.{IsRestoredByNoCrash, JournalOnlyShrinks, IsNameOfNextAction, KeepsFilesExcept, KeepsIntentWhileStageShrinks, KeepsCrashMapsExcept, NamesAreDurableExcept, RecoversTo};
 ghost use Rattle.journal_core.specs.Quiet.{StateIsUnchanged};
-ghost use Rattle.journal_core.specs.Recovery.{EachCrashLeaves, StateDependsOn, files_after_actions, intent_name, read_intent, stage_name};
-ghost use Rattle.journal_core.specs.Staged.{Staging, AreJournalPathsFree, AreStagingPathsFree, IsCarryingOutActions, IsOnlyNameOfFile, IsStaged, action_count, new_stage};
+ghost use Rattle.journal_core.specs.Recovery.{EachCrashLeavesStateOf, StateDependsOn, files_after_actions, intent_name, read_intent, stage_name};
+ghost use Rattle.journal_core.specs.Staged.{Staging, AreJournalPathsFree, AreStagingPathsFree, IsCarryingOutActions, IsOnlyNameOfFile, HasStagedContents, action_count, new_stage_of_removals_and_writes};
 ghost use Rattle.journal_intent.specs.FreeNames.{HasFreeDistinctNames};
-ghost use Rattle.journal_intent.specs.Intent.{AreChangeNames};
+ghost use Rattle.journal_intent.specs.Intent.{AreDistinctNamesAllowedInIntent};
 ghost use Rattle.journal_intent.specs.IntentValue.{intent_of_lists, value_of_intent};
 
 use crate::acting::act;
@@ -39,6 +39,7 @@ use std::marker::Model;
 /// recovered.
 #[derive(Drop)]
 pub struct Stage {
+    /// The intent (journal entry) of the change.
     pub(crate) intent: PreparedIntent,
     /// How many writes have their staged files.
     pub(crate) staged: usize,
@@ -75,8 +76,11 @@ impl Stage {
     ///
     /// Those of `of_names`.
     pub fn begin(alloc: Global, removals: &Names, writes: &Names) -> Result<Stage, WriteFault>
-        requires { AreChangeNames (removals.now ++ writes.now) }
-        ensures view { IfOk result (λ stage. stage ≡ new_stage removals.now writes.now) }
+        // The names are allowed in an intent (journal entry).
+        requires { AreDistinctNamesAllowedInIntent (removals.now ++ writes.now) }
+        // On Ok, the stage is new, with these removals and writes.
+        ensures view { IfOk result (λ stage. stage
+            ≡ new_stage_of_removals_and_writes removals.now writes.now) }
         // The error for a payload that is too large has the counts at which a limit is exceeded.
         ensures large { (bytes values : ℕ) → IsErrOf result (WriteFault.TooLarge bytes values)
             → overflow_of (value_of_intent (intent_of_lists removals.now writes.now))
@@ -98,8 +102,11 @@ impl Stage {
     /// `TooLarge` exactly if the payload of the intent's container would exceed a limit of the
     /// writer, with the counts there; or `Memory`.
     pub fn of_names(alloc: Global, removals: Names, writes: Names) -> Result<Stage, WriteFault>
-        requires { AreChangeNames (removals ++ writes) }
-        ensures view { IfOk result (λ stage. stage ≡ new_stage removals writes) }
+        // The names are allowed in an intent (journal entry).
+        requires { AreDistinctNamesAllowedInIntent (removals ++ writes) }
+        // On Ok, the stage is new, with these removals and writes.
+        ensures view { IfOk result (λ stage. stage
+            ≡ new_stage_of_removals_and_writes removals writes) }
         // The error for a payload that is too large has the counts at which a limit is exceeded.
         ensures large { (bytes values : ℕ) → IsErrOf result (WriteFault.TooLarge bytes values)
             → overflow_of (value_of_intent (intent_of_lists removals writes))
@@ -121,11 +128,15 @@ impl Stage {
     /// The stage of an intent that was found in a file: all its files were staged, it is published,
     /// and none of its actions counts as done, since each may be done twice.
     pub fn found(alloc: Global, file: Vec<u8>) -> Result<Stage, RecoverFault>
+        // On Ok, the stage has the intent that the file encodes.
         ensures intent { IfOk result (λ stage. read_intent file.items ≡ Some stage.intent) }
+        // On Ok, the intent counts as committed.
         ensures published { IfOk result (λ stage. stage.published ≡ true) }
         ensures none { IfOk result (λ stage. stage.acted ≡ 0) }
+        // The cause of a refusal is the first failed test of the intent's container.
         ensures bad { (cause : Cause) → IsErrOf result (RecoverFault.IntentBad cause)
             → container_fault_except_contents IntentTable file.items ≡ Some cause }
+        // Ok is returned only if the intent's container passes all tests.
         ensures good { OnOk result (container_fault_except_contents IntentTable file.items ≡ None) }
         ensures only { IsErrOf result RecoverFault.Disk → ⊥ }
     {
@@ -161,6 +172,7 @@ impl Stage {
 
     /// The name of the next write's staged file: the writes are numbered from 1.
     fn next_name(&self) -> &Name
+        // A write is left whose file is not staged.
         requires { self.now.staged < length self.now.intent.writes }
         ensures { IsNextStagedName result.now self.now }
     {
@@ -171,6 +183,7 @@ impl Stage {
 
     /// The name of the staged file that is begun.
     fn open_name(&self) -> &Name
+        // A staged file is begun.
         requires { self.now.is_open ≡ true }
         ensures { IsNextStagedName result.now self.now }
     {
@@ -182,13 +195,16 @@ impl Stage {
     /// Before the first file is made, the names are synced. So no crash restores the intent of an
     /// older change, by which that file would be a staged file of its own.
     fn sync_before_first<T: Tree>(&self, tree: &mut T) -> Result<(), Disk>
+        // From a durable tree on, each moment is durable, and the state is unchanged.
         ensures moments { IfObservable (T.history tree.old) (λ v. (ignored : List ℕ → Bool)
             → IsDurable (StateDependsOn ignored) v
             → Since (StateIsUnchanged ignored v) (T.history tree.old) (T.history tree.new)) }
+        // Once it has returned Ok, the staged files are as before, and no crash restores an intent.
         ensures staged { IfObservable (T.history tree.old) (λ v. (contents : List (List ℕ))
-            (base : Files) → IsStaged self.now contents None base v
+            (base : Files) → HasStagedContents self.now contents None base v
             → OnOk result (HoldsNow (T.history tree.new)
-            (λ w. IsStaged self.now contents None base w × IsRestoredByNoCrash intent_name w))) }
+            (λ w. HasStagedContents self.now contents None base w
+            × IsRestoredByNoCrash intent_name w))) }
         // At each moment the files as read are unchanged.
         ensures reads { IfObservable (T.history tree.old) (λ v.
             Since (λ w. files_of w ≡ files_of v) (T.history tree.old) (T.history tree.new)) }
@@ -210,19 +226,22 @@ impl Stage {
 
     /// Makes an empty file for the next write.
     pub fn file_begin<T: Tree>(&mut self, tree: &mut T) -> Result<(), Disk>
+        // No staged file is begun.
         requires closed { self.old.is_open ≡ false }
+        // A write is left whose file is not staged.
         requires more { self.old.staged < length self.old.intent.writes }
 
         // From a durable tree on, each moment is durable, and the state is unchanged. Once it has
         // returned Ok, an empty file is staged for the next write.
         ensures moments { IfObservable (T.history tree.old) (λ v. (ignored : List ℕ → Bool)
             (contents : List (List ℕ)) (base : Files) → IsDurable (StateDependsOn ignored) v
-            → IsStaged self.old contents None base v
+            → HasStagedContents self.old contents None base v
             → Since (StateIsUnchanged ignored v) (T.history tree.old) (T.history tree.new)) }
+        // Once it has returned Ok, the staged files are as before, and the begun one is empty.
         ensures staged { IfObservable (T.history tree.old) (λ v. (contents : List (List ℕ))
-            (base : Files) → IsStaged self.old contents None base v
+            (base : Files) → HasStagedContents self.old contents None base v
             → OnOk result (HoldsNow (T.history tree.new)
-            (IsStaged self.new contents (Some []) base))) }
+            (HasStagedContents self.new contents (Some []) base))) }
 
         // At each moment, whatever it returns, the files as read are unchanged under every other
         // name, and so is what a crash leaves of the names.
@@ -242,7 +261,8 @@ impl Stage {
 
         // If the paths of the stage are free, no call is a misuse.
         ensures proper { IfObservable (T.history tree.old) (λ v. (contents : List (List ℕ))
-            (base : Files) → IsStaged self.old contents None base v → AreStagingPathsFree base
+            (base : Files) → HasStagedContents self.old contents None base v
+            → AreStagingPathsFree base
             → (T.counts tree.new).misuses ≡ (T.counts tree.old).misuses) }
     {
         self.sync_before_first(tree)?;
@@ -253,18 +273,22 @@ impl Stage {
 
     /// Adds bytes to the file that is begun.
     pub fn file_append<T: Tree>(&mut self, tree: &mut T, piece: &[u8]) -> Result<(), Disk>
+        // A staged file is begun.
         requires { self.old.is_open ≡ true }
 
         // From a durable tree on, each moment is durable, and the state is unchanged. Once it has
         // returned Ok, the piece is added to the bytes so far.
         ensures moments { IfObservable (T.history tree.old) (λ v. (ignored : List ℕ → Bool)
             (contents : List (List ℕ)) (so_far : List ℕ) (base : Files)
-            → IsDurable (StateDependsOn ignored) v → IsStaged self.old contents (Some so_far) base v
+            → IsDurable (StateDependsOn ignored) v
+            → HasStagedContents self.old contents (Some so_far) base v
             → Since (StateIsUnchanged ignored v) (T.history tree.old) (T.history tree.new)) }
+        // Once it has returned Ok, the begun file has the bytes so far and then these.
         ensures staged { IfObservable (T.history tree.old) (λ v. (contents : List (List ℕ))
-            (so_far : List ℕ) (base : Files) → IsStaged self.old contents (Some so_far) base v
+            (so_far : List ℕ) (base : Files)
+            → HasStagedContents self.old contents (Some so_far) base v
             → OnOk result (HoldsNow (T.history tree.new)
-            (IsStaged self.new contents (Some (so_far ++ piece.now)) base))) }
+            (HasStagedContents self.new contents (Some (so_far ++ piece.now)) base))) }
 
         // If the file is under no other name, the files as read are unchanged under each, at each
         // moment; and no name changes.
@@ -284,7 +308,8 @@ impl Stage {
 
         // No call is a misuse.
         ensures proper { IfObservable (T.history tree.old) (λ v. (contents : List (List ℕ))
-            (so_far : List ℕ) (base : Files) → IsStaged self.old contents (Some so_far) base v
+            (so_far : List ℕ) (base : Files)
+            → HasStagedContents self.old contents (Some so_far) base v
             → (T.counts tree.new).misuses ≡ (T.counts tree.old).misuses) }
     {
         append(tree, self.open_name(), piece)
@@ -292,18 +317,22 @@ impl Stage {
 
     /// Ends the file that is begun: its bytes are made durable.
     pub fn file_end<T: Tree>(&mut self, tree: &mut T) -> Result<(), Disk>
+        // A staged file is begun.
         requires { self.old.is_open ≡ true }
 
         // From a durable tree on, each moment is durable, and the state is unchanged. Once it has
         // returned Ok, the bytes so far are staged for this write, synced.
         ensures moments { IfObservable (T.history tree.old) (λ v. (ignored : List ℕ → Bool)
             (contents : List (List ℕ)) (so_far : List ℕ) (base : Files)
-            → IsDurable (StateDependsOn ignored) v → IsStaged self.old contents (Some so_far) base v
+            → IsDurable (StateDependsOn ignored) v
+            → HasStagedContents self.old contents (Some so_far) base v
             → Since (StateIsUnchanged ignored v) (T.history tree.old) (T.history tree.new)) }
+        // Once it has returned Ok, the begun file is one of the staged files.
         ensures staged { IfObservable (T.history tree.old) (λ v. (contents : List (List ℕ))
-            (so_far : List ℕ) (base : Files) → IsStaged self.old contents (Some so_far) base v
+            (so_far : List ℕ) (base : Files)
+            → HasStagedContents self.old contents (Some so_far) base v
             → OnOk result (HoldsNow (T.history tree.new)
-            (IsStaged self.new (contents ++ so_far ∷ []) None base))) }
+            (HasStagedContents self.new (contents ++ so_far ∷ []) None base))) }
 
         // At each moment, whatever it returns, the files as read are unchanged, and no name
         // changes.
@@ -322,7 +351,8 @@ impl Stage {
 
         // No call is a misuse.
         ensures proper { IfObservable (T.history tree.old) (λ v. (contents : List (List ℕ))
-            (so_far : List ℕ) (base : Files) → IsStaged self.old contents (Some so_far) base v
+            (so_far : List ℕ) (base : Files)
+            → HasStagedContents self.old contents (Some so_far) base v
             → (T.counts tree.new).misuses ≡ (T.counts tree.old).misuses) }
     {
         sync_file(tree, self.open_name())?;
@@ -334,15 +364,18 @@ impl Stage {
     /// The commit, which cannot be taken back: the intent is written as a staged file of its own,
     /// and moved to its name. No action is done yet.
     pub fn publish<T: Tree>(&mut self, tree: &mut T) -> Result<(), Disk>
+        // No staged file is begun.
         requires closed { self.old.is_open ≡ false }
+        // All writes have their staged files.
         requires all { self.old.staged ≡ length self.old.intent.writes }
 
         // At each moment a crash leaves an old state or the one with all actions done; once it has
         // returned Ok, it leaves the latter.
         ensures publishing { PublishesIntent self.old (T.history tree.old)
             (T.history tree.new) result }
+        // Once it has returned Ok, the intent is committed, and none of its actions is done.
         ensures acting { IfObservable (T.history tree.old) (λ v. (contents : List (List ℕ))
-            (base : Files) → IsStaged self.old contents None base v
+            (base : Files) → HasStagedContents self.old contents None base v
             → OnOk result (HoldsNow (T.history tree.new)
             (IsCarryingOutActions self.new (files_after_actions self.old.intent (files_of v))))) }
         // How the stage changes on Ok.
@@ -354,7 +387,8 @@ impl Stage {
 
         // If the paths of the stage are free, no call is a misuse.
         ensures proper { IfObservable (T.history tree.old) (λ v. (contents : List (List ℕ))
-            (base : Files) → IsStaged self.old contents None base v → AreStagingPathsFree base
+            (base : Files) → HasStagedContents self.old contents None base v
+            → AreStagingPathsFree base
             → (T.counts tree.new).misuses ≡ (T.counts tree.old).misuses) }
     {
         publish_intent(tree, &self.intent)?;
@@ -365,18 +399,20 @@ impl Stage {
 
     /// Does the next action; returns true exactly if one was left.
     pub fn apply_one<T: Tree>(&mut self, tree: &mut T) -> Result<bool, Disk>
+        // The intent is committed.
         requires { self.old.published ≡ true }
 
         // The state is unchanged at each moment. Once it has returned Ok, the stage's count of
         // actions done is true of the tree.
         ensures actions { CarriesOutActions self.old (T.history tree.old) (T.history tree.new) }
+        // Once it has returned Ok, the count of actions done is true of the tree again.
         ensures acting { IfObservable (T.history tree.old) (λ v. (files : Files)
             → IsCarryingOutActions self.old files v
             → OnOk result (HoldsNow (T.history tree.new) (IsCarryingOutActions self.new files))) }
 
         // At each moment the intent is unchanged, and each staged file is unchanged or gone.
         ensures waiting { IfObservable (T.history tree.old) (λ v.
-            Since (KeepsIntent v) (T.history tree.old) (T.history tree.new)) }
+            Since (KeepsIntentWhileStageShrinks v) (T.history tree.old) (T.history tree.new)) }
 
         // Whatever it returns, it changes only the names of its action.
         ensures others { IfObservable (T.history tree.old) (λ v. HoldsNow (T.history tree.new)
@@ -386,8 +422,10 @@ impl Stage {
         // left, no call is made. A call that fails leaves the stage as it was.
         ensures answer { IfOk result
             (λ was_left. was_left ≡ nat_lt self.old.acted (action_count self.old.intent)) }
+        // If an action is left, Ok counts one more action as done.
         ensures more { self.old.acted < action_count self.old.intent
             → OnOk result (self.new ≡ record self.old { acted = self.old.acted + 1 }) }
+        // If no action is left, stage and tree are unchanged.
         ensures none_left { action_count self.old.intent ≤ self.old.acted
             → OnOk result (self.new ≡ self.old) × (tree.new ≡ tree.old) }
         // An error leaves the stage as it was.
@@ -409,7 +447,9 @@ impl Stage {
 
     /// After the last action: makes the names durable, and removes the intent.
     pub fn finish<T: Tree>(&mut self, tree: &mut T) -> Result<(), Disk>
+        // The intent is committed.
         requires published { self.old.published ≡ true }
+        // All actions are done.
         requires all { self.old.acted ≡ action_count self.old.intent }
 
         // From a durable tree on, each moment is durable, and the state is unchanged. Once it has
@@ -423,7 +463,7 @@ impl Stage {
         ensures settled { IfObservable (T.history tree.old) (λ v. (ignored : List ℕ → Bool)
             (files : Files) → IsDurable (StateDependsOn ignored) v
             → IsCarryingOutActions self.old files v
-            → OnOk result (HoldsNow (T.history tree.new) (EachCrashLeaves ignored files))) }
+            → OnOk result (HoldsNow (T.history tree.new) (EachCrashLeavesStateOf ignored files))) }
         // Once it has returned Ok, the files as read have all actions done, and no intent is read.
         ensures files { IfObservable (T.history tree.old) (λ v. (files : Files)
             → IsCarryingOutActions self.old files v → OnOk result (HoldsNow (T.history tree.new)
@@ -448,8 +488,10 @@ impl Stage {
         // has changed; the stage is unchanged, whatever it returns.
         ensures waiting { IfObservable (T.history tree.old) (λ v.
             Since (JournalOnlyShrinks v) (T.history tree.old) (T.history tree.new)) }
+        // In the newest state, each file except the intent's is unchanged.
         ensures others { IfObservable (T.history tree.old) (λ v. HoldsNow (T.history tree.new)
             (KeepsFilesExcept (λ q. q ≡ intent_name) v)) }
+        // At each moment, each file except the intent's is unchanged.
         ensures shown { IfObservable (T.history tree.old) (λ v.
             Since (KeepsFilesExcept (λ q. q ≡ intent_name) v)
             (T.history tree.old) (T.history tree.new)) }
@@ -470,18 +512,22 @@ impl Stage {
 /// Does all actions of a published stage that are left. The clauses are those of `apply_one`, for
 /// all of them.
 pub fn apply_all<T: Tree>(stage: &mut Stage, tree: &mut T) -> Result<(), Disk>
+    // The intent is committed.
     requires published { stage.old.published ≡ true }
+    // No more actions count as done than there are.
     requires within { stage.old.acted ≤ action_count stage.old.intent }
     // If the actions that are counted are done at the start, the state is unchanged at each moment.
     ensures actions { CarriesOutActions stage.old (T.history tree.old) (T.history tree.new) }
+    // Once it has returned Ok, the count of actions done is true of the tree again.
     ensures acting { IfObservable (T.history tree.old) (λ v. (files : Files)
         → IsCarryingOutActions stage.old files v
         → OnOk result (HoldsNow (T.history tree.new) (IsCarryingOutActions stage.new files))) }
     // At each moment the intent is unchanged, and each staged file is unchanged or gone.
     ensures waiting { IfObservable (T.history tree.old) (λ v.
-        Since (KeepsIntent v) (T.history tree.old) (T.history tree.new)) }
+        Since (KeepsIntentWhileStageShrinks v) (T.history tree.old) (T.history tree.new)) }
     // Once it has returned Ok, all actions are done.
     ensures all { OnOk result (stage.new.acted ≡ action_count stage.new.intent) }
+    // On Ok, the intent still counts as committed.
     ensures published { OnOk result (stage.new.published ≡ true) }
     // How the tree's counts explain the result.
     ensures counts { IsResultExplainedByCounts (T.counts tree.old) (T.counts tree.new) result }

@@ -16,8 +16,10 @@ use base_core::{Disk, Name, Tree, consecutive_reads_compose};
 ///
 /// `Disk` if the tree can never take the name so, or give it up, or failed.
 pub fn check_target<T: Tree>(tree: &mut T, name: &Name, source: Option<&Name>) -> Result<(), Disk>
+    // The tree is only read: no file changes, no I/O error is hidden, and no call is a misuse.
     ensures tree { OnlyReads (record {}) (T.history tree.old) (T.history tree.new)
         (T.counts tree.old) (T.counts tree.new) result }
+    // On Ok, the tree has accepted this target.
     ensures accepted { OnOk result (T.accepts (option_copied source.entry) name.now) }
 {
     tree.check_target(name, source)?;
@@ -26,8 +28,10 @@ pub fn check_target<T: Tree>(tree: &mut T, name: &Name, source: Option<&Name>) -
 
 /// Asks the tree for each name that the stage removes.
 fn check_removals<T: Tree>(stage: &Stage, tree: &mut T) -> Result<(), Disk>
+    // The tree is only read: no file changes, no I/O error is hidden, and no call is a misuse.
     ensures tree { OnlyReads (record {}) (T.history tree.old) (T.history tree.new)
         (T.counts tree.old) (T.counts tree.new) result }
+    // Once it has returned Ok, the tree has accepted these names.
     ensures accepted { OnOk result (AreRemovalsAccepted T.accepts stage.now.intent.removals) }
 {
     // A law that the proof needs; it computes nothing.
@@ -40,8 +44,10 @@ fn check_removals<T: Tree>(stage: &Stage, tree: &mut T) -> Result<(), Disk>
 
 /// Asks the tree for each name that the stage writes, from the file that is staged for it.
 fn check_writes<T: Tree>(stage: &Stage, tree: &mut T) -> Result<(), Disk>
+    // The tree is only read: no file changes, no I/O error is hidden, and no call is a misuse.
     ensures tree { OnlyReads (record {}) (T.history tree.old) (T.history tree.new)
         (T.counts tree.old) (T.counts tree.new) result }
+    // Once it has returned Ok, the tree has accepted these names.
     ensures accepted { OnOk result (AreWritesAccepted T.accepts stage.now.intent.writes) }
 {
     // Laws that the proof needs; they compute nothing.
@@ -60,8 +66,10 @@ fn check_writes<T: Tree>(stage: &Stage, tree: &mut T) -> Result<(), Disk>
 ///
 /// `Disk` if the tree can never take one of the names, or give it up, or failed.
 pub fn check_targets<T: Tree>(stage: &Stage, tree: &mut T) -> Result<(), Disk>
+    // The tree is only read: no file changes, no I/O error is hidden, and no call is a misuse.
     ensures tree { OnlyReads (record {}) (T.history tree.old) (T.history tree.new)
         (T.counts tree.old) (T.counts tree.new) result }
+    // On Ok, the tree has accepted each target of the change.
     ensures accepted { OnOk result (AreAccepted T.accepts stage.now.intent) }
 {
     // A law that the proof needs; it computes nothing.

@@ -21,7 +21,7 @@ use Rattle.adb_view.specs.declared.tables.Which.TheVariants as Tables
 use Rattle.adb_view.specs.Plain.{Plain, Plains, none, more}
 use Rattle.adb_view.specs.Shaped.{Each}
 use Rattle.journal_intent.specs.FreeNames.{AllAreNames, AreFreeNames, HaveNoRepeats, HasFreeDistinctNames, IsFreeName, IsNoneOf, IsOneOf}
-use Rattle.journal_intent.specs.Intent.{AreChangeNames, Intent, intent_of_value, intent_name, intent_unless_fault, is_staged, read_intent, stage_folder, stage_name}
+use Rattle.journal_intent.specs.Intent.{AreDistinctNamesAllowedInIntent, Intent, intent_of_value, intent_name, intent_unless_fault, is_staged, read_intent, stage_folder, stage_name}
 use Rattle.journal_intent.specs.IntentValue.{intent_of_lists}
 use Rattle.journal_intent.proofs.ReadIntent.{spelled}
 use Rattle.journal_intent.proofs.Spelling.{distinct}
@@ -98,7 +98,7 @@ frees_right : (xs ys : List (List ℕ)) → AreFreeNames (xs ++ ys) → AreFreeN
 frees_right [] ys free = free
 frees_right (x ∷ xs) ys free = frees_right xs ys free.1
 
-pub change_names_free : (removals writes : List (List ℕ)) → AreChangeNames (removals ++ writes) → HasFreeDistinctNames (intent_of_lists removals writes)
+pub change_names_free : (removals writes : List (List ℕ)) → AreDistinctNamesAllowedInIntent (removals ++ writes) → HasFreeDistinctNames (intent_of_lists removals writes)
 change_names_free removals writes names =
     let free = frees_all (removals ++ writes) names.each in
     let once = distinct (removals ++ writes) names.once in

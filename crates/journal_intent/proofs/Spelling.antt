@@ -11,7 +11,7 @@ use Rattle.adb_sound.specs.adb_fields.FirstPair.{IsIn}
 use Rattle.adb_sound.specs.adb_fields.Once.{AreDistinctNames, HasNoRepeatedName}
 use Rattle.adb_sound.specs.adb_fields.Repeated.{list_of}
 use Rattle.adb_sound.specs.adb_schema.Rules.{is_name_allowed_in_intent}
-use Rattle.adb_sound.specs.adb_schema.SoundValues.{IsNameAllowedInIntent, KeepsRules}
+use Rattle.adb_sound.specs.adb_schema.SoundValues.{IsNameAllowedInIntent, ObeysFieldRulesOfTable}
 use Rattle.adb_view.specs.Schema.{shape_of}
 use Rattle.adb_view.specs.Values.{text_in}
 use Rattle.adb_view.specs.declared.tables.Which.TheVariants as Tables
@@ -19,7 +19,7 @@ use Rattle.adb_view.specs.declared.tables.Kind.TheVariants as Kinds
 use Rattle.adb_view.proofs.ValueEntries.{text_blob}
 use Rattle.adb_view.proofs.Normal.{blob_value_normal}
 use Rattle.adb_sound.specs.adb_write.Size.{entries_of, value_count}
-use Rattle.journal_intent.specs.Intent.{AreChangeNames, Intent, intent_of_value}
+use Rattle.journal_intent.specs.Intent.{AreDistinctNamesAllowedInIntent, Intent, intent_of_value}
 use Rattle.journal_intent.specs.IntentValue.{intent_of_lists, value_of_intent}
 
 -- ---- it is read back
@@ -87,7 +87,7 @@ each_right : (xs ys : List (List ℕ)) → All (λ name. is_name_allowed_in_inte
 each_right [] ys all = each_change ys all
 each_right (x ∷ xs) ys all = each_right xs ys (All-tail (λ name. is_name_allowed_in_intent name ≡ true) x (xs ++ ys) all)
 
-pub value_rules : (removals writes : List (List ℕ)) → AreChangeNames (removals ++ writes) → KeepsRules Tables.Intent (value_of_intent (intent_of_lists removals writes))
+pub value_rules : (removals writes : List (List ℕ)) → AreDistinctNamesAllowedInIntent (removals ++ writes) → ObeysFieldRulesOfTable Tables.Intent (value_of_intent (intent_of_lists removals writes))
 value_rules [] [] names = record { removals = tt; writes = tt }
 value_rules (r ∷ rs) [] names = record { removals = each_left (r ∷ rs) [] names.each; writes = tt }
 value_rules [] (w ∷ ws) names = record { removals = tt; writes = each_right [] (w ∷ ws) names.each }

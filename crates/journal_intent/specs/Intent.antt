@@ -59,6 +59,6 @@ read_intent file = intent_unless_fault (container_fault_except_contents IntentTa
 
 -- the names of a change: each is one that a change may have, which excludes the intent's and those in
 -- the staging area, and none is repeated
-pub record AreChangeNames (names : List (List ℕ)) : Type 0 where
+pub record AreDistinctNamesAllowedInIntent (names : List (List ℕ)) : Type 0 where
   pub each : All (λ name. is_name_allowed_in_intent name ≡ true) names
   pub once : AllPairs (λ a b. bytes_eq a b ≡ false) names

@@ -6,7 +6,7 @@ ghost use Rattle.adb_values.specs.Drafts.{draft_with};
 ghost use Rattle.adb_view.specs.Plain.{array_or_null, plains_of_texts};
 ghost use Rattle.adb_sound.specs.adb_write.Canonical.{canonical, overflow_of};
 ghost use Rattle.adb_sound.specs.adb_write.File.{file_of};
-ghost use Rattle.journal_intent.specs.Intent.{AreChangeNames, read_intent};
+ghost use Rattle.journal_intent.specs.Intent.{AreDistinctNamesAllowedInIntent, read_intent};
 ghost use Rattle.journal_intent.specs.IntentValue.{intent_of_lists, value_of_intent};
 
 use adb_block::what_is_spelled_is_read;
@@ -30,7 +30,7 @@ pub(crate) fn intent_file(
     removals: &Names,
     writes: &Names,
 ) -> Result<Vec<u8>, WriteFault>
-    requires { AreChangeNames (removals.now ++ writes.now) }
+    requires { AreDistinctNamesAllowedInIntent (removals.now ++ writes.now) }
     ensures spelled { IfOk result
         (λ file. read_intent file.items ≡ Some (intent_of_lists removals.now writes.now)) }
     ensures large { (bytes values : ℕ) → IsErrOf result (WriteFault.TooLarge bytes values)
@@ -56,7 +56,8 @@ pub(crate) fn intent_file(
 /// The container of an intent's canonical payload is read as this intent, and the intent has fewer
 /// than 2^63 names.
 fn an_intent_is_read_back()
-    ensures read { (removals writes : List (List ℕ)) → AreChangeNames (removals ++ writes)
+    ensures read { (removals writes : List (List ℕ))
+        → AreDistinctNamesAllowedInIntent (removals ++ writes)
         → overflow_of (value_of_intent (intent_of_lists removals writes)) ≡ None
         → read_intent
         (file_of INTENT_WORD (canonical (value_of_intent (intent_of_lists removals writes))))

@@ -5,7 +5,7 @@
 
 ghost use Rattle.std.specs.Prelude.{◌≡◌, IfOk, ◌≢◌, ◌<◌, ◌^◌, ◌++◌, ℕ, true, List, Some, None};
 ghost use Rattle.journal_intent.specs.FreeNames.{stage_names_from, HasFreeDistinctNames, IsUsedByJournal};
-ghost use Rattle.journal_intent.specs.Intent.{intent_name, stage_folder, stage_name, AreChangeNames, Intent, intent_of_value, is_staged, read_intent};
+ghost use Rattle.journal_intent.specs.Intent.{intent_name, stage_folder, stage_name, AreDistinctNamesAllowedInIntent, Intent, intent_of_value, is_staged, read_intent};
 ghost use Rattle.adb_sound.specs.adb_schema.Soundness.{container_fault_except_contents, payload_in, root_value};
 ghost use Rattle.adb_view.specs.declared.tables.Which.TheVariants.{Intent as IntentTable};
 ghost use Rattle.base_core.specs.Files.{IsFolderOf};
@@ -86,6 +86,7 @@ pub fn a_read_intent_has_free_names()
 
 /// The names of a planned change are free, no write is repeated, and no written name is removed.
 pub fn the_names_of_a_change_are_free()
-    ensures { (removals writes : List (List ℕ)) → AreChangeNames (removals ++ writes)
+    ensures { (removals writes : List (List ℕ)) → AreDistinctNamesAllowedInIntent (removals
+        ++ writes)
         → HasFreeDistinctNames (intent_of_lists removals writes) }
 {}

@@ -6,7 +6,7 @@ ghost use Rattle.adb_sound.specs.adb_schema.Soundness.{container_fault_except_co
 ghost use Rattle.adb_view.specs.declared.tables.Which.TheVariants.{Intent as IntentTable};
 ghost use Rattle.adb_sound.specs.adb_write.Canonical.{overflow_of};
 ghost use Rattle.journal_intent.specs.FreeNames.{HasFreeDistinctNames, stage_names_from};
-ghost use Rattle.journal_intent.specs.Intent.{AreChangeNames, intent_name, read_intent, stage_name};
+ghost use Rattle.journal_intent.specs.Intent.{AreDistinctNamesAllowedInIntent, intent_name, read_intent, stage_name};
 ghost use Rattle.journal_intent.specs.IntentValue.{intent_of_lists, value_of_intent};
 
 use crate::container::intent_file;
@@ -59,7 +59,7 @@ impl PreparedIntent {
         removals: Names,
         writes: Names,
     ) -> Result<PreparedIntent, WriteFault>
-        requires { AreChangeNames (removals ++ writes) }
+        requires { AreDistinctNamesAllowedInIntent (removals ++ writes) }
         ensures intent { IfOk result (λ intent. intent ≡ intent_of_lists removals writes) }
         ensures large { (bytes values : ℕ) → IsErrOf result (WriteFault.TooLarge bytes values)
             → overflow_of (value_of_intent (intent_of_lists removals writes))

@@ -10,9 +10,9 @@ use Rattle.base_core.specs.Crash.{Since}
 use Rattle.base_core.specs.Undone.{IsDurable}
 use Rattle.journal_core.specs.adb_schema.Soundness.{container_fault_except_contents}
 use Rattle.adb_view.specs.declared.tables.Which.TheVariants.{Intent as IntentTable}
-use Rattle.journal_core.specs.Kept.{HasOldOrNewBytes, RecoversTo}
+use Rattle.journal_core.specs.Kept.{HasOldOrNewBytesOutsideJournal, RecoversTo}
 use Rattle.journal_core.specs.Recovering.{IsIntentReplayed}
-use Rattle.journal_core.specs.Recovery.{EachCrashLeaves, StateDependsOn, intent_name, intent_in_file, intent_of, recovered_files, files_after_intent}
+use Rattle.journal_core.specs.Recovery.{EachCrashLeavesStateOf, StateDependsOn, intent_name, intent_in_file, intent_of, recovered_files, files_after_intent}
 use Rattle.journal_core.specs.Quiet.{StateIsUnchanged}
 use Rattle.journal_core.specs.Staged.{AreReplayPathsFree, IsIntentFault}
 use Rattle.journal_core.proofs.History.{History, no_more, none_since, on_observable, observable_map}
@@ -55,16 +55,16 @@ module _ (old mid new : History) (same : mid ≡ old) (name file : List ℕ) (na
   found_reads told =
       both_told old (λ v. There v → Since (RecoversTo (recovered_files (files_of v))) mid new) There _ (λ v t at. subst (λ (l : History). Since (RecoversTo (recovered_files (files_of v))) l new) same (t at)) (back _ told) there
 
-  pub found_bytes : IfObservable mid (λ v. There v → Since (HasOldOrNewBytes (files_of v) (recovered_files (files_of v))) mid new) → IfObservable old (λ v. Since (HasOldOrNewBytes (files_of v) (recovered_files (files_of v))) old new)
+  pub found_bytes : IfObservable mid (λ v. There v → Since (HasOldOrNewBytesOutsideJournal (files_of v) (recovered_files (files_of v))) mid new) → IfObservable old (λ v. Since (HasOldOrNewBytesOutsideJournal (files_of v) (recovered_files (files_of v))) old new)
   found_bytes told =
-      both_told old (λ v. There v → Since (HasOldOrNewBytes (files_of v) (recovered_files (files_of v))) mid new) There _ (λ v t at. subst (λ (l : History). Since (HasOldOrNewBytes (files_of v) (recovered_files (files_of v))) l new) same (t at)) (back _ told) there
+      both_told old (λ v. There v → Since (HasOldOrNewBytesOutsideJournal (files_of v) (recovered_files (files_of v))) mid new) There _ (λ v t at. subst (λ (l : History). Since (HasOldOrNewBytesOutsideJournal (files_of v) (recovered_files (files_of v))) l new) same (t at)) (back _ told) there
 
   pub found_replayed : {T E : Type 0} (r : Result T E) → IfObservable mid (λ v. There v → OnOk r (HoldsNow new (IsIntentReplayed v))) → IfObservable old (λ v. OnOk r (HoldsNow new (IsIntentReplayed v)))
   found_replayed r told = both_told old (λ v. There v → OnOk r (HoldsNow new (IsIntentReplayed v))) There _ (λ v t at. t at) (back _ told) there
 
-  pub found_settled : {T E : Type 0} (r : Result T E) → IfObservable mid (λ v. (ignored : List ℕ → Bool) → IsDurable (StateDependsOn ignored) v → There v → OnOk r (HoldsNow new (EachCrashLeaves ignored (recovered_files (files_of v)))))
-      → IfObservable old (λ v. (ignored : List ℕ → Bool) → IsDurable (StateDependsOn ignored) v → IsSome (intent_of (files_of v)) → OnOk r (HoldsNow new (EachCrashLeaves ignored (recovered_files (files_of v)))))
-  found_settled r told = both_told old (λ v. (ignored : List ℕ → Bool) → IsDurable (StateDependsOn ignored) v → There v → OnOk r (HoldsNow new (EachCrashLeaves ignored (recovered_files (files_of v))))) There _ (λ v t at ignored is_durable some. t ignored is_durable at) (back _ told) there
+  pub found_settled : {T E : Type 0} (r : Result T E) → IfObservable mid (λ v. (ignored : List ℕ → Bool) → IsDurable (StateDependsOn ignored) v → There v → OnOk r (HoldsNow new (EachCrashLeavesStateOf ignored (recovered_files (files_of v)))))
+      → IfObservable old (λ v. (ignored : List ℕ → Bool) → IsDurable (StateDependsOn ignored) v → IsSome (intent_of (files_of v)) → OnOk r (HoldsNow new (EachCrashLeavesStateOf ignored (recovered_files (files_of v)))))
+  found_settled r told = both_told old (λ v. (ignored : List ℕ → Bool) → IsDurable (StateDependsOn ignored) v → There v → OnOk r (HoldsNow new (EachCrashLeavesStateOf ignored (recovered_files (files_of v))))) There _ (λ v t at ignored is_durable some. t ignored is_durable at) (back _ told) there
 
   pub found_proper : (a b c : ℕ) → IfObservable old (λ v. b ≡ a) → IfObservable mid (λ v. There v → AreReplayPathsFree (files_of v) → c ≡ b) → IfObservable old (λ v. AreReplayPathsFree (files_of v) → c ≡ a)
   found_proper a b c first told = both_told old (λ v. (b ≡ a) × (There v → AreReplayPathsFree (files_of v) → c ≡ b)) There _ (λ v t at room. t.1 at room ∙ t.0)
@@ -108,7 +108,7 @@ module _ (old new : History) (same : new ≡ old) (name : List ℕ) (name_is : n
       let none = subst (λ (l : History). IfObservable l Absent) is absent in
       now_is new v rest (IsIntentReplayed v) (same ∙ is) (record { reads = sym (ap (λ o. files_after_intent o (files_of v)) (ap intent_in_file none)); absent = names_none v.files (v.names intent_name) none }))
 
-  pub absent_settled : IfObservable old (λ v. (ignored : List ℕ → Bool) → IsDurable (StateDependsOn ignored) v → IsSome (intent_of (files_of v)) → HoldsNow new (EachCrashLeaves ignored (recovered_files (files_of v))))
+  pub absent_settled : IfObservable old (λ v. (ignored : List ℕ → Bool) → IsDurable (StateDependsOn ignored) v → IsSome (intent_of (files_of v)) → HoldsNow new (EachCrashLeavesStateOf ignored (recovered_files (files_of v))))
   absent_settled = observable_map old Absent _ absent (λ v none ignored is_durable some. absurd (let gone : intent_of (files_of v) ≡ None = ap intent_in_file none in cc (gone, some)))
 
   pub absent_good : IfObservable old (λ v. (cause : Cause) → IsIntentFault (files_of v) cause → ⊥)

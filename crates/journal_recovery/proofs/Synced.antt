@@ -7,10 +7,10 @@ use Rattle.base_core.specs.Files.{NameMap}
 use Rattle.base_core.proofs.Undone.{read_may_be_left}
 use Rattle.base_core.specs.Tree.{TreeState, IsAlwaysAllowed, after_sync_names, files_of, unchanged_after_failed_call}
 use Rattle.base_core.specs.Undone.{IsDurable}
-use Rattle.journal_core.specs.Kept.{HasOldOrNewBytes, IsRestoredByNoCrash, KeepsFilesExcept, RecoversTo, NamesOutsideJournalAreDurable}
+use Rattle.journal_core.specs.Kept.{HasOldOrNewBytesOutsideJournal, IsRestoredByNoCrash, KeepsFilesExcept, RecoversTo, NamesOutsideJournalAreDurable}
 use Rattle.journal_core.specs.Quiet.{StateIsUnchanged}
 use Rattle.journal_core.specs.Recovering.{AreStagedNames, IsIntentReplayed, HasRemovedNames}
-use Rattle.journal_core.specs.Recovery.{EachCrashLeaves, StateDependsOn, intent_name, is_staged, recovered_files}
+use Rattle.journal_core.specs.Recovery.{EachCrashLeavesStateOf, StateDependsOn, intent_name, is_staged, recovered_files}
 use Rattle.journal_core.specs.Staged.{AreReplayPathsFree}
 use Rattle.journal_core.proofs.Acts.{still_on, sync_still}
 use Rattle.journal_core.proofs.Changes.{gone_synced}
@@ -36,8 +36,8 @@ module _ {T E : Type 0} (old new : History) (r : Result T E) (moves : ChangesHis
   pub sync_reads : IfObservable old (λ v. Since (RecoversTo (recovered_files (files_of v))) old new)
   sync_reads = on_observable old _ (λ v rest is. one_called old new v rest is (RecoversTo (recovered_files (files_of v))) r moves refl (λ may. refl))
 
-  pub sync_bytes : IfObservable old (λ v. Since (HasOldOrNewBytes (files_of v) (recovered_files (files_of v))) old new)
-  sync_bytes = on_observable old _ (λ v rest is. one_called old new v rest is (HasOldOrNewBytes (files_of v) (recovered_files (files_of v))) r moves (λ q shown. inl refl) (λ may q shown. inl refl))
+  pub sync_bytes : IfObservable old (λ v. Since (HasOldOrNewBytesOutsideJournal (files_of v) (recovered_files (files_of v))) old new)
+  sync_bytes = on_observable old _ (λ v rest is. one_called old new v rest is (HasOldOrNewBytesOutsideJournal (files_of v) (recovered_files (files_of v))) r moves (λ q shown. inl refl) (λ may q shown. inl refl))
 
   pub sync_lasts : IfObservable old (λ v. IsSome (v.names intent_name) → Since (λ w. w.names intent_name ≡ None → NamesOutsideJournalAreDurable w) old new)
   sync_lasts = on_observable old _ (λ v rest is some.
@@ -87,10 +87,10 @@ module _ (file : List ℕ) where
     found_replayed told = on_observable old _ (λ v rest is there.
         now_map new (IsIntentReplayed (after_sync_names v)) (IsIntentReplayed v) (at_mid old mid new x moves v rest is (λ u. IsFound u → u.older ≡ [] → HoldsNow new (IsIntentReplayed u)) told there refl) (λ w r. record { reads = r.reads; absent = r.absent }))
 
-    pub found_settled : IfObservable mid (λ u. (ignored : List ℕ → Bool) → IsDurable (StateDependsOn ignored) u → IsFound u → u.older ≡ [] → HoldsNow new (EachCrashLeaves ignored (recovered_files (files_of u))))
-        → IfObservable old (λ v. (ignored : List ℕ → Bool) → IsDurable (StateDependsOn ignored) v → IsFound v → HoldsNow new (EachCrashLeaves ignored (recovered_files (files_of v))))
+    pub found_settled : IfObservable mid (λ u. (ignored : List ℕ → Bool) → IsDurable (StateDependsOn ignored) u → IsFound u → u.older ≡ [] → HoldsNow new (EachCrashLeavesStateOf ignored (recovered_files (files_of u))))
+        → IfObservable old (λ v. (ignored : List ℕ → Bool) → IsDurable (StateDependsOn ignored) v → IsFound v → HoldsNow new (EachCrashLeavesStateOf ignored (recovered_files (files_of v))))
     found_settled told = on_observable old _ (λ v rest is ignored is_durable there.
-        at_mid old mid new x moves v rest is (λ u. (Y : List ℕ → Bool) → IsDurable (StateDependsOn Y) u → IsFound u → u.older ≡ [] → HoldsNow new (EachCrashLeaves Y (recovered_files (files_of u)))) told ignored (sync_still ignored v is_durable).is_durable there refl)
+        at_mid old mid new x moves v rest is (λ u. (Y : List ℕ → Bool) → IsDurable (StateDependsOn Y) u → IsFound u → u.older ≡ [] → HoldsNow new (EachCrashLeavesStateOf Y (recovered_files (files_of u)))) told ignored (sync_still ignored v is_durable).is_durable there refl)
 
     pub found_proper : (a b c : ℕ) → IfObservable old (λ v. b ≡ a) → IfObservable mid (λ u. IsFound u → u.older ≡ [] → AreReplayPathsFree (files_of u) → c ≡ b) → IfObservable old (λ v. IsFound v → AreReplayPathsFree (files_of v) → c ≡ a)
     found_proper a b c first told = on_observable old _ (λ v rest is there room.
@@ -101,7 +101,7 @@ module _ (file : List ℕ) where
     pub alone_moments : IfObservable old (λ v. (ignored : List ℕ → Bool) → IsDurable (StateDependsOn ignored) v → Since (StateIsUnchanged ignored v) old mid) → IfObservable old (λ v. (ignored : List ℕ → Bool) → IsDurable (StateDependsOn ignored) v → IsFound v → Since (StateIsUnchanged ignored v) old mid)
     alone_moments told = observable_map old _ _ told (λ v t ignored is_durable there. t ignored is_durable)
 
-    pub alone_bytes : IfObservable old (λ v. Since (HasOldOrNewBytes (files_of v) (recovered_files (files_of v))) old mid) → IfObservable old (λ v. IsFound v → Since (HasOldOrNewBytes (files_of v) (recovered_files (files_of v))) old mid)
+    pub alone_bytes : IfObservable old (λ v. Since (HasOldOrNewBytesOutsideJournal (files_of v) (recovered_files (files_of v))) old mid) → IfObservable old (λ v. IsFound v → Since (HasOldOrNewBytesOutsideJournal (files_of v) (recovered_files (files_of v))) old mid)
     alone_bytes told = observable_map old _ _ told (λ v t there. t)
 
     pub alone_reads : IfObservable old (λ v. Since (RecoversTo (recovered_files (files_of v))) old mid) → IfObservable old (λ v. IsFound v → Since (RecoversTo (recovered_files (files_of v))) old mid)

@@ -28,10 +28,14 @@ pub record RemovesIntentLast (old now : List TreeState) : Type 0 where
 -- The intent is refused exactly if it is no intent container. Then nothing changes, whatever is returned.
 pub record RefusesOnlyBadIntent {T : Type 0} (old now : List TreeState)
     (result : Result T RecoverFault) : Type 0 where
+  -- if the intent is refused, nothing changed, and the file of the intent has this fault
   pub bad : (cause : Cause) → IsErrOf result (IntentBad cause)
       → (now ≡ old) × IfObservable old (λ v. IsIntentFault (files_of v) cause)
+  -- Ok is returned only if the file of the intent has no fault
   pub good : IfObservable old (λ v. OnOk result ((cause : Cause) → IsIntentFault (files_of v) cause → ⊥))
+  -- if the file of the intent has a fault, nothing changes
   pub bad_idle : IfObservable old (λ v. (cause : Cause) → IsIntentFault (files_of v) cause → now ≡ old)
+  -- the refusal's cause is the fault of some file, even if the tree is not observable
   pub found : (cause : Cause) → IsErrOf result (IntentBad cause)
       → (file : List ℕ) × (container_fault_except_contents IntentTable file ≡ Some cause)
 
@@ -44,7 +48,9 @@ pub record IsRecoveryExplainedByCounts {T : Type 0} (before now : Counts)
   pub disk : IsErrOf result Disk → IsFaultCountedWithCause before now
   -- every other result, only if it did not
   pub kept : OnOk result (CountsNoNewFault before now)
+  -- running out of memory counts no fault of the tree
   pub memory : IsErrOf result Memory → CountsNoNewFault before now
+  -- refusing the intent counts no fault of the tree
   pub refused : (cause : Cause) → IsErrOf result (IntentBad cause) → CountsNoNewFault before now
 
 -- these names, if they are all in the staging area, are removed, and nothing else changes
@@ -60,6 +66,7 @@ pub record RemovesStagedNames {T E : Type 0} (names : List (List ℕ)) (old now 
       → Since NamesOutsideJournalAreDurable old now)
   -- once it has returned Ok, the names are removed, and no crash restores an intent
   pub cleared : IfObservable old (λ v. OnOk result (HoldsNow now (HasRemovedNames names v)))
+  -- once it has returned Ok, no crash restores an intent if none did at the start
   pub gone : IfObservable old (λ v. OnOk result (IsRestoredByNoCrash intent_name v
       → HoldsNow now (IsRestoredByNoCrash intent_name)))
   -- without names no call is made

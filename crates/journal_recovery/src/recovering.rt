@@ -11,11 +11,11 @@ ghost use Rattle.base_core.specs.Faults.{CountsOnlyRise, IsFaultCountedWithCause
 ghost use Rattle.base_core.specs.Tree.{files_of};
 ghost use Rattle.base_core.specs.declared.cause.Cause.{Cause};
 ghost use Rattle.journal_core.specs.CallCounts.{IsResultExplainedByCounts};
-ghost use Rattle.journal_core.specs.Kept.{HasOldOrNewBytes, IsRestoredByNoCrash, JournalOnlyShrinks, KeepsFilesExcept, RecoversTo, NamesOutsideJournalAreDurable};
+ghost use Rattle.journal_core.specs.Kept.{HasOldOrNewBytesOutsideJournal, IsRestoredByNoCrash, JournalOnlyShrinks, KeepsFilesExcept, RecoversTo, NamesOutsideJournalAreDurable};
 ghost use Rattle.journal_core.specs.Quiet.{StateIsUnchanged};
 ghost use Rattle.journal_core.specs.Recovering.{AreStagedNames, HasEmptiedStage, IsIntentReplayed};
-ghost use Rattle.journal_core.specs.Recovery.{EachCrashLeaves, StateDependsOn, intent_name, intent_of, is_staged, recovered_files};
-ghost use Rattle.journal_core.specs.Staged.{AreReplayPathsFree, IsEmptyStage, unstaged_files};
+ghost use Rattle.journal_core.specs.Recovery.{EachCrashLeavesStateOf, StateDependsOn, intent_name, intent_of, is_staged, recovered_files};
+ghost use Rattle.journal_core.specs.Staged.{AreReplayPathsFree, HasNoStagedNames, unstaged_files};
 ghost use Rattle.journal_recovery.specs.RecoveryContracts.{IsRecoveryExplainedByCounts, RefusesOnlyBadIntent, RemovesIntentLast, RemovesStagedNames};
 
 use base_core::{Disk, Names, Tree, TreeFault, read_all};
@@ -44,7 +44,7 @@ pub fn recover<T: Tree>(alloc: Global, tree: &mut T) -> Result<(), RecoverFault>
     // At each moment a name outside the staging area has its old bytes or those that recovery
     // yields.
     ensures bytes { IfObservable (T.history tree.old) (λ v.
-        Since (HasOldOrNewBytes (files_of v) (unstaged_files (files_of v)))
+        Since (HasOldOrNewBytesOutsideJournal (files_of v) (unstaged_files (files_of v)))
         (T.history tree.old) (T.history tree.new)) }
 
     // Once it has returned Ok, the files as read have the intent done and nothing staged; and no
@@ -56,7 +56,8 @@ pub fn recover<T: Tree>(alloc: Global, tree: &mut T) -> Result<(), RecoverFault>
     // If it found an intent, each crash leaves their state.
     ensures settled { IfObservable (T.history tree.old) (λ v. (ignored : List ℕ → Bool)
         → IsDurable (StateDependsOn ignored) v → IsSome (intent_of (files_of v))
-        → OnOk result (HoldsNow (T.history tree.new) (EachCrashLeaves ignored (files_of v)))) }
+        → OnOk result (HoldsNow (T.history tree.new) (EachCrashLeavesStateOf ignored
+        (files_of v)))) }
 
     // Whatever it returns, staged files are only removed, and the intent is removed last.
     ensures journal { RemovesIntentLast (T.history tree.old) (T.history tree.new) }
@@ -67,7 +68,7 @@ pub fn recover<T: Tree>(alloc: Global, tree: &mut T) -> Result<(), RecoverFault>
 
     // If there is nothing to do, no writing call is made.
     ensures idle { IfObservable (T.history tree.old) (λ v. v.names intent_name ≡ None
-        → IsEmptyStage v.names → T.history tree.new ≡ T.history tree.old) }
+        → HasNoStagedNames v.names → T.history tree.new ≡ T.history tree.old) }
 
     // The intent is refused exactly if it is no intent container. Then nothing changes, whatever is
     // returned.
@@ -99,7 +100,7 @@ fn replay<T: Tree>(alloc: Global, tree: &mut T) -> Result<(), RecoverFault>
         (T.history tree.old) (T.history tree.new)) }
     // At each moment a name outside the journal has its old bytes, or those that recovery yields.
     ensures bytes { IfObservable (T.history tree.old) (λ v.
-        Since (HasOldOrNewBytes (files_of v) (recovered_files (files_of v)))
+        Since (HasOldOrNewBytesOutsideJournal (files_of v) (recovered_files (files_of v)))
         (T.history tree.old) (T.history tree.new)) }
     // Once it has returned Ok, all actions are done, and no intent is read.
     ensures replayed { IfObservable (T.history tree.old) (λ v.
@@ -109,7 +110,7 @@ fn replay<T: Tree>(alloc: Global, tree: &mut T) -> Result<(), RecoverFault>
     ensures settled { IfObservable (T.history tree.old) (λ v. (ignored : List ℕ → Bool)
         → IsDurable (StateDependsOn ignored) v → IsSome (intent_of (files_of v))
         → OnOk result (HoldsNow (T.history tree.new)
-        (EachCrashLeaves ignored (recovered_files (files_of v))))) }
+        (EachCrashLeavesStateOf ignored (recovered_files (files_of v))))) }
     // Staged files are only removed, and the intent is removed last.
     ensures journal { RemovesIntentLast (T.history tree.old) (T.history tree.new) }
     // If an intent was found: once it has returned Ok, no crash restores it.
@@ -150,7 +151,7 @@ fn replay_file<T: Tree>(alloc: Global, tree: &mut T, file: Vec<u8>) -> Result<()
     // At each moment a name outside the journal has its old bytes, or those that recovery yields.
     ensures bytes { IfObservable (T.history tree.old) (λ v. files_of v intent_name
         ≡ Some file.items
-        → Since (HasOldOrNewBytes (files_of v) (recovered_files (files_of v)))
+        → Since (HasOldOrNewBytesOutsideJournal (files_of v) (recovered_files (files_of v)))
         (T.history tree.old) (T.history tree.new)) }
     // Once it has returned Ok, all actions are done, and no intent is read.
     ensures replayed { IfObservable (T.history tree.old) (λ v. files_of v intent_name
@@ -160,7 +161,7 @@ fn replay_file<T: Tree>(alloc: Global, tree: &mut T, file: Vec<u8>) -> Result<()
     ensures settled { IfObservable (T.history tree.old) (λ v. (ignored : List ℕ → Bool)
         → IsDurable (StateDependsOn ignored) v → files_of v intent_name ≡ Some file.items
         → OnOk result (HoldsNow (T.history tree.new)
-        (EachCrashLeaves ignored (recovered_files (files_of v))))) }
+        (EachCrashLeavesStateOf ignored (recovered_files (files_of v))))) }
     // Staged files are only removed, and the intent is removed last.
     ensures journal { RemovesIntentLast (T.history tree.old) (T.history tree.new) }
     // Once it has returned Ok, no crash restores the intent.
@@ -216,7 +217,7 @@ fn empty_stage<T: Tree>(alloc: Global, tree: &mut T) -> Result<(), TreeFault>
         (IsRestoredByNoCrash intent_name v
         → HoldsNow (T.history tree.new) (IsRestoredByNoCrash intent_name))) }
     // Without staged files nothing changes.
-    ensures idle { IfObservable (T.history tree.old) (λ v. IsEmptyStage v.names
+    ensures idle { IfObservable (T.history tree.old) (λ v. HasNoStagedNames v.names
         → T.history tree.new ≡ T.history tree.old) }
 
     // No count of faults falls; a fault of the tree is returned only if that count rose, and Ok

@@ -14,7 +14,7 @@ use Rattle.file_guard.specs.pkg_core.Opened.{expected_file_at}
 use Rattle.file_guard.specs.pkg_core.Whole.{files_read_from_package, package_fault}
 use Rattle.journal_staging.specs.Reading.{IsReadingIn}
 use Rattle.journal_staging.specs.Sources.{AreListedContentsOf, IsFileSource, MayDenote, DenotesBytes}
-use Rattle.journal_staging.specs.Spoiled.{IsSpoiledFile, IsSpoiledForEachTested}
+use Rattle.journal_staging.specs.Spoiled.{IsFileWithOnlyContentsSpoiled, IsSpoiledForEachTested}
 use Rattle.journal_staging.specs.declared.writes.PackagedFile.{PackagedFile}
 use Rattle.journal_staging.specs.declared.writes.Source.{Source}
 use Rattle.journal_staging.specs.declared.writes.Source.TheVariants.{Bytes, File, Link}
@@ -62,7 +62,7 @@ file_listed (Err e) source f Waits is found = tt
 -- ---- a package that was changed since
 
 spoiled_by_due : (tested : List ℕ) (f : PackagedFile) (cause : Cause) (bytes : List ℕ) (due : Option ExpectedFile) → package_fault tested ≡ None → expected_file_at f.folder f.file (expected_files_of_package (root_value Package (payload_in tested))) ≡ due → HaveOtherDigest due bytes cause
-    → (file : List ℕ) × IsSpoiledFile tested file cause
+    → (file : List ℕ) × IsFileWithOnlyContentsSpoiled tested file cause
 spoiled_by_due tested f cause bytes None sound due other = absurd other
 spoiled_by_due tested f cause bytes (Some e) sound due other = spoiled tested f.folder f.file e bytes cause sound due other.0 other.1
 

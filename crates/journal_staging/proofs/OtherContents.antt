@@ -9,8 +9,8 @@ use Rattle.sha1.specs.Sha1.{sha1}
 use Rattle.sha2.specs.Sha256.{sha256}
 use Rattle.sha2.specs.Sha512.{sha512}
 use Rattle.adb_block.specs.AllBlocks.{blocks_of, blocks_of_stream, blocks_from_position, with_block}
-use Rattle.adb_block.specs.Container.{IsHead, IsPadding, Spells, SpellsBlocks}
-use Rattle.adb_block.specs.Header.{header_of}
+use Rattle.adb_block.specs.Container.{IsHead, IsPadding, IsContainerWithBlocks, SpellsBlocks}
+use Rattle.adb_block.specs.Header.{schema_of_header}
 use Rattle.adb_block.specs.Piece.{Piece, least_payload_len}
 use Rattle.adb_block.specs.Reading.{Reading, done, fault, more, block_stream_from}
 use Rattle.adb_block.specs.ReaderPosition.{first_block_position}
@@ -30,7 +30,7 @@ use Rattle.file_guard.specs.pkg_core.Contents.{ExpectedFile, FilesRead, contents
 use Rattle.file_guard.specs.pkg_core.Opened.{expected_file_at, is_expected_at}
 use Rattle.file_guard.specs.pkg_core.Whole.{fault_of_further_blocks, package_fault, container_fault_of_table}
 use Rattle.file_guard.proofs.pkg_core.Given.{nothing_expected, size_right}
-use Rattle.journal_staging.specs.Spoiled.{IsSpoiledFile}
+use Rattle.journal_staging.specs.Spoiled.{IsFileWithOnlyContentsSpoiled}
 
 -- ---- one block gets another payload of the same length
 
@@ -100,9 +100,9 @@ replaced (a ∷ before) behind b payload same last bytes (rest, may, is, further
 record IsSpelledAs (file : List ℕ) (schema : ℕ) (bs : List Piece) : Type 0 where
   other : List ℕ
   long : length other ≡ length file
-  spells : Spells other schema bs
+  spells : IsContainerWithBlocks other schema bs
 
-replaced_in_file : (file : List ℕ) (schema : ℕ) (before behind : List Piece) (b : Piece) (payload : List ℕ) → length payload ≡ length b.payload → Spells file schema (before ++ b ∷ behind) → IsSpelledAs file schema (before ++ with_payload b payload ∷ behind)
+replaced_in_file : (file : List ℕ) (schema : ℕ) (before behind : List Piece) (b : Piece) (payload : List ℕ) → length payload ≡ length b.payload → IsContainerWithBlocks file schema (before ++ b ∷ behind) → IsSpelledAs file schema (before ++ with_payload b payload ∷ behind)
 replaced_in_file file schema before behind b payload same s =
     let there = replaced before behind b payload same None s.body s.blocks in
     let old = ap length s.parts ∙ (length-append (codes "ADB.") (s.word ++ s.body) ∙ ap (λ (n : ℕ). length (codes "ADB.") + n) (length-append s.word s.body)) in
@@ -319,7 +319,7 @@ first_then o u c none is = ap (λ (x : Option Cause). option_or x u) none ∙ is
 -- its header, its first block, and the tests behind it
 record IsGoodPackage (file : List ℕ) : Type 0 where
   schema : ℕ
-  header : header_of file ≡ Ok schema
+  header : schema_of_header file ≡ Ok schema
   wanted : schema_fault Package schema ≡ None
   block : Piece
   at : ℕ
@@ -332,11 +332,11 @@ record IsGoodPackage (file : List ℕ) : Type 0 where
 abbrev IsGood : List ℕ → Type 0
 IsGood file = IsGoodPackage file ⊎ (expected_files_of_package (root_value Package (payload_in file)) ≡ [])
 
-payload_by : (file : List ℕ) (schema : ℕ) (r : Reading) → header_of file ≡ Ok schema → block_stream_from (first_block_position schema file) ≡ r → payload_in file ≡ first_block_payload r
+payload_by : (file : List ℕ) (schema : ℕ) (r : Reading) → schema_of_header file ≡ Ok schema → block_stream_from (first_block_position schema file) ≡ r → payload_in file ≡ first_block_payload r
 unfolding payload_in
 payload_by file schema r header reading = ap (payload_after_header file) header ∙ ap first_block_payload reading
 
-good_by_reading : (file : List ℕ) (schema : ℕ) (r : Reading) → header_of file ≡ Ok schema → schema_fault Package schema ≡ None → block_stream_from (first_block_position schema file) ≡ r → blocks_fault (fault_of_further_blocks Package) Package r ≡ None → IsGood file
+good_by_reading : (file : List ℕ) (schema : ℕ) (r : Reading) → schema_of_header file ≡ Ok schema → schema_fault Package schema ≡ None → block_stream_from (first_block_position schema file) ≡ r → blocks_fault (fault_of_further_blocks Package) Package r ≡ None → IsGood file
 good_by_reading file schema done header wanted reading h =
     inr (ap (λ (p : List ℕ). expected_files_of_package (root_value Package p)) (payload_by file schema done header reading) ∙ nothing_expected)
 good_by_reading file schema (fault c) header wanted reading h = absurd (cc (h))
@@ -344,7 +344,7 @@ good_by_reading file schema (more b at r) header wanted reading h =
     let (values, contents) = both_none (payload_fault Package b.payload) _ h in
     inl (record { schema = schema; header = header; wanted = wanted; block = b; at = at; further = r; reading = reading; values = values; contents = contents })
 
-good_by_header : (file : List ℕ) (header : Result ℕ Cause) → header_of file ≡ header → file_fault_after_header (fault_of_further_blocks Package) Package file header ≡ None → IsGood file
+good_by_header : (file : List ℕ) (header : Result ℕ Cause) → schema_of_header file ≡ header → file_fault_after_header (fault_of_further_blocks Package) Package file header ≡ None → IsGood file
 good_by_header file (Err c) is h = absurd (cc (h))
 good_by_header file (Ok schema) is h =
     let (wanted, blocks) = both_none (schema_fault Package schema) _ h in
@@ -352,10 +352,10 @@ good_by_header file (Ok schema) is h =
 
 good : (file : List ℕ) → package_fault file ≡ None → IsGood file
 unfolding container_fault_of_table
-good file h = good_by_header file (header_of file) refl h
+good file h = good_by_header file (schema_of_header file) refl h
 
 -- a package is refused for its contents where its header and its first block are good
-refused_for : (file : List ℕ) (schema : ℕ) (b : Piece) (at : ℕ) (r : Reading) (c : Cause) → header_of file ≡ Ok schema → schema_fault Package schema ≡ None → block_stream_from (first_block_position schema file) ≡ more b at r → payload_fault Package b.payload ≡ None
+refused_for : (file : List ℕ) (schema : ℕ) (b : Piece) (at : ℕ) (r : Reading) (c : Cause) → schema_of_header file ≡ Ok schema → schema_fault Package schema ≡ None → block_stream_from (first_block_position schema file) ≡ more b at r → payload_fault Package b.payload ≡ None
     → contents_fault (expected_files_of_package (root_value Package b.payload)) r ≡ Some c → package_fault file ≡ Some c
 unfolding container_fault_of_table
 refused_for file schema b at r c header wanted reading values bad =
@@ -363,16 +363,16 @@ refused_for file schema b at r c header wanted reading values bad =
     ∙ first_then (schema_fault Package schema) _ c wanted
     (ap (blocks_fault (fault_of_further_blocks Package) Package) reading ∙ first_then (payload_fault Package b.payload) _ c values bad)
 
-pieces_from_start : (file : List ℕ) (schema : ℕ) (bs : List Piece) → header_of file ≡ Ok schema → blocks_of file ≡ Ok bs → blocks_of_stream (block_stream_from (first_block_position schema file)) ≡ Ok bs
+pieces_from_start : (file : List ℕ) (schema : ℕ) (bs : List Piece) → schema_of_header file ≡ Ok schema → blocks_of file ≡ Ok bs → blocks_of_stream (block_stream_from (first_block_position schema file)) ≡ Ok bs
 unfolding blocks_from_position
 pieces_from_start file schema bs header are = sym (whole_from file schema header) ∙ are
 
-blocks_from_start : (file : List ℕ) (schema : ℕ) (bs : List Piece) → header_of file ≡ Ok schema → blocks_of_stream (block_stream_from (first_block_position schema file)) ≡ Ok bs → blocks_of file ≡ Ok bs
+blocks_from_start : (file : List ℕ) (schema : ℕ) (bs : List Piece) → schema_of_header file ≡ Ok schema → blocks_of_stream (block_stream_from (first_block_position schema file)) ≡ Ok bs → blocks_of file ≡ Ok bs
 unfolding blocks_from_position
 blocks_from_start file schema bs header are = whole_from file schema header ∙ are
 
 spoiled_by : (tested : List ℕ) (folder file : ℕ) (e : ExpectedFile) (bytes : List ℕ) (c : Cause) → IsGoodPackage tested → expected_file_at folder file (expected_files_of_package (root_value Package (payload_in tested))) ≡ Some e → length bytes ≡ e.size → hash_fault e.hash bytes ≡ Some c
-    → (other : List ℕ) × IsSpoiledFile tested other c
+    → (other : List ℕ) × IsFileWithOnlyContentsSpoiled tested other c
 spoiled_by tested folder file e bytes c g found size bad =
     let es : List ExpectedFile = expected_files_of_package (root_value Package g.block.payload) in
     let payload = payload_by tested g.schema (more g.block g.at g.further) g.header g.reading in
@@ -400,9 +400,9 @@ spoiled_by tested folder file e bytes c g found size bad =
 
 -- a package that was tested is spoiled where bytes of one of its files have another digest
 pub spoiled : (tested : List ℕ) (folder file : ℕ) (e : ExpectedFile) (bytes : List ℕ) (c : Cause) → package_fault tested ≡ None → expected_file_at folder file (expected_files_of_package (root_value Package (payload_in tested))) ≡ Some e → length bytes ≡ e.size → hash_fault e.hash bytes ≡ Some c
-    → (other : List ℕ) × IsSpoiledFile tested other c
+    → (other : List ℕ) × IsFileWithOnlyContentsSpoiled tested other c
 spoiled tested folder file e bytes c sound found size bad = by (good tested sound)
   where
-    by : IsGood tested → (other : List ℕ) × IsSpoiledFile tested other c
+    by : IsGood tested → (other : List ℕ) × IsFileWithOnlyContentsSpoiled tested other c
     by (inl g) = spoiled_by tested folder file e bytes c g found size bad
     by (inr none) = absurd (let found_none : expected_file_at folder file [] ≡ Some e = subst (λ (es : List ExpectedFile). expected_file_at folder file es ≡ Some e) none found in cc (found_none))

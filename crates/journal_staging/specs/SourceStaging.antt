@@ -6,7 +6,7 @@ use Rattle.std.specs.Prelude.{◌≡◌, ◌+◌, ◌++◌, ◌∷◌, [], ℕ, 
 use Rattle.base_core.specs.Faults.{Counts, CountsOnlyRise, IsFaultCountedWithCause, CountsNoNewFault}
 use Rattle.base_core.specs.Files.{Files}
 use Rattle.base_core.specs.Tree.{TreeState, files_of}
-use Rattle.journal_commit.specs.StageRun.{IsStaging, IsStagingRun}
+use Rattle.journal_commit.specs.StageRun.{IsRunThatStagedContents, IsStagingRun}
 use Rattle.journal_commit.specs.journal_core.Staged.{Staging, AreJournalPathsFree}
 
 -- how the tree's counts explain a result whose fault `failed` is that of the tree
@@ -18,6 +18,7 @@ pub record IsFaultExplainedByCounts {T F : Type 0} (failed : F) (before now : Co
   pub disk : IsErrOf result failed → IsFaultCountedWithCause before now
   -- with any other result no fault was counted
   pub kept : OnOk result (CountsNoNewFault before now)
+  -- with any other error no fault was counted
   pub others : IfErr result (λ fault. (fault ≡ failed → ⊥) → CountsNoNewFault before now)
 
 -- A call that stages the file of one write, and changes the stage to `next`. `Denotes` says which bytes
@@ -25,17 +26,17 @@ pub record IsFaultExplainedByCounts {T F : Type 0} (failed : F) (before now : Co
 -- state then, and `contents` the files staged before.
 pub record StagesSource {T F : Type 0} (stage next : Staging) (Denotes : Files → List ℕ → Type 0)
     (failed : F) (old now : List TreeState) (before after : Counts) (result : Result T F) : Type 0 where
-  -- whatever the tree returns for the source, and whatever is returned, only staged files have changed at
+  -- whatever bytes the source has, and whatever the call returns, only staged files have changed at
   -- each moment
   pub run : (contents : List (List ℕ)) (v : TreeState) (first : List TreeState)
-      → IsStaging stage contents None v first old → IsStagingRun v first now
+      → IsRunThatStagedContents stage contents None v first old → IsStagingRun v first now
   -- if the source denotes bytes, these are staged then, after those that were staged before
   pub staging : (contents : List (List ℕ)) (v : TreeState) (first : List TreeState) (bytes : List ℕ)
-      → IsStaging stage contents None v first old → Denotes (files_of v) bytes
-      → OnOk result (IsStaging next (contents ++ bytes ∷ []) None v first now)
+      → IsRunThatStagedContents stage contents None v first old → Denotes (files_of v) bytes
+      → OnOk result (IsRunThatStagedContents next (contents ++ bytes ∷ []) None v first now)
   -- if the source denotes bytes, the only possible error is that of the tree
   pub good : (contents : List (List ℕ)) (v : TreeState) (first : List TreeState) (bytes : List ℕ)
-      → IsStaging stage contents None v first old → Denotes (files_of v) bytes
+      → IsRunThatStagedContents stage contents None v first old → Denotes (files_of v) bytes
       → IfErr result (λ fault. fault ≡ failed)
   -- the next write of the stage has its file then
   pub view : OnOk result (next ≡ record stage { staged = stage.staged + 1 })
@@ -43,5 +44,5 @@ pub record StagesSource {T F : Type 0} (stage next : Staging) (Denotes : Files �
   pub counts : IsFaultExplainedByCounts failed before after result
   -- no call is a misuse if the paths of the stage are free
   pub proper : (contents : List (List ℕ)) (v : TreeState) (first : List TreeState) (bytes : List ℕ)
-      → IsStaging stage contents None v first old → Denotes (files_of v) bytes
+      → IsRunThatStagedContents stage contents None v first old → Denotes (files_of v) bytes
       → AreJournalPathsFree (files_of v) → after.misuses ≡ before.misuses

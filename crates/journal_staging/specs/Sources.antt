@@ -17,10 +17,15 @@ use Rattle.journal_staging.specs.declared.writes.StagedWrite.{StagedWrite}
 
 -- these files have a package, and one of its files has these bytes
 pub record IsFileSource (files : Files) (f : PackagedFile) (bytes : List ℕ) : Type 0 where
+  -- the name of the package's file
   pub name : List ℕ
+  -- the bytes of the package's file
   pub pkg : List ℕ
+  -- the files have the package under this name
   pub there : files name ≡ Some pkg
+  -- these bytes are those of the tested package
   pub tested : IsTestedOf name pkg f.package.now
+  -- the given bytes are the contents of its file at these places
   pub is : bytes ≡ bytes_of_file f.folder f.file (contents_in (files_read_from_package pkg))
 
 -- over these files a source denotes these bytes
@@ -48,7 +53,9 @@ MayDenote (File f) bytes = AreListedContentsOf f bytes
 -- the source of each write denotes the bytes at its place
 pub record EachDenotes (files : Files) (writes : List StagedWrite) (contents : List (List ℕ)) :
     Type 0 where
+  -- there are as many contents as writes
   pub same : length contents ≡ length writes
+  -- the source of the write with number i denotes the contents with number i
   pub each : (i : ℕ) (w : StagedWrite) (bytes : List ℕ) → slice_get writes i ≡ Some w
       → slice_get contents i ≡ Some bytes → DenotesBytes files w.source bytes
 

@@ -15,7 +15,7 @@ use Rattle.journal_staging.specs.declared.writes.StagedWrite.{StagedWrite}
 
 -- The file of a package is spoiled: it has the length and the values of the tested one; but as a
 -- package it is refused with this cause: a digest of contents differs.
-pub record IsSpoiledFile (tested file : List ℕ) (cause : Cause) : Type 0 where
+pub record IsFileWithOnlyContentsSpoiled (tested file : List ℕ) (cause : Cause) : Type 0 where
   -- the file has the length of the tested one
   pub long : length file ≡ length tested
   -- the file has the values of the tested one
@@ -32,7 +32,7 @@ pub record IsSpoiledFile (tested file : List ℕ) (cause : Cause) : Type 0 where
 -- each file that may have been tested as the package of `f` has a spoiled file with this cause
 abbrev pub IsSpoiledForEachTested : PackagedFile → Cause → Type 0
 IsSpoiledForEachTested f cause = (name tested : List ℕ) → IsTestedOf name tested f.package.now
-    → (file : List ℕ) × IsSpoiledFile tested file cause
+    → (file : List ℕ) × IsFileWithOnlyContentsSpoiled tested file cause
 
 -- a source is a file of the package at this place, which is spoiled with this cause
 abbrev pub IsSpoiledAt : ℕ → Cause → Source → Type 0
@@ -42,7 +42,11 @@ IsSpoiledAt member cause (File f) = (f.member ≡ member) × IsSpoiledForEachTes
 
 -- one of the writes is a file of the package at this place, which is spoiled with this cause
 pub record HasSpoiledFile (member : ℕ) (cause : Cause) (writes : List StagedWrite) : Type 0 where
+  -- the number of the write, counted from 0
   pub number : ℕ
+  -- the write whose source is spoiled
   pub write : StagedWrite
+  -- the write has this number
   pub at : slice_get writes number ≡ Some write
+  -- its source is a file of the package, and is spoiled with this cause
   pub is : IsSpoiledAt member cause write.source

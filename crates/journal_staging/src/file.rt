@@ -7,7 +7,7 @@ ghost use Rattle.package_verifier.specs.package_reader.FileReading.{AreAsExpecte
 ghost use Rattle.package_verifier.specs.package_reader.declared.piece.PieceFault.TheVariants.{Bad, Disk as DiskFault};
 ghost use Rattle.journal_staging.specs.Reading.{IsReadingIn};
 ghost use Rattle.journal_staging.specs.SourceStaging.{StagesSource};
-ghost use Rattle.journal_commit.specs.StageRun.{IsStaging};
+ghost use Rattle.journal_commit.specs.StageRun.{IsRunThatStagedContents};
 
 use base_core::Tree;
 use journal_commit::{Stage, append_piece, begin_file, end_file};
@@ -24,7 +24,9 @@ pub(crate) fn stage_file<T: Tree>(
     mut file: FilePieces<'_>,
     piece: &mut Piece,
 ) -> Result<(), PieceFault>
+    // No staged file is begun.
     requires closed { stage.old.is_open ≡ false }
+    // A write is left whose file is not staged.
     requires more { stage.old.staged < length stage.old.intent.writes }
 
     // Whatever the tree returns for the package, and whatever this call returns, only staged files
@@ -36,9 +38,11 @@ pub(crate) fn stage_file<T: Tree>(
     // Whatever the tree returns for the package: bytes with the expected size and digest are
     // staged.
     ensures listed { HaveBeenReturned file.entry [] → (contents : List (List ℕ)) (v : TreeState)
-        (first : List TreeState) → IsStaging stage.old contents None v first (T.history tree.old)
+        (first : List TreeState)
+        → IsRunThatStagedContents stage.old contents None v first (T.history tree.old)
         → OnOk result ((bytes : List ℕ) × AreAsExpected (expected_file_of file.entry) bytes
-        × IsStaging stage.new (contents ++ bytes ∷ []) None v first (T.history tree.new)) }
+        × IsRunThatStagedContents stage.new (contents
+        ++ bytes ∷ []) None v first (T.history tree.new)) }
     // If it was not refused from the start: a test fails only for bytes that have the expected
     // size, and another digest.
     ensures bad { HaveBeenReturned file.entry [] → remembered_fault file.entry ≡ None

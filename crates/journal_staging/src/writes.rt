@@ -9,7 +9,7 @@ ghost use Rattle.journal_staging.specs.SourceStaging.{StagesSource};
 ghost use Rattle.journal_staging.specs.Sources.{AreListedContentsOf, IsFileSource, MayDenote, DenotesBytes};
 ghost use Rattle.journal_staging.specs.Spoiled.{IsSpoiledAt, IsSpoiledForEachTested};
 ghost use Rattle.journal_staging.specs.declared.writes.StageFault.TheVariants.{Bad, Disk as DiskFault};
-ghost use Rattle.journal_commit.specs.StageRun.{IsStaging};
+ghost use Rattle.journal_commit.specs.StageRun.{IsRunThatStagedContents};
 
 use crate::file::stage_file;
 use base_core::{Cause, Disk, Name, Tree};
@@ -29,15 +29,20 @@ fn stage_packaged<T: Tree>(
     f: &PackagedFile<'_>,
     piece: &mut Piece,
 ) -> Result<(), StageFault>
+    // No staged file is begun.
     requires closed { stage.old.is_open ≡ false }
+    // A write is left whose file is not staged.
     requires more { stage.old.staged < length stage.old.intent.writes }
+    // The file is staged with the bytes of its source.
     ensures source { StagesSource stage.old stage.new
         (λ files bytes. IsFileSource files f.now bytes) DiskFault
         (T.history tree.old) (T.history tree.new) (T.counts tree.old) (T.counts tree.new) result }
+    // On Ok, the file has the contents that the package lists.
     ensures listed { (contents : List (List ℕ)) (v : TreeState) (first : List TreeState)
-        → IsStaging stage.old contents None v first (T.history tree.old)
+        → IsRunThatStagedContents stage.old contents None v first (T.history tree.old)
         → OnOk result ((bytes : List ℕ) × AreListedContentsOf f.now bytes
-        × IsStaging stage.new (contents ++ bytes ∷ []) None v first (T.history tree.new)) }
+        × IsRunThatStagedContents stage.new (contents
+        ++ bytes ∷ []) None v first (T.history tree.new)) }
     // The cause is that of a file with the values of the tested one.
     ensures bad { (member : ℕ) (cause : Cause) → IsErrOf result (Bad member cause)
         → (f.now.member ≡ member) × IsSpoiledForEachTested f.now cause }
@@ -64,7 +69,9 @@ pub(crate) fn stage_write<T: Tree>(
     source: &Source<'_>,
     piece: &mut Piece,
 ) -> Result<(), StageFault>
+    // No staged file is begun.
     requires closed { stage.old.is_open ≡ false }
+    // A write is left whose file is not staged.
     requires more { stage.old.staged < length stage.old.intent.writes }
     // Whatever is returned, only staged files have changed at each moment. If the source denotes
     // bytes, these are staged then, after those that were staged before, and only the tree may fail.
@@ -73,9 +80,10 @@ pub(crate) fn stage_write<T: Tree>(
         (T.history tree.old) (T.history tree.new) (T.counts tree.old) (T.counts tree.new) result }
     // Whatever the tree returns: bytes that the source may denote are staged.
     ensures listed { (contents : List (List ℕ)) (v : TreeState) (first : List TreeState)
-        → IsStaging stage.old contents None v first (T.history tree.old)
+        → IsRunThatStagedContents stage.old contents None v first (T.history tree.old)
         → OnOk result ((bytes : List ℕ) × MayDenote source.now bytes
-        × IsStaging stage.new (contents ++ bytes ∷ []) None v first (T.history tree.new)) }
+        × IsRunThatStagedContents stage.new (contents
+        ++ bytes ∷ []) None v first (T.history tree.new)) }
     // A package is reported bad only if the source is a file of it that is spoiled with this cause.
     ensures bad { (member : ℕ) (cause : Cause) → IsErrOf result (Bad member cause)
         → IsSpoiledAt member cause source.now }

@@ -1,8 +1,9 @@
-//! The two changes that the rows make by a stage. Each removes `x` and writes `y` with the one byte
-//! `2`; the second writes `z` too, with the one byte `3`. The calls of a stage are in
-//! `docs/crash-safety.md`, "A change of several files", in the table of its steps.
+//! The two example changes of several files that the rows make by a `Stage` of `journal_core`. Each
+//! removes the file `x` and writes the file `y`, whose one byte is `2`. The second also writes the
+//! file `z`, whose one byte is `3`. The calls of a stage are in `docs/crash-safety.md`, "A change
+//! of several files", in the table of its steps.
 ghost use Rattle.std.specs.Prelude.{◌≡◌, [], ◌∷◌, ◌++◌, true, codes, IfOk, IfSome, OnOk};
-ghost use Rattle.journal_core.specs.Staged.{new_stage};
+ghost use Rattle.journal_core.specs.Staged.{new_stage_of_removals_and_writes};
 
 use base_core::{Disk, Name, Names};
 use journal_core::Stage;
@@ -11,27 +12,27 @@ use row_lines::{add_word, value_named};
 use std::alloc::{AllocError, Global};
 use tree_memory::MemoryTree;
 
-/// One of the two changes.
+/// Which of the two changes a row makes.
 #[derive(Clone, Copy)]
 pub enum StagedChange {
-    /// It removes `x` and writes `y`.
+    /// The change removes the file `x` and writes the file `y`.
     OneWrite,
-    /// It removes `x` and writes `y` and `z`.
+    /// The change removes the file `x` and writes the files `y` and `z`.
     TwoWrites,
 }
 
-/// How far a change came, as the answers say it.
+/// The progress of a change, as its calls have reported it.
 #[derive(Clone, Copy, PartialEq)]
 pub enum Reached {
-    /// Its intent is not published, as far as the calls answered Ok.
+    /// No call has reported that the journal entry (intent) of the change is committed.
     Nothing,
-    /// Its intent is published.
+    /// The journal entry (intent) of the change is committed, and a later call has failed.
     Published,
-    /// All its actions are done, and the intent is gone.
+    /// All removals and moves of the change are done, and its journal entry is removed.
     Finished,
 }
 
-/// The change that a word names.
+/// The change that the word `one` or `two` of a row names; None for another word.
 pub(crate) fn change_named(word: &[u8]) -> Option<StagedChange> {
     value_named(
         &[
@@ -42,7 +43,7 @@ pub(crate) fn change_named(word: &[u8]) -> Option<StagedChange> {
     )
 }
 
-/// Adds the word for how far a change came.
+/// Adds the word for the progress of a change to the answer.
 pub(crate) fn add_reached(answer: &mut Vec<u8>, reached: Reached) -> Result<(), AllocError> {
     match reached {
         Reached::Nothing => add_word(answer, b"nothing"),
@@ -51,7 +52,8 @@ pub(crate) fn add_reached(answer: &mut Vec<u8>, reached: Reached) -> Result<(), 
     }
 }
 
-/// Recovers the tree, and makes the change.
+/// Recovers the tree, makes the change, and returns how far it came: `Nothing` if the recovery
+/// fails.
 pub(crate) fn run_change(
     alloc: Global,
     change: StagedChange,
@@ -66,7 +68,7 @@ pub(crate) fn run_change(
     }
 }
 
-/// A list of one name; none if the bytes are no name.
+/// A list with this one name; None if the bytes are no valid name.
 fn one_name(alloc: Global, bytes: &[u8]) -> Result<Option<Names>, AllocError>
     ensures { IfOk result (λ found. IfSome found (λ names. names ≡ bytes.now ∷ [])) }
 {
@@ -78,7 +80,7 @@ fn one_name(alloc: Global, bytes: &[u8]) -> Result<Option<Names>, AllocError>
     Ok(Some(names))
 }
 
-/// A list with one name more; none if the bytes are no name.
+/// The list `names` with one name more at its end; None if the bytes are no valid name.
 fn one_more_name(alloc: Global, names: Names, bytes: &[u8]) -> Result<Option<Names>, AllocError>
     ensures { IfOk result (λ found. IfSome found (λ more. more ≡ names ++ bytes.now ∷ [])) }
 {
@@ -92,7 +94,7 @@ fn one_more_name(alloc: Global, names: Names, bytes: &[u8]) -> Result<Option<Nam
 
 // ---- one write
 
-/// Runs the change of one write, and says how far it came.
+/// Runs the change that removes `x` and writes `y`, and returns how far it came.
 fn run_one_write(alloc: Global, tree: &mut MemoryTree) -> Result<Reached, AllocError> {
     let Some(mut stage) = begin_one_write(alloc)? else {
         return Ok(Reached::Nothing);
@@ -106,10 +108,10 @@ fn run_one_write(alloc: Global, tree: &mut MemoryTree) -> Result<Reached, AllocE
     Ok(Reached::Finished)
 }
 
-/// The stage of a change that removes `x` and writes `y`.
+/// The stage of a change that removes `x` and writes `y`, with no file staged so far.
 fn begin_one_write(alloc: Global) -> Result<Option<Stage>, AllocError>
     ensures { IfOk result (λ found. IfSome found
-        (λ stage. stage ≡ new_stage (codes "x" ∷ []) (codes "y" ∷ []))) }
+        (λ stage. stage ≡ new_stage_of_removals_and_writes (codes "x" ∷ []) (codes "y" ∷ []))) }
 {
     let Some(removals) = one_name(alloc, b"x")? else {
         return Ok(None);
@@ -123,13 +125,15 @@ fn begin_one_write(alloc: Global) -> Result<Option<Stage>, AllocError>
     }
 }
 
-/// Stages the one file, and publishes the intent.
+/// Stages the file `y` with the byte `2`, and commits the journal entry. If all calls succeed, one
+/// file is staged and the entry is committed.
 fn publish_one_write(stage: &mut Stage, tree: &mut MemoryTree) -> Result<(), Disk>
-    requires { stage.old ≡ new_stage (codes "x" ∷ []) (codes "y" ∷ []) }
-    ensures { OnOk result (stage.new ≡ record (new_stage (codes "x" ∷ []) (codes "y" ∷ [])) {
-      staged = 1;
-      published = true;
-    }) }
+    requires { stage.old ≡ new_stage_of_removals_and_writes (codes "x" ∷ []) (codes "y" ∷ []) }
+    ensures { OnOk result (stage.new
+        ≡ record (new_stage_of_removals_and_writes (codes "x" ∷ []) (codes "y" ∷ [])) {
+          staged = 1;
+          published = true;
+        }) }
 {
     stage.file_begin(tree)?;
     stage.file_append(tree, b"2")?;
@@ -137,12 +141,14 @@ fn publish_one_write(stage: &mut Stage, tree: &mut MemoryTree) -> Result<(), Dis
     stage.publish(tree)
 }
 
-/// Does both actions; a third call makes none.
+/// Does both actions of the committed change, the removal of `x` and the move to `y`, and removes
+/// the journal entry. The third `apply_one` finds no action left.
 fn act_on_one_write(stage: &mut Stage, tree: &mut MemoryTree) -> Result<(), Disk>
-    requires { stage.old ≡ record (new_stage (codes "x" ∷ []) (codes "y" ∷ [])) {
-      staged = 1;
-      published = true;
-    } }
+    requires { stage.old
+        ≡ record (new_stage_of_removals_and_writes (codes "x" ∷ []) (codes "y" ∷ [])) {
+          staged = 1;
+          published = true;
+        } }
 {
     stage.apply_one(tree)?;
     stage.apply_one(tree)?;
@@ -152,7 +158,7 @@ fn act_on_one_write(stage: &mut Stage, tree: &mut MemoryTree) -> Result<(), Disk
 
 // ---- two writes
 
-/// Runs the change of two writes, and says how far it came.
+/// Runs the change that removes `x` and writes `y` and `z`, and returns how far it came.
 fn run_two_writes(alloc: Global, tree: &mut MemoryTree) -> Result<Reached, AllocError> {
     let Some(mut stage) = begin_two_writes(alloc)? else {
         return Ok(Reached::Nothing);
@@ -166,10 +172,11 @@ fn run_two_writes(alloc: Global, tree: &mut MemoryTree) -> Result<Reached, Alloc
     Ok(Reached::Finished)
 }
 
-/// The stage of a change that removes `x` and writes `y` and `z`.
+/// The stage of a change that removes `x` and writes `y` and `z`, with no file staged so far.
 fn begin_two_writes(alloc: Global) -> Result<Option<Stage>, AllocError>
     ensures { IfOk result (λ found. IfSome found
-        (λ stage. stage ≡ new_stage (codes "x" ∷ []) (codes "y" ∷ codes "z" ∷ []))) }
+        (λ stage. stage ≡ new_stage_of_removals_and_writes (codes "x" ∷ [])
+        (codes "y" ∷ codes "z" ∷ []))) }
 {
     let Some(removals) = one_name(alloc, b"x")? else {
         return Ok(None);
@@ -186,11 +193,14 @@ fn begin_two_writes(alloc: Global) -> Result<Option<Stage>, AllocError>
     }
 }
 
-/// Stages both files; nothing is published.
+/// Stages the files `y` and `z` with the bytes `2` and `3`. If all calls succeed, two files are
+/// staged, and the journal entry is not yet committed.
 fn stage_two_files(stage: &mut Stage, tree: &mut MemoryTree) -> Result<(), Disk>
-    requires { stage.old ≡ new_stage (codes "x" ∷ []) (codes "y" ∷ codes "z" ∷ []) }
+    requires { stage.old
+        ≡ new_stage_of_removals_and_writes (codes "x" ∷ []) (codes "y" ∷ codes "z" ∷ []) }
     ensures { OnOk result (stage.new
-        ≡ record (new_stage (codes "x" ∷ []) (codes "y" ∷ codes "z" ∷ [])) { staged = 2 }) }
+        ≡ record (new_stage_of_removals_and_writes (codes "x" ∷ [])
+        (codes "y" ∷ codes "z" ∷ [])) { staged = 2 }) }
 {
     stage.file_begin(tree)?;
     stage.file_append(tree, b"2")?;
@@ -200,10 +210,11 @@ fn stage_two_files(stage: &mut Stage, tree: &mut MemoryTree) -> Result<(), Disk>
     stage.file_end(tree)
 }
 
-/// Does the three actions; a fourth call makes none.
+/// Does the three actions of the committed change, the removal of `x` and the moves to `y` and `z`,
+/// and removes the journal entry. The fourth `apply_one` finds no action left.
 fn act_on_two_writes(stage: &mut Stage, tree: &mut MemoryTree) -> Result<(), Disk>
     requires { stage.old
-        ≡ record (new_stage (codes "x" ∷ []) (codes "y" ∷ codes "z" ∷ [])) {
+        ≡ record (new_stage_of_removals_and_writes (codes "x" ∷ []) (codes "y" ∷ codes "z" ∷ [])) {
           staged = 2;
           published = true;
         } }

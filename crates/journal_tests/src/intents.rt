@@ -1,5 +1,6 @@
-//! Recoveries of trees that no change of this program leaves, and of changes that are partly done.
-//! The rules are in `docs/crash-safety.md`, "Recovery", the table of what it finds.
+//! Answers `recover`, `cuts` and `change`: recoveries of given files, also of files that no change
+//! of `apk` leaves; journal entries (intents) that are cut off; and changes that are stopped after
+//! some calls. The rules are in `docs/crash-safety.md`, "Recovery", the table of what it finds.
 use crate::changing::{StagedChange, add_reached, change_named, run_change};
 use crate::trees::{add_count, add_tree, long_at, put, text_of, tree_of};
 use base_core::Words;
@@ -8,22 +9,24 @@ use row_lines::{add_word, word_at};
 use std::alloc::{AllocError, Global};
 use tree_memory::MemoryTree;
 
-/// The name of the intent.
+/// The name of the journal entry (intent).
 const INTENT: &[u8] = b"lib/apk/intent";
 
-/// Answers `recover (NAME BYTES)..`: what a recovery of these files answers, how many calls of it
-/// write, what it leaves, and how many have written once it is recovered again, which is no more.
+/// Answers `recover (NAME BYTES)..`: recovers a tree with these files twice. Adds the result of
+/// each recovery, the number of calls that have written so far, and the files after the first
+/// recovery.
 pub(crate) fn add_recovery(
     alloc: Global,
     words: &Words,
     answer: &mut Vec<u8>,
 ) -> Result<(), AllocError> {
+    // The files begin after the word `recover`.
     let mut tree = tree_of(alloc, words, 1)?;
     add_both_recoveries(alloc, &mut tree, answer)
 }
 
-/// Recovers twice, and adds what each recovery answers and how many calls write; the second has
-/// nothing left to do.
+/// Recovers a tree twice. Adds the result of each recovery with the number of calls that have
+/// written so far, and the files between both. The second recovery has nothing left to do.
 fn add_both_recoveries(
     alloc: Global,
     tree: &mut MemoryTree,
@@ -37,7 +40,7 @@ fn add_both_recoveries(
     add_count(alloc, answer, b"writes", tree.writes())
 }
 
-/// Adds the word for what a recovery answers.
+/// Adds the word for the result of a recovery.
 fn add_answer(answer: &mut Vec<u8>, found: Result<(), RecoverFault>) -> Result<(), AllocError> {
     match found {
         Ok(()) => add_word(answer, b"ok"),
@@ -47,8 +50,9 @@ fn add_answer(answer: &mut Vec<u8>, found: Result<(), RecoverFault>) -> Result<(
     }
 }
 
-/// Answers `cuts INTENT (NAME BYTES)..`: at how many lengths the intent is cut off, and at how many
-/// of them it is refused and nothing is written.
+/// Answers `cuts INTENT (NAME BYTES)..`: cuts the journal entry INTENT to each shorter length. Adds
+/// how many lengths there are, and at how many of them a recovery refuses the entry and writes
+/// nothing.
 pub(crate) fn add_cuts(
     alloc: Global,
     words: &Words,
@@ -65,24 +69,26 @@ pub(crate) fn add_cuts(
     add_count(alloc, answer, b"refused", refused)
 }
 
-/// Whether this intent is refused beside the files of the row, and nothing is written.
+/// Whether a recovery of the row's files with this cut journal entry refuses it, and writes
+/// nothing.
 fn is_cut_refused(alloc: Global, words: &Words, intent: &[u8]) -> Result<bool, AllocError> {
+    // The files begin after the words `cuts` and INTENT.
     let mut tree = tree_of(alloc, words, 2)?;
     is_refused(alloc, &mut tree, intent)
 }
 
-/// Whether a recovery refuses these bytes as an intent, and leaves the tree as it is.
+/// Whether a recovery refuses these bytes as a journal entry, and leaves the tree as it is.
 fn is_refused(alloc: Global, tree: &mut MemoryTree, intent: &[u8]) -> Result<bool, AllocError> {
     put(alloc, tree, INTENT, intent)?;
     let before = text_of(alloc, tree)?;
     let refused = matches!(recover(alloc, tree), Err(RecoverFault::IntentBad(_)));
-    let behind = text_of(alloc, tree)?;
-    Ok(refused && tree.writes() == 0 && before.as_slice() == behind.as_slice())
+    let after = text_of(alloc, tree)?;
+    Ok(refused && tree.writes() == 0 && before.as_slice() == after.as_slice())
 }
 
-/// Answers `change CHANGE CALLS (NAME BYTES)..`: how far a change of these files comes that is cut
-/// off after so many calls, how many of them write, how many maps of names a crash may leave, and
-/// what then is in the tree.
+/// Answers `change CHANGE CALLS (NAME BYTES)..`: makes the change on a tree with these files, and
+/// stops after CALLS calls. Adds how far the change came, and how many calls wrote. Then adds how
+/// many maps of names a crash may leave, and the files of the tree.
 pub(crate) fn add_change(
     alloc: Global,
     words: &Words,
@@ -91,12 +97,14 @@ pub(crate) fn add_change(
     let Some(change) = change_named(word_at(words, 1)) else {
         return answer.extend_from_slice(b"no change");
     };
+    // The files begin after the words `change`, CHANGE and CALLS.
     let mut tree = tree_of(alloc, words, 3)?;
+    // Each call after the first CALLS calls fails.
     tree.stop_after(long_at(words, 2));
     add_changed_tree(alloc, change, &mut tree, answer)
 }
 
-/// Runs a change, and adds how far it came and what is in the tree.
+/// Runs a change; adds how far it came, the calls that wrote, the maps of names, and the files.
 fn add_changed_tree(
     alloc: Global,
     change: StagedChange,

@@ -1,8 +1,8 @@
-//! Answers questions to `journal_core`, `journal_recovery` and `file_replacement`: what a change by
-//! a stage leaves if it is cut off or a call fails, and what a recovery makes of it; which
-//! intents are refused; and a file that is replaced again and again while the names are never
-//! synced. Its stored run has all rows; `tests/lines.md` describes their form. The README of this
-//! crate has a row for each question.
+//! Answers questions to `journal_core`, `journal_recovery` and `file_replacement`: which files a
+//! change of several files leaves if it is cut off or a call fails, and what a recovery makes of
+//! them; which journal entries (intents) are refused; and a file that is replaced again and again
+//! while the names are never synced. Its stored run has all rows; `tests/lines.md` describes their
+//! form. The README of this crate has a row for each question.
 #![tactic(auto)]
 
 mod changing;
@@ -14,7 +14,7 @@ mod trees;
 
 use base_core::Words;
 use intents::{add_change, add_cuts, add_recovery};
-use many::add_many;
+use many::add_many_writes;
 use replacing::add_replacements;
 use row_lines::{Subject, run_program, value_named, word_at};
 use std::alloc::{AllocError, Global};
@@ -22,26 +22,26 @@ use std::io;
 use std::process::ExitCode;
 use sweeping::{add_fault, add_stop};
 
-/// What is asked; the README of this crate says what each question shows.
+/// The questions of rows; the README of this crate says what each question shows.
 #[derive(Clone, Copy)]
 enum Question {
-    /// `change CHANGE CALLS NAME BYTES ..`.
+    /// `change CHANGE CALLS NAME BYTES ..`: the change stops after CALLS calls.
     Change,
-    /// `stop CHANGE CALLS NAME BYTES ..`.
+    /// `stop CHANGE CALLS NAME BYTES ..`: as `Change`; then each crash image is recovered.
     Stop,
-    /// `fault CHANGE CALL NAME BYTES ..`.
+    /// `fault CHANGE CALL NAME BYTES ..`: a call of the change fails, then calls of recoveries.
     Fault,
-    /// `recover NAME BYTES ..`.
+    /// `recover NAME BYTES ..`: these files are recovered twice.
     Recover,
-    /// `cuts INTENT NAME BYTES ..`.
+    /// `cuts INTENT NAME BYTES ..`: the journal entry is cut to each shorter length.
     Cuts,
-    /// `many WRITES WAITING`.
-    Many,
-    /// `replace NAME CALLS`.
+    /// `many WRITES WAITING`: a journal entry with WRITES writes is read and recovered.
+    ManyWrites,
+    /// `replace NAME CALLS`: a file is replaced, after many others were moved to its name.
     Replace,
 }
 
-// The words that questions begin with.
+// The first word of each question.
 #[rattlefmt::skip]
 const QUESTIONS: [(&[u8], Question); 7] = [
     (b"change", Question::Change),
@@ -49,16 +49,16 @@ const QUESTIONS: [(&[u8], Question); 7] = [
     (b"fault", Question::Fault),
     (b"recover", Question::Recover),
     (b"cuts", Question::Cuts),
-    (b"many", Question::Many),
+    (b"many", Question::ManyWrites),
     (b"replace", Question::Replace),
 ];
 
-/// Each row has trees of its own.
+/// The subject of the rows. It keeps nothing, as each row has trees of its own.
 #[derive(Drop)]
 struct Sweeps;
 
 impl Subject for Sweeps {
-    // Answers a question by its first word. No question rests on one before it.
+    // Answers a question by its first word. No question depends on an earlier row.
     fn answer(
         &mut self,
         alloc: Global,
@@ -74,7 +74,7 @@ impl Subject for Sweeps {
             Question::Fault => add_fault(alloc, words, answer),
             Question::Recover => add_recovery(alloc, words, answer),
             Question::Cuts => add_cuts(alloc, words, answer),
-            Question::Many => add_many(alloc, words, answer),
+            Question::ManyWrites => add_many_writes(alloc, words, answer),
             Question::Replace => add_replacements(alloc, words, answer),
         }
     }

@@ -1,6 +1,6 @@
-//! An intent of so many writes that a walk over their pairs would not end in time. Such an intent
-//! passes the tests of `docs/formats.md`, "Tests of a container", among them that no name stands
-//! twice.
+//! Answers `many`: a journal entry (intent) with so many writes that a test of each pair of its
+//! names would not end in time. Such an entry passes the tests of `docs/formats.md`, "Tests of a
+//! container", also the test that no name is repeated.
 use crate::trees::{add_count, long_at, put};
 use adb_schema::INTENT_WORD;
 use adb_view::Val;
@@ -12,21 +12,21 @@ use row_lines::add_word;
 use std::alloc::{AllocError, Global};
 use tree_memory::MemoryTree;
 
-/// The number in the first name. All numbers have as many digits, so that the names rise in byte
-/// order and a tree in memory adds each at its end.
+/// The number in the name of the first write. All numbers have six digits, so that the names rise
+/// in byte order and a tree in memory adds each name at its end.
 const FIRST: usize = 100_000;
 
-/// The most bytes of a payload (`docs/formats.md`, "Canonical layout").
+/// The most bytes that a payload may have (`docs/formats.md`, "Canonical layout").
 const MOST_BYTES: usize = 268_435_455;
 
 /// The greatest number of writes that a row may ask for. The number of staged files that still wait
 /// to be moved has the same limit.
 const MOST: u64 = 65_536;
 
-/// Answers `many WRITES WAITING`: whether an intent of WRITES writes is read back, name by name.
-/// Then a recovery finishes it, when the last WAITING files still are to be moved: how many of its
-/// calls write, and how many files are then under their names.
-pub(crate) fn add_many(
+/// Answers `many WRITES WAITING`: makes a journal entry of WRITES writes, of which the last WAITING
+/// files are still staged. Adds how many names are read back from the entry; then whether a
+/// recovery succeeds, how many calls wrote, and how many files have their final names.
+pub(crate) fn add_many_writes(
     alloc: Global,
     words: &Words,
     answer: &mut Vec<u8>,
@@ -40,7 +40,8 @@ pub(crate) fn add_many(
     add_recovered(alloc, &file, count, waiting, answer)
 }
 
-/// Recovers by an intent of so many writes, the last so many of which wait.
+/// Recovers a tree with the journal entry `file` of `count` writes, of which the last `waiting`
+/// files are still staged, and adds the results.
 fn add_recovered(
     alloc: Global,
     file: &[u8],
@@ -52,7 +53,8 @@ fn add_recovered(
     add_recovered_tree(alloc, &mut tree, file, count, waiting, answer)
 }
 
-/// Adds what the recovery answers, how many calls write, and how many files have their names.
+/// Fills the tree and recovers it; adds whether that succeeds, how many calls wrote, and how many
+/// files have their final names.
 fn add_recovered_tree(
     alloc: Global,
     tree: &mut MemoryTree,
@@ -61,21 +63,22 @@ fn add_recovered_tree(
     waiting: usize,
     answer: &mut Vec<u8>,
 ) -> Result<(), AllocError> {
-    put_many(alloc, tree, file, count, waiting)?;
+    put_many_writes(alloc, tree, file, count, waiting)?;
     let recovered = recover(alloc, tree).is_ok();
     add_word(answer, if recovered { b"ok" } else { b"refused" })?;
     add_count(alloc, answer, b"writes", tree.writes())?;
     add_count(alloc, answer, b"names", names_in_place(alloc, tree)?)
 }
 
-/// The name with this index, counted from 0: `f` and a number.
+/// The name of the write with this index, counted from 0: `f` and a number.
 fn name_text(alloc: Global, i: usize) -> Result<Vec<u8>, AllocError> {
     let number = FIRST.saturating_add(i);
     let text = format!(in alloc; "f{number}")?;
     Vec::from_slice(alloc, text.as_bytes())
 }
 
-/// The container of an intent of so many writes, if the writer takes it.
+/// The container of a journal entry with `count` writes; None if the writer refuses it or its
+/// payload is too long.
 fn intent_file(alloc: Global, count: usize) -> Result<Option<Vec<u8>>, AllocError> {
     let mut writer = Writer::new(alloc);
     let mut writes = Vec::new(alloc);
@@ -89,19 +92,20 @@ fn intent_file(alloc: Global, count: usize) -> Result<Option<Vec<u8>>, AllocErro
     }
 }
 
-/// Writes the name with this index into a payload.
+/// Writes the name of the write with this index into a payload.
 fn write_name(alloc: Global, writer: &mut Writer, i: usize) -> Result<Val, AllocError> {
     let name = name_text(alloc, i)?;
     writer.blob(&name)
 }
 
-/// Writes the root of an intent: no removals, and these writes.
+/// Writes the root of a journal entry: no removals, and these writes.
 fn write_root(writer: &mut Writer, writes: &[Val]) -> Result<Val, AllocError> {
     let writes = writer.arr(writes)?;
+    // The word 0 is null: there are no removals.
     writer.obj(&[Val::of(0), writes])
 }
 
-/// The intent's file; none if the payload is too long for a container.
+/// The container of a journal entry with this payload; None if the payload is too long for one.
 fn file_of_payload(alloc: Global, payload: &[u8]) -> Result<Option<Vec<u8>>, AllocError> {
     if payload.len() > MOST_BYTES {
         return Ok(None);
@@ -109,7 +113,8 @@ fn file_of_payload(alloc: Global, payload: &[u8]) -> Result<Option<Vec<u8>>, All
     Ok(Some(file_of(alloc, INTENT_WORD, payload)?))
 }
 
-/// How many writes an intent is read with, as far as each has its own name.
+/// How many writes of a journal entry are read with the name for their index; 0 if the entry is
+/// refused.
 fn names_read(alloc: Global, file: &[u8]) -> Result<u64, AllocError> {
     let file = Vec::from_slice(alloc, file)?;
     let Ok(intent) = PreparedIntent::of_file(alloc, file) else {
@@ -124,14 +129,15 @@ fn names_read(alloc: Global, file: &[u8]) -> Result<u64, AllocError> {
     Ok(read)
 }
 
-/// Whether this is the name with that index.
+/// Whether this is the name of the write with this index.
 fn is_name_at(alloc: Global, name: &Name, i: usize) -> Result<bool, AllocError> {
     let text = name_text(alloc, i)?;
     Ok(name.as_bytes() == text.as_slice())
 }
 
-/// Puts this intent and its files, of which so many wait, the last ones, and the others were moved.
-fn put_many(
+/// Puts the journal entry `file` into the tree, and the files of its `count` writes: the last
+/// `waiting` files into the staging area, and the others under their final names.
+fn put_many_writes(
     alloc: Global,
     tree: &mut MemoryTree,
     file: &[u8],
@@ -144,24 +150,25 @@ fn put_many(
     }
     put(alloc, tree, b"lib/apk/intent", file)?;
     for i in moved..count {
+        // Staged files are numbered from 1.
         put_waiting(alloc, tree, i + 1)?;
     }
     Ok(())
 }
 
-/// Puts a file where a write of the change has moved it already.
+/// Puts the file of the write with this index under its final name, as if it was moved already.
 fn put_moved(alloc: Global, tree: &mut MemoryTree, i: usize) -> Result<(), AllocError> {
     let name = name_text(alloc, i)?;
     put(alloc, tree, &name, b"1")
 }
 
-/// Puts a file where it waits for the write with this number.
+/// Puts the file of the write with this number, counted from 1, into the staging area.
 fn put_waiting(alloc: Global, tree: &mut MemoryTree, k: usize) -> Result<(), AllocError> {
-    let place = format!(in alloc; "lib/apk/stage/{k}")?;
-    put(alloc, tree, place.as_bytes(), b"1")
+    let staged = format!(in alloc; "lib/apk/stage/{k}")?;
+    put(alloc, tree, staged.as_bytes(), b"1")
 }
 
-/// How many names of the tree are those of its writes, in their order.
+/// How many names of the tree, in byte order, are the name of the write with the same index.
 fn names_in_place(alloc: Global, tree: &MemoryTree) -> Result<u64, AllocError> {
     let names = tree.names(alloc)?;
     let mut found: u64 = 0;

@@ -1,5 +1,6 @@
-//! A change that is cut off after a call, or whose call fails, and the recovery of each image. The
-//! rules are in `docs/crash-safety.md`, "A change of several files" and "Recovery".
+//! Answers `stop` and `fault`: a change that is cut off after a call, or whose call fails, and the
+//! recovery of each crash image. The rules are in `docs/crash-safety.md`, "A change of several
+//! files" and "Recovery".
 use crate::changing::{Reached, StagedChange, add_reached, change_named, run_change};
 use crate::trees::{add_count, long_at, text_of, tree_of};
 use base_core::Words;
@@ -8,47 +9,47 @@ use row_lines::word_at;
 use std::alloc::{AllocError, Global};
 use tree_memory::MemoryTree;
 
-/// A bound of the loop over pairs of a call of a recovery and one of a second recovery: there are
-/// fewer.
+/// The most pairs of failing calls that are tried: one call of the first recovery, and one of the
+/// second. Each row has fewer pairs.
 const RUNS: u64 = 6400;
 
-/// The index of the first word of a row that names a file.
+/// The index of the first word of a row that names a file. The words before it are the question,
+/// CHANGE and CALLS or CALL.
 const FILES: usize = 3;
 
 /// The files before and after the change of a row, as text.
 #[derive(Drop)]
 struct Wanted {
-    /// The files before the change.
+    /// The files before the change, each as `NAME=BYTES`.
     old: Vec<u8>,
-    /// The files after the change.
+    /// The files after the change, each as `NAME=BYTES`.
     new: Vec<u8>,
 }
 
-/// What a recovered tree holds.
+/// Which files a recovered tree has.
 #[derive(Clone, Copy, PartialEq)]
 enum Recovered {
     /// The files before the change.
     Old,
     /// The files after the change.
     New,
-    /// Other files; or a recovery failed, or a second one leaves other files.
+    /// Other files; or a recovery failed, or the next recovery after a crash left other files.
     Other,
 }
 
-/// How many recovered trees have the old files, how many the new ones, and how many others, or
-/// other ones after a second recovery.
+/// Counts recovered trees by the files that they have.
 #[derive(Clone, Copy)]
 struct Tally {
-    /// How many have the old files.
+    /// How many trees have the files before the change.
     old: u64,
-    /// How many have the new files.
+    /// How many trees have the files after the change.
     new: u64,
-    /// How many have others.
+    /// How many trees have other files, or were not recovered.
     other: u64,
 }
 
 impl Tally {
-    /// No image was recovered yet.
+    /// The counts before any tree is recovered.
     fn none() -> Tally {
         Tally {
             old: 0,
@@ -57,7 +58,7 @@ impl Tally {
         }
     }
 
-    /// One image more, by what it was recovered to.
+    /// The counts with one recovered tree more, which has these files.
     fn with(self, found: Recovered) -> Tally {
         let mut tally = self;
         match found {
@@ -68,7 +69,7 @@ impl Tally {
         tally
     }
 
-    /// Adds the three counts.
+    /// Adds the three counts, each after its word `old`, `new` or `other`.
     fn add_to(self, alloc: Global, answer: &mut Vec<u8>) -> Result<(), AllocError> {
         add_count(alloc, answer, b"old", self.old)?;
         add_count(alloc, answer, b"new", self.new)?;
@@ -76,9 +77,9 @@ impl Tally {
     }
 }
 
-// ---- what is wanted, and what is found
+// ---- the expected files, and the files after a recovery
 
-/// The files of a row before and after its change, if it can be made.
+/// The files of a row before and after its change; None if the change does not finish.
 fn wanted_texts(
     alloc: Global,
     words: &Words,
@@ -88,7 +89,7 @@ fn wanted_texts(
     texts_of_change(alloc, change, &mut tree)
 }
 
-/// What is in the tree before the change and after it; none if the change fails.
+/// The files of the tree before the change and after it; None if the change does not finish.
 fn texts_of_change(
     alloc: Global,
     change: StagedChange,
@@ -102,7 +103,7 @@ fn texts_of_change(
     Ok(Some(Wanted { old, new }))
 }
 
-/// Which of the two states of a row a text of files is.
+/// Whether this text of a tree's files is that before the change, that after it, or another.
 fn found_of(wanted: &Wanted, text: &[u8]) -> Recovered {
     if text == wanted.old.as_slice() {
         return Recovered::Old;
@@ -113,8 +114,8 @@ fn found_of(wanted: &Wanted, text: &[u8]) -> Recovered {
     Recovered::Other
 }
 
-/// What a tree holds once it is recovered; and what a crash then leaves of it is the same once that
-/// is recovered.
+/// Recovers a tree, and returns which files it then has. It is `Other` if the recovery fails, or if
+/// the crash image that `choice` picks does not recover to the same files.
 fn found_in(
     alloc: Global,
     wanted: &Wanted,
@@ -131,7 +132,7 @@ fn found_in(
     Ok(Recovered::Other)
 }
 
-/// Whether an image of a tree recovers to these files.
+/// Whether the crash image of a tree that `choice` picks recovers to the files of this text.
 fn is_settled(
     alloc: Global,
     tree: &MemoryTree,
@@ -142,7 +143,7 @@ fn is_settled(
     recovers_to(alloc, &mut image, text)
 }
 
-/// Whether a recovery succeeds and leaves this state.
+/// Whether a recovery of the tree succeeds and leaves the files of this text.
 fn recovers_to(alloc: Global, tree: &mut MemoryTree, text: &[u8]) -> Result<bool, AllocError> {
     if recover(alloc, tree).is_err() {
         return Ok(false);
@@ -151,10 +152,11 @@ fn recovers_to(alloc: Global, tree: &mut MemoryTree, text: &[u8]) -> Result<bool
     Ok(found.as_slice() == text)
 }
 
-// ---- stops
+// ---- `stop`: changes that are cut off
 
-/// Answers `stop CHANGE CALLS (NAME BYTES)..`: how far a change comes that is cut off after so
-/// many calls, how many maps of names a crash may then leave, and what the images recover to.
+/// Answers `stop CHANGE CALLS (NAME BYTES)..`: adds how far a change comes that is cut off after
+/// CALLS calls. Then adds how many maps of names a crash may leave, and to which files the crash
+/// images recover.
 pub(crate) fn add_stop(
     alloc: Global,
     words: &Words,
@@ -169,7 +171,7 @@ pub(crate) fn add_stop(
     add_stop_of(alloc, words, change, &wanted, answer)
 }
 
-/// Runs the change on a tree that stops after so many calls, and recovers all of its images.
+/// Runs the change on a tree that stops after CALLS calls, and recovers each of its crash images.
 fn add_stop_of(
     alloc: Global,
     words: &Words,
@@ -182,7 +184,8 @@ fn add_stop_of(
     add_images(alloc, change, wanted, &mut tree, answer)
 }
 
-/// Adds how far the change came, and to which state each image of the tree recovers.
+/// Runs the change; adds how far it came, the number of maps of names, and how many crash images
+/// recover to which files.
 fn add_images(
     alloc: Global,
     change: StagedChange,
@@ -195,16 +198,17 @@ fn add_images(
     tally_of_images(alloc, wanted, tree)?.add_to(alloc, answer)
 }
 
-/// What the images of a tree recover to.
+/// How many crash images of a tree recover to the old, to the new, and to other files.
 fn tally_of_images(alloc: Global, wanted: &Wanted, tree: &MemoryTree) -> Result<Tally, AllocError> {
     let mut tally = Tally::none();
+    // A choice picks the map of names, and one of three contents of unsynced files.
     for choice in 0..tree.picks().saturating_mul(3) {
         tally = tally.with(found_in_image(alloc, wanted, tree, choice)?);
     }
     Ok(tally)
 }
 
-/// To which state the image with this number recovers.
+/// To which files the crash image that `choice` picks recovers.
 fn found_in_image(
     alloc: Global,
     wanted: &Wanted,
@@ -215,23 +219,24 @@ fn found_in_image(
     found_in(alloc, wanted, &mut image, choice)
 }
 
-// ---- faults
+// ---- `fault`: calls that fail
 
 /// The numbers of the calls that fail: one of the change, one of its recovery, and one of a second
 /// recovery.
 #[derive(Clone, Copy)]
 struct Failing {
-    /// The call of the change that fails.
+    /// The number of the call of the change that fails, counted from 1.
     call: u64,
-    /// The call of its recovery that fails.
+    /// The number of the call of the first recovery that fails, counted from 1.
     first: u64,
-    /// The call of the second recovery that fails.
+    /// The number of the call of the second recovery that fails, counted from 1.
     second: u64,
 }
 
 impl Failing {
-    /// The numbers after these, if there are any: the second recovery fails at each of its calls,
-    /// for each call of the first one.
+    /// The numbers to try after a run with these: the next call of the second recovery, or else the
+    /// next call of the first recovery with the first call of the second. None if neither recovery
+    /// failed.
     fn next(self, run: Recoveries) -> Option<Failing> {
         let mut next = self;
         if run.second_failed {
@@ -244,19 +249,19 @@ impl Failing {
     }
 }
 
-/// Whether two recoveries of a change failed, and what a third one left.
+/// Whether the first two recoveries of a change failed, and what the third one left.
 #[derive(Clone, Copy)]
 struct Recoveries {
-    /// The first recovery failed: it makes that call.
+    /// Whether the first recovery failed, as it makes the call that is to fail.
     first_failed: bool,
-    /// The second recovery failed: it makes that call.
+    /// Whether the second recovery failed, as it makes the call that is to fail.
     second_failed: bool,
-    /// What the third recovery left.
+    /// Which files the tree has after the third recovery.
     found: Recovered,
 }
 
 /// Answers `fault CHANGE CALL (NAME BYTES)..`: how far a change comes if its call CALL fails. Then
-/// two recoveries fail, each at every call in turn; what the third leaves.
+/// two recoveries fail, each at every call in turn; the counts say what the third recovery leaves.
 pub(crate) fn add_fault(
     alloc: Global,
     words: &Words,
@@ -272,7 +277,7 @@ pub(crate) fn add_fault(
     tally_of_faults(alloc, words, change, &wanted)?.add_to(alloc, answer)
 }
 
-/// Runs the change on a tree whose call with this number fails.
+/// Runs the change on a tree whose call number CALL fails, and adds how far it comes.
 fn add_failed_change(
     alloc: Global,
     words: &Words,
@@ -286,7 +291,7 @@ fn add_failed_change(
     )
 }
 
-/// How far a change comes whose call with this number fails.
+/// Runs the change on a tree whose call with this number fails, and returns how far it comes.
 fn run_failing(
     alloc: Global,
     change: StagedChange,
@@ -297,7 +302,8 @@ fn run_failing(
     run_change(alloc, change, tree)
 }
 
-/// What a third recovery leaves, after each call of a first and of a second one that fails.
+/// Counts what the third recovery leaves, over all pairs of failing calls of the first and the
+/// second recovery.
 fn tally_of_faults(
     alloc: Global,
     words: &Words,
@@ -321,7 +327,7 @@ fn tally_of_faults(
     Ok(tally)
 }
 
-/// Runs the change on the files of a row, and recovers three times.
+/// Runs the change on the files of a row with these failing calls, and recovers three times.
 fn run_and_recover(
     alloc: Global,
     words: &Words,
@@ -333,7 +339,8 @@ fn run_and_recover(
     recover_thrice(alloc, change, wanted, &mut tree, failing)
 }
 
-/// Recovers three times, if a call of each of the first two fails.
+/// Runs the change, and recovers three times. One call of the change fails, and one of each of the
+/// first two recoveries.
 fn recover_thrice(
     alloc: Global,
     change: StagedChange,
@@ -344,6 +351,7 @@ fn recover_thrice(
     run_failing(alloc, change, tree, failing.call)?;
     let first_failed = recovery_fails(alloc, tree, failing.first)?;
     let second_failed = recovery_fails(alloc, tree, failing.second)?;
+    // The third recovery. The number here picks the crash image that is recovered after it.
     let found = found_in(alloc, wanted, tree, failing.second)?;
     Ok(Recoveries {
         first_failed,
@@ -352,10 +360,11 @@ fn recover_thrice(
     })
 }
 
-/// Whether the recovery of a tree fails where its call with this number does.
+/// Whether a recovery of the tree fails, if its call with this number is to fail.
 fn recovery_fails(alloc: Global, tree: &mut MemoryTree, call: u64) -> Result<bool, AllocError> {
     tree.fail_at(&[call])?;
     let fails = recover(alloc, tree).is_err();
+    // No later call is to fail.
     tree.fail_at(&[])?;
     Ok(fails)
 }

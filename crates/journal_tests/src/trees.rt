@@ -1,19 +1,19 @@
-//! The trees of the rows, and what they hold: how a row writes files, and how an answer does, as
-//! the README of this crate says.
+//! Trees that are made from the words of a row, and the files of a tree as words of an answer. The
+//! README of this crate describes both forms.
 use base_core::{Name, Words};
 use row_lines::{add_named, add_number, add_word, number_of, word_at};
 use std::alloc::{AllocError, Global};
 use tree_memory::MemoryTree;
 
-/// The number that the word at a place is; 0 if it is none.
+/// The number that the word at an index of a row is; 0 if the word is no number of 64 bits.
 pub(crate) fn long_at(words: &Words, i: usize) -> u64 {
     number_of(word_at(words, i))
         .and_then(|number| u64::try_from(number).ok())
         .unwrap_or(0)
 }
 
-/// A tree of the files that words name from a place on: a name, its bytes, and so on. A name that
-/// may not be put is left out.
+/// A tree of the files in the words from the index `first` on: a name, its bytes, and so on. A name
+/// that the tree cannot have is left out.
 pub(crate) fn tree_of(
     alloc: Global,
     words: &Words,
@@ -21,6 +21,7 @@ pub(crate) fn tree_of(
 ) -> Result<MemoryTree, AllocError> {
     let mut tree = MemoryTree::new(alloc);
     for i in first..words.len() {
+        // A word at an odd distance has the bytes, and the word before it the name.
         if (i - first) % 2 == 1 {
             put(alloc, &mut tree, words.word(i - 1), words.word(i))?;
         }
@@ -28,7 +29,7 @@ pub(crate) fn tree_of(
     Ok(tree)
 }
 
-/// Puts a file where it may be put.
+/// Puts a file into the tree, if its name is valid and the tree can have a file under this name.
 pub(crate) fn put(
     alloc: Global,
     tree: &mut MemoryTree,
@@ -44,7 +45,7 @@ pub(crate) fn put(
     Ok(())
 }
 
-/// The files of a tree in words: each name with the bytes of its file, as `NAME=BYTES`.
+/// The files of a tree as words: each name with the bytes of its file, as `NAME=BYTES`.
 pub(crate) fn text_of(alloc: Global, tree: &MemoryTree) -> Result<Vec<u8>, AllocError> {
     let names = tree.names(alloc)?;
     let mut text = Vec::new(alloc);
@@ -56,7 +57,7 @@ pub(crate) fn text_of(alloc: Global, tree: &MemoryTree) -> Result<Vec<u8>, Alloc
     Ok(text)
 }
 
-/// Adds the files of a tree in words, if it has any.
+/// Adds the files of a tree to the answer as words `NAME=BYTES`, if it has any.
 pub(crate) fn add_tree(
     alloc: Global,
     tree: &MemoryTree,
@@ -69,7 +70,7 @@ pub(crate) fn add_tree(
     add_word(answer, &text)
 }
 
-/// Adds a count, and what is counted before it.
+/// Adds the word `what`, which says what is counted, and then the count.
 pub(crate) fn add_count(
     alloc: Global,
     answer: &mut Vec<u8>,
@@ -77,6 +78,7 @@ pub(crate) fn add_count(
     count: u64,
 ) -> Result<(), AllocError> {
     add_word(answer, what)?;
+    // An empty word adds only a space.
     add_word(answer, b"")?;
     add_number(alloc, answer, u128::from(count))
 }

@@ -15,8 +15,8 @@ use Rattle.make_index.specs.adb_fields.Pairs.{NameWithPosition}
 use Rattle.make_index.specs.adb_fields.FirstPair.{IsLeastPairIfAny}
 use Rattle.make_index.specs.adb_fields.FirstPair.{IsPairOfEqualNames}
 use Rattle.make_index.specs.adb_fields.FirstPair.{IsIn}
-use Rattle.make_index.specs.adb_fields.Repeated.{file_twice, files_in, folder_twice, folders_in, name_of, numbered_from, repeated_fault, repeated_pair_in_one_list}
-use Rattle.make_index.specs.adb_fields.FirstPair.{IsPairInOne}
+use Rattle.make_index.specs.adb_fields.Repeated.{repeated_file_name_in_folder, files_in, repeated_folder_name_in_package, folders_in, name_of, numbered_from, repeated_fault, repeated_pair_in_one_list}
+use Rattle.make_index.specs.adb_fields.FirstPair.{IsRepeatedPairInOneList}
 use Rattle.adb_view.specs.declared.tables.Which.TheVariants.{Package}
 use Rattle.make_package.specs.package_files.Folders.{with_folders_inserted, sorted_names_without_repeats, with_folder_inserted, with_folder_inserted_by_order}
 use Rattle.make_package.specs.package_files.Package.{Script, Source, SourceFolder, value_of_file, value_of_folder, value_of_package, kind_of_file}
@@ -131,9 +131,9 @@ no_pair names p apart pair =
     omega arith
 
 abbrev pub Tells : Type 0
-Tells = (lists : List (List (List ℕ))) → IsLeastPairIfAny (IsPairInOne lists) (repeated_pair_in_one_list lists)
+Tells = (lists : List (List (List ℕ))) → IsLeastPairIfAny (IsRepeatedPairInOneList lists) (repeated_pair_in_one_list lists)
 
-none_by : (lists : List (List (List ℕ))) (o : Option _) → ((names : List (List ℕ)) → IsIn names lists → IsApart names) → IsLeastPairIfAny (IsPairInOne lists) o → o ≡ None
+none_by : (lists : List (List (List ℕ))) (o : Option _) → ((names : List (List ℕ)) → IsIn names lists → IsApart names) → IsLeastPairIfAny (IsRepeatedPairInOneList lists) o → o ≡ None
 none_by lists None apart told = refl
 none_by lists (Some p) apart told = let one = told.is_one in absurd (no_pair one.names p (apart one.names one.names_in) one.is_pair)
 
@@ -173,14 +173,14 @@ module _ (info : Plain) (folders : List SourceFolder) (scripts : List Script) (t
   abbrev value : Plain
   value = value_of_package info folders scripts triggers priority
 
-  folders_none : Tells → IsApart (folder_names_of folders) → folder_twice (value ∷ []) ≡ None
+  folders_none : Tells → IsApart (folder_names_of folders) → repeated_folder_name_in_package (value ∷ []) ≡ None
   folders_none tells apart = none_twice tells (map name_of (folders_in value) ∷ []) (λ names h. one names h)
     where
       one : (names : List (List ℕ)) → IsIn names (map name_of (folders_in value) ∷ []) → IsApart names
       one names (inl is) = subst IsApart (sym (is ∙ (ap (map name_of) (folders_stand info folders scripts triggers priority) ∙ names_of_folders folders))) apart
       one names (inr h) = absurd h
 
-  files_none : Tells → AreApartFiles folders → file_twice (value ∷ []) ≡ None
+  files_none : Tells → AreApartFiles folders → repeated_file_name_in_folder (value ∷ []) ≡ None
   files_none tells apart =
       let lists : List (List (List ℕ)) = names_by_folder (map value_of_folder folders) in
       let same : flat_map (λ (pkg : Plain). names_by_folder (folders_in pkg)) (value ∷ []) ≡ lists =

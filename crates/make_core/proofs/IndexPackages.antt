@@ -14,13 +14,13 @@ use Rattle.command_core.specs.declared.operands.Operand.{Operand}
 use Rattle.base_core.specs.Sorted.{sorted_by}
 use Rattle.make_index.specs.Entries.{entry_of_package}
 use Rattle.make_index.specs.EntryOrder.{entry_cmp}
-use Rattle.make_index.specs.Files.{FindOnlyFiles}
-use Rattle.make_index.specs.Index.{and_entries, description_in, entry_unless, found_entries, found_entry, made_index, value_of_index}
+use Rattle.make_index.specs.Files.{AreOperandReadsFileBytes}
+use Rattle.make_index.specs.Index.{entry_before_others_or_fault, description_in, entry_unless_fault, found_entries, found_entry, made_index, value_of_index}
 use Rattle.make_index.specs.make_info.Reads.{Reads}
 use Rattle.make_index.specs.make_info.Values.{plains_of_list}
 use Rattle.make_index.specs.make_info.declared.fault.MakeFault.{MakeFault}
 use Rattle.make_index.specs.pkg_core.Whole.{package_fault}
-use Rattle.make_core.specs.IndexOrder.{AreSoundPackages, HasPackagesInOrder, packages_in}
+use Rattle.make_core.specs.IndexOrder.{AreSoundPackages, HasSortedEntriesOfOperands, packages_in}
 use Rattle.make_core.specs.ReadBack.{index_value_of_entries}
 use Rattle.make_core.proofs.OpenedPackage.{Values}
 use Rattle.make_core.proofs.PackageFiles.{list-plains}
@@ -40,7 +40,7 @@ found_sound : (place : ℕ) (found : Option (List ℕ)) (entry : Plain) → foun
 found_sound place None entry e = absurd (cc (e))
 found_sound place (Some file) entry e = by (package_fault file) refl e
   where
-    by : (fault : Option Cause) → package_fault file ≡ fault → entry_unless place file fault ≡ Ok entry → IsSoundEntry (Some file) entry
+    by : (fault : Option Cause) → package_fault file ≡ fault → entry_unless_fault place file fault ≡ Ok entry → IsSoundEntry (Some file) entry
     by None is e = let same : entry_of_package file ≡ entry = cc (e) in record { file = file; is = refl; sound = is; same = same }
     by (Some cause) is e = absurd (cc (e))
 
@@ -51,7 +51,7 @@ record AreSoundEntries (read : Reads) (n : ℕ) (operands : List Operand) (entri
 
 one_more : (read : Reads) (n : ℕ) (o : Operand) (operands : List Operand) (entries : List Plain) (r : Result Plain MakeFault) (rs : Result (List Plain) MakeFault)
     → ((entry : Plain) → r ≡ Ok entry → IsSoundEntry (read n (without_dot_slash o.text)) entry) → ((others : List Plain) → rs ≡ Ok others → AreSoundEntries read (n + 1) operands others)
-    → and_entries r rs ≡ Ok entries → AreSoundEntries read n (o ∷ operands) entries
+    → entry_before_others_or_fault r rs ≡ Ok entries → AreSoundEntries read n (o ∷ operands) entries
 one_more read n o operands entries (Err fault) rs one further e = absurd (cc (e))
 one_more read n o operands entries (Ok entry) (Err fault) one further e = absurd (cc (e))
 one_more read n o operands entries (Ok entry) (Ok others) one further e =
@@ -88,7 +88,7 @@ abbrev pub Sorted : Type 0
 Sorted = (entries : List Plain) → IsSorted entry_cmp (sorted_by entry_cmp entries)
 
 in_order : Same → Sorted → (read : Reads) (operands : List Operand) (description : List ℕ) (index : Plain) (found : Result (List Plain) MakeFault) → found_entries read 0 operands ≡ found
-    → index_value_of_entries description found ≡ Ok index → HasPackagesInOrder read operands index
+    → index_value_of_entries description found ≡ Ok index → HasSortedEntriesOfOperands read operands index
 in_order same sorted read operands description index (Err fault) is e = absurd (cc (e))
 in_order same sorted read operands description index (Ok entries) is e =
     let are = entries_sound read 0 operands entries is in
@@ -101,8 +101,8 @@ in_order same sorted read operands description index (Ok entries) is e =
       sorted = subst (IsSorted entry_cmp) stand (sorted entries);
     }
 
-pub made_in_order : Same → Sorted → Back → Exact → Values → (command : CommandLine) (read : Reads) (bytes : List ℕ) → FindOnlyFiles read 0 command.operands → made_index command read ≡ Ok bytes
-    → HasPackagesInOrder read command.operands (root_value Index (payload_in bytes))
+pub made_in_order : Same → Sorted → Back → Exact → Values → (command : CommandLine) (read : Reads) (bytes : List ℕ) → AreOperandReadsFileBytes read 0 command.operands → made_index command read ≡ Ok bytes
+    → HasSortedEntriesOfOperands read command.operands (root_value Index (payload_in bytes))
 made_in_order same sorted back exact values command read bytes files e =
     in_order same sorted read command.operands (description_in command.values) (root_value Index (payload_in bytes)) (found_entries read 0 command.operands) refl
     (made_back back exact values command read bytes files e)

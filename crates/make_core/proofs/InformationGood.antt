@@ -24,8 +24,8 @@ use Rattle.make_index.specs.make_info.declared.field.Field.TheVariants as Fields
 use Rattle.make_index.specs.make_info.declared.field.Kind.{Kind}
 use Rattle.make_index.specs.make_info.declared.field.Kind.TheVariants as Kinds
 use Rattle.make_index.specs.make_info.Fields.{FieldValue, text, number, need, kind_of_field, values_by_kind, text_value_if, if_untagged}
-use Rattle.make_index.specs.make_info.FieldTexts.{FieldText, field_text_in, values_of_info, is_option_for_field, is_text_for_field, is_same_field, is_default_output_too_long}
-use Rattle.make_index.specs.make_info.Information.{FieldWithValue, items_of_valid_options, first_offence, information_fields, information_value, information_of, is_item_for, field_with_value, item_value, items_of_text, items_of_option, lacks_name_or_version, value_of_list_field, dependency_object, number_in, offends, replaces_priority, plain_value, value_of_single_field, unless_offence, plain_values_of_field, items_with_values_of_field}
+use Rattle.make_index.specs.make_info.FieldTexts.{FieldText, field_text_in, values_of_info, is_option_for_field, gives_value_for_field, is_same_field, is_default_output_too_long}
+use Rattle.make_index.specs.make_info.Information.{FieldWithValue, items_of_valid_options, place_of_first_offending_option, information_fields, information_value, information_of, is_item_for, field_with_value, item_value_or_null, items_of_text, items_of_option, lacks_name_or_version, value_of_list_field, dependency_object, number_in, offends, replaces_priority, plain_value, value_of_single_field, unless_offence, plain_values_of_field, items_with_values_of_field}
 use Rattle.make_index.specs.make_info.Values.{number_value}
 use Rattle.make_index.proofs.make_info.OutputFacts.{no_offence}
 use Rattle.make_core.proofs.GoodValues.{IsGood, arr_good, hash_good, null_number, number_good, obj_good, text_good}
@@ -77,12 +77,12 @@ abbrev AreAllowed : List OptionValue → Type 0
 AreAllowed [] = Unit {0}
 AreAllowed (v ∷ vs) = (is_some (items_of_option v) ≡ true) × AreAllowed vs
 
-allowed : (too_long : Bool) (before told : List OptionValue) → first_offence too_long before told ≡ None → AreAllowed told
+allowed : (too_long : Bool) (before told : List OptionValue) → place_of_first_offending_option too_long before told ≡ None → AreAllowed told
 allowed too_long before [] e = tt
 allowed too_long before (v ∷ vs) e = by_offence (offends too_long before v) refl (allowed too_long (before ++ v ∷ []) vs) e
   where
-    by_offence : (b : Bool) → offends too_long before v ≡ b → (first_offence too_long (before ++ v ∷ []) vs ≡ None → AreAllowed vs)
-        → (if b then Some v.place else first_offence too_long (before ++ v ∷ []) vs) ≡ None → AreAllowed (v ∷ vs)
+    by_offence : (b : Bool) → offends too_long before v ≡ b → (place_of_first_offending_option too_long (before ++ v ∷ []) vs ≡ None → AreAllowed vs)
+        → (if b then Some v.place else place_of_first_offending_option too_long (before ++ v ∷ []) vs) ≡ None → AreAllowed (v ∷ vs)
     by_offence true is further k = absurd (cc (k))
     by_offence false is further k = (no_offence (is_some (items_of_option v)) _ is, further k)
 
@@ -108,7 +108,7 @@ among_given : (f : Field) (g : FieldText) (o : Option (List FieldValue)) → is_
 among_given f g None is says some = absurd (cc (some))
 among_given f g (Some ss) is says some = among_first f g ss is (says ss refl)
 
-among_by : (f : Field) (o : Option FieldText) → SaysOne (kind_of_field f) → is_text_for_field f o ≡ true → is_some (option_and_then items_of_text o) ≡ true → list_any (is_item_for f) (unwrap_or (option_and_then items_of_text o) []) ≡ true
+among_by : (f : Field) (o : Option FieldText) → SaysOne (kind_of_field f) → gives_value_for_field f o ≡ true → is_some (option_and_then items_of_text o) ≡ true → list_any (is_item_for f) (unwrap_or (option_and_then items_of_text o) []) ≡ true
 among_by f None says is some = absurd (cc (is))
 among_by f (Some g) says is some =
     let kind = same_kind g.field f is in
@@ -150,7 +150,7 @@ information_by told None false behind items ok is e =
 pub information_good : (values : List OptionValue) (behind : ℕ) (items : List FieldWithValue) → information_of values behind ≡ Ok items → IsInformation items
 unfolding information_of
 information_good values behind items e =
-    information_by (values_of_info values) (first_offence (is_default_output_too_long values) [] (values_of_info values)) (lacks_name_or_version (values_of_info values)) behind items (λ k. allowed (is_default_output_too_long values) [] (values_of_info values) k) refl e
+    information_by (values_of_info values) (place_of_first_offending_option (is_default_output_too_long values) [] (values_of_info values)) (lacks_name_or_version (values_of_info values)) behind items (λ k. allowed (is_default_output_too_long values) [] (values_of_info values) k) refl e
 
 -- ---- what is found of a field
 
@@ -174,14 +174,14 @@ there f (item ∷ items) e = by_field (is_item_for f item) (there f items) e
     by_field true further k = refl
     by_field false further k = further k
 
-single_by : (P : Plain → Type 0) (f : Field) (o : Option FieldWithValue) → IsFound f o → P null → ((s : FieldValue) → IsSaidAs (kind_of_field f) s → P (plain_value s)) → P (item_value o)
+single_by : (P : Plain → Type 0) (f : Field) (o : Option FieldWithValue) → IsFound f o → P null → ((s : FieldValue) → IsSaidAs (kind_of_field f) s → P (plain_value s)) → P (item_value_or_null o)
 single_by P f None h lacking good = lacking
 single_by P f (Some item) h lacking good = good item.value h
 
 single_good : (P : Plain → Type 0) (f : Field) (items : List FieldWithValue) → AreItems items → P null → ((s : FieldValue) → IsSaidAs (kind_of_field f) s → P (plain_value s)) → P (value_of_single_field f items)
 single_good P f items h lacking good = single_by P f (find (is_item_for f) items) (found f items h) lacking good
 
-given_by_some : (P : Plain → Type 0) (f : Field) (o : Option FieldWithValue) → IsFound f o → is_some o ≡ true → ((s : FieldValue) → IsSaidAs (kind_of_field f) s → P (plain_value s)) → P (item_value o)
+given_by_some : (P : Plain → Type 0) (f : Field) (o : Option FieldWithValue) → IsFound f o → is_some o ≡ true → ((s : FieldValue) → IsSaidAs (kind_of_field f) s → P (plain_value s)) → P (item_value_or_null o)
 given_by_some P f None h some good = absurd (cc (some))
 given_by_some P f (Some item) h some good = good item.value h
 

@@ -10,10 +10,10 @@ use Rattle.base_core.specs.Name.{is_name}
 use Rattle.make_index.specs.adb_fields.FirstPair.{IsIn}
 use Rattle.make_index.proofs.adb_fields.Members.{from-flat_map, from-map}
 use Rattle.make_index.specs.adb_fields.Paths.{path_of}
-use Rattle.make_index.specs.adb_schema.Rules.{is_file_name_in_folder, is_folder_name}
-use Rattle.make_package.specs.package_files.Folders.{FolderListing, prefixes_before_slashes, path_relative_to, names_in_folder, all_folders_above, folder_of, folder_listings_of, folders_above, is_slash, folder_listing_of, last_part_of}
+use Rattle.make_index.specs.adb_schema.Rules.{is_valid_file_name_in_folder, is_folder_name}
+use Rattle.make_package.specs.package_files.Folders.{FolderListing, prefixes_before_slashes, path_relative_to, tree_names_in_package_folder, all_folders_above, folder_of, folder_listings_of, folders_above, is_slash, folder_listing_of, last_part_of}
 use Rattle.make_package.specs.package_files.Package.{Source, SourceFolder, kind_of_file, installed_size, size_of_folder, size_of_kind}
-use Rattle.make_package.specs.package_files.Sources.{and_then, results_from_read, source_file_read_at, sources_from, source_folder_read_at, source_folders_from, found_bytes_or_missing}
+use Rattle.make_package.specs.package_files.Sources.{and_then, results_from_read, source_file_read_at, sources_at_place_from_read, source_folder_read_at, source_folders_at_place_from_read, found_bytes_or_missing}
 use Rattle.make_index.specs.make_info.Reads.{Reads}
 use Rattle.make_index.specs.make_info.declared.fault.MakeFault.{MakeFault}
 use Rattle.make_core.proofs.Apart.{AreApartFiles, IsApart, Rises, folder_names_of, in_order_in, in_order_rises, rises_apart, source_names}
@@ -84,7 +84,7 @@ folder_named dir names f all h =
 -- the names of a folder's files
 abbrev pub AreFileNames : List ℕ → List (List ℕ) → Type 0
 AreFileNames f [] = Unit {0}
-AreFileNames f (part ∷ parts) = (is_file_name_in_folder f part ≡ true) × AreFileNames f parts
+AreFileNames f (part ∷ parts) = (is_valid_file_name_in_folder f part ≡ true) × AreFileNames f parts
 
 abbrev pub stands_in : List ℕ → List ℕ → List ℕ → Bool
 stands_in dir f name = bytes_eq (folder_of (path_relative_to dir name)) f
@@ -92,12 +92,12 @@ stands_in dir f name = bytes_eq (folder_of (path_relative_to dir name)) f
 part_is : (dir name : List ℕ) → IsListed dir name → last_part_of name ≡ last_part_of (path_relative_to dir name)
 part_is dir name l = ap last_part_of l.is ∙ same_part dir (path_relative_to dir name)
 
-file_named : (dir f name : List ℕ) → IsListed dir name → stands_in dir f name ≡ true → is_file_name_in_folder f (last_part_of name) ≡ true
+file_named : (dir f name : List ℕ) → IsListed dir name → stands_in dir f name ≡ true → is_valid_file_name_in_folder f (last_part_of name) ≡ true
 file_named dir f name l here =
     let path : List ℕ = path_relative_to dir name in
     let folder : folder_of path ≡ f = (bytes_eq-Decides (folder_of path) f).0 here in
     let part = part_is dir name l in
-    (λ k. is_file_name_in_folder (sym folder k) (part k)) ∙ (path_good path l.named).good
+    (λ k. is_valid_file_name_in_folder (sym folder k) (part k)) ∙ (path_good path l.named).good
 
 pub recovered : (dir f name : List ℕ) → IsListed dir name → stands_in dir f name ≡ true → name ≡ dir ++ 47 ∷ path_of f (last_part_of name)
 recovered dir f name l here =
@@ -107,11 +107,11 @@ recovered dir f name l here =
     let whole : path_of f (last_part_of name) ≡ path = (λ k. path_of (sym folder k) (part k)) ∙ (path_good path l.named).is in
     l.is ∙ ap (λ (p : List ℕ). dir ++ 47 ∷ p) (sym whole)
 
-files_named : (dir f : List ℕ) (names : List (List ℕ)) → AreListed dir names → AreFileNames f (map last_part_of (names_in_folder dir names f))
+files_named : (dir f : List ℕ) (names : List (List ℕ)) → AreListed dir names → AreFileNames f (map last_part_of (tree_names_in_package_folder dir names f))
 files_named dir f [] all = tt
 files_named dir f (name ∷ names) all = by_folder (stands_in dir f name) refl (files_named dir f names all.1)
   where
-    by_folder : (b : Bool) → stands_in dir f name ≡ b → AreFileNames f (map last_part_of (names_in_folder dir names f)) → AreFileNames f (map last_part_of (cond b (name ∷ names_in_folder dir names f) (names_in_folder dir names f)))
+    by_folder : (b : Bool) → stands_in dir f name ≡ b → AreFileNames f (map last_part_of (tree_names_in_package_folder dir names f)) → AreFileNames f (map last_part_of (cond b (name ∷ tree_names_in_package_folder dir names f) (tree_names_in_package_folder dir names f)))
     by_folder true e further = (file_named dir f name (listed_name dir name all.0.0 all.0.1 all.0.2) e, further)
     by_folder false e further = further
 
@@ -125,19 +125,19 @@ filter_in p z (x ∷ xs) h = by_test (p x) refl (filter_in p z xs) h
     by_test false e further h = let both = further h in (inr both.0, both.1)
 
 other_part : (dir f name : List ℕ) (names : List (List ℕ)) → IsListed dir name → AreListed dir names → stands_in dir f name ≡ true → ((q : List ℕ) → IsIn q names → name ≢ q)
-    → (q : List ℕ) → IsIn q (map last_part_of (names_in_folder dir names f)) → last_part_of name ≢ q
+    → (q : List ℕ) → IsIn q (map last_part_of (tree_names_in_package_folder dir names f)) → last_part_of name ≢ q
 other_part dir f name names l all here apart q h same =
-    let (z, at, is) = from-map last_part_of q (names_in_folder dir names f) h in
+    let (z, at, is) = from-map last_part_of q (tree_names_in_package_folder dir names f) h in
     let both = filter_in (stands_in dir f) z names at in
     let one = recovered dir f name l here in
     let two = recovered dir f z (listed_in dir names z all both.0) both.1 in
     apart z both.0 (one ∙ (ap (λ (p : List ℕ). dir ++ 47 ∷ path_of f p) (same ∙ is) ∙ sym two))
 
-files_apart : (dir f : List ℕ) (names : List (List ℕ)) → AreListed dir names → IsApart names → IsApart (map last_part_of (names_in_folder dir names f))
+files_apart : (dir f : List ℕ) (names : List (List ℕ)) → AreListed dir names → IsApart names → IsApart (map last_part_of (tree_names_in_package_folder dir names f))
 files_apart dir f [] all apart = tt
 files_apart dir f (name ∷ names) all apart = by_folder (stands_in dir f name) refl (files_apart dir f names all.1 apart.1)
   where
-    by_folder : (b : Bool) → stands_in dir f name ≡ b → IsApart (map last_part_of (names_in_folder dir names f)) → IsApart (map last_part_of (cond b (name ∷ names_in_folder dir names f) (names_in_folder dir names f)))
+    by_folder : (b : Bool) → stands_in dir f name ≡ b → IsApart (map last_part_of (tree_names_in_package_folder dir names f)) → IsApart (map last_part_of (cond b (name ∷ tree_names_in_package_folder dir names f) (tree_names_in_package_folder dir names f)))
     by_folder true e further = (other_part dir f name names (listed_name dir name all.0.0 all.0.1 all.0.2) all.1 e apart.0, further)
     by_folder false e further = further
 
@@ -191,7 +191,7 @@ IsFolderOf l s = (s.name ≡ l.name) × (source_names s.files ≡ map last_part_
 
 folder_read : (place : ℕ) (read : Reads) (n : ℕ) (folder : FolderListing) (source : SourceFolder) → source_folder_read_at place read n folder ≡ Ok source → IsFolderOf folder source
 folder_read place read n folder source e =
-    let one = after_ok (sources_from place read n folder.files) (λ files. Ok (record { name = folder.name; files = files })) source e in
+    let one = after_ok (sources_at_place_from_read place read n folder.files) (λ files. Ok (record { name = folder.name; files = files })) source e in
     let gives = one.gives in
     let same : record { name = folder.name; files = one.x } ≡ source = cc (gives) in
     let names = names_read folder.files one.x (each_read IsFileOf (λ name. 1) (source_file_read_at place read) (file_read place read) n folder.files one.x one.is) in
@@ -200,7 +200,7 @@ folder_read place read n folder source e =
 abbrev AreOf : List FolderListing → List SourceFolder → Type 0
 AreOf folders sources = AllOf IsFolderOf folders sources
 
-folders_read : (place : ℕ) (read : Reads) (n : ℕ) (folders : List FolderListing) (sources : List SourceFolder) → source_folders_from place read n folders ≡ Ok sources → AreOf folders sources
+folders_read : (place : ℕ) (read : Reads) (n : ℕ) (folders : List FolderListing) (sources : List SourceFolder) → source_folders_at_place_from_read place read n folders ≡ Ok sources → AreOf folders sources
 folders_read place read n folders sources e =
     each_read IsFolderOf (λ (folder : FolderListing). length folder.files) (source_folder_read_at place read) (folder_read place read) n folders sources e
 
@@ -238,7 +238,7 @@ module _ (dir : List ℕ) (names : List (List ℕ)) where
   names_are (f ∷ fs) [] are = absurd are
   names_are (f ∷ fs) (s ∷ ss) are = λ k. are.0.0 k ∷ (names_are fs ss are.1) k
 
-  pub sources_good : (place : ℕ) (read : Reads) (n : ℕ) (sources : List SourceFolder) → AreListed dir names → Rises names → source_folders_from place read n (folder_listings_of dir names) ≡ Ok sources → AreSources sources
+  pub sources_good : (place : ℕ) (read : Reads) (n : ℕ) (sources : List SourceFolder) → AreListed dir names → Rises names → source_folders_at_place_from_read place read n (folder_listings_of dir names) ≡ Ok sources → AreSources sources
   unfolding folder_listings_of
   sources_good place read n sources all rises e =
       let fs : List (List ℕ) = all_folders_above (map (path_relative_to dir) names) in

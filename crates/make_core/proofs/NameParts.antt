@@ -10,7 +10,7 @@ use Rattle.std.proofs.lemmas.Str.{IsCharBoundary-after_ascii, IsCharBoundary-bef
 use Rattle.base_core.specs.Name.{is_name, is_path_part, path_parts_of}
 use Rattle.base_core.proofs.NameParts.{split_slash}
 use Rattle.make_index.specs.adb_fields.Paths.{path_of}
-use Rattle.make_index.specs.adb_schema.Rules.{is_file_name_in_folder, is_folder_name, is_one_part}
+use Rattle.make_index.specs.adb_schema.Rules.{is_valid_file_name_in_folder, is_folder_name, is_one_part}
 use Rattle.make_package.specs.package_files.Folders.{folder_of, is_slash, last_part_of}
 
 -- ---- what a name is, test by test
@@ -148,7 +148,7 @@ path_behind (b ∷ bs) part some = refl
 
 pub record IsPath (path : List ℕ) : Type 0 where
   pub is : path_of (folder_of path) (last_part_of path) ≡ path
-  pub good : is_file_name_in_folder (folder_of path) (last_part_of path) ≡ true
+  pub good : is_valid_file_name_in_folder (folder_of path) (last_part_of path) ≡ true
 
 file_by : (path folder part : List ℕ) → folder_of path ≡ folder → last_part_of path ≡ part → path_of folder part ≡ path → is_name part ≡ true → list_any is_slash part ≡ false → length path ≤ 1024 → IsPath path
 file_by path folder part f p is name free short =

@@ -7,7 +7,7 @@ use Rattle.base_core.specs.declared.cause.Cause.TheVariants.{BlockOrder, Truncat
 use Rattle.base_core.proofs.Causes.{first_none, second_none}
 use Rattle.adb_block.specs.Piece.{Piece, may_be_next_kind}
 use Rattle.adb_block.specs.Framing.{HeadFields, Step, ended, failed, block, block_head_fields, step_by_head, kind_of_number, step_by_order, step_by_size, next_step}
-use Rattle.adb_block.specs.Header.{header_of}
+use Rattle.adb_block.specs.Header.{schema_of_header}
 use Rattle.adb_block.specs.Reading.{Reading, block_stream_from_offset, block_stream_from, block_stream_after_step}
 use Rattle.adb_block.specs.declared.block.BlockKind.{BlockKind}
 use Rattle.adb_view.specs.Head.{payload_head_fault, root_word_of_payload}
@@ -17,7 +17,7 @@ use Rattle.adb_view.specs.Shaped.{HasShape}
 use Rattle.adb_view.specs.Schema.{shape_of}
 use Rattle.adb_view.specs.Values.{value_at}
 use Rattle.adb_view.specs.Walk.{shape_fault}
-use Rattle.make_index.specs.adb_schema.Texts.{text_fault}
+use Rattle.make_index.specs.adb_schema.Texts.{text_or_number_fault}
 use Rattle.make_index.specs.adb_schema.Soundness.{blocks_fault, file_fault_after_header, first_block_payload, payload_after_header, payload_fault, payload_in, root_value, schema_fault}
 use Rattle.adb_view.specs.declared.tables.Which.TheVariants.{Package}
 use Rattle.adb_view.specs.declared.tables.Kind.TheVariants.{Obj}
@@ -87,14 +87,14 @@ header_passed file (Err c) bytes e = absurd cc
 
 passed : (file : List ℕ) → AreBytes file → package_fault file ≡ None → IsPayload (payload_in file)
 unfolding container_fault_of_table payload_in
-passed file bytes e = header_passed file (header_of file) bytes e
+passed file bytes e = header_passed file (schema_of_header file) bytes e
 
 -- ---- and its value
 
 pub record IsOpened (v : Plain) : Type 0 where
   pub normal : IsNormal v
   pub shaped : HasShape (shape_of (Obj Package)) v
-  pub kept : text_fault Package v ≡ None
+  pub kept : text_or_number_fault Package v ≡ None
 
 some_is : (o : Option Plain) → is_some o ≡ true → o ≡ Some (unwrap_or o null)
 some_is (Some v) e = refl

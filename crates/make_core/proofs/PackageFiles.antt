@@ -9,7 +9,7 @@ use Rattle.sha2.proofs.Facts256.{length-sha256}
 use Rattle.adb_view.specs.Plain.{Plain, null, int, Plains, none, more, number, text, blob_or_null, array_or_null, trimmed_object_or_null}
 use Rattle.adb_view.specs.Shaped.{Each}
 use Rattle.make_index.specs.adb_fields.Repeated.{files_in, folders_in, list_of}
-use Rattle.make_index.specs.adb_schema.Rules.{is_digest_length, is_digest_length_or_none, is_file_name_in_folder, is_folder_name, is_link_target_or_none}
+use Rattle.make_index.specs.adb_schema.Rules.{is_digest_length, is_digest_length_or_none, is_valid_file_name_in_folder, is_folder_name, is_link_target_or_none}
 use Rattle.adb_view.specs.Schema.{shape_of, shapes_of, table}
 use Rattle.make_index.specs.adb_schema.Texts.{Surroundings, is_file_hash_length, is_allowed_number_of_field, surroundings_of_fields, surroundings_of_root, is_allowed_text_of_field}
 use Rattle.adb_view.specs.Values.{entries_in, entry_in, int_in, text_in}
@@ -142,12 +142,12 @@ size_small : (kind : FileKind) → IsGoodKind kind → size_of_kind kind < 2 ^ 6
 size_small (Link target) good = lit< tt
 size_small (Regular size digest) good = good.0
 
-pub file_good : (folder name : List ℕ) (kind : FileKind) → is_file_name_in_folder folder name ≡ true → IsGoodKind kind → IsGood (shape_of (Obj File)) 503 (in_folder folder) (value_of_kind name kind)
+pub file_good : (folder name : List ℕ) (kind : FileKind) → is_valid_file_name_in_folder folder name ≡ true → IsGoodKind kind → IsGood (shape_of (Obj File)) 503 (in_folder folder) (value_of_kind name kind)
 unfolding shape_of is_allowed_text_of_field
 file_good folder name kind named good =
     let inside : Surroundings = around_file folder kind in
     obj_good 4 (shapes_of (table File)) 503 (in_folder folder) inside (file_fields name kind) (file_inside folder name kind) (
-      text_good 401 inside name (and_from (is_file_name_in_folder folder name) true named refl),
+      text_good 401 inside name (and_from (is_valid_file_name_in_folder folder name) true named refl),
       (
         acl_good 420 402 inside (lit< tt),
         (
@@ -171,7 +171,7 @@ file_good folder name kind named good =
 -- each file has a name that it may have there, and a size below 2 ^ 64
 abbrev pub AreGoodFiles : List ℕ → List Source → Type 0
 AreGoodFiles folder [] = Unit {0}
-AreGoodFiles folder (file ∷ files) = (is_file_name_in_folder folder file.name ≡ true) × (size_of_kind (kind_of_file file.bytes) < 2 ^ 64) × AreGoodFiles folder files
+AreGoodFiles folder (file ∷ files) = (is_valid_file_name_in_folder folder file.name ≡ true) × (size_of_kind (kind_of_file file.bytes) < 2 ^ 64) × AreGoodFiles folder files
 
 files_good : (folder : List ℕ) (files : List Source) → AreGoodFiles folder files → Each (IsGood (shape_of (Obj File)) 503 (in_folder folder)) (plains_of_list (map value_of_file files))
 files_good folder [] good = tt

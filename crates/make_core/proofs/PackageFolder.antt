@@ -9,7 +9,7 @@ use Rattle.std.proofs.lemmas.List.Concat.{flat_map-cons}
 use Rattle.std.proofs.lemmas.List.Elements.{All-cons, All-nil}
 use Rattle.std.proofs.lemmas.List.Sorted.{IsPermutation-map}
 use Rattle.base_core.specs.Files.{Files}
-use Rattle.base_core.specs.Listed.{AreNamesBelow}
+use Rattle.base_core.specs.Listed.{AreSortedNamesBelowFolder}
 use Rattle.make_index.specs.adb_fields.FirstPair.{IsIn}
 use Rattle.make_index.specs.adb_fields.Paths.{path_of}
 use Rattle.make_index.specs.adb_fields.Repeated.{files_in, folders_in, name_of, paths_of_folder_files}
@@ -20,12 +20,12 @@ use Rattle.command_core.specs.Command.{CommandLine}
 use Rattle.command_core.specs.Files.{without_dot_slash}
 use Rattle.command_core.specs.declared.values.OptionValue.{OptionValue}
 use Rattle.make_index.specs.make_info.Information.{replaces_priority}
-use Rattle.make_package.specs.package_files.Folders.{FolderListing, all_folders_above, folder_listings_of, last_part_of, folder_listing_of, names_in_folder, path_relative_to}
+use Rattle.make_package.specs.package_files.Folders.{FolderListing, all_folders_above, folder_listings_of, last_part_of, folder_listing_of, tree_names_in_package_folder, path_relative_to}
 use Rattle.make_package.specs.Making.{made_package}
 use Rattle.make_package.specs.package_files.Package.{Source, SourceFolder, value_of_file, value_of_folder, kind_of_file}
-use Rattle.make_package.specs.package_files.Sources.{AreNamesBelowFirstFolder, source_file_read_at, source_folder_read_at, folders_below, found_bytes_or_missing, source_folders_from, sources_from, texts_of, values_of_letter}
+use Rattle.make_package.specs.package_files.Sources.{AreNamesBelowFirstFolder, source_file_read_at, source_folder_read_at, source_folders_of_first_option, found_bytes_or_missing, source_folders_at_place_from_read, sources_at_place_from_read, texts_of, values_of_letter}
 use Rattle.make_index.specs.pkg_core.Whole.{PackageWithContents}
-use Rattle.make_core.specs.FilesBelow.{HasFilesBelow, IsFileBelow, path_joined_to_folder}
+use Rattle.make_core.specs.FilesBelow.{HasJustNamedFilesBelowFolder, IsFileBelow, path_joined_to_folder}
 use Rattle.make_core.proofs.Apart.{Tells}
 use Rattle.make_core.proofs.InformationGood.{Needs}
 use Rattle.make_core.proofs.ListedNames.{AllOf, AreListed, after_ok, below_is, each_read, filter_in, listed_in, recovered, stands_in}
@@ -56,7 +56,7 @@ module _ (files : Files) where
 
   folder_is_read : (place n : ℕ) (folder : FolderListing) (source : SourceFolder) → source_folder_read_at place (λ n name. files name) n folder ≡ Ok source → IsFolderRead folder source
   folder_is_read place n folder source e =
-      let one = after_ok (sources_from place (λ n name. files name) n folder.files) (λ fs. Ok (record { name = folder.name; files = fs })) source e in
+      let one = after_ok (sources_at_place_from_read place (λ n name. files name) n folder.files) (λ fs. Ok (record { name = folder.name; files = fs })) source e in
       let gives = one.gives in
       let same : record { name = folder.name; files = one.x } ≡ source = cc (gives) in
       subst (IsFolderRead folder) same (refl, each_read IsRead (λ name. 1) (source_file_read_at place (λ n name. files name)) (file_is_read place) n folder.files one.x one.is)
@@ -96,7 +96,7 @@ module _ (files : Files) where
   folders_at dir names [] (s ∷ ss) all h = absurd h
   folders_at dir names (f ∷ fs) [] all h = absurd h
   folders_at dir names (f ∷ fs) (s ∷ ss) all h =
-      let here : List (List ℕ) = names_in_folder dir names f in
+      let here : List (List ℕ) = tree_names_in_package_folder dir names f in
       let at = files_at dir f here s.files (λ name is. let both = filter_in (stands_in dir f) name names is in recovered dir f name (listed_in dir names name all both.0) both.1) h.0.1 in
       let one = subst (λ (g : List ℕ). AreAt dir g here s.files) (sym h.0.0) at in
       let further = folders_at dir names fs ss all h.1 in
@@ -156,7 +156,7 @@ abbrev pub OneFolder : Type 0
 OneFolder = (dir : List ℕ) (names : List (List ℕ)) → IsPermutation names (flat_map (λ (folder : FolderListing). folder.files) (folder_listings_of dir names))
 
 read_below : OneFolder → (files : Files) (place n : ℕ) (dir : List ℕ) (names : List (List ℕ)) (sources : List SourceFolder) (pkg : Plain) → AreListed dir names
-    → source_folders_from place (λ n name. files name) n (folder_listings_of dir names) ≡ Ok sources → folders_in pkg ≡ map value_of_folder sources → HasFilesBelow files dir names pkg
+    → source_folders_at_place_from_read place (λ n name. files name) n (folder_listings_of dir names) ≡ Ok sources → folders_in pkg ≡ map value_of_folder sources → HasJustNamedFilesBelowFolder files dir names pkg
 unfolding folder_listings_of
 read_below law files place n dir names sources pkg all e is =
     let fs : List (List ℕ) = all_folders_above (map (path_relative_to dir) names) in
@@ -169,13 +169,13 @@ read_below law files place n dir names sources pkg all e is =
     }
 
 pub made_below : OneFolder → Holds IsReadBack → Sizes → Exact → Needs → Tells → (command : CommandLine) (names : List (List ℕ)) (files : Files) (bytes : List ℕ) (folder : OptionValue) (others : List OptionValue)
-    → values_of_letter FILES command.values ≡ folder ∷ others → AreNamesBelow (without_dot_slash folder.text) names → made_package command names (λ n name. files name) ≡ Ok bytes → length bytes < 2 ^ 64
-    → HasFilesBelow files (without_dot_slash folder.text) names (root_value Package (payload_in bytes))
+    → values_of_letter FILES command.values ≡ folder ∷ others → AreSortedNamesBelowFolder (without_dot_slash folder.text) names → made_package command names (λ n name. files name) ≡ Ok bytes → length bytes < 2 ^ 64
+    → HasJustNamedFilesBelowFolder files (without_dot_slash folder.text) names (root_value Package (payload_in bytes))
 made_below law holds sizes exact needs tells command names files bytes folder others given below e short =
     let named : AreNamesBelowFirstFolder (values_of_letter FILES command.values) names = subst (λ (l : List OptionValue). AreNamesBelowFirstFolder l names) (sym given) below in
     let made = made_of IsReadBack holds sizes exact needs tells command names (λ n name. files name) bytes named e short in
-    let read : folders_below (λ n name. files name) (length made.scripts) (folder ∷ others) names ≡ Ok made.sources =
-    ap (λ (l : List OptionValue). folders_below (λ n name. files name) (length made.scripts) l names) (sym given) ∙ made.sources_read in
+    let read : source_folders_of_first_option (λ n name. files name) (length made.scripts) (folder ∷ others) names ≡ Ok made.sources =
+    ap (λ (l : List OptionValue). source_folders_of_first_option (λ n name. files name) (length made.scripts) l names) (sym given) ∙ made.sources_read in
     let value = ap (λ (p : PackageWithContents). p.value) made.holds in
     read_below law files folder.place (length made.scripts) (without_dot_slash folder.text) names made.sources (root_value Package (payload_in bytes)) (are_listed (without_dot_slash folder.text) names below.each) read
     (ap folders_in value ∙ folders_stand _ made.sources made.scripts (texts_of (values_of_letter TRIGGER command.values)) (replaces_priority made.items))

@@ -9,8 +9,8 @@ use Rattle.make_index.specs.adb_fields.Repeated.{repeated_fault}
 use Rattle.adb_view.specs.declared.tables.Which.{Which}
 use Rattle.adb_view.specs.declared.tables.Kind.TheVariants.{Obj}
 use Rattle.make_index.specs.adb_write.Canonical.{PayloadCounts, canonical, or_overflow, overflow_of, exceeds_a_limit, payload_or_overflow, MOST_BYTES, MOST_VALUES}
-use Rattle.make_index.specs.adb_write.Size.{size_of, value_count}
-use Rattle.make_package.specs.adb_sound.Root.{IsRootOf}
+use Rattle.make_index.specs.adb_write.Size.{payload_size_of, value_count}
+use Rattle.make_package.specs.adb_sound.Root.{IsValidRootValueOfTable}
 use Rattle.make_core.proofs.GoodValues.{IsGood}
 
 pub record IsWritten (v : Plain) (payload : List ℕ) : Type 0 where
@@ -27,16 +27,16 @@ written v payload h = written_by v payload (overflow_of v) refl h
 
 -- a normal value overflows exactly past a limit
 abbrev pub Exact : Type 0
-Exact = (v : Plain) → IsNormal v → is_some (overflow_of v) ≡ exceeds_a_limit (size_of v, value_count v)
+Exact = (v : Plain) → IsNormal v → is_some (overflow_of v) ≡ exceeds_a_limit (payload_size_of v, value_count v)
 
-pub root_good : Exact → (which : Which) (v : Plain) (payload : List ℕ) → IsGood (shape_of (Obj which)) 0 (surroundings_of_root which) v → repeated_fault which v ≡ None → IsWritten v payload → IsRootOf which v
+pub root_good : Exact → (which : Which) (v : Plain) (payload : List ℕ) → IsGood (shape_of (Obj which)) 0 (surroundings_of_root which) v → repeated_fault which v ≡ None → IsWritten v payload → IsValidRootValueOfTable which v
 root_good exact which v payload g once w =
-    let within : exceeds_a_limit (size_of v, value_count v) ≡ false = sym (exact v g.normal) ∙ ap is_some w.none in
+    let within : exceeds_a_limit (payload_size_of v, value_count v) ≡ false = sym (exact v g.normal) ∙ ap is_some w.none in
     let limits = or_parts _ _ within in
     record {
       normal = g.normal;
       shaped = g.shaped;
-      fits = ltb-false MOST_BYTES (size_of v) limits.0;
+      fits = ltb-false MOST_BYTES (payload_size_of v) limits.0;
       few = ltb-false MOST_VALUES (value_count v) limits.1;
       texts = g.kept;
       once = once;

@@ -3,7 +3,7 @@ use Rattle.command_core.specs.declared.values.TheConstants.{FILES, SCRIPT, TRIGG
 use Rattle.std.proofs.Common.{◌≡◌, ℕ, ◌^◌, ◌<◌, List, [], ◌∷◌, length, Option, Some, None, Result, Ok, Err, refl, ap, sym, subst, ◌∙◌, arith}
 use Rattle.std.specs.Prelude.{All}
 use Rattle.std.proofs.lemmas.List.Elements.{All-head, All-tail}
-use Rattle.base_core.specs.Listed.{IsNameBelow}
+use Rattle.base_core.specs.Listed.{IsValidNameBelowFolder}
 use Rattle.adb_view.specs.Plain.{Plain}
 use Rattle.make_index.specs.adb_schema.declared.read.TheConstants.{PACKAGE_WORD}
 use Rattle.adb_view.specs.declared.tables.Which.TheVariants.{Package}
@@ -16,11 +16,11 @@ use Rattle.command_core.specs.Files.{without_dot_slash}
 use Rattle.command_core.specs.declared.values.OptionValue.{OptionValue}
 use Rattle.make_index.specs.make_info.Information.{FieldWithValue, information_value, information, replaces_priority}
 use Rattle.make_package.specs.adb_sound.Contents.{contents_size}
-use Rattle.make_package.specs.adb_sound.Container.{container_of, packed_from_parts}
-use Rattle.make_package.specs.Making.{container_unless, made_package, or_info_bad, package_container, package_of_parts}
+use Rattle.make_package.specs.adb_sound.Container.{container_of_value_and_contents, package_with_contents_from_parts}
+use Rattle.make_package.specs.Making.{container_unless_too_large, made_package, or_info_bad, package_container, package_of_parts}
 use Rattle.make_package.specs.package_files.Package.{Script, SourceFolder, contents_of_folders, installed_size, value_of_package}
-use Rattle.make_package.specs.package_files.Sources.{AreNamesBelowFirstFolder, and_then, folders_below, values_of_letter, scripts_from, texts_of}
-use Rattle.make_package.specs.adb_sound.Root.{IsRootOf}
+use Rattle.make_package.specs.package_files.Sources.{AreNamesBelowFirstFolder, and_then, source_folders_of_first_option, values_of_letter, scripts_from_read, texts_of}
+use Rattle.make_package.specs.adb_sound.Root.{IsValidRootValueOfTable}
 use Rattle.make_index.specs.make_info.Reads.{Reads}
 use Rattle.make_core.proofs.Apart.{Tells, package_once, rises_from_pairs}
 use Rattle.make_core.proofs.InformationGood.{IsInformation, Needs, info_good, information_good, priority_good}
@@ -33,18 +33,18 @@ use Rattle.make_core.proofs.Roots.{root_good, Exact}
 -- what the layers below say of sizes
 pub record Sizes : Type 0 where
   pub installed : (i : ℕ) (folders : List SourceFolder) → installed_size folders ≡ contents_size (contents_of_folders i folders)
-  pub container : (schema : ℕ) (v : Plain) (contents : List Contents) → length (container_of schema v contents) < 2 ^ 64 → contents_size contents < 2 ^ 64
+  pub container : (schema : ℕ) (v : Plain) (contents : List Contents) → length (container_of_value_and_contents schema v contents) < 2 ^ 64 → contents_size contents < 2 ^ 64
 
 -- ---- of its parts
 
 -- what holds of the value, of the contents and of the container of each good package
 module _ (P : Plain → List Contents → List ℕ → Type 0) where
   abbrev pub Holds : Type 0
-  Holds = (v : Plain) (contents : List Contents) → IsRootOf Package v → AreContentsOf (expected_files_of_package v) contents → length (container_of PACKAGE_WORD v contents) < 2 ^ 64 → P v contents (container_of PACKAGE_WORD v contents)
+  Holds = (v : Plain) (contents : List Contents) → IsValidRootValueOfTable Package v → AreContentsOf (expected_files_of_package v) contents → length (container_of_value_and_contents PACKAGE_WORD v contents) < 2 ^ 64 → P v contents (container_of_value_and_contents PACKAGE_WORD v contents)
 
   value_holds : Holds → Sizes → Exact → Needs → Tells → (items : List FieldWithValue) (sources : List SourceFolder) (scripts : List Script) (triggers : List (List ℕ)) → IsInformation items → AreSources sources
       → (v : Plain) → v ≡ value_of_package (information_value items (installed_size sources)) sources scripts triggers (replaces_priority items)
-      → overflow_of v ≡ None → length (container_of PACKAGE_WORD v (contents_of_folders 1 sources)) < 2 ^ 64 → P v (contents_of_folders 1 sources) (container_of PACKAGE_WORD v (contents_of_folders 1 sources))
+      → overflow_of v ≡ None → length (container_of_value_and_contents PACKAGE_WORD v (contents_of_folders 1 sources)) < 2 ^ 64 → P v (contents_of_folders 1 sources) (container_of_value_and_contents PACKAGE_WORD v (contents_of_folders 1 sources))
   value_holds holds sizes exact needs tells items sources scripts triggers about are v is fits short =
       let contents : List Contents = contents_of_folders 1 sources in
       let bound = sizes.container PACKAGE_WORD v contents short in
@@ -56,14 +56,14 @@ module _ (P : Plain → List Contents → List ℕ → Type 0) where
       let once = package_once info sources scripts triggers priority tells are.apart are.files_apart in
       let made : Plain = value_of_package info sources scripts triggers priority in
       let root = root_good exact Package made (canonical made) good once (record { none = ap overflow_of (sym is) ∙ fits; is = refl }) in
-      let whole = holds made contents root (package_contents info sources scripts triggers priority) (subst (λ (u : Plain). length (container_of PACKAGE_WORD u contents) < 2 ^ 64) is short) in
-      subst (λ (u : Plain). P u contents (container_of PACKAGE_WORD u contents)) (sym is) whole
+      let whole = holds made contents root (package_contents info sources scripts triggers priority) (subst (λ (u : Plain). length (container_of_value_and_contents PACKAGE_WORD u contents) < 2 ^ 64) is short) in
+      subst (λ (u : Plain). P u contents (container_of_value_and_contents PACKAGE_WORD u contents)) (sym is) whole
 
   file_holds : (v : Plain) (contents : List Contents) (o : Option PayloadCounts) (bytes : List ℕ) → overflow_of v ≡ o → length bytes < 2 ^ 64
-      → (overflow_of v ≡ None → length (container_of PACKAGE_WORD v contents) < 2 ^ 64 → P v contents (container_of PACKAGE_WORD v contents)) → container_unless o v contents ≡ Ok bytes → P v contents bytes
+      → (overflow_of v ≡ None → length (container_of_value_and_contents PACKAGE_WORD v contents) < 2 ^ 64 → P v contents (container_of_value_and_contents PACKAGE_WORD v contents)) → container_unless_too_large o v contents ≡ Ok bytes → P v contents bytes
   file_holds v contents (Some counts) bytes is short holds e = absurd (cc (e))
   file_holds v contents None bytes is short holds e =
-      let same : container_of PACKAGE_WORD v contents ≡ bytes = cc (e) in
+      let same : container_of_value_and_contents PACKAGE_WORD v contents ≡ bytes = cc (e) in
       subst (P v contents) same (holds is (subst (λ (b : List ℕ). length b < 2 ^ 64) (sym same) short))
 
   package_holds : Holds → Sizes → Exact → Needs → Tells → (command : CommandLine) (scripts : List Script) (items : List FieldWithValue) (sources : List SourceFolder) (bytes : List ℕ) → IsInformation items → AreSources sources
@@ -77,13 +77,13 @@ module _ (P : Plain → List Contents → List ℕ → Type 0) where
 
 -- ---- of a command
 
-pub are_listed : (folder : List ℕ) (names : List (List ℕ)) → All (IsNameBelow folder) names → AreListed folder names
+pub are_listed : (folder : List ℕ) (names : List (List ℕ)) → All (IsValidNameBelowFolder folder) names → AreListed folder names
 are_listed folder [] all = tt
 are_listed folder (name ∷ names) all =
-    let first = All-head (IsNameBelow folder) name names all in
-    ((first.below.0, first.below.1, first.named), are_listed folder names (All-tail (IsNameBelow folder) name names all))
+    let first = All-head (IsValidNameBelowFolder folder) name names all in
+    ((first.below.0, first.below.1, first.named), are_listed folder names (All-tail (IsValidNameBelowFolder folder) name names all))
 
-sources_are : (read : Reads) (n : ℕ) (values : List OptionValue) (names : List (List ℕ)) (sources : List SourceFolder) → AreNamesBelowFirstFolder values names → folders_below read n values names ≡ Ok sources → AreSources sources
+sources_are : (read : Reads) (n : ℕ) (values : List OptionValue) (names : List (List ℕ)) (sources : List SourceFolder) → AreNamesBelowFirstFolder values names → source_folders_of_first_option read n values names ≡ Ok sources → AreSources sources
 sources_are read n [] names sources below e =
     let same : [] ≡ sources = cc (e) in
     subst AreSources same (record { named = tt; apart = tt; files_apart = tt })
@@ -99,21 +99,21 @@ pub record IsMadeOf (P : Plain → List Contents → List ℕ → Type 0) (comma
   pub scripts : List Script
   pub items : List FieldWithValue
   pub sources : List SourceFolder
-  pub scripts_read : scripts_from read 0 (values_of_letter SCRIPT command.values) ≡ Ok scripts
+  pub scripts_read : scripts_from_read read 0 (values_of_letter SCRIPT command.values) ≡ Ok scripts
   pub items_read : or_info_bad (information command) ≡ Ok items
-  pub sources_read : folders_below read (length scripts) (values_of_letter FILES command.values) names ≡ Ok sources
+  pub sources_read : source_folders_of_first_option read (length scripts) (values_of_letter FILES command.values) names ≡ Ok sources
   pub holds : P (value_of_package (information_value items (installed_size sources)) sources scripts (texts_of (values_of_letter TRIGGER command.values)) (replaces_priority items)) (contents_of_folders 1 sources) bytes
 
 pub made_of : (P : Plain → List Contents → List ℕ → Type 0) → Holds P → Sizes → Exact → Needs → Tells → (command : CommandLine) (names : List (List ℕ)) (read : Reads) (bytes : List ℕ) → AreNamesBelowFirstFolder (values_of_letter FILES command.values) names
     → made_package command names read ≡ Ok bytes → length bytes < 2 ^ 64 → IsMadeOf P command names read bytes
 unfolding made_package
 made_of P holds sizes exact needs tells command names read bytes below e short =
-    let one = after_ok (scripts_from read 0 (values_of_letter SCRIPT command.values)) (λ scripts.
+    let one = after_ok (scripts_from_read read 0 (values_of_letter SCRIPT command.values)) (λ scripts.
     and_then (or_info_bad (information command)) (λ about.
-    and_then (folders_below read (length scripts) (values_of_letter FILES command.values) names) (package_of_parts command scripts about))) bytes e in
+    and_then (source_folders_of_first_option read (length scripts) (values_of_letter FILES command.values) names) (package_of_parts command scripts about))) bytes e in
     let two = after_ok (or_info_bad (information command)) (λ about.
-    and_then (folders_below read (length one.x) (values_of_letter FILES command.values) names) (package_of_parts command one.x about)) bytes one.gives in
-    let three = after_ok (folders_below read (length one.x) (values_of_letter FILES command.values) names) (package_of_parts command one.x two.x) bytes two.gives in
+    and_then (source_folders_of_first_option read (length one.x) (values_of_letter FILES command.values) names) (package_of_parts command one.x about)) bytes one.gives in
+    let three = after_ok (source_folders_of_first_option read (length one.x) (values_of_letter FILES command.values) names) (package_of_parts command one.x two.x) bytes two.gives in
     record {
       scripts = one.x;
       items = two.x;
@@ -138,7 +138,7 @@ made_sound holds sizes exact needs tells command names read bytes below e short 
 
 -- its parts are read back, and so are those of one that is made
 abbrev pub IsReadBack : Plain → List Contents → List ℕ → Type 0
-IsReadBack v contents bytes = package_with_contents bytes ≡ packed_from_parts v contents
+IsReadBack v contents bytes = package_with_contents bytes ≡ package_with_contents_from_parts v contents
 
 pub made_back : Holds IsReadBack → Sizes → Exact → Needs → Tells → (command : CommandLine) (names : List (List ℕ)) (read : Reads) (bytes : List ℕ) → AreNamesBelowFirstFolder (values_of_letter FILES command.values) names
     → made_package command names read ≡ Ok bytes → length bytes < 2 ^ 64 → packed_package command names read ≡ Ok (package_with_contents bytes)
@@ -146,8 +146,8 @@ made_back holds sizes exact needs tells command names read bytes below e short =
     let made = made_of IsReadBack holds sizes exact needs tells command names read bytes below e short in
     ap (λ r. and_then r (λ scripts.
     and_then (or_info_bad (information command)) (λ about.
-    and_then (folders_below read (length scripts) (values_of_letter FILES command.values) names) (packed_of_parts command scripts about)))) made.scripts_read
+    and_then (source_folders_of_first_option read (length scripts) (values_of_letter FILES command.values) names) (packed_of_parts command scripts about)))) made.scripts_read
     ∙ ap (λ r. and_then r (λ about.
-    and_then (folders_below read (length made.scripts) (values_of_letter FILES command.values) names) (packed_of_parts command made.scripts about))) made.items_read
+    and_then (source_folders_of_first_option read (length made.scripts) (values_of_letter FILES command.values) names) (packed_of_parts command made.scripts about))) made.items_read
     ∙ ap (λ r. and_then r (packed_of_parts command made.scripts made.items)) made.sources_read
     ∙ ap Ok (sym made.holds)

@@ -17,14 +17,20 @@ path_joined_to_folder dir path = dir ++ 47 ∷ path
 
 -- a file of a package, in a folder of the package, is what the bytes under its path in the tree are
 pub record IsFileBelow (files : Files) (dir folder : List ℕ) (file : Plain) : Type 0 where
+  -- the bytes of the file in the tree
   pub bytes : List ℕ
+  -- the tree has these bytes under the path of the file below `dir`
   pub located : files (path_joined_to_folder dir (path_of folder (name_of file))) ≡ Some bytes
+  -- the file of the package is the value made of its name and these bytes
   pub is : file ≡ value_of_file (record { name = name_of file; bytes = bytes })
 
 -- the paths in a package are exactly those of some names below a folder of the tree, each once, and
 -- each of its files is the one under its name
-pub record HasFilesBelow (files : Files) (dir : List ℕ) (names : List (List ℕ)) (pkg : Plain) :
+pub record HasJustNamedFilesBelowFolder (files : Files) (dir : List ℕ) (names : List (List ℕ))
+    (pkg : Plain) :
     Type 0 where
+  -- the names, relative to the folder `dir`, are the paths of the package, in any order
   pub paths : IsPermutation (map (path_relative_to dir) names) (paths_of_package_files pkg)
+  -- each file of each folder is made of the bytes under its path
   pub each : All (λ folder. All (IsFileBelow files dir (name_of folder)) (files_in folder))
       (folders_in pkg)

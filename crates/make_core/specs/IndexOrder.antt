@@ -30,9 +30,13 @@ AreSoundPackages read n (o ∷ operands) (file ∷ files) =
 -- an index has the entries of exactly the packages that operands name, in order (*entry_cmp*); the
 -- order of two equal ones is not defined here. `files` are the operands' files, in their order; reads
 -- are numbered from 0
-pub record HasPackagesInOrder (read : Reads) (operands : List Operand) (index : Plain) :
+pub record HasSortedEntriesOfOperands (read : Reads) (operands : List Operand) (index : Plain) :
     Type 0 where
+  -- the bytes of the operands' files
   pub files : List (List ℕ)
+  -- each read of an operand gives its file, which is a sound package
   pub sound : AreSoundPackages read 0 operands files
+  -- the entries of the index are those of these packages, in some order
   pub same : IsPermutation (map entry_of_package files) (packages_in index)
+  -- the entries are in the order of their names, versions and ids
   pub sorted : IsSorted entry_cmp (packages_in index)

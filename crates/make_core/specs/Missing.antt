@@ -13,19 +13,32 @@ abbrev pub IsAbsent : Reads → List ℕ → Type 0
 IsAbsent read name = (n : ℕ) × (read n name ≡ None)
 
 -- the place is that of a script's option whose file is absent
-pub record IsMissingScript (read : Reads) (scripts : List OptionValue) (place : ℕ) : Type 0 where
+pub record IsPlaceOfScriptOptionWithoutFile (read : Reads) (scripts : List OptionValue)
+    (place : ℕ) : Type 0 where
+  -- the option that names the script's file
   pub script : OptionValue
+  -- it is one of the given options
   pub given : Contains scripts script
+  -- it is at this place of the command line
   pub at : script.place ≡ place
+  -- a read of the script's file finds nothing
   pub absent : IsAbsent read (without_dot_slash (script_file script.text))
 
 -- the place is that of `-F`, and one of the names that were listed below its folder is absent
-pub record IsMissingFile (read : Reads) (folders : List OptionValue) (names : List (List ℕ))
+pub record IsPlaceOfFolderWithMissingFile (read : Reads) (folders : List OptionValue)
+    (names : List (List ℕ))
     (place : ℕ) : Type 0 where
+  -- the first option that names a folder
   pub folder : OptionValue
+  -- the other options that name a folder
   pub others : List OptionValue
+  -- all options that name a folder, in their order
   pub given : folders ≡ folder ∷ others
+  -- the first is at this place of the command line
   pub at : folder.place ≡ place
+  -- the name of the absent file
   pub name : List ℕ
+  -- it is one of the listed names
   pub listed : Contains names name
+  -- a read of it finds nothing
   pub absent : IsAbsent read name

@@ -4,7 +4,7 @@
 -- `a_made_package_is_read_back` and `a_made_index_is_read_back`.
 use Rattle.command_core.specs.declared.values.TheConstants.{FILES, SCRIPT, TRIGGER}
 use Rattle.std.specs.Prelude.{ℕ, List, length, Result, Ok, Err}
-use Rattle.make_package.specs.adb_sound.Container.{packed_from_parts}
+use Rattle.make_package.specs.adb_sound.Container.{package_with_contents_from_parts}
 use Rattle.adb_view.specs.Plain.{Plain}
 use Rattle.command_core.specs.Command.{CommandLine}
 use Rattle.make_index.specs.EntryOrder.{entry_cmp}
@@ -15,7 +15,7 @@ use Rattle.make_index.specs.make_info.Reads.{Reads}
 use Rattle.make_index.specs.make_info.declared.fault.MakeFault.{MakeFault}
 use Rattle.make_package.specs.Making.{or_info_bad}
 use Rattle.make_package.specs.package_files.Package.{Script, SourceFolder, contents_of_folders, installed_size, value_of_package}
-use Rattle.make_package.specs.package_files.Sources.{folders_below, and_then, scripts_from, texts_of, values_of_letter}
+use Rattle.make_package.specs.package_files.Sources.{source_folders_of_first_option, and_then, scripts_from_read, texts_of, values_of_letter}
 use Rattle.make_index.specs.pkg_core.Whole.{PackageWithContents}
 
 -- the value and the contents of a package, given what was read of each part, in the order in which the
@@ -24,7 +24,7 @@ abbrev pub packed_of_parts :
     CommandLine → List Script → List FieldWithValue → List SourceFolder
     → Result PackageWithContents MakeFault
 packed_of_parts command scripts about folders =
-    Ok (packed_from_parts
+    Ok (package_with_contents_from_parts
     (value_of_package (information_value about (installed_size folders)) folders scripts
     (texts_of (values_of_letter TRIGGER command.values)) (replaces_priority about))
     (contents_of_folders 1 folders))
@@ -32,9 +32,10 @@ packed_of_parts command scripts about folders =
 -- the value and the contents of the package that a command describes
 abbrev pub packed_package : CommandLine → List (List ℕ) → Reads → Result PackageWithContents MakeFault
 packed_package command names read =
-    and_then (scripts_from read 0 (values_of_letter SCRIPT command.values)) (λ scripts.
+    and_then (scripts_from_read read 0 (values_of_letter SCRIPT command.values)) (λ scripts.
     and_then (or_info_bad (information command)) (λ about.
-    and_then (folders_below read (length scripts) (values_of_letter FILES command.values) names)
+    and_then (source_folders_of_first_option read (length scripts)
+    (values_of_letter FILES command.values) names)
     (packed_of_parts command scripts about)))
 
 -- the value of an index with these entries, sorted; or the fault of the first operand without one

@@ -3,7 +3,7 @@
 //! their order; that the result is sound, in `docs/DECISIONS.md`, "Making".
 ghost use Rattle.base_core.specs.Calls.{IfObservable};
 ghost use Rattle.base_core.specs.Read.{OnlyReads};
-ghost use Rattle.make_index.specs.Files.{FindOnlyFiles, reads_of};
+ghost use Rattle.make_index.specs.Files.{AreOperandReadsFileBytes, reads_of};
 ghost use Rattle.make_index.specs.Index.{made_index};
 ghost use Rattle.make_index.specs.Kept.{AgreesUnlessMemoryOrDisk};
 ghost use Rattle.make_index.specs.make_info.Reads.{Reads};
@@ -27,14 +27,17 @@ use std::alloc::Global;
 /// `TooLarge` if the package's values exceed a limit of the writer. `Disk` if the tree failed, and
 /// `Memory`.
 pub fn mkpkg<T: Tree>(alloc: Global, command: &Command, tree: &mut T) -> Result<Vec<u8>, MakeFault>
+    // The command is `mkpkg`.
     requires { command.now.applet ≡ Applet.Mkpkg }
     // If the tree's files are observable: the package is theirs, or the refusal.
     ensures ok { IfOk result (λ file. IfObservable (T.history tree.old) (λ v.
         IsMadeFromTree command.now v (Ok file.items))) }
+    // If the tree is observable, an error other than I/O or memory is that of its files.
     ensures err { IfErr result (λ fault. UnlessDiskOrMemory fault (λ made.
         IfObservable (T.history tree.old) (λ v. IsMadeFromTree command.now v made))) }
-    // Over every tree: by some names below the folder and some reads.
+    // Over any tree, the package is made from some names below the folder and some reads.
     ensures found { IfOk result (λ file. IsMadeBySomeReads command.now (Ok file.items)) }
+    // Over any tree, an error other than I/O or memory is that of some reads.
     ensures found_err { IfErr result (λ fault. UnlessDiskOrMemory fault
         (IsMadeBySomeReads command.now)) }
     // What is made passes all tests of a container.
@@ -57,13 +60,15 @@ pub fn mkpkg<T: Tree>(alloc: Global, command: &Command, tree: &mut T) -> Result<
 /// Operand by operand, `FileMissing` or `FileBad` at the operand's place; then `TooLarge` if the
 /// index exceeds a limit of the writer. `Disk` if the tree failed, and `Memory`.
 pub fn mkndx<T: Tree>(alloc: Global, command: &Command, tree: &mut T) -> Result<Vec<u8>, MakeFault>
+    // The command is `mkndx`.
     requires { command.now.applet ≡ Applet.Mkndx }
-    // If the tree's files are observable.
+    // If the tree is observable, the index is made from its files.
     ensures made { IfObservable (T.history tree.old) (λ v.
         AgreesUnlessMemoryOrDisk (λ file. file.items) result (made_index command.now
         (reads_of v))) }
-    // Over every tree: by some bytes for each read. The first operand's read has the number 0.
-    ensures found { (read : Reads) × FindOnlyFiles read 0 command.now.operands
+    // Over any tree, the index is made from some bytes for each read. The first operand's read has
+    // the number 0.
+    ensures found { (read : Reads) × AreOperandReadsFileBytes read 0 command.now.operands
         × AgreesUnlessMemoryOrDisk (λ file. file.items) result (made_index command.now read) }
     // What is made passes all tests of a container.
     ensures sound { IfOk result (λ file. container_fault file.items ≡ None) }

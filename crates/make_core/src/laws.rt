@@ -5,7 +5,7 @@
 ghost use Rattle.make_index.specs.adb_schema.Soundness.{payload_in, root_value};
 ghost use Rattle.adb_view.specs.declared.tables.Which.TheVariants.{Index, Package};
 ghost use Rattle.command_core.specs.declared.values.TheConstants.{FILES, SCRIPT};
-ghost use Rattle.make_index.specs.Files.{FindOnlyFiles};
+ghost use Rattle.make_index.specs.Files.{AreOperandReadsFileBytes};
 ghost use Rattle.make_index.specs.Index.{made_index};
 ghost use Rattle.make_index.specs.make_info.Reads.{Reads};
 ghost use Rattle.make_package.specs.Making.{made_package};
@@ -14,13 +14,13 @@ ghost use Rattle.make_core.specs.ReadBack.{index_value_of_command, packed_packag
 ghost use Rattle.make_index.specs.pkg_core.Whole.{container_fault, package_with_contents};
 ghost use Rattle.std.specs.Prelude.{◌≡◌, ◌<◌, ◌^◌, ◌∷◌, ◌⊎◌, ℕ, List, length, None, Ok, Err};
 ghost use Rattle.base_core.specs.Files.{Files};
-ghost use Rattle.base_core.specs.Listed.{AreNamesBelow};
+ghost use Rattle.base_core.specs.Listed.{AreSortedNamesBelowFolder};
 ghost use Rattle.command_core.specs.Command.{CommandLine};
 ghost use Rattle.command_core.specs.Files.{without_dot_slash};
 ghost use Rattle.command_core.specs.declared.values.OptionValue.{OptionValue};
-ghost use Rattle.make_core.specs.FilesBelow.{HasFilesBelow};
-ghost use Rattle.make_core.specs.IndexOrder.{HasPackagesInOrder};
-ghost use Rattle.make_core.specs.Missing.{IsMissingFile, IsMissingScript};
+ghost use Rattle.make_core.specs.FilesBelow.{HasJustNamedFilesBelowFolder};
+ghost use Rattle.make_core.specs.IndexOrder.{HasSortedEntriesOfOperands};
+ghost use Rattle.make_core.specs.Missing.{IsPlaceOfFolderWithMissingFile, IsPlaceOfScriptOptionWithoutFile};
 ghost use Rattle.make_index.specs.make_info.declared.fault.MakeFault.TheVariants.{FileMissing};
 
 use adb_view::{values_are_normal, values_have_their_shape, values_of_few_visits_have_no_fault};
@@ -39,7 +39,7 @@ use make_package::{
 /// than 2^64 each.
 pub fn a_made_index_is_sound()
     ensures { (command : CommandLine) (read : Reads) (bytes : List ℕ)
-        → FindOnlyFiles read 0 command.operands → made_index command read ≡ Ok bytes
+        → AreOperandReadsFileBytes read 0 command.operands → made_index command read ≡ Ok bytes
         → container_fault bytes ≡ None }
 {
     a_container_of_a_good_value_is_sound();
@@ -70,7 +70,7 @@ pub fn a_made_package_is_sound()
 /// of the packages that are named, in order.
 pub fn a_made_index_is_read_back()
     ensures { (command : CommandLine) (read : Reads) (bytes : List ℕ)
-        → FindOnlyFiles read 0 command.operands → made_index command read ≡ Ok bytes
+        → AreOperandReadsFileBytes read 0 command.operands → made_index command read ≡ Ok bytes
         → index_value_of_command command read ≡ Ok (root_value Index (payload_in bytes)) }
 {
     what_a_container_is_made_of_is_read_back();
@@ -101,8 +101,8 @@ pub fn a_made_package_is_read_back()
 /// order; each package passes all its tests.
 pub fn a_made_index_has_its_packages_in_order()
     ensures { (command : CommandLine) (read : Reads) (bytes : List ℕ)
-        → FindOnlyFiles read 0 command.operands → made_index command read ≡ Ok bytes
-        → HasPackagesInOrder read command.operands (root_value Index (payload_in bytes)) }
+        → AreOperandReadsFileBytes read 0 command.operands → made_index command read ≡ Ok bytes
+        → HasSortedEntriesOfOperands read command.operands (root_value Index (payload_in bytes)) }
 {
     an_index_is_in_order();
     what_a_container_is_made_of_is_read_back();
@@ -118,9 +118,9 @@ pub fn a_made_package_has_the_files_below_its_folder()
     ensures { (command : CommandLine) (names : List (List ℕ)) (files : Files) (bytes : List ℕ)
         (folder : OptionValue) (others : List OptionValue)
         → values_of_letter FILES command.values ≡ folder ∷ others
-        → AreNamesBelow (without_dot_slash folder.text) names
+        → AreSortedNamesBelowFolder (without_dot_slash folder.text) names
         → made_package command names (λ n name. files name) ≡ Ok bytes → length bytes < 2 ^ 64
-        → HasFilesBelow files (without_dot_slash folder.text) names
+        → HasJustNamedFilesBelowFolder files (without_dot_slash folder.text) names
         (root_value Package (payload_in bytes)) }
 {
     each_name_is_in_one_folder();
@@ -138,6 +138,6 @@ pub fn a_made_package_has_the_files_below_its_folder()
 pub fn a_missing_file_is_reported_at_its_option()
     ensures { (command : CommandLine) (names : List (List ℕ)) (read : Reads) (place : ℕ)
         → made_package command names read ≡ Err (FileMissing place)
-        → IsMissingScript read (values_of_letter SCRIPT command.values) place
-        ⊎ IsMissingFile read (values_of_letter FILES command.values) names place }
+        → IsPlaceOfScriptOptionWithoutFile read (values_of_letter SCRIPT command.values) place
+        ⊎ IsPlaceOfFolderWithMissingFile read (values_of_letter FILES command.values) names place }
 {}

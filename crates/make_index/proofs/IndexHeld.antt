@@ -5,10 +5,10 @@ use Rattle.std.proofs.lemmas.Bool.{ltb-false, le-ltb}
 use Rattle.base_core.specs.declared.cause.Cause.TheVariants.{Truncated}
 use Rattle.std.specs.Int.{w32, to_le_bytes}
 use Rattle.adb_view.specs.Head.{payload_head_fault, root_word_of_payload}
-use Rattle.adb_view.specs.Plain.{Plain, null, int, blob, arr, obj, Plains, none, more, Shape, plain_of, value_of, IsNormal, AreNormal}
+use Rattle.adb_view.specs.Plain.{Plain, null, int, blob, arr, obj, Plains, none, more, Shape, plain_of, root_value_with_shape, IsNormal, AreNormal}
 use Rattle.adb_view.specs.Shaped.{HasShape}
 use Rattle.adb_copy.specs.adb_write.Canonical.{Layout, write, empty_layout, payload_with_root, canonical, exceeds_a_limit, overflow_of, or_overflow, payload_or_overflow, PayloadCounts, MOST_BYTES}
-use Rattle.adb_copy.specs.adb_write.Size.{size_of, value_count}
+use Rattle.adb_copy.specs.adb_write.Size.{payload_size_of, value_count}
 use Rattle.adb_view.specs.Schema.{shape_of}
 use Rattle.adb_view.specs.Values.{is_sound, value_at, nth, entry_in, text_in}
 use Rattle.pkg_core.specs.adb_schema.SoundValues.{IsSoundPackage}
@@ -52,8 +52,8 @@ written_is v p h = go (overflow_of v) refl
     go None e = (ap (ok_in []) (sym h ∙ ap (or_overflow (canonical v)) e), e)
     go (Some c) e = absurd (err_ok c p (sym (ap (or_overflow (canonical v)) e) ∙ h))
 
-within : (v : Plain) → (is_some (overflow_of v) ≡ exceeds_a_limit (size_of v, value_count v)) → overflow_of v ≡ None → size_of v ≤ MOST_BYTES
-within v law e = ltb-false MOST_BYTES (size_of v) (neither_first (nat_lt MOST_BYTES (size_of v)) _ (sym law ∙ ap is_some e))
+within : (v : Plain) → (is_some (overflow_of v) ≡ exceeds_a_limit (payload_size_of v, value_count v)) → overflow_of v ≡ None → payload_size_of v ≤ MOST_BYTES
+within v law e = ltb-false MOST_BYTES (payload_size_of v) (neither_first (nat_lt MOST_BYTES (payload_size_of v)) _ (sym law ∙ ap is_some e))
 
 -- ---- it is read back
 
@@ -72,8 +72,8 @@ unfolding value_at
 value_of_plain p k w v h = ap (λ o. unwrap_or o null) h
 
 module _
-    (read_back : (shape : Shape) (v : Plain) → IsNormal v → HasShape shape v → size_of v ≤ MOST_BYTES → value_of (canonical v) shape ≡ Some v)
-    (overflows : (v : Plain) → IsNormal v → is_some (overflow_of v) ≡ exceeds_a_limit (size_of v, value_count v))
+    (read_back : (shape : Shape) (v : Plain) → IsNormal v → HasShape shape v → payload_size_of v ≤ MOST_BYTES → root_value_with_shape (canonical v) shape ≡ Some v)
+    (overflows : (v : Plain) → IsNormal v → is_some (overflow_of v) ≡ exceeds_a_limit (payload_size_of v, value_count v))
     (normal : (payload : List ℕ) → All (λ b. b < 256) payload → (shape : Shape) (word : ℕ) → IfSome (plain_of payload shape word) IsNormal) where
   value_normal : (p : List ℕ) (k : Kind) (w : ℕ) → All (λ b. b < 256) p → IsNormal (value_at p k w)
   unfolding value_at IsNormal
@@ -102,7 +102,7 @@ module _
       let e : Plain = info_with_id_and_size info id len in
       let n : IsNormal e = entry_normal info id len good small in
       let is : p ≡ canonical e = (written_is e p made).0 in
-      let back : value_of (canonical e) (shape_of (Kinds.Obj Tables.PkgInfo)) ≡ Some e = read_back (shape_of (Kinds.Obj Tables.PkgInfo)) e n (entry_shape info id len shaped) (within e (overflows e n) (written_is e p made).1) in
+      let back : root_value_with_shape (canonical e) (shape_of (Kinds.Obj Tables.PkgInfo)) ≡ Some e = read_back (shape_of (Kinds.Obj Tables.PkgInfo)) e n (entry_shape info id len shaped) (within e (overflows e n) (written_is e p made).1) in
       subst (λ q. HoldsEntry q e) (sym is) (record {
         head = ap is_none (head_good (write e empty_layout).0 (write e empty_layout).1);
         sound = sound_of (canonical e) (Kinds.Obj Tables.PkgInfo) (root_word_of_payload (canonical e)) e back;
@@ -144,8 +144,8 @@ pub bytes_all : (xs : List ℕ) → ((i : ℕ) → get_or xs i 0 < 256) → All 
 bytes_all xs h k d l = subst (λ n. n < 256) (get_or_default xs k 0 d l) (h k)
 
 pub holds_found : FoundShapes →
-    ((shape : Shape) (v : Plain) → IsNormal v → HasShape shape v → size_of v ≤ MOST_BYTES → value_of (canonical v) shape ≡ Some v)
-    → ((v : Plain) → IsNormal v → is_some (overflow_of v) ≡ exceeds_a_limit (size_of v, value_count v))
+    ((shape : Shape) (v : Plain) → IsNormal v → HasShape shape v → payload_size_of v ≤ MOST_BYTES → root_value_with_shape (canonical v) shape ≡ Some v)
+    → ((v : Plain) → IsNormal v → is_some (overflow_of v) ≡ exceeds_a_limit (payload_size_of v, value_count v))
     → ((payload : List ℕ) → All (λ b. b < 256) payload → (shape : Shape) (word : ℕ) → IfSome (plain_of payload shape word) IsNormal)
     → (file : List ℕ) (value : Plain) (payload : List ℕ) → value ≡ root_value Tables.Package (payload_in file) → payload ≡ payload_in file → All (λ b. b < 256) file → length file < 2 ^ 64
     → (found : Option (Vec ℕ Global)) → IfSome found (λ own. payload_or_overflow (info_with_id_and_size (entry_in value 0) (sha256 payload) (length file)) ≡ Ok own.items) → IfSome found (λ own. HoldsEntry own.items (entry_of_package file))

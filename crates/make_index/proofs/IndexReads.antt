@@ -11,9 +11,9 @@ use Rattle.std.specs.Option.{option_map}
 use Rattle.command_core.specs.Named.{operand_file}
 use Rattle.command_core.specs.Files.{without_dot_slash}
 use Rattle.command_core.specs.declared.operands.Operand.{Operand}
-use Rattle.make_index.specs.Index.{and_entries, found_entries, found_entry}
+use Rattle.make_index.specs.Index.{entry_before_others_or_fault, found_entries, found_entry}
 use Rattle.make_index.specs.Kept.{AgreesUnlessMemory, AgreesUnlessMemoryOrDisk}
-use Rattle.make_index.specs.Files.{reads_of, FindOnlyFiles}
+use Rattle.make_index.specs.Files.{reads_of, AreOperandReadsFileBytes}
 use Rattle.base_core.specs.Files.{AreFileBytes}
 use Rattle.make_info.specs.declared.fault.MakeFault.{MakeFault}
 use Rattle.make_info.specs.declared.fault.MakeFault.TheVariants.{FileMissing, FileBad, InfoBad, TooLarge, Disk, Memory}
@@ -61,7 +61,7 @@ front_none : (r : Result (List Plain) MakeFault) → r ≡ in_front [] r
 front_none (Ok es) = refl
 front_none (Err fault) = refl
 
-front_more : (es : List Plain) (e : Plain) (r : Result (List Plain) MakeFault) → in_front es (and_entries (Ok e) r) ≡ in_front (es ++ e ∷ []) r
+front_more : (es : List Plain) (e : Plain) (r : Result (List Plain) MakeFault) → in_front es (entry_before_others_or_fault (Ok e) r) ≡ in_front (es ++ e ∷ []) r
 front_more es e (Ok others) = ap Ok (sym (append_assoc es (e ∷ []) others))
 front_more es e (Err fault) = refl
 
@@ -71,12 +71,12 @@ IsSoFar read os i es = found_entries read 0 os ≡ in_front es (found_entries re
 pub so_far_none : (read : ℕ → List ℕ → Option (List ℕ)) (os : List Operand) → IsSoFar read os 0 []
 so_far_none read os = front_none (found_entries read 0 os)
 
-here : (read : ℕ → List ℕ → Option (List ℕ)) (os : List Operand) (i : ℕ) (o : Operand) (es : List Plain) → slice_get os i ≡ Some o → IsSoFar read os i es → found_entries read 0 os ≡ in_front es (and_entries (found_entry o.place (read i (without_dot_slash o.text))) (found_entries read (i + 1) (drop (i + 1) os)))
+here : (read : ℕ → List ℕ → Option (List ℕ)) (os : List Operand) (i : ℕ) (o : Operand) (es : List Plain) → slice_get os i ≡ Some o → IsSoFar read os i es → found_entries read 0 os ≡ in_front es (entry_before_others_or_fault (found_entry o.place (read i (without_dot_slash o.text))) (found_entries read (i + 1) (drop (i + 1) os)))
 here read os i o es at so = so ∙ ap (λ (l : List Operand). in_front es (found_entries read i l)) (left_at os i o at)
 
 pub so_far_more : (read : ℕ → List ℕ → Option (List ℕ)) (os : List Operand) (i : ℕ) (o : Operand) (es new : List Plain) (e : Plain) → slice_get os i ≡ Some o → IsSoFar read os i es → found_entry o.place (read i (without_dot_slash o.text)) ≡ Ok e → new ≡ es ++ e ∷ [] → IsSoFar read os (i + 1) new
 so_far_more read os i o es new e at so one is =
-    here read os i o es at so ∙ (ap (λ (r : Result Plain MakeFault). in_front es (and_entries r (found_entries read (i + 1) (drop (i + 1) os)))) one
+    here read os i o es at so ∙ (ap (λ (r : Result Plain MakeFault). in_front es (entry_before_others_or_fault r (found_entries read (i + 1) (drop (i + 1) os)))) one
     ∙ (front_more es e (found_entries read (i + 1) (drop (i + 1) os)) ∙ ap (λ (l : List Plain). in_front l (found_entries read (i + 1) (drop (i + 1) os))) (sym is)))
 
 pub so_far_all : (read : ℕ → List ℕ → Option (List ℕ)) (os : List Operand) (i : ℕ) (es : List Plain) → length os ≤ i → IsSoFar read os i es → found_entries read 0 os ≡ Ok es
@@ -87,7 +87,7 @@ pub so_far_err : {A : Type 0} (view : A → List Plain) (read : ℕ → List ℕ
 so_far_err view read os i o es fault r at so one made e = subst (λ x. AgreesUnlessMemoryOrDisk view x (found_entries read 0 os)) (sym e) (go fault made)
   where
     told : (f : MakeFault) → found_entry o.place (read i (without_dot_slash o.text)) ≡ Err f → found_entries read 0 os ≡ Err f
-    told f t = here read os i o es at so ∙ ap (λ (x : Result Plain MakeFault). in_front es (and_entries x (found_entries read (i + 1) (drop (i + 1) os)))) t
+    told f t = here read os i o es at so ∙ ap (λ (x : Result Plain MakeFault). in_front es (entry_before_others_or_fault x (found_entries read (i + 1) (drop (i + 1) os)))) t
 
     go : (f : MakeFault) → AgreesUnlessMemoryOrDisk one (Err f) (found_entry o.place (read i (without_dot_slash o.text))) → AgreesUnlessMemoryOrDisk view (Err f) (found_entries read 0 os)
     go (FileMissing p) h = told (FileMissing p) h
@@ -127,7 +127,7 @@ with_files found i f one files k q =
       | false ↦ files k q
     ]
 
-files_all : (read : ℕ → List ℕ → Option (List ℕ)) → ((k : ℕ) (q : List ℕ) → IfSome (read k q) AreFileBytes) → (n : ℕ) (os : List Operand) → FindOnlyFiles read n os
+files_all : (read : ℕ → List ℕ → Option (List ℕ)) → ((k : ℕ) (q : List ℕ) → IfSome (read k q) AreFileBytes) → (n : ℕ) (os : List Operand) → AreOperandReadsFileBytes read n os
 files_all read files n [] = tt
 files_all read files n (o ∷ os) = (λ file is. subst (λ (x : Option (List ℕ)). IfSome x AreFileBytes) is (files n (without_dot_slash o.text)), files_all read files (n + 1) os)
 
@@ -142,10 +142,10 @@ read_more os i o es new e at so f file one is = record {
       is;
 }
 
-pub read_all_is : (os : List Operand) (i : ℕ) (es : List Plain) → length os ≤ i → IsReadTo os i es → (read : ℕ → List ℕ → Option (List ℕ)) × FindOnlyFiles read 0 os × (found_entries read 0 os ≡ Ok es)
+pub read_all_is : (os : List Operand) (i : ℕ) (es : List Plain) → length os ≤ i → IsReadTo os i es → (read : ℕ → List ℕ → Option (List ℕ)) × AreOperandReadsFileBytes read 0 os × (found_entries read 0 os ≡ Ok es)
 read_all_is os i es past so = (so.found, files_all so.found so.files 0 os, so_far_all so.found os i es past (so.rest so.found (λ k lt. refl)))
 
-pub read_err : {A B : Type 0} (view : A → List Plain) (one : B → Plain) (os : List Operand) (i : ℕ) (o : Operand) (es : List Plain) (fault : MakeFault) (r : Result A MakeFault) → slice_get os i ≡ Some o → IsReadTo os i es → (found : Option (List ℕ)) × IfSome found AreFileBytes × AgreesUnlessMemoryOrDisk one (Err fault) (found_entry o.place found) → r ≡ Err fault → (read : ℕ → List ℕ → Option (List ℕ)) × FindOnlyFiles read 0 os × AgreesUnlessMemoryOrDisk view r (found_entries read 0 os)
+pub read_err : {A B : Type 0} (view : A → List Plain) (one : B → Plain) (os : List Operand) (i : ℕ) (o : Operand) (es : List Plain) (fault : MakeFault) (r : Result A MakeFault) → slice_get os i ≡ Some o → IsReadTo os i es → (found : Option (List ℕ)) × IfSome found AreFileBytes × AgreesUnlessMemoryOrDisk one (Err fault) (found_entry o.place found) → r ≡ Err fault → (read : ℕ → List ℕ → Option (List ℕ)) × AreOperandReadsFileBytes read 0 os × AgreesUnlessMemoryOrDisk view r (found_entries read 0 os)
 read_err view one os i o es fault r at so made e =
     let f : Option (List ℕ) = made.0 in (
       found_with so.found i f,
@@ -155,7 +155,7 @@ read_err view one os i o es fault r at so made e =
     )
 
 -- for lack of memory nothing is said of what was found
-pub read_stopped : {A : Type 0} (view : A → List Plain) (os : List Operand) (r : Result A MakeFault) → IsErrAnd r (λ e. e ≡ Memory) → (read : ℕ → List ℕ → Option (List ℕ)) × FindOnlyFiles read 0 os × AgreesUnlessMemoryOrDisk view r (found_entries read 0 os)
+pub read_stopped : {A : Type 0} (view : A → List Plain) (os : List Operand) (r : Result A MakeFault) → IsErrAnd r (λ e. e ≡ Memory) → (read : ℕ → List ℕ → Option (List ℕ)) × AreOperandReadsFileBytes read 0 os × AgreesUnlessMemoryOrDisk view r (found_entries read 0 os)
 read_stopped view os (Ok x) e = absurd e
 read_stopped view os (Err fault) e =
     let nothing : ℕ → List ℕ → Option (List ℕ) = λ k q. None in

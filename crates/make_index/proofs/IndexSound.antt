@@ -6,7 +6,7 @@ use Rattle.base_core.specs.declared.cause.Cause.{Cause}
 use Rattle.adb_block.specs.declared.block.BlockKind.{BlockKind}
 use Rattle.adb_block.specs.Framing.{HeadFields, Step, ended, failed, block, step_by_size, step_by_order, step_by_head, step_at_end, next_step, block_head_fields, kind_of_number}
 use Rattle.adb_block.specs.Piece.{Piece, may_be_next_kind, least_payload_len, padding_of}
-use Rattle.adb_block.specs.Header.{header_of}
+use Rattle.adb_block.specs.Header.{schema_of_header}
 use Rattle.adb_block.specs.Reading.{Reading, block_stream_after_step, block_stream_from_offset, block_stream_from}
 use Rattle.pkg_core.specs.adb_schema.Soundness.{first_block_payload, payload_after_header, payload_in}
 
@@ -59,4 +59,4 @@ module _ (P : ℕ → Type 0) where
 
   pub payload_all : (file : List ℕ) → All P file → All P (payload_in file)
   unfolding payload_in
-  payload_all file h = after_all file (header_of file) h
+  payload_all file h = after_all file (schema_of_header file) h

@@ -9,11 +9,11 @@ use Rattle.make_info.specs.Reads.{Reads}
 
 -- each read of an operand finds nothing, or the bytes that a file may have; the read of the first
 -- operand has the number `n`
-abbrev pub FindOnlyFiles : Reads → ℕ → List Operand → Type 0
-FindOnlyFiles read n [] = Unit {0}
-FindOnlyFiles read n (o ∷ operands) =
+abbrev pub AreOperandReadsFileBytes : Reads → ℕ → List Operand → Type 0
+AreOperandReadsFileBytes read n [] = Unit {0}
+AreOperandReadsFileBytes read n (o ∷ operands) =
     ((file : List ℕ) → read n (without_dot_slash o.text) ≡ Some file → AreFileBytes file)
-    × FindOnlyFiles read (n + 1) operands
+    × AreOperandReadsFileBytes read (n + 1) operands
 
 -- the reads of a tree in this state: each finds what is under its name
 abbrev pub reads_of : TreeState → Reads

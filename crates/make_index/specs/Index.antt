@@ -35,28 +35,28 @@ value_of_index description entries =
 
 -- the entry of the package in a file, unless a test of the file fails (`cause`); the place is that of
 -- the operand that names the file
-abbrev pub entry_unless : ℕ → List ℕ → Option Cause → Result Plain MakeFault
-entry_unless place file None = Ok (entry_of_package file)
-entry_unless place file (Some cause) = Err (FileBad place cause)
+abbrev pub entry_unless_fault : ℕ → List ℕ → Option Cause → Result Plain MakeFault
+entry_unless_fault place file None = Ok (entry_of_package file)
+entry_unless_fault place file (Some cause) = Err (FileBad place cause)
 
 -- the entry of the package that was found under the name of the operand at a place, if it is sound
 abbrev pub found_entry : ℕ → Option (List ℕ) → Result Plain MakeFault
 found_entry place None = Err (FileMissing place)
-found_entry place (Some file) = entry_unless place file (package_fault file)
+found_entry place (Some file) = entry_unless_fault place file (package_fault file)
 
 -- an entry followed by others, or the first refusal
-abbrev pub and_entries :
+abbrev pub entry_before_others_or_fault :
     Result Plain MakeFault → Result (List Plain) MakeFault → Result (List Plain) MakeFault
-and_entries (Err fault) others = Err fault
-and_entries (Ok entry) (Err fault) = Err fault
-and_entries (Ok entry) (Ok entries) = Ok (entry ∷ entries)
+entry_before_others_or_fault (Err fault) others = Err fault
+entry_before_others_or_fault (Ok entry) (Err fault) = Err fault
+entry_before_others_or_fault (Ok entry) (Ok entries) = Ok (entry ∷ entries)
 
 -- the entries of all packages that operands name, or the first refusal; the read of the first
 -- operand has the number `n`, counted from 0
 abbrev pub found_entries : Reads → ℕ → List Operand → Result (List Plain) MakeFault
 found_entries read n [] = Ok []
 found_entries read n (o ∷ operands) =
-    and_entries (found_entry o.place (read n (without_dot_slash o.text)))
+    entry_before_others_or_fault (found_entry o.place (read n (without_dot_slash o.text)))
     (found_entries read (n + 1) operands)
 
 -- ---- the file
@@ -72,13 +72,14 @@ index_of_entries description entries =
     index_container (payload_or_overflow (value_of_index description (sorted_by entry_cmp entries)))
 
 -- the index of the entries of packages that were found, or the first fault
-abbrev pub index_of_found : List ℕ → Result (List Plain) MakeFault → Result (List ℕ) MakeFault
-index_of_found description (Ok entries) = index_of_entries description entries
-index_of_found description (Err fault) = Err fault
+abbrev pub index_of_entries_or_fault : List ℕ → Result (List Plain) MakeFault → Result (List ℕ) MakeFault
+index_of_entries_or_fault description (Ok entries) = index_of_entries description entries
+index_of_entries_or_fault description (Err fault) = Err fault
 
 -- the index of the packages that operands name, given what each read finds
 abbrev pub index_of_operands : List ℕ → List Operand → Reads → Result (List ℕ) MakeFault
-index_of_operands description operands read = index_of_found description (found_entries read 0 operands)
+index_of_operands description operands read =
+    index_of_entries_or_fault description (found_entries read 0 operands)
 
 -- ---- of a command
 

@@ -34,16 +34,23 @@ entry_of_source (File own) = entry_of_package own.file.items
 
 -- the payload can be read, and its root is this entry
 pub record HoldsEntry (payload : List ℕ) (entry : Plain) : Type 0 where
+  -- the head of the payload has no fault
   pub head : is_none (payload_head_fault payload) ≡ true
+  -- the payload's root is the sound information of a package
   pub sound : is_sound payload (Obj PkgInfo) (root_word_of_payload payload) ≡ true
+  -- the entry is the copy of this information
   pub value : copy_of_entry (root_value PkgInfo payload) ≡ entry
 
 -- the name, the version and the id, by which entries are ordered, are those of this entry; and the
 -- version is valid
 pub record IsEntryWithKeys (name version id : List ℕ) (entry : Plain) : Type 0 where
+  -- the name is the entry's
   pub by_name : name ≡ name_of_index_entry entry
+  -- the version is the entry's
   pub by_version : version ≡ version_of_index_entry entry
+  -- the id is the entry's
   pub by_id : id ≡ id_of_index_entry entry
+  -- the version is valid
   pub sound : IsTrue (is_version version)
 
 -- ---- results

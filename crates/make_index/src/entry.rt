@@ -56,6 +56,8 @@ impl Entry {
     ///
     /// `FileBad` with the cause of the first test that fails, or `Memory`.
     pub(crate) fn of(alloc: Global, place: u32, file: Vec<u8>) -> Result<Entry, MakeFault>
+        // The result is the entry of a package with these bytes, or its refusal, unless out of
+        // memory.
         ensures made { AgreesUnlessMemory entry_view result (found_entry place (Some file.items)) }
         ensures bytes { AreFileBytes file.items }
     {
@@ -100,7 +102,9 @@ impl Entry {
 
 /// The order of two texts that are versions.
 fn compare_versions(one: &[u8], other: &[u8]) -> Ordering
+    // The first version is valid,
     requires one { IsTrue (is_version one.now) }
+    // and so is the second.
     requires other { IsTrue (is_version other.now) }
     ensures { result ≡ version_cmp one.now other.now }
 {
@@ -129,9 +133,12 @@ struct Parts {
 fn read_parts(alloc: Global, place: u32, file: &[u8]) -> Result<Parts, MakeFault>
     // A refusal has the first test that fails.
     ensures bad { IfErr result (λ fault. IsRefusedAt place fault (package_fault file.now)) }
+    // The package passes all its tests.
     ensures sound { IfOk result (λ _. package_fault file.now ≡ None) }
+    // The package passes its tests, apart from those of its contents.
     ensures opened { IfOk result (λ _. container_fault_except_contents Tables.Package file.now
         ≡ None) }
+    // The parts give the name, the version and the id of the package's entry.
     ensures keys { IfOk result (λ parts.
         IsEntryWithKeys parts.name.items parts.version.items parts.id (entry_of_package file.now)) }
     // A payload that is kept has the entry.
@@ -168,12 +175,17 @@ pub(crate) fn open_tested<'a>(
     place: u32,
     file: &'a [u8],
 ) -> Result<Package<'a>, MakeFault>
+    // The error is the first failed test of the package, or out of memory.
     ensures bad { IfErr result (λ fault. IsRefusedAt place fault (package_fault file.entry.now)) }
+    // The package passes all its tests.
     ensures sound { IfOk result (λ _. package_fault file.entry.now ≡ None) }
+    // The package passes its tests, apart from those of its contents.
     ensures opened { IfOk result
         (λ _. container_fault_except_contents Tables.Package file.entry.now ≡ None) }
+    // The value is that of the root in the file.
     ensures value { IfOk result (λ pkg.
         opened_value pkg ≡ root_value Tables.Package (payload_in file.entry.now)) }
+    // The payload is that of the file's first block.
     ensures payload { IfOk result (λ pkg. opened_payload pkg ≡ payload_in file.entry.now) }
 {
     a_package_is_tested_by_its_values_and_then_its_files();
@@ -189,8 +201,10 @@ pub(crate) fn open_tested<'a>(
 
 /// Reads the files of a package to the last, which tests their contents.
 fn test_files(pkg: &mut Package<'_>) -> Result<(), Cause>
+    // An error is the fault of the first file whose contents are bad.
     ensures files { result_err result ≡ fault_of_files_read (opened_files pkg.old) }
     ensures value { opened_value pkg.new ≡ opened_value pkg.old }
+    // The package's payload is unchanged.
     ensures payload { opened_payload pkg.new ≡ opened_payload pkg.old }
 {
     while pkg.next_file()?.is_some() {}

@@ -18,7 +18,7 @@ ghost use Rattle.make_index.specs.Entries.{entry_of_package};
 ghost use Rattle.make_index.specs.EntryOrder.{entry_cmp, version_of_index_entry, id_of_index_entry, name_of_index_entry};
 ghost use Rattle.base_core.specs.Sorted.{sorted_by};
 ghost use Rattle.base_core.specs.Files.{AreFileBytes};
-ghost use Rattle.make_index.specs.Files.{FindOnlyFiles, reads_of};
+ghost use Rattle.make_index.specs.Files.{AreOperandReadsFileBytes, reads_of};
 ghost use Rattle.make_index.specs.Index.{description_in, index_of_entries, value_of_index, found_entries, found_entry, made_index};
 ghost use Rattle.make_index.specs.Kept.{AgreesUnlessMemory, AgreesUnlessMemoryOrDisk};
 ghost use Rattle.make_index.specs.Views.{entries_view, entry_view};
@@ -53,13 +53,15 @@ use version_core::order_is_total;
 /// Operand by operand, `FileMissing` or `FileBad` at the operand's place; then `TooLarge` if the
 /// index exceeds a limit of the writer. `Disk` if the tree failed, and `Memory`.
 pub fn make<T: Tree>(alloc: Global, command: &Command, tree: &mut T) -> Result<Vec<u8>, MakeFault>
+    // The command is `mkndx`.
     requires { command.now.applet ≡ Applet.Mkndx }
-    // If the tree's files are observable.
+    // If the tree is observable, the index is made from its files.
     ensures made { IfObservable (T.history tree.old) (λ v.
         AgreesUnlessMemoryOrDisk (λ file. file.items) result (made_index command.now
         (reads_of v))) }
-    // Over every tree: by some bytes for each read. The first operand's read has the number 0.
-    ensures found { (read : Reads) × FindOnlyFiles read 0 command.now.operands
+    // Over any tree, the index is made from some bytes for each read. The first operand's read has
+    // the number 0.
+    ensures found { (read : Reads) × AreOperandReadsFileBytes read 0 command.now.operands
         × AgreesUnlessMemoryOrDisk (λ file. file.items) result (made_index command.now read) }
     // The tree is only read, and `Disk` has a fault of the tree as its cause.
     ensures tree { OnlyReads MakeFault.Disk (T.history tree.old) (T.history tree.new)
@@ -88,11 +90,15 @@ fn read_entries<T: Tree>(
     operands: &Operands,
     tree: &mut T,
 ) -> Result<Vec<Entry>, MakeFault>
+    // Each operand is the name of a file.
     requires { IsTrue (are_files operands.now) }
+    // If the tree is observable, the entries are those of its files.
     ensures made { IfObservable (T.history tree.old) (λ v.
         AgreesUnlessMemoryOrDisk entries_view result (found_entries (reads_of v) 0 operands.now)) }
-    ensures found { (read : Reads) × FindOnlyFiles read 0 operands.now
+    // Over any tree, the entries are those of some files.
+    ensures found { (read : Reads) × AreOperandReadsFileBytes read 0 operands.now
         × AgreesUnlessMemoryOrDisk entries_view result (found_entries read 0 operands.now) }
+    // The tree is only read: no file changes, no I/O error is hidden, and no call is a misuse.
     ensures tree { OnlyReads MakeFault.Disk (T.history tree.old) (T.history tree.new)
         (T.counts tree.old) (T.counts tree.new) result }
 {
@@ -123,10 +129,13 @@ fn read_entry<T: Tree>(
     file: &Name,
     tree: &mut T,
 ) -> Result<Entry, MakeFault>
+    // If the tree is observable, the entry is that of its file.
     ensures made { IfObservable (T.history tree.old) (λ v.
         AgreesUnlessMemoryOrDisk entry_view result (found_entry place (files_of v file.now))) }
+    // Over any tree, the entry is that of some file, or the file is absent.
     ensures found { (found : Option (List ℕ)) × IfSome found AreFileBytes
         × AgreesUnlessMemoryOrDisk entry_view result (found_entry place found) }
+    // The tree is only read: no file changes, no I/O error is hidden, and no call is a misuse.
     ensures tree { OnlyReads MakeFault.Disk (T.history tree.old) (T.history tree.new)
         (T.counts tree.old) (T.counts tree.new) result }
 {
@@ -137,6 +146,7 @@ fn read_entry<T: Tree>(
 /// The entry of what was found under the name that the operand at a place gives; a file that is
 /// absent is refused.
 fn entry_of(alloc: Global, place: u32, found: Option<Vec<u8>>) -> Result<Entry, MakeFault>
+    // The result is the entry of the bytes found, or the refusal, unless out of memory.
     ensures made { AgreesUnlessMemory entry_view result (found_entry place (bytes_in found)) }
     ensures bytes { IfSome (bytes_in found) AreFileBytes }
 {
@@ -174,10 +184,13 @@ fn sort_entries(entries: &mut Vec<Entry>) -> Result<(), AllocError>
 
 /// The payload of an index with this description and these entries, in their order.
 fn index_payload(alloc: Global, description: &[u8], entries: &[Entry]) -> Result<Vec<u8>, MakeFault>
+    // On Ok, this is the payload of the index with these entries.
     ensures made { IfOk result (λ payload.
         payload_or_overflow (value_of_index description.now (map entry_view entries.now))
         ≡ Ok payload.items) }
+    // The payload is not longer than a payload may be.
     ensures small { IfOk result (λ payload. length payload.items ≤ MOST_BYTES) }
+    // An error is the limit of a payload that is exceeded, or out of memory.
     ensures err { IfErr result (λ fault. IsOverflowFault fault
         (payload_or_overflow (value_of_index description.now (map entry_view entries.now)))) }
 {
@@ -236,8 +249,11 @@ pub fn an_entry_is_an_info()
 /// The entries of an index are those of the named packages, sorted: none is before a smaller one,
 /// and equal ones keep the order of the operands.
 pub fn an_index_is_in_order()
+    // Sorting keeps the entries.
     ensures same { (entries : List Plain) → IsPermutation entries (sorted_by entry_cmp entries) }
+    // No entry is before a smaller one.
     ensures sorted { (entries : List Plain) → IsSorted entry_cmp (sorted_by entry_cmp entries) }
+    // Equal entries keep their order.
     ensures stable { (entries : List Plain)
         → IsStable entry_cmp entries (sorted_by entry_cmp entries) }
 {
@@ -248,16 +264,20 @@ pub fn an_index_is_in_order()
 /// one with the smaller version; of equal versions, the one whose version is the smaller text; of
 /// equal texts, the one with the smaller id.
 pub fn entries_stand_by_name_version_and_id()
+    // The entry with the smaller name is first.
     ensures name { (a b : Plain) → bytes_cmp (name_of_index_entry a) (name_of_index_entry b) ≡ Less
         → entry_cmp a b ≡ Less }
+    // Of equal names, the one with the smaller version is first.
     ensures version { (a b : Plain) → bytes_cmp (name_of_index_entry a) (name_of_index_entry b)
         ≡ Equal
         → version_cmp (version_of_index_entry a) (version_of_index_entry b) ≡ Less
         → entry_cmp a b ≡ Less }
+    // Of equal versions, the one whose version is the smaller text is first.
     ensures text { (a b : Plain) → bytes_cmp (name_of_index_entry a) (name_of_index_entry b) ≡ Equal
         → version_cmp (version_of_index_entry a) (version_of_index_entry b) ≡ Equal
         → bytes_cmp (version_of_index_entry a) (version_of_index_entry b) ≡ Less → entry_cmp a b
         ≡ Less }
+    // Of equal texts, the one with the smaller id is first.
     ensures id { (a b : Plain) → bytes_cmp (name_of_index_entry a) (name_of_index_entry b) ≡ Equal
         → version_cmp (version_of_index_entry a) (version_of_index_entry b) ≡ Equal
         → bytes_cmp (version_of_index_entry a) (version_of_index_entry b) ≡ Equal
@@ -267,12 +287,15 @@ pub fn entries_stand_by_name_version_and_id()
 /// The name, the version and the id by which an entry is ordered are its fields of these names in
 /// the table.
 pub fn an_entry_is_ordered_by_its_named_fields()
+    // The name is the field `name`.
     ensures name { (fields : Plains) (v : Plain)
         → value_by_name (codes "name") (table PkgInfo) fields ≡ Some v
         → name_of_index_entry (trimmed_object_or_null fields) ≡ text_in v }
+    // The version is the field `version`.
     ensures version { (fields : Plains) (v : Plain)
         → value_by_name (codes "version") (table PkgInfo) fields ≡ Some v
         → version_of_index_entry (trimmed_object_or_null fields) ≡ text_in v }
+    // The id is the field `hashes`.
     ensures id { (fields : Plains) (v : Plain)
         → value_by_name (codes "hashes") (table PkgInfo) fields ≡ Some v
         → id_of_index_entry (trimmed_object_or_null fields) ≡ text_in v }

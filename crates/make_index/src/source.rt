@@ -109,6 +109,7 @@ fn write_package(
     id: &[u8],
     len: u64,
 ) -> Result<(), AllocError>
+    // The id is the SHA-256 digest of the payload.
     requires { id.now ≡ sha256 (opened_payload pkg.now) }
     ensures { OnOk result (draft.new ≡ draft_with
         (info_with_id_and_size (entry_in (opened_value pkg.now) PACKAGE_INFO) (sha256
@@ -129,6 +130,7 @@ fn write_entry_info(
     id: &[u8],
     len: u64,
 ) -> Result<(), AllocError>
+    // The word has a plain value of its kind.
     requires { is_sound (payload_of adb) (Kinds.Obj Tables.PkgInfo) info ≡ true }
     ensures { OnOk result (draft.new ≡ draft_with (info_with_id_and_size
         (value_at (payload_of adb.entry) (Kinds.Obj Tables.PkgInfo) info) id.now len) draft.old) }
@@ -145,8 +147,10 @@ pub(crate) fn entry_payload(
     id: &[u8],
     len: u64,
 ) -> Result<Option<Vec<u8>>, AllocError>
+    // The id is the SHA-256 digest of the payload.
     requires { id.now ≡ sha256 (opened_payload pkg.now) }
     ensures small { len < 2 ^ 64 }
+    // If a payload is returned, it is that of the entry.
     ensures payload { IfOk result (λ found. IfSome found (λ payload. payload_or_overflow
         (info_with_id_and_size (entry_in (opened_value pkg.now) PACKAGE_INFO) (sha256
         (opened_payload pkg.now))

@@ -16,7 +16,7 @@ use Rattle.version_core.proofs.VersionBytes.{all-imp, all-append}
 use Rattle.root_names.specs.PackagePath.{package_file_name}
 use Rattle.command_core.specs.declared.values.OptionValue.{OptionValue}
 use Rattle.make_info.specs.declared.field.Field.TheVariants as Fields
-use Rattle.make_info.specs.FieldTexts.{first_text_for, if_passes, package_name_in, default_output, package_file_name_of, package_version_in}
+use Rattle.make_info.specs.FieldTexts.{first_text_for, value_if_passes, package_name_in, default_output, package_file_name_of, package_version_in}
 
 -- what the layer of versions says of them
 abbrev pub HaveVersionBytes : Type 0
@@ -114,7 +114,7 @@ by_good : (p : List ℕ → Bool) (b : Bool) (y x : List ℕ) → p y ≡ b → 
 by_good p true y x e h = let same : y ≡ x = cc in subst (λ z. p z ≡ true) same e
 by_good p false y x e h = cc
 
-good : (p : List ℕ → Bool) (o : Option (List ℕ)) (x : List ℕ) → option_and_then (if_passes p) o ≡ Some x → p x ≡ true
+good : (p : List ℕ → Bool) (o : Option (List ℕ)) (x : List ℕ) → option_and_then (value_if_passes p) o ≡ Some x → p x ≡ true
 good p None x h = cc
 good p (Some y) x h = by_good p (p y) y x refl h
 

@@ -14,8 +14,8 @@ use Rattle.command_core.specs.Files.{is_file_argument, is_output_argument, most_
 use Rattle.command_core.specs.declared.values.OptionValue.{OptionValue}
 use Rattle.make_info.specs.declared.field.Field.{Field}
 use Rattle.make_info.specs.declared.field.Field.TheVariants as Fields
-use Rattle.make_info.specs.FieldTexts.{FieldText, file_name_in, first_text_for, field_text_in, if_passes, values_of_info, is_option_for_field, is_text_for_field, is_info_option, is_output_name_too_long, is_default_output_too_long, package_name_in, named_output, default_output, package_file_name_of, option_text_for_field, value_if_for_field}
-use Rattle.make_info.specs.Information.{FieldWithValue, items_of_valid_options, first_offence, information, information_of, items_of_option, lacks_name_or_version, offends, repeats_single_field, unless_offence}
+use Rattle.make_info.specs.FieldTexts.{FieldText, file_name_in, first_text_for, field_text_in, value_if_passes, values_of_info, is_option_for_field, gives_value_for_field, is_info_option, is_output_name_too_long, is_default_output_too_long, package_name_in, named_output, default_output, package_file_name_of, option_text_for_field, value_if_for_field}
+use Rattle.make_info.specs.Information.{FieldWithValue, items_of_valid_options, place_of_first_offending_option, information, information_of, items_of_option, lacks_name_or_version, offends, repeats_single_field, unless_offence}
 use Rattle.make_info.specs.Output.{output_if_information_valid, package_output}
 use Rattle.make_info.proofs.FileNames.{HaveVersionBytes, own_file_name}
 
@@ -68,7 +68,7 @@ not_good true b c h = cc
 not_good false true c h = cc
 not_good false false c h = h
 
-pub no_value : (f : Field) (given : Option FieldText) → is_text_for_field f given ≡ false → value_if_for_field f given ≡ None
+pub no_value : (f : Field) (given : Option FieldText) → gives_value_for_field f given ≡ false → value_if_for_field f given ≡ None
 no_value f None h = refl
 no_value f (Some given) h = ap (λ b. cond b (Some given.value) None) h
 
@@ -76,18 +76,18 @@ none_or : (a b : Option (List ℕ)) → a ≡ None → b ≡ None → option_or 
 none_or None b h k = k
 none_or (Some x) b h k = cc
 
-version_here : (done rest : List OptionValue) (v : OptionValue) (b : Bool) → first_offence true done (cond b (v ∷ rest) rest) ≡ None → cond b (value_if_for_field Fields.Version (field_text_in v.text)) None ≡ None
+version_here : (done rest : List OptionValue) (v : OptionValue) (b : Bool) → place_of_first_offending_option true done (cond b (v ∷ rest) rest) ≡ None → cond b (value_if_for_field Fields.Version (field_text_in v.text)) None ≡ None
 version_here done rest v true h =
-    no_value Fields.Version (field_text_in v.text) (not_good (not (is_some (items_of_option v))) (repeats_single_field done v) (is_option_for_field Fields.Version v) (none_at (offends true done v) v.place (first_offence true (done ++ v ∷ []) rest) h).0)
+    no_value Fields.Version (field_text_in v.text) (not_good (not (is_some (items_of_option v))) (repeats_single_field done v) (is_option_for_field Fields.Version v) (none_at (offends true done v) v.place (place_of_first_offending_option true (done ++ v ∷ []) rest) h).0)
 version_here done rest v false h = refl
 
 -- none of the rest offends either, behind some values
-version_later : (done rest : List OptionValue) (v : OptionValue) (b : Bool) → first_offence true done (cond b (v ∷ rest) rest) ≡ None → (before : List OptionValue) × (first_offence true before rest ≡ None)
+version_later : (done rest : List OptionValue) (v : OptionValue) (b : Bool) → place_of_first_offending_option true done (cond b (v ∷ rest) rest) ≡ None → (before : List OptionValue) × (place_of_first_offending_option true before rest ≡ None)
 version_later done rest v true h =
-    (done ++ v ∷ [], (none_at (offends true done v) v.place (first_offence true (done ++ v ∷ []) rest) h).1)
+    (done ++ v ∷ [], (none_at (offends true done v) v.place (place_of_first_offending_option true (done ++ v ∷ []) rest) h).1)
 version_later done rest v false h = (done, h)
 
-no_version : (done vs : List OptionValue) → first_offence true done (values_of_info vs) ≡ None → first_text_for Fields.Version vs ≡ None
+no_version : (done vs : List OptionValue) → place_of_first_offending_option true done (values_of_info vs) ≡ None → first_text_for Fields.Version vs ≡ None
 no_version done [] h = refl
 no_version done (v ∷ vs) h =
     let more = version_later done (values_of_info vs) v (is_info_option v) h in
@@ -101,10 +101,10 @@ pub first_is_none : (o : Option ℕ) (otherwise : Result (List FieldWithValue) �
 first_is_none None otherwise h = refl
 first_is_none (Some place) otherwise h = cc
 
-pub unoffended : (values : List OptionValue) (behind : ℕ) → is_ok (information_of values behind) ≡ true → first_offence (is_default_output_too_long values) [] (values_of_info values) ≡ None
+pub unoffended : (values : List OptionValue) (behind : ℕ) → is_ok (information_of values behind) ≡ true → place_of_first_offending_option (is_default_output_too_long values) [] (values_of_info values) ≡ None
 unfolding information_of
 unoffended values behind h =
-    first_is_none (first_offence (is_default_output_too_long values) [] (values_of_info values)) (cond (lacks_name_or_version (values_of_info values)) (Err behind) (Ok (items_of_valid_options (values_of_info values)))) h
+    first_is_none (place_of_first_offending_option (is_default_output_too_long values) [] (values_of_info values)) (cond (lacks_name_or_version (values_of_info values)) (Err behind) (Ok (items_of_valid_options (values_of_info values)))) h
 
 some_none : (o : Option (List ℕ)) (file : List ℕ) → o ≡ Some file → o ≡ None → ⊥
 some_none None file h k = cc
@@ -112,11 +112,11 @@ some_none (Some x) file h k = cc
 
 no_own_file : (values : List OptionValue) → first_text_for Fields.Version values ≡ None → default_output values ≡ None
 no_own_file values h =
-    ap (λ o. package_file_name_of (package_name_in values) (option_and_then (if_passes is_version) o)) h ∙ no_file (package_name_in values)
+    ap (λ o. package_file_name_of (package_name_in values) (option_and_then (value_if_passes is_version) o)) h ∙ no_file (package_name_in values)
 
 fits_by : (values : List OptionValue) (behind : ℕ) (file : List ℕ) (b : Bool) → is_default_output_too_long values ≡ b → is_ok (information_of values behind) ≡ true → named_output values ≡ None → default_output values ≡ Some file → length file ≤ most_output_path_bytes
 fits_by values behind file true t h n o =
-    let first : first_offence true [] (values_of_info values) ≡ None = ap (λ b. first_offence b [] (values_of_info values)) (sym t) ∙ unoffended values behind h in
+    let first : place_of_first_offending_option true [] (values_of_info values) ≡ None = ap (λ b. place_of_first_offending_option b [] (values_of_info values)) (sym t) ∙ unoffended values behind h in
     absurd (some_none (default_output values) file o (no_own_file values (no_version [] values first)))
 fits_by values behind file false t h n o =
     let short : nat_lt most_output_path_bytes (length file) ≡ false =

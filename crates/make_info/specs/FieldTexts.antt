@@ -20,32 +20,34 @@ use Rattle.make_info.specs.Fields.{field_of, field_word}
 
 -- a field, and the value that is given for it
 pub record FieldText : Type 0 where
+  -- the field that the option names
   pub field : Field
+  -- the text after the field's name and the separator
   pub value : List ℕ
 
 -- the field and the value of a text, given how many bytes are before its first `:`
-abbrev pub field_text_from : List ℕ → Option ℕ → Option FieldText
-field_text_from text None = None
-field_text_from text (Some colon) =
+abbrev pub field_text_split_at_colon : List ℕ → Option ℕ → Option FieldText
+field_text_split_at_colon text None = None
+field_text_split_at_colon text (Some colon) =
     option_map (λ f. record { field = f; value = drop (colon + 1) text })
     (field_of (take colon text))
 
 -- a text FIELD:VALUE; FIELD ends before the first `:`; None if there is no `:`, or FIELD is no field
 abbrev pub field_text_in : List ℕ → Option FieldText
-field_text_in text = field_text_from text (position (λ b. b == COLON) text)
+field_text_in text = field_text_split_at_colon text (position (λ b. b == COLON) text)
 
 -- whether two fields are one: they are distinguished by the words that name them
 abbrev pub is_same_field : Field → Field → Bool
 is_same_field f g = bytes_eq (field_word f) (field_word g)
 
 -- whether a text FIELD:VALUE is for this field; false if it is no such text
-abbrev pub is_text_for_field : Field → Option FieldText → Bool
-is_text_for_field f None = false
-is_text_for_field f (Some given) = is_same_field given.field f
+abbrev pub gives_value_for_field : Field → Option FieldText → Bool
+gives_value_for_field f None = false
+gives_value_for_field f (Some given) = is_same_field given.field f
 
 -- whether a value of `-I` is for a field
 abbrev pub is_option_for_field : Field → OptionValue → Bool
-is_option_for_field f v = is_text_for_field f (field_text_in v.text)
+is_option_for_field f v = gives_value_for_field f (field_text_in v.text)
 
 -- whether a value is one of `-I`; other options with a value, such as `-o`, do not describe the package
 abbrev pub is_info_option : OptionValue → Bool
@@ -70,18 +72,18 @@ first_text_for f [] = None
 first_text_for f (v ∷ vs) = option_or (option_text_for_field f v) (first_text_for f vs)
 
 -- this value, if its rule allows it
-abbrev pub if_passes : (List ℕ → Bool) → List ℕ → Option (List ℕ)
-if_passes is_good value = if is_good value then Some value else None
+abbrev pub value_if_passes : (List ℕ → Bool) → List ℕ → Option (List ℕ)
+value_if_passes is_good value = if is_good value then Some value else None
 
 -- the package's name, if one is given and valid; of several the first counts
 abbrev pub package_name_in : List OptionValue → Option (List ℕ)
 package_name_in values =
-    option_and_then (if_passes is_package_name) (first_text_for Fields.Name values)
+    option_and_then (value_if_passes is_package_name) (first_text_for Fields.Name values)
 
 -- the package's version, if one is given and valid; of several the first counts
 abbrev pub package_version_in : List OptionValue → Option (List ℕ)
 package_version_in values =
-    option_and_then (if_passes is_version) (first_text_for Fields.Version values)
+    option_and_then (value_if_passes is_version) (first_text_for Fields.Version values)
 
 -- the name of a package's file, NAME-VERSION.apk; None if its name or its version is lacking
 abbrev pub package_file_name_of : Option (List ℕ) → Option (List ℕ) → Option (List ℕ)

@@ -7,17 +7,25 @@ use Rattle.command_core.specs.declared.values.OptionValue.{OptionValue}
 use Rattle.make_info.specs.Information.{offends}
 
 -- none of these values offends after those before it
-abbrev pub NoneOffends : Bool → List OptionValue → Type 0
-NoneOffends too_long values =
+abbrev pub HasNoOffendingOption : Bool → List OptionValue → Type 0
+HasNoOffendingOption too_long values =
     (before : List OptionValue) (v : OptionValue) (after : List OptionValue)
     → values ≡ before ++ v ∷ after → offends too_long before v ≡ false
 
 -- the first of these values that offends is at this place of the command line
-pub record IsFirstOffence (too_long : Bool) (values : List OptionValue) (place : ℕ) : Type 0 where
+pub record IsPlaceOfFirstOffendingOption (too_long : Bool) (values : List OptionValue)
+    (place : ℕ) : Type 0 where
+  -- the values of options before the first one that is refused
   pub before : List OptionValue
+  -- the value that is refused
   pub value : OptionValue
+  -- the values of options after it
   pub after : List OptionValue
+  -- these are all values, in their order
   pub located : values ≡ before ++ value ∷ after
+  -- the refused value is at the reported place of the command line
   pub reported : value.place ≡ place
+  -- it is refused, given the values before it
   pub offends : offends too_long before value ≡ true
-  pub first : NoneOffends too_long before
+  -- none of the values before it is refused
+  pub first : HasNoOffendingOption too_long before

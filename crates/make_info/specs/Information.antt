@@ -16,7 +16,9 @@ use Rattle.make_info.specs.Values.{number_value, size_value}
 -- An item of an information: a field with a value. An information is the list of all of them, in the
 -- order given: of a list field one item for each part of each text, of another field one item.
 pub record FieldWithValue : Type 0 where
+  -- which field of the information
   pub field : Field
+  -- one value of this field
   pub value : FieldValue
 
 -- an item by its parts
@@ -58,11 +60,11 @@ offends too_long before v =
     || (repeats_single_field before v || (too_long && is_option_for_field Fields.Version v))
 
 -- the place of the first of these values that offends after those before it
-abbrev pub first_offence : Bool → List OptionValue → List OptionValue → Option ℕ
-first_offence too_long before [] = None
-first_offence too_long before (v ∷ vs) =
+abbrev pub place_of_first_offending_option : Bool → List OptionValue → List OptionValue → Option ℕ
+place_of_first_offending_option too_long before [] = None
+place_of_first_offending_option too_long before (v ∷ vs) =
     if offends too_long before v then Some v.place
-    else first_offence too_long (before ++ v ∷ []) vs
+    else place_of_first_offending_option too_long (before ++ v ∷ []) vs
 
 -- whether no value is for the package's name, or none for its version
 abbrev pub lacks_name_or_version : List OptionValue → Bool
@@ -85,7 +87,7 @@ unless_offence (Some place) otherwise = Err place
 unfoldable pub information_of : List OptionValue → ℕ → Result (List FieldWithValue) ℕ
 information_of values behind =
     let own = values_of_info values in
-    unless_offence (first_offence (is_default_output_too_long values) [] own)
+    unless_offence (place_of_first_offending_option (is_default_output_too_long values) [] own)
     (if lacks_name_or_version own then Err behind else Ok (items_of_valid_options own))
 
 -- the information of a command line, or the first place that offends; a missing name or version is
@@ -112,13 +114,13 @@ abbrev pub is_item_for : Field → FieldWithValue → Bool
 is_item_for f item = is_same_field item.field f
 
 -- the plain value of an item; Null if nothing is given for the field
-abbrev pub item_value : Option FieldWithValue → Plain
-item_value None = null
-item_value (Some item) = plain_value item.value
+abbrev pub item_value_or_null : Option FieldWithValue → Plain
+item_value_or_null None = null
+item_value_or_null (Some item) = plain_value item.value
 
 -- the value of a field that is given once
 abbrev pub value_of_single_field : Field → List FieldWithValue → Plain
-value_of_single_field f info = item_value (find (is_item_for f) info)
+value_of_single_field f info = item_value_or_null (find (is_item_for f) info)
 
 -- the plain values of all items of a field, in their order
 abbrev pub plain_values_of_field : Field → List FieldWithValue → Plains

@@ -8,7 +8,7 @@ ghost use Rattle.make_info.specs.Faults.{IsInfoFault};
 ghost use Rattle.make_info.specs.FieldTexts.{field_text_in};
 ghost use Rattle.make_info.specs.Fields.{values_of_hex_digits, kind_of_field, untagged_dependency_in, dependency_values_in, number, decimal_number, nonempty_parts, values_by_kind, text_value_if, text_values, field_word};
 ghost use Rattle.make_info.specs.Reading.{nonempty_part, has_no_name_or_version, items_with_option_text};
-ghost use Rattle.make_info.specs.Information.{information, information_of, is_item_for, field_with_value, items_with_values_of_field, FieldWithValue, first_offence, information_fields};
+ghost use Rattle.make_info.specs.Information.{information, information_of, is_item_for, field_with_value, items_with_values_of_field, FieldWithValue, place_of_first_offending_option, information_fields};
 ghost use Rattle.make_info.specs.Views.{field_text_view, item_view, value_view};
 ghost use Rattle.std.specs.List.{find};
 ghost use Rattle.std.specs.Option.{option_map};
@@ -17,7 +17,7 @@ ghost use Rattle.adb_view.specs.Schema.{table};
 ghost use Rattle.adb_view.specs.declared.tables.Which.TheVariants.{PkgInfo};
 ghost use Rattle.command_core.specs.declared.values.OptionValue.{OptionValue};
 ghost use Rattle.make_info.specs.declared.field.Field.{Field};
-ghost use Rattle.make_info.specs.FirstOffence.{IsFirstOffence, NoneOffends};
+ghost use Rattle.make_info.specs.FirstOffence.{IsPlaceOfFirstOffendingOption, HasNoOffendingOption};
 ghost use Rattle.make_info.specs.Named.{value_by_name, value_of_field};
 
 use crate::fault::MakeFault;
@@ -87,7 +87,9 @@ pub fn read_information<'a>(
     alloc: Global,
     command: &'a Command,
 ) -> Result<Information<'a>, MakeFault>
+    // On Ok, the information is the one that the command describes.
     ensures ok { IfOk result (λ info. information command.entry.now ≡ Ok info) }
+    // An error is that of the definition, or out of memory.
     ensures err { IfErr result (λ fault. IsInfoFault fault (information command.entry.now)) }
 {
     read_values(alloc, command.values(), command.behind())
@@ -101,7 +103,9 @@ fn read_values<'a>(
     values: &'a Values,
     behind: u32,
 ) -> Result<Information<'a>, MakeFault>
+    // On Ok, the information is the one that the values describe.
     ensures ok { IfOk result (λ info. information_of values.entry.now behind ≡ Ok info) }
+    // An error is that of the definition, or out of memory.
     ensures err { IfErr result (λ fault. IsInfoFault fault
         (information_of values.entry.now behind)) }
 {
@@ -349,9 +353,12 @@ pub fn an_option_gives_the_field_of_its_name()
 /// allowed, it is a second one of its field, or it is the version that makes the output's name too
 /// long. If none is reported, none offends.
 pub fn the_first_value_that_offends_is_reported()
+    // A reported value is the first that is refused.
     ensures offends { (too_long : Bool) (values : List OptionValue) (place : ℕ)
-        → first_offence too_long [] values ≡ Some place
-        → IsFirstOffence too_long values place }
+        → place_of_first_offending_option too_long [] values ≡ Some place
+        → IsPlaceOfFirstOffendingOption too_long values place }
+    // If none is reported, none is refused.
     ensures allowed { (too_long : Bool) (values : List OptionValue)
-        → first_offence too_long [] values ≡ None → NoneOffends too_long values }
+        → place_of_first_offending_option too_long [] values ≡ None
+        → HasNoOffendingOption too_long values }
 {}

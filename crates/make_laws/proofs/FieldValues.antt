@@ -11,7 +11,7 @@ use Rattle.hex.specs.Hex.{decode_of, decode_pairs, digit_or_error, hex_digit_val
 use Rattle.hex.specs.declared.error.FromHexError.{FromHexError}
 use Rattle.hex.specs.declared.error.FromHexError.TheVariants.{OddLength}
 use Rattle.hex.proofs.HexLemmas.{decode_of-even}
-use Rattle.command_core.specs.Operands.{has_zero_in_front, is_decimal}
+use Rattle.command_core.specs.Operands.{has_superfluous_leading_zero, is_decimal}
 use Rattle.command_core.proofs.Numbers.{decimal_digits, decimal_some, digits_model}
 use Rattle.dep_core.specs.Dependency.{Dependency, is_package_name}
 use Rattle.dep_core.specs.Reading.{dependency_of}
@@ -96,9 +96,9 @@ if_both true true m n e = let same : m ≡ n = cc (e) in (refl, refl, same)
 if_both true false m n e = absurd (cc (e))
 if_both false b m n e = absurd (cc (e))
 
-alone : (ds : List ℕ) → not (has_zero_in_front ds) ≡ true → get_or ds 0 0 ≡ 48 → 0 < length ds → length ds ≡ 1
+alone : (ds : List ℕ) → not (has_superfluous_leading_zero ds) ≡ true → get_or ds 0 0 ≡ 48 → 0 < length ds → length ds ≡ 1
 alone [] h z some = absurd (omega arith)
-alone (d ∷ ds) h z some = by_rest ds (not-true (has_zero_in_front (d ∷ ds)) h)
+alone (d ∷ ds) h z some = by_rest ds (not-true (has_superfluous_leading_zero (d ∷ ds)) h)
   where
     by_rest : (es : List ℕ) → ((d == 48) && nat_lt 0 (length es)) ≡ false → length (d ∷ es) ≡ 1
     by_rest [] f = refl
@@ -111,18 +111,18 @@ number_to value n e =
     let both = if_both (is_decimal value) (nat_lt (digits_value 10 value) (2 ^ 64)) (digits_value 10 value) n e in
     let small : digits_value 10 value < 2 ^ 64 = ltb-true (digits_value 10 value) (2 ^ 64) both.1 in
     let some : 0 < length value = decimal_some value both.0 in
-    let parts = and_parts (nat_lt 0 (length value)) (not (has_zero_in_front value)) (and_parts (nat_lt 0 (length value) && not (has_zero_in_front value)) (list_all is_ascii_digit value) both.0).0 in
+    let parts = and_parts (nat_lt 0 (length value)) (not (has_superfluous_leading_zero value)) (and_parts (nat_lt 0 (length value) && not (has_superfluous_leading_zero value)) (list_all is_ascii_digit value) both.0).0 in
     let is : decimal (digits_value 10 value) ≡ value = decimal-digits_value digits_model value (decimal_digits value both.0) some (λ z. alone value parts.1 z some) small in
     (omega (arith, both.2), sym is ∙ ap decimal both.2)
 
-no_zero : (ds : List ℕ) → 48 < get_or ds 0 0 → not (has_zero_in_front ds) ≡ true
+no_zero : (ds : List ℕ) → 48 < get_or ds 0 0 → not (has_superfluous_leading_zero ds) ≡ true
 no_zero [] lt = refl
 no_zero (d ∷ ds) lt = ap (λ (b : Bool). not (b && nat_lt 0 (length ds))) (ne_eqb d 48 (omega arith))
 
-no_zero_of : (n : ℕ) → n < 2 ^ 64 → not (has_zero_in_front (decimal n)) ≡ true
+no_zero_of : (n : ℕ) → n < 2 ^ 64 → not (has_superfluous_leading_zero (decimal n)) ≡ true
 no_zero_of zero small =
     let is : decimal 0 ≡ 48 ∷ [] = decimal-digits_value digits_model (48 ∷ []) refl (omega arith) (λ z. refl) (lit< tt) in
-    ap (λ (ds : List ℕ). not (has_zero_in_front ds)) is
+    ap (λ (ds : List ℕ). not (has_superfluous_leading_zero ds)) is
 no_zero_of (suc n) small = no_zero (decimal (suc n)) (first_decimal (suc n) (omega arith) small)
 
 number_from : (value : List ℕ) (n : ℕ) → SpellsNumber value n → decimal_number value ≡ Some n
@@ -130,8 +130,8 @@ number_from value n s =
     let ds : List ℕ = decimal n in
     let read : digits_value 10 ds ≡ n = digits_value-decimal digits_model n s.0 in
     let good : is_decimal ds ≡ true =
-    and_from (nat_lt 0 (length ds) && not (has_zero_in_front ds)) (list_all is_ascii_digit ds)
-    (and_from (nat_lt 0 (length ds)) (not (has_zero_in_front ds)) (lt-ltb 0 (length ds) (decimal_nonempty n s.0)) (no_zero_of n s.0))
+    and_from (nat_lt 0 (length ds) && not (has_superfluous_leading_zero ds)) (list_all is_ascii_digit ds)
+    (and_from (nat_lt 0 (length ds)) (not (has_superfluous_leading_zero ds)) (lt-ltb 0 (length ds) (decimal_nonempty n s.0)) (no_zero_of n s.0))
     (digits_decimal digits_model n s.0) in
     let small : nat_lt (digits_value 10 ds) (2 ^ 64) ≡ true = lt-ltb (digits_value 10 ds) (2 ^ 64) (omega (arith, read, s.0)) in
     ap decimal_number s.1

@@ -19,14 +19,14 @@ use Rattle.command_core.specs.Command.{CommandLine}
 use Rattle.command_core.specs.Files.{without_dot_slash}
 use Rattle.command_core.specs.declared.values.OptionValue.{OptionValue}
 use Rattle.make_core.specs.make_info.Reads.{Reads}
-use Rattle.make_core.specs.package_files.Folders.{FolderListing, all_folders_above, folder_listings_of, folders_above, last_part_of, folder_listing_of, names_in_folder, path_relative_to}
+use Rattle.make_core.specs.package_files.Folders.{FolderListing, all_folders_above, folder_listings_of, folders_above, last_part_of, folder_listing_of, tree_names_in_package_folder, path_relative_to}
 use Rattle.make_core.specs.package_files.Package.{Source, SourceFolder, kind_of_file, value_of_file, value_of_folder}
-use Rattle.make_core.specs.package_files.Sources.{AreNamesBelowFirstFolder, source_file_read_at, source_folder_read_at, folders_below, found_bytes_or_missing, source_folders_from, sources_from, values_of_letter}
+use Rattle.make_core.specs.package_files.Sources.{AreNamesBelowFirstFolder, source_file_read_at, source_folder_read_at, source_folders_of_first_option, found_bytes_or_missing, source_folders_at_place_from_read, sources_at_place_from_read, values_of_letter}
 use Rattle.make_core.proofs.Apart.{Rises, cmp, in_order_rises, rises_from_pairs}
 use Rattle.make_core.proofs.ListedNames.{AllOf, AreListed, after_ok, each_read, filter_in, listed_in, recovered, stands_in}
 use Rattle.make_core.proofs.PackageFiles.{files_stand, folder_name_stands, name_stands}
 use Rattle.make_core.proofs.SoundPackage.{are_listed}
-use Rattle.make_laws.specs.MadePackages.{IsInByteOrder}
+use Rattle.make_laws.specs.MadePackages.{HasFoldersAndFilesInByteOrder}
 use Rattle.make_laws.proofs.MadeFrom.{IsMadeFrom, folders_are}
 
 -- ---- names that rise
@@ -63,18 +63,18 @@ part_less dir f name z one two less =
 
 module _ (dir f : List ℕ) where
   others_later : (name : List ℕ) (names : List (List ℕ)) → name ≡ dir ++ 47 ∷ path_of f (last_part_of name) → AreListed dir names → ((q : List ℕ) → IsIn q names → cmp name q ≡ Less)
-      → (q : List ℕ) → IsIn q (map last_part_of (names_in_folder dir names f)) → cmp (last_part_of name) q ≡ Less
+      → (q : List ℕ) → IsIn q (map last_part_of (tree_names_in_package_folder dir names f)) → cmp (last_part_of name) q ≡ Less
   others_later name names one all later q h =
-      let (z, at, is) = from-map last_part_of q (names_in_folder dir names f) h in
+      let (z, at, is) = from-map last_part_of q (tree_names_in_package_folder dir names f) h in
       let both = filter_in (stands_in dir f) z names at in
       let two = recovered dir f z (listed_in dir names z all both.0) both.1 in
       subst (λ (p : List ℕ). cmp (last_part_of name) p ≡ Less) (sym is) (part_less dir f name z one two (later z both.0))
 
-  parts_rise : (names : List (List ℕ)) → AreListed dir names → Rises names → Rises (map last_part_of (names_in_folder dir names f))
+  parts_rise : (names : List (List ℕ)) → AreListed dir names → Rises names → Rises (map last_part_of (tree_names_in_package_folder dir names f))
   parts_rise [] all rises = tt
   parts_rise (name ∷ names) all rises = by_folder (stands_in dir f name) refl (parts_rise names all.1 rises.1)
     where
-      by_folder : (b : Bool) → stands_in dir f name ≡ b → Rises (map last_part_of (names_in_folder dir names f)) → Rises (map last_part_of (cond b (name ∷ names_in_folder dir names f) (names_in_folder dir names f)))
+      by_folder : (b : Bool) → stands_in dir f name ≡ b → Rises (map last_part_of (tree_names_in_package_folder dir names f)) → Rises (map last_part_of (cond b (name ∷ tree_names_in_package_folder dir names f) (tree_names_in_package_folder dir names f)))
       by_folder true e further =
           (others_later name names (recovered dir f name (listed_in dir (name ∷ names) name all (inl refl)) e) all.1 rises.0, further)
       by_folder false e further = further
@@ -106,12 +106,12 @@ module _ (place : ℕ) (read : Reads) where
 
   folder_named : (n : ℕ) (folder : FolderListing) (source : SourceFolder) → source_folder_read_at place read n folder ≡ Ok source → IsFolderNamed folder source
   folder_named n folder source e =
-      let one = after_ok (sources_from place read n folder.files) (λ files. Ok (record { name = folder.name; files = files })) source e in
+      let one = after_ok (sources_at_place_from_read place read n folder.files) (λ files. Ok (record { name = folder.name; files = files })) source e in
       let gives = one.gives in
       let same : record { name = folder.name; files = one.x } ≡ source = cc (gives) in
       subst (IsFolderNamed folder) same (refl, names_are folder.files one.x (each_read IsFileNamed (λ name. 1) (source_file_read_at place read) file_named n folder.files one.x one.is))
 
-  pub folders_named : (n : ℕ) (folders : List FolderListing) (sources : List SourceFolder) → source_folders_from place read n folders ≡ Ok sources → AllOf IsFolderNamed folders sources
+  pub folders_named : (n : ℕ) (folders : List FolderListing) (sources : List SourceFolder) → source_folders_at_place_from_read place read n folders ≡ Ok sources → AllOf IsFolderNamed folders sources
   folders_named n folders sources e =
       each_read IsFolderNamed (λ (folder : FolderListing). length folder.files) (source_folder_read_at place read) folder_named n folders sources e
 
@@ -149,7 +149,7 @@ files_rise dir names (f ∷ fs) (s ∷ ss) all rises h =
 abbrev AreInOrder : List SourceFolder → Type 0
 AreInOrder sources = AreSortedDistinctNames (names_of sources) × All HasFilesRising (map value_of_folder sources)
 
-sources_in_order : (read : Reads) (n : ℕ) (values : List OptionValue) (names : List (List ℕ)) (sources : List SourceFolder) → AreNamesBelowFirstFolder values names → folders_below read n values names ≡ Ok sources → AreInOrder sources
+sources_in_order : (read : Reads) (n : ℕ) (values : List OptionValue) (names : List (List ℕ)) (sources : List SourceFolder) → AreNamesBelowFirstFolder values names → source_folders_of_first_option read n values names ≡ Ok sources → AreInOrder sources
 unfolding folder_listings_of
 sources_in_order read n [] names sources below e =
     let same : [] ≡ sources = cc (e) in
@@ -162,7 +162,7 @@ sources_in_order read n (v ∷ vs) names sources below e =
       files_rise dir names fs sources (are_listed dir names below.each) (rises_from_pairs names below.rising) are,
     )
 
-pub in_byte_order : (command : CommandLine) (names : List (List ℕ)) (read : Reads) (pkg : Plain) → AreNamesBelowFirstFolder (values_of_letter FILES command.values) names → IsMadeFrom command names read pkg → IsInByteOrder pkg
+pub in_byte_order : (command : CommandLine) (names : List (List ℕ)) (read : Reads) (pkg : Plain) → AreNamesBelowFirstFolder (values_of_letter FILES command.values) names → IsMadeFrom command names read pkg → HasFoldersAndFilesInByteOrder pkg
 in_byte_order command names read pkg below m =
     let are = folders_are command names read pkg m in
     let order = sources_in_order read (length m.scripts) (values_of_letter FILES command.values) names m.sources below m.sources_read in

@@ -11,7 +11,7 @@ use Rattle.command_core.specs.Values.{script_file, script_type}
 use Rattle.make_core.specs.make_info.declared.field.Field.{Field}
 use Rattle.make_core.specs.make_info.declared.field.Field.TheVariants as Fields
 use Rattle.make_core.specs.make_info.Fields.{field_of, field_word, fields}
-use Rattle.make_core.specs.make_info.FieldTexts.{FieldText, field_text_from, field_text_in}
+use Rattle.make_core.specs.make_info.FieldTexts.{FieldText, field_text_split_at_colon, field_text_in}
 use Rattle.make_laws.specs.OptionGrammar.{option_text}
 
 abbrev is_colon : ℕ → Bool
@@ -94,7 +94,7 @@ given f value =
     let front : take (length word) t ≡ word = take_at word (58 ∷ value) (length word) refl in
     let back : drop (length word + 1) t ≡ value = after_colon word value in
     let make : List ℕ → Field → FieldText = λ (v : List ℕ) (g : Field). record { field = g; value = v } in
-    ap (field_text_from t) (colon_found word value (colon_free f))
+    ap (field_text_split_at_colon t) (colon_found word value (colon_free f))
     ∙ ((λ k. option_map (make (back k)) (field_of (front k)))
     ∙ ap (option_map (make value)) (named f))
 
@@ -125,7 +125,7 @@ read_at t n g (Some f) lt colon is e =
     let rest : drop (suc n) t ≡ g.value = ap (λ m. drop m t) next ∙ value in
     split_at t n 0 lt ∙ (λ k. word k ++ byte k ∷ rest k)
 
-read_by : (t : List ℕ) (g : FieldText) (o : Option ℕ) → position is_colon t ≡ o → field_text_from t o ≡ Some g → t ≡ option_text g.field g.value
+read_by : (t : List ℕ) (g : FieldText) (o : Option ℕ) → position is_colon t ≡ o → field_text_split_at_colon t o ≡ Some g → t ≡ option_text g.field g.value
 read_by t g None at e = absurd (cc (e))
 read_by t g (Some n) at e =
     let found = position-Some is_colon t n 0 at in

@@ -10,11 +10,11 @@ use Rattle.command_core.specs.Values.{script_file, script_type, script_types}
 use Rattle.command_core.specs.declared.values.OptionValue.{OptionValue}
 use Rattle.make_core.specs.make_info.Reads.{Reads}
 use Rattle.make_core.specs.package_files.Package.{Script, script_fields, script_bytes_of_field, value_of_scripts}
-use Rattle.make_core.specs.package_files.Sources.{found_bytes_or_missing, script_at, script_with, scripts_from}
+use Rattle.make_core.specs.package_files.Sources.{found_bytes_or_missing, script_at, script_with, scripts_from_read}
 use Rattle.make_core.proofs.ListedNames.{AllOf, after_ok, each_read}
 use Rattle.make_core.proofs.PackageFolder.{found_is}
 use Rattle.make_laws.specs.NamedFields.{field_named}
-use Rattle.make_laws.specs.ScriptFiles.{IsNotGiven, IsScriptGiven}
+use Rattle.make_laws.specs.ScriptFiles.{IsNotGiven, IsScriptOfOptionsOrNull}
 
 module _ (read : Reads) where
   -- an option gives a script of its type, with the bytes that are found
@@ -28,7 +28,7 @@ module _ (read : Reads) where
       let same : script_with (script_type v.text) one.x ≡ s = cc (gives) in
       subst (IsReadFrom v) same (refl, (n, found_is v.place (read n (without_dot_slash (script_file v.text))) one.x one.is))
 
-  further : (type : List ℕ) (v : OptionValue) (vs : List OptionValue) (script : Plain) → (script_type v.text ≡ type → ⊥) → IsScriptGiven read vs type script → IsScriptGiven read (v ∷ vs) type script
+  further : (type : List ℕ) (v : OptionValue) (vs : List OptionValue) (script : Plain) → (script_type v.text ≡ type → ⊥) → IsScriptOfOptionsOrNull read vs type script → IsScriptOfOptionsOrNull read (v ∷ vs) type script
   further type v vs script other (inl (bytes, g, e)) =
       inl (bytes, record { option = g.option; given = inr g.given; of_type = g.of_type; number = g.number; found = g.found }, e)
   further type v vs script other (inr (none, e)) = inr (not_given, e)
@@ -37,14 +37,14 @@ module _ (read : Reads) where
       not_given o (inl is) t = other (ap (λ (x : OptionValue). script_type x.text) (sym is) ∙ t)
       not_given o (inr more) t = none o more t
 
-  given : (type : List ℕ) (vs : List OptionValue) (ss : List Script) → AllOf IsReadFrom vs ss → IsScriptGiven read vs type (blob_or_null (script_bytes_of_field ss type))
+  given : (type : List ℕ) (vs : List OptionValue) (ss : List Script) → AllOf IsReadFrom vs ss → IsScriptOfOptionsOrNull read vs type (blob_or_null (script_bytes_of_field ss type))
   given type [] [] all = inr ((λ o h t. absurd h), refl)
   given type [] (s ∷ ss) all = absurd all
   given type (v ∷ vs) [] all = absurd all
   given type (v ∷ vs) (s ∷ ss) all = by_type (bytes_eq s.field type) refl (given type vs ss all.1)
     where
-      by_type : (b : Bool) → bytes_eq s.field type ≡ b → IsScriptGiven read vs type (blob_or_null (script_bytes_of_field ss type))
-          → IsScriptGiven read (v ∷ vs) type (blob_or_null (if b then s.bytes else script_bytes_of_field ss type))
+      by_type : (b : Bool) → bytes_eq s.field type ≡ b → IsScriptOfOptionsOrNull read vs type (blob_or_null (script_bytes_of_field ss type))
+          → IsScriptOfOptionsOrNull read (v ∷ vs) type (blob_or_null (if b then s.bytes else script_bytes_of_field ss type))
       by_type true e rest =
           let is : s.field ≡ type = (bytes_eq-Decides s.field type).0 e in
           inl (s.bytes, record { option = v; given = inl refl; of_type = all.0.0 ∙ is; number = all.0.1.0; found = all.0.1.1 }, refl)
@@ -64,8 +64,8 @@ module _ (read : Reads) where
   script_stands scripts type (inr (inr (inr (inr (inr (inr (inl e))))))) = subst (Stands scripts) (sym e) (nth_obj (script_fields scripts) 6)
   script_stands scripts type (inr (inr (inr (inr (inr (inr (inr h))))))) = absurd h
 
-  pub scripts_given : (values : List OptionValue) (scripts : List Script) (type : List ℕ) → scripts_from read 0 values ≡ Ok scripts → IsIn type script_types
-      → IsScriptGiven read values type (field_named Scripts type (value_of_scripts scripts))
+  pub scripts_given : (values : List OptionValue) (scripts : List Script) (type : List ℕ) → scripts_from_read read 0 values ≡ Ok scripts → IsIn type script_types
+      → IsScriptOfOptionsOrNull read values type (field_named Scripts type (value_of_scripts scripts))
   scripts_given values scripts type e h =
-      subst (IsScriptGiven read values type) (sym (script_stands scripts type h))
+      subst (IsScriptOfOptionsOrNull read values type) (sym (script_stands scripts type h))
       (given type values scripts (each_read IsReadFrom (λ v. 1) (script_at read) script_is 0 values scripts e))

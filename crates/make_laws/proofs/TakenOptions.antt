@@ -12,10 +12,10 @@ use Rattle.dep_core.specs.Spelling.{SpellsDependency}
 use Rattle.make_core.specs.make_info.declared.field.Field.{Field}
 use Rattle.make_core.specs.make_info.declared.field.Field.TheVariants as Fields
 use Rattle.make_core.specs.make_info.Fields.{FieldValue, field_word, kind_of_field, may_repeat, values_by_kind}
-use Rattle.make_core.specs.make_info.FieldTexts.{FieldText, field_text_in, is_option_for_field, is_same_field, is_text_for_field}
+use Rattle.make_core.specs.make_info.FieldTexts.{FieldText, field_text_in, is_option_for_field, is_same_field, gives_value_for_field}
 use Rattle.make_core.specs.make_info.Information.{items_of_text, offends, gives_single_field_again, items_with_values_of_field}
 use Rattle.make_core.proofs.make_info.Reading.{same_field}
-use Rattle.make_laws.specs.OptionGrammar.{IsGivenFor, IsTakenOption, is_list_field, option_text}
+use Rattle.make_laws.specs.OptionGrammar.{IsGivenFor, IsAcceptedInfoOption, is_list_field, option_text}
 use Rattle.make_laws.proofs.FieldValues.{says_from, says_to}
 use Rattle.make_laws.proofs.OptionTexts.{given, text_is}
 
@@ -44,13 +44,13 @@ list_is Fields.Tags = refl
 for_is : (f : Field) (v : OptionValue) → is_option_for_field f v ≡ true → IsGivenFor f v
 for_is f v e = by_text (field_text_in v.text) refl e
   where
-    by_text : (o : Option FieldText) → field_text_in v.text ≡ o → is_text_for_field f o ≡ true → IsGivenFor f v
+    by_text : (o : Option FieldText) → field_text_in v.text ≡ o → gives_value_for_field f o ≡ true → IsGivenFor f v
     by_text None is e = absurd (cc (e))
     by_text (Some g) is e = (g.value, text_is v.text g is ∙ ap (λ (h : Field). option_text h g.value) (same_field g.field f e))
 
 for_given : (f : Field) (v : OptionValue) → IsGivenFor f v → is_option_for_field f v ≡ true
 for_given f v (value, e) =
-    ap (is_text_for_field f) (ap field_text_in e ∙ given f value) ∙ (bytes_eq-Decides (field_word f) (field_word f)).1 refl
+    ap (gives_value_for_field f) (ap field_text_in e ∙ given f value) ∙ (bytes_eq-Decides (field_word f) (field_word f)).1 refl
 
 none_before : (f : Field) (before : List OptionValue) → list_any (is_option_for_field f) before ≡ false → (other : OptionValue) → IsIn other before → IsGivenFor f other → ⊥
 none_before f [] e other h g = h
@@ -72,7 +72,7 @@ none_given f (v ∷ vs) none = by_test (is_option_for_field f v) refl (none_give
 
 abbrev offends_given : Bool → List OptionValue → Option FieldText → Bool
 offends_given too_long before o =
-    not (is_some (option_and_then items_of_text o)) || (gives_single_field_again before o || (too_long && is_text_for_field Fields.Version o))
+    not (is_some (option_and_then items_of_text o)) || (gives_single_field_again before o || (too_long && gives_value_for_field Fields.Version o))
 
 some_said : (f : Field) (o : Option (List FieldValue)) → not (is_some (items_with_values_of_field [] f o)) ≡ false → (said : List FieldValue) × (o ≡ Some said)
 some_said f None e = absurd (cc (e))
@@ -107,7 +107,7 @@ all_false : (a b c : Bool) → a ≡ false → b ≡ false → c ≡ false → (
 all_false a b c ea eb ec = λ k. ea k || (eb k || ec k)
 
 module _ (spelled : (t : List ℕ) (d : Dependency) → dependency_of t ≡ Some d → SpellsDependency t d) (read : (t : List ℕ) (d : Dependency) → SpellsDependency t d → dependency_of t ≡ Some d) where
-  taken_by : (too_long : Bool) (before : List OptionValue) (v : OptionValue) (o : Option FieldText) → field_text_in v.text ≡ o → offends_given too_long before o ≡ false → IsTakenOption too_long before v
+  taken_by : (too_long : Bool) (before : List OptionValue) (v : OptionValue) (o : Option FieldText) → field_text_in v.text ≡ o → offends_given too_long before o ≡ false → IsAcceptedInfoOption too_long before v
   taken_by too_long before v None is e = absurd (cc (e))
   taken_by too_long before v (Some g) is e =
       let f : Field = g.field in
@@ -124,10 +124,10 @@ module _ (spelled : (t : List ℕ) (d : Dependency) → dependency_of t ≡ Some
         short = version_apart too_long f two.1;
       }
 
-  pub taken : (too_long : Bool) (before : List OptionValue) (v : OptionValue) → offends too_long before v ≡ false → IsTakenOption too_long before v
+  pub taken : (too_long : Bool) (before : List OptionValue) (v : OptionValue) → offends too_long before v ≡ false → IsAcceptedInfoOption too_long before v
   taken too_long before v e = taken_by too_long before v (field_text_in v.text) refl e
 
-  pub not_offended : (too_long : Bool) (before : List OptionValue) (v : OptionValue) → IsTakenOption too_long before v → offends too_long before v ≡ false
+  pub not_offended : (too_long : Bool) (before : List OptionValue) (v : OptionValue) → IsAcceptedInfoOption too_long before v → offends too_long before v ≡ false
   not_offended too_long before v t =
       let f : Field = t.field in
       let g : Option FieldText = Some (record { field = f; value = t.value }) in

@@ -17,7 +17,7 @@ use Rattle.make_core.specs.make_info.declared.field.Field.{Field}
 use Rattle.make_core.specs.make_info.declared.field.Field.TheVariants as Fields
 use Rattle.make_core.specs.make_info.Fields.{FieldValue, text, number, need, field_word, kind_of_field, values_by_kind}
 use Rattle.make_core.specs.make_info.FieldTexts.{FieldText, field_text_in, is_same_field, is_default_output_too_long, values_of_info}
-use Rattle.make_core.specs.make_info.Information.{FieldWithValue, items_of_valid_options, first_offence, field_with_value, information_fields, information_of, information_value, is_item_for, item_value, items_of_option, items_of_text, lacks_name_or_version, number_in, offends, plain_value, plain_values_of_field, replaces_priority, unless_offence, value_of_list_field, value_of_single_field, items_with_values_of_field}
+use Rattle.make_core.specs.make_info.Information.{FieldWithValue, items_of_valid_options, place_of_first_offending_option, field_with_value, information_fields, information_of, information_value, is_item_for, item_value_or_null, items_of_option, items_of_text, lacks_name_or_version, number_in, offends, plain_value, plain_values_of_field, replaces_priority, unless_offence, value_of_list_field, value_of_single_field, items_with_values_of_field}
 use Rattle.make_core.specs.make_info.Values.{number_value}
 use Rattle.make_core.proofs.make_info.Reading.{same_field}
 use Rattle.make_laws.specs.NamedFields.{field_named}
@@ -94,12 +94,12 @@ module _ (spelled : (t : List ℕ) (d : Dependency) → dependency_of t ≡ Some
   allowed_first true b e = refl
   allowed_first false b e = absurd (cc (e))
 
-  pub say_of_field : (f : Field) (too_long : Bool) (before told : List OptionValue) → first_offence too_long before told ≡ None → OptionsGiveFieldValues f told (values_for f (items_of_valid_options told))
+  pub say_of_field : (f : Field) (too_long : Bool) (before told : List OptionValue) → place_of_first_offending_option too_long before told ≡ None → OptionsGiveFieldValues f told (values_for f (items_of_valid_options told))
   say_of_field f too_long before [] e = refl
   say_of_field f too_long before (v ∷ vs) e = by_offence (offends too_long before v) refl e (say_of_field f too_long (before ++ v ∷ []) vs)
     where
-      by_offence : (b : Bool) → offends too_long before v ≡ b → (if b then Some v.place else first_offence too_long (before ++ v ∷ []) vs) ≡ None
-          → (first_offence too_long (before ++ v ∷ []) vs ≡ None → OptionsGiveFieldValues f vs (values_for f (items_of_valid_options vs))) → OptionsGiveFieldValues f (v ∷ vs) (values_for f (items_of_valid_options (v ∷ vs)))
+      by_offence : (b : Bool) → offends too_long before v ≡ b → (if b then Some v.place else place_of_first_offending_option too_long (before ++ v ∷ []) vs) ≡ None
+          → (place_of_first_offending_option too_long (before ++ v ∷ []) vs ≡ None → OptionsGiveFieldValues f vs (values_for f (items_of_valid_options vs))) → OptionsGiveFieldValues f (v ∷ vs) (values_for f (items_of_valid_options (v ∷ vs)))
       by_offence true o e further = absurd (cc (e))
       by_offence false o e further =
           let one = some_items (items_of_option v) (allowed_first (is_some (items_of_option v)) _ o) in
@@ -123,12 +123,12 @@ tells_all : (f : Field) (items : List FieldWithValue) (v : Plain) → v ≡ valu
 tells_all f items v e =
     ap (λ (u : Plain). list_of (entries_in u)) e ∙ (ap list_of (entries_arr (plain_values_of_field f items)) ∙ told_list f items)
 
-told_first : (f : Field) (items : List FieldWithValue) → HasFirstValue (values_for f items) (item_value (find (is_item_for f) items))
+told_first : (f : Field) (items : List FieldWithValue) → HasFirstValue (values_for f items) (item_value_or_null (find (is_item_for f) items))
 told_first f [] = refl
 told_first f (x ∷ xs) = by_test (is_item_for f x) (told_first f xs)
   where
-    by_test : (b : Bool) → HasFirstValue (values_for f xs) (item_value (find (is_item_for f) xs))
-        → HasFirstValue (map (λ (i : FieldWithValue). i.value) (cond b (x ∷ filter (is_item_for f) xs) (filter (is_item_for f) xs))) (item_value (cond b (Some x) (find (is_item_for f) xs)))
+    by_test : (b : Bool) → HasFirstValue (values_for f xs) (item_value_or_null (find (is_item_for f) xs))
+        → HasFirstValue (map (λ (i : FieldWithValue). i.value) (cond b (x ∷ filter (is_item_for f) xs) (filter (is_item_for f) xs))) (item_value_or_null (cond b (Some x) (find (is_item_for f) xs)))
     by_test true e = refl
     by_test false e = e
 
@@ -183,7 +183,7 @@ all_numbers [] said e = subst AreNumbers (sym e) tt
 all_numbers (v ∷ vs) said (here, further, one, rest, e) =
     subst AreNumbers (sym e) (numbers_append here further (one_number v here one) (all_numbers vs further rest))
 
-first_number : (f : Field) (items : List FieldWithValue) → AreNumbers (values_for f items) → number_value (option_and_then (λ (item : FieldWithValue). number_in item.value) (find (is_item_for f) items)) ≡ item_value (find (is_item_for f) items)
+first_number : (f : Field) (items : List FieldWithValue) → AreNumbers (values_for f items) → number_value (option_and_then (λ (item : FieldWithValue). number_in item.value) (find (is_item_for f) items)) ≡ item_value_or_null (find (is_item_for f) items)
 first_number f [] all = refl
 first_number f (x ∷ xs) all = by_test (is_item_for f x) all (first_number f xs)
   where
@@ -193,8 +193,8 @@ first_number f (x ∷ xs) all = by_test (is_item_for f x) all (first_number f xs
     own (need d) said a = absurd a
 
     by_test : (b : Bool) → AreNumbers (map (λ (i : FieldWithValue). i.value) (cond b (x ∷ filter (is_item_for f) xs) (filter (is_item_for f) xs)))
-        → (AreNumbers (values_for f xs) → number_value (option_and_then (λ (item : FieldWithValue). number_in item.value) (find (is_item_for f) xs)) ≡ item_value (find (is_item_for f) xs))
-        → number_value (option_and_then (λ (item : FieldWithValue). number_in item.value) (cond b (Some x) (find (is_item_for f) xs))) ≡ item_value (cond b (Some x) (find (is_item_for f) xs))
+        → (AreNumbers (values_for f xs) → number_value (option_and_then (λ (item : FieldWithValue). number_in item.value) (find (is_item_for f) xs)) ≡ item_value_or_null (find (is_item_for f) xs))
+        → number_value (option_and_then (λ (item : FieldWithValue). number_in item.value) (cond b (Some x) (find (is_item_for f) xs))) ≡ item_value_or_null (cond b (Some x) (find (is_item_for f) xs))
     by_test true a further = own x.value (values_for f xs) a
     by_test false a further = further a
 
@@ -206,10 +206,10 @@ told_priority told items say v e =
 -- ---- the information of a command
 
 pub record AreItemsOf (too_long : Bool) (told : List OptionValue) (items : List FieldWithValue) : Type 0 where
-  pub none : first_offence too_long [] told ≡ None
+  pub none : place_of_first_offending_option too_long [] told ≡ None
   pub all : items ≡ items_of_valid_options told
 
-items_by : (too_long : Bool) (told : List OptionValue) (behind : ℕ) (items : List FieldWithValue) (o : Option ℕ) (lacks : Bool) → first_offence too_long [] told ≡ o
+items_by : (too_long : Bool) (told : List OptionValue) (behind : ℕ) (items : List FieldWithValue) (o : Option ℕ) (lacks : Bool) → place_of_first_offending_option too_long [] told ≡ o
     → unless_offence o (if lacks then Err behind else Ok (items_of_valid_options told)) ≡ Ok items → AreItemsOf too_long told items
 items_by too_long told behind items (Some place) lacks is e = absurd (cc (e))
 items_by too_long told behind items None true is e = absurd (cc (e))
@@ -218,4 +218,4 @@ items_by too_long told behind items None false is e = let same : items_of_valid_
 pub items_of : (values : List OptionValue) (behind : ℕ) (items : List FieldWithValue) → information_of values behind ≡ Ok items → AreItemsOf (is_default_output_too_long values) (values_of_info values) items
 unfolding information_of
 items_of values behind items e =
-    items_by (is_default_output_too_long values) (values_of_info values) behind items (first_offence (is_default_output_too_long values) [] (values_of_info values)) (lacks_name_or_version (values_of_info values)) refl e
+    items_by (is_default_output_too_long values) (values_of_info values) behind items (place_of_first_offending_option (is_default_output_too_long values) [] (values_of_info values)) (lacks_name_or_version (values_of_info values)) refl e

@@ -18,13 +18,16 @@ use Rattle.make_core.specs.FilesBelow.{path_joined_to_folder}
 use Rattle.make_core.specs.make_info.Reads.{Reads}
 use Rattle.make_core.specs.make_package.Making.{made_package}
 use Rattle.make_core.specs.package_files.Sources.{AreNamesBelowFirstFolder, values_of_letter}
-use Rattle.make_laws.specs.NamedFields.{IsAccessOfRoot, entries_named, field_named}
+use Rattle.make_laws.specs.NamedFields.{IsAccessOfRoot, entries_of_field_named, field_named}
 
 -- `mkpkg` makes these bytes, fewer than 2^64, from names below the given folder
 pub record IsMadePackage (command : CommandLine) (names : List (List ℕ)) (read : Reads)
     (bytes : List ℕ) : Type 0 where
+  -- the names are below the folder of the option `-F`
   pub below : AreNamesBelowFirstFolder (values_of_letter FILES command.values) names
+  -- `mkpkg` answers Ok with these bytes
   pub made : made_package command names read ≡ Ok bytes
+  -- the length of the package is below 2^64
   pub short : length bytes < 2 ^ 64
 
 -- the value of the package in a container
@@ -34,8 +37,10 @@ package_in_container bytes = root_value Package (payload_in bytes)
 -- ---- folders and files
 
 -- the folders of a package are in byte order of their names, each once, and so are the files of each
-pub record IsInByteOrder (pkg : Plain) : Type 0 where
+pub record HasFoldersAndFilesInByteOrder (pkg : Plain) : Type 0 where
+  -- the names of the folders are in byte order, each once
   pub folders : AreSortedDistinctNames (map name_of (folders_in pkg))
+  -- the names of the files of each folder are in byte order, each once
   pub files : All (λ folder. AreSortedDistinctNames (map name_of (files_in folder))) (folders_in pkg)
 
 -- the folder is above the path: it is the root, or the path is below it, at any depth
@@ -84,16 +89,18 @@ abbrev pub IsReadableFile : Plain → Type 0
 IsReadableFile file = IsAccessOfRoot READABLE_FILE_MODE (field_named File (codes "acl") file)
 
 -- a folder may be entered by all, and its files be read
-pub record IsEnterableFolder (folder : Plain) : Type 0 where
+pub record IsEnterableWithReadableFiles (folder : Plain) : Type 0 where
+  -- the folder's access list gives the mode of an enterable folder, and `root` as user and group
   pub itself : IsAccessOfRoot ENTERABLE_FOLDER_MODE (field_named Dir (codes "acl") folder)
+  -- each file directly in the folder may be read by all
   pub files : All IsReadableFile (files_in folder)
 
 -- ---- triggers and sizes
 
 -- the triggers of a package are the texts of `-t`, in the order given
-abbrev pub HasTriggersInOrder : List OptionValue → Plain → Type 0
-HasTriggersInOrder values pkg =
-    map text_in (entries_named Package (codes "triggers") pkg)
+abbrev pub HasTriggersOfOptionsInOrder : List OptionValue → Plain → Type 0
+HasTriggersOfOptionsInOrder values pkg =
+    map text_in (entries_of_field_named Package (codes "triggers") pkg)
     ≡ map (λ (v : OptionValue). v.text) (filter (λ (v : OptionValue). v.letter == TRIGGER) values)
 
 -- the size in a file's entry
@@ -101,7 +108,7 @@ abbrev pub listed_file_size : Plain → ℕ
 listed_file_size file = int_in (field_named File (codes "size") file)
 
 -- the installed size of a package is the sum of its files' sizes
-abbrev pub HasSizeOfFiles : Plain → Type 0
-HasSizeOfFiles pkg =
+abbrev pub HasInstalledSizeOfItsFiles : Plain → Type 0
+HasInstalledSizeOfItsFiles pkg =
     int_in (field_named PkgInfo (codes "installed-size") (field_named Package (codes "info") pkg))
     ≡ sum_by listed_file_size (flat_map files_in (folders_in pkg))

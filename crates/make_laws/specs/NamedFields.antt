@@ -22,11 +22,14 @@ abbrev pub field_named : Which → List ℕ → Plain → Plain
 field_named which name v = entry_in v (place_of_name name (table which))
 
 -- the entries of the field of this name, which is an array
-abbrev pub entries_named : Which → List ℕ → Plain → List Plain
-entries_named which name v = list_of (entries_in (field_named which name v))
+abbrev pub entries_of_field_named : Which → List ℕ → Plain → List Plain
+entries_of_field_named which name v = list_of (entries_in (field_named which name v))
 
 -- an access list gives this mode, with `root` as user and group
 pub record IsAccessOfRoot (mode : ℕ) (acl : Plain) : Type 0 where
+  -- the mode, as a number
   pub of_mode : field_named Acl (codes "mode") acl ≡ int mode
+  -- the user is `root`
   pub of_user : field_named Acl (codes "user") acl ≡ blob (codes "root")
+  -- the group is `root`
   pub of_group : field_named Acl (codes "group") acl ≡ blob (codes "root")

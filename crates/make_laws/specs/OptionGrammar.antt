@@ -103,13 +103,20 @@ IsGivenFor f option = (value : List ℕ) × (option.text ≡ option_text f value
 
 -- an option is accepted after those before it: its value is one of its field; if the field is no list, it
 -- is the first; and it is no version that makes NAME-VERSION.apk too long (`too_long`)
-pub record IsTakenOption (too_long : Bool) (before : List OptionValue) (option : OptionValue) :
+pub record IsAcceptedInfoOption (too_long : Bool) (before : List OptionValue) (option : OptionValue) :
     Type 0 where
+  -- the field that the option names
   pub field : Field
+  -- the text that the option gives for this field
   pub value : List ℕ
+  -- the option is spelled with the field's name and this text
   pub given : option.text ≡ option_text field value
+  -- the values that the text gives, several for a list field
   pub said : List FieldValue
+  -- the grammar of the field allows the text, with these values
   pub allowed : FieldTextGivesValues field value said
+  -- if the field is no list, no earlier option is given for it
   pub first : is_list_field field ≡ false → (other : OptionValue) → IsIn other before
       → IsGivenFor field other → ⊥
+  -- if a version would make NAME-VERSION.apk too long, the field is not the version
   pub short : too_long ≡ true → field ≢ Fields.Version

@@ -61,7 +61,10 @@ field_value_in_package f pkg =
     field_named PkgInfo (field_word f) (field_named Package (codes "info") pkg)
 
 -- the package has what the options `-I` of a command give for the field
-pub record HasValuesOfOptions (f : Field) (values : List OptionValue) (pkg : Plain) : Type 0 where
+pub record HasFieldValuesOfOptions (f : Field) (values : List OptionValue) (pkg : Plain) : Type 0 where
+  -- the values that the options give for the field
   pub said : List FieldValue
+  -- the options `-I` give these values
   pub say : OptionsGiveFieldValues f (filter (λ (v : OptionValue). v.letter == INFO) values) said
+  -- the field's value in the package has them
   pub tells : HasValuesOfField f said (field_value_in_package f pkg)

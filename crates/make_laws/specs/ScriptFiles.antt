@@ -15,10 +15,15 @@ use Rattle.std.specs.Prelude.{codes}
 -- an option gives a script of this type, and a read finds its file with these bytes
 pub record IsGivenScript (read : Reads) (options : List OptionValue) (type bytes : List ℕ) :
     Type 0 where
+  -- the option that names the script
   pub option : OptionValue
+  -- it is one of the given options
   pub given : IsIn option options
+  -- it gives a script of the wanted type
   pub of_type : script_type option.text ≡ type
+  -- the number of the read
   pub number : ℕ
+  -- this read of the script's file returns the wanted bytes
   pub found : read number (without_dot_slash (script_file option.text)) ≡ Some bytes
 
 -- no option gives a script of this type
@@ -27,8 +32,8 @@ IsNotGiven options type =
     (option : OptionValue) → IsIn option options → script_type option.text ≡ type → ⊥
 
 -- the script of the type in a package: the one that is given, or none if none is given
-abbrev pub IsScriptGiven : Reads → List OptionValue → List ℕ → Plain → Type 0
-IsScriptGiven read options type script =
+abbrev pub IsScriptOfOptionsOrNull : Reads → List OptionValue → List ℕ → Plain → Type 0
+IsScriptOfOptionsOrNull read options type script =
     ((bytes : List ℕ) × IsGivenScript read options type bytes × (script ≡ blob_or_null bytes))
     ⊎ (IsNotGiven options type × (script ≡ null))
 

@@ -7,8 +7,11 @@ use Rattle.std.specs.Str.{is_utf8}
 
 -- the bytes of a file are those of a symbolic link: a mark and a text, which is the link's target
 pub record IsLinkTo (target bytes : List ℕ) : Type 0 where
+  -- the bytes begin with this mark, and the target follows
   pub marked : bytes ≡ codes "!<symlink>" ++ target
+  -- the target is not empty
   pub some : target ≢ []
+  -- the target is UTF-8 text
   pub utf8 : is_utf8 target ≡ true
 
 -- the bytes of a file are those of no link

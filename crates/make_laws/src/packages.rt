@@ -11,9 +11,9 @@ ghost use Rattle.command_core.specs.declared.values.TheConstants.{FILES, SCRIPT}
 ghost use Rattle.make_core.specs.make_info.declared.field.Field.{Field};
 ghost use Rattle.make_core.specs.make_info.Reads.{Reads};
 ghost use Rattle.make_core.specs.package_files.Sources.{values_of_letter};
-ghost use Rattle.make_laws.specs.MadePackages.{HasJustFoldersAbove, HasSizeOfFiles, HasTriggersInOrder, IsEnterableFolder, IsInByteOrder, IsMadePackage, package_in_container};
-ghost use Rattle.make_laws.specs.SaidOfFields.{HasValuesOfOptions};
-ghost use Rattle.make_laws.specs.ScriptFiles.{IsScriptGiven, script_named};
+ghost use Rattle.make_laws.specs.MadePackages.{HasJustFoldersAbove, HasInstalledSizeOfItsFiles, HasTriggersOfOptionsInOrder, IsEnterableWithReadableFiles, HasFoldersAndFilesInByteOrder, IsMadePackage, package_in_container};
+ghost use Rattle.make_laws.specs.SaidOfFields.{HasFieldValuesOfOptions};
+ghost use Rattle.make_laws.specs.ScriptFiles.{IsScriptOfOptionsOrNull, script_named};
 ghost use Rattle.std.specs.Prelude.{◌≡◌, ◌∷◌, ℕ, All, List};
 
 use dep_core::{read_texts_are_spelled, spelled_texts_are_read};
@@ -23,7 +23,8 @@ use make_core::{a_made_package_is_read_back, each_name_is_in_one_folder};
 /// each folder.
 pub fn a_made_package_is_in_byte_order()
     ensures { (command : CommandLine) (names : List (List ℕ)) (read : Reads) (bytes : List ℕ)
-        → IsMadePackage command names read bytes → IsInByteOrder (package_in_container bytes) }
+        → IsMadePackage command names read bytes
+        → HasFoldersAndFilesInByteOrder (package_in_container bytes) }
 {
     a_made_package_is_read_back();
 }
@@ -44,7 +45,7 @@ pub fn a_made_package_has_just_the_folders_above_its_paths()
 pub fn a_made_package_may_be_read_by_all()
     ensures { (command : CommandLine) (names : List (List ℕ)) (read : Reads) (bytes : List ℕ)
         → IsMadePackage command names read bytes
-        → All IsEnterableFolder (folders_in (package_in_container bytes)) }
+        → All IsEnterableWithReadableFiles (folders_in (package_in_container bytes)) }
 {
     a_made_package_is_read_back();
 }
@@ -53,7 +54,7 @@ pub fn a_made_package_may_be_read_by_all()
 pub fn a_made_package_has_its_triggers_in_order()
     ensures { (command : CommandLine) (names : List (List ℕ)) (read : Reads) (bytes : List ℕ)
         → IsMadePackage command names read bytes
-        → HasTriggersInOrder command.values (package_in_container bytes) }
+        → HasTriggersOfOptionsInOrder command.values (package_in_container bytes) }
 {
     a_made_package_is_read_back();
 }
@@ -63,7 +64,7 @@ pub fn a_made_package_has_its_triggers_in_order()
 pub fn a_made_package_has_its_scripts()
     ensures { (command : CommandLine) (names : List (List ℕ)) (read : Reads) (bytes : List ℕ)
         (type : List ℕ) → IsMadePackage command names read bytes → IsIn type script_types
-        → IsScriptGiven read (values_of_letter SCRIPT command.values) type
+        → IsScriptOfOptionsOrNull read (values_of_letter SCRIPT command.values) type
         (script_named type (package_in_container bytes)) }
 {
     a_made_package_is_read_back();
@@ -74,7 +75,7 @@ pub fn a_made_package_has_its_scripts()
 pub fn a_made_package_has_the_values_of_its_options()
     ensures { (command : CommandLine) (names : List (List ℕ)) (read : Reads) (bytes : List ℕ)
         (f : Field) → IsMadePackage command names read bytes
-        → HasValuesOfOptions f command.values (package_in_container bytes) }
+        → HasFieldValuesOfOptions f command.values (package_in_container bytes) }
 {
     a_made_package_is_read_back();
     read_texts_are_spelled();
@@ -84,7 +85,8 @@ pub fn a_made_package_has_the_values_of_its_options()
 /// The installed size of a package is the sum of its files' sizes.
 pub fn a_made_package_has_the_size_of_its_files()
     ensures { (command : CommandLine) (names : List (List ℕ)) (read : Reads) (bytes : List ℕ)
-        → IsMadePackage command names read bytes → HasSizeOfFiles (package_in_container bytes) }
+        → IsMadePackage command names read bytes
+        → HasInstalledSizeOfItsFiles (package_in_container bytes) }
 {
     a_made_package_is_read_back();
 }

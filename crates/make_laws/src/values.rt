@@ -20,7 +20,7 @@ ghost use Rattle.make_core.specs.make_info.Values.{number_value, plains_of_list}
 ghost use Rattle.make_core.specs.make_info.declared.field.Field.{Field};
 ghost use Rattle.make_laws.specs.MadePackages.{package_in_container};
 ghost use Rattle.make_laws.specs.NamedFields.{field_named};
-ghost use Rattle.make_laws.specs.OptionGrammar.{IsTakenOption, FieldTextGivesValues, option_text};
+ghost use Rattle.make_laws.specs.OptionGrammar.{IsAcceptedInfoOption, FieldTextGivesValues, option_text};
 ghost use Rattle.make_laws.specs.SourceBytes.{IsLinkTo, AreBytesOfNoLink};
 ghost use Rattle.make_core.specs.package_files.Package.{value_of_file};
 ghost use Rattle.make_core.specs.pkg_core.Whole.{package_id};
@@ -49,7 +49,7 @@ pub fn a_value_is_taken_by_the_grammar_of_its_field()
 /// A value of `-I` offends after those before it exactly if it is not accepted.
 pub fn an_option_offends_unless_it_is_taken()
     ensures { (too_long : Bool) (before : List OptionValue) (option : OptionValue)
-        → offends too_long before option ≡ false ↔ IsTakenOption too_long before option }
+        → offends too_long before option ≡ false ↔ IsAcceptedInfoOption too_long before option }
 {
     read_texts_are_spelled();
     spelled_texts_are_read();
@@ -82,8 +82,10 @@ pub fn an_entry_describes_the_bytes_of_its_file()
 /// The value of an option is stored unchanged: a text, a number, also 0, and for a dependency the
 /// name, the version and the match number.
 pub fn a_value_is_stored_as_given()
+    // A text is stored as its bytes, and an empty one as NULL.
     ensures text { (bytes : List ℕ) → plain_value (text bytes) ≡ blob_or_null bytes }
     ensures number { (n : ℕ) → plain_value (number n) ≡ int n }
+    // A dependency is stored as its name, its version and its match number.
     ensures need { (d : Dependency)
         → (let told = plain_value (need d) in
         (field_named Dep (codes "name") told ≡ blob_or_null (dep_value d).name)
@@ -94,10 +96,13 @@ pub fn a_value_is_stored_as_given()
 /// An entry of an index has the package's id and the length of its file. Each other field, by its
 /// name, is the one of the package's information, without zeros.
 pub fn an_entry_has_the_values_of_its_package()
+    // The field `hashes` is the package's id.
     ensures id { (file : List ℕ) → field_named PkgInfo (codes "hashes") (entry_of_package file)
         ≡ blob_or_null (package_id file) }
+    // The field `file-size` is the length of the package's file.
     ensures length { (file : List ℕ)
         → int_in (field_named PkgInfo (codes "file-size") (entry_of_package file)) ≡ length file }
+    // Each other field is that of the package's information, without zeros.
     ensures others { (file name : List ℕ) → name ≢ codes "hashes" → name ≢ codes "file-size"
         → field_named PkgInfo name (entry_of_package file) ≡ without_zeros
         (field_named PkgInfo name (field_named Package (codes "info")
@@ -107,8 +112,11 @@ pub fn an_entry_has_the_values_of_its_package()
 /// A value without zeros is read the same: it has the same number, the same text, and the same
 /// entries. None of its entries is the number 0.
 pub fn values_without_zeros_tell_the_same()
+    // The value has the same number.
     ensures number { (v : Plain) → int_in (without_zeros v) ≡ int_in v }
+    // The value has the same text.
     ensures text { (v : Plain) → text_in (without_zeros v) ≡ text_in v }
+    // Its entries are those of the value, without zeros.
     ensures entries { (v : Plain) (i : ℕ)
         → entry_in (without_zeros v) i ≡ without_zeros (entry_in v i) }
     ensures none_zero { (v : Plain) → without_zeros v ≢ int 0 }

@@ -16,7 +16,7 @@ use Rattle.adb_block.specs.Written.{block_bytes}
 use Rattle.adb_view.specs.Plain.{Plain}
 use Rattle.package_files.specs.adb_schema.declared.read.TheConstants.{PACKAGE_WORD}
 use Rattle.package_files.specs.adb_write.Canonical.{PayloadCounts, canonical, or_overflow, overflow_of, payload_or_overflow}
-use Rattle.package_files.specs.adb_write.File.{adb_piece, file_of}
+use Rattle.package_files.specs.adb_write.File.{adb_block_of_payload, file_of}
 use Rattle.package_files.specs.pkg_core.Contents.{Contents}
 use Rattle.command_core.specs.Sound.{value_rules, IsValidCommand, may_both_be_given, rule_for, is_allowed_value, are_allowed_values}
 use Rattle.command_core.specs.declared.values.ValueRule.{ValueRule}
@@ -31,9 +31,9 @@ use Rattle.package_files.specs.Blocks.{contents_block, contents_blocks}
 use Rattle.package_files.specs.make_info.Faults.{IsOverflowFault}
 use Rattle.package_files.specs.make_info.Information.{FieldWithValue, information_value, replaces_priority}
 use Rattle.package_files.specs.adb_sound.Contents.{contents_size}
-use Rattle.package_files.specs.adb_sound.Container.{contents_piece, container_of}
+use Rattle.package_files.specs.adb_sound.Container.{contents_piece, container_of_value_and_contents}
 use Rattle.make_package.specs.Answers.{IsBytes, IsFirstValue, IsNotDisk}
-use Rattle.make_package.specs.Making.{container_unless, package_container}
+use Rattle.make_package.specs.Making.{container_unless_too_large, package_container}
 use Rattle.package_files.specs.Package.{Script, Source, SourceFolder, contents_of_folders, value_of_file, value_of_folder, folder_with, installed_size, kind_of_file, value_of_kind, value_of_package, package_with, size_of_folder, size_of_kind}
 use Rattle.package_files.specs.Packed.{AreFilesFrom, AreFoldersFrom, ArePackedFolders, packed_file, packed_folder, files_size, installed_size_of_folders}
 use Rattle.package_files.specs.Runs.{AgreesOrIsFault}
@@ -213,9 +213,9 @@ sizes_held held blocks folders sources h =
 
 -- ---- the file
 
-pub laid_is : (v : Plain) (contents : List Contents) → file_of PACKAGE_WORD (canonical v) ++ contents_blocks contents ≡ container_of PACKAGE_WORD v contents
+pub laid_is : (v : Plain) (contents : List Contents) → file_of PACKAGE_WORD (canonical v) ++ contents_blocks contents ≡ container_of_value_and_contents PACKAGE_WORD v contents
 laid_is v contents =
-    let piece : Piece = adb_piece (canonical v) in
+    let piece : Piece = adb_block_of_payload (canonical v) in
     let mark : List ℕ = codes "ADB." in
     let schema : List ℕ = to_le_bytes w32 PACKAGE_WORD in
     let payload : List ℕ = flat_map block_bytes (piece ∷ []) in
@@ -226,7 +226,7 @@ laid_is v contents =
     append_assoc mark (schema ++ payload) rest ∙ ap (λ (l : List ℕ). mark ++ l) (append_assoc schema payload rest ∙ ap (λ (l : List ℕ). schema ++ l) tail)
 
 file_ok : (v : Plain) (contents : List Contents) (payload file blocks : List ℕ) (o : Option PayloadCounts) → or_overflow (canonical v) o ≡ Ok payload → blocks ≡ contents_blocks contents
-    → file ≡ file_of PACKAGE_WORD payload ++ blocks → container_unless o v contents ≡ Ok file
+    → file ≡ file_of PACKAGE_WORD payload ++ blocks → container_unless_too_large o v contents ≡ Ok file
 file_ok v contents payload file blocks None w b e =
     let same : canonical v ≡ payload = cc in
     ap Ok (sym (e ∙ ap (λ (p : List ℕ). file_of PACKAGE_WORD p ++ blocks) (sym same) ∙ ap (λ (l : List ℕ). file_of PACKAGE_WORD (canonical v) ++ l) b ∙ laid_is v contents))
@@ -237,7 +237,7 @@ pub package_ok : (v : Plain) (contents : List Contents) (payload file blocks : L
 unfolding payload_or_overflow package_container
 package_ok v contents payload file blocks w b e = file_ok v contents payload file blocks (overflow_of v) w b e
 
-file_large : (v : Plain) (contents : List Contents) (bytes values : ℕ) (o : Option PayloadCounts) → or_overflow (canonical v) o ≡ Err (bytes, values) → container_unless o v contents ≡ Err (TooLarge bytes values)
+file_large : (v : Plain) (contents : List Contents) (bytes values : ℕ) (o : Option PayloadCounts) → or_overflow (canonical v) o ≡ Err (bytes, values) → container_unless_too_large o v contents ≡ Err (TooLarge bytes values)
 file_large v contents bytes values None w = absurd (cc)
 file_large v contents bytes values (Some counts) w =
     let same : counts ≡ (bytes, values) = cc in

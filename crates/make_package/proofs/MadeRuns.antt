@@ -6,7 +6,7 @@ use Rattle.std.specs.Result.{IsErrAnd}
 use Rattle.std.proofs.lemmas.List.{map-append, take-append-drop}
 use Rattle.base_core.specs.Calls.{IfObservable}
 use Rattle.base_core.specs.Read.{OnlyReads}
-use Rattle.base_core.specs.Listed.{AreNamesBelow, IsListOf}
+use Rattle.base_core.specs.Listed.{AreSortedNamesBelowFolder, IsSortedListingOfFolder}
 use Rattle.base_core.specs.Faults.{Counts}
 use Rattle.base_core.specs.Tree.{TreeState}
 use Rattle.command_core.specs.Command.{CommandLine}
@@ -23,7 +23,7 @@ use Rattle.package_files.specs.Package.{SourceFolder}
 use Rattle.package_files.specs.Packed.{IsPacking}
 use Rattle.package_files.specs.Runs.{AgreesOrIsFault, IsExplainedBySomeReads}
 use Rattle.make_package.specs.Scripts.{AreScripts, IsScript, script_view, scripts_view}
-use Rattle.package_files.specs.Sources.{AreNamesBelowFirstFolder, and_then, results_from_read, source_folder_read_at, folders_below, source_folders_from, found_bytes_or_missing, values_of_letter, script_at, scripts_from}
+use Rattle.package_files.specs.Sources.{AreNamesBelowFirstFolder, and_then, results_from_read, source_folder_read_at, source_folders_of_first_option, source_folders_at_place_from_read, found_bytes_or_missing, values_of_letter, script_at, scripts_from_read}
 use Rattle.package_files.specs.make_info.Reads.{Reads}
 use Rattle.package_files.specs.make_info.declared.fault.MakeFault.{MakeFault}
 use Rattle.package_files.specs.make_info.declared.fault.MakeFault.TheVariants.{FileMissing, FileBad, InfoBad, TooLarge, Disk, Memory}
@@ -64,9 +64,9 @@ module _ (told : List TreeState) (values : List OptionValue) (i : ℕ) (v : Opti
       ∙ sym (given_append SCRIPT (take i values) (drop i values)) ∙ ap (values_of_letter SCRIPT) (take-append-drop i values)
 
   pub scripts_stop : (scripts : Vec Script Global) (fault : MakeFault) → IsSoFar told one_read script_at (values_of_letter SCRIPT (take i values)) (AreScripts scripts) → IsNext told script_at v IsScript (Err fault)
-      → (n : ℕ) → IsExplainedBySomeReads told (λ read. AgreesOrIsFault AreScripts (Err fault) (scripts_from read n (values_of_letter SCRIPT values)))
+      → (n : ℕ) → IsExplainedBySomeReads told (λ read. AgreesOrIsFault AreScripts (Err fault) (scripts_from_read read n (values_of_letter SCRIPT values)))
   scripts_stop scripts fault so_far next n =
-      let P : List OptionValue → Type 0 = λ xs. IsExplainedBySomeReads told (λ read. AgreesOrIsFault AreScripts (Err fault) (scripts_from read n xs)) in
+      let P : List OptionValue → Type 0 = λ xs. IsExplainedBySomeReads told (λ read. AgreesOrIsFault AreScripts (Err fault) (scripts_from_read read n xs)) in
       subst P all_given
       (so_far_stops told one_read script_at script_own (values_of_letter SCRIPT (take i values)) v (values_of_letter SCRIPT (drop (i + 1) values)) (AreScripts scripts) IsScript AreScripts fault so_far next n)
 
@@ -91,19 +91,19 @@ ones (x ∷ xs) = let further = ones xs in omega arith
 
 -- ---- scripts, and then folders
 
-folders_rest : (k : ℕ) (ds : List OptionValue) (names : List (List ℕ)) (f g : Reads) → ((m : ℕ) (name : List ℕ) → k ≤ m → f m name ≡ g m name) → folders_below f k ds names ≡ folders_below g k ds names
+folders_rest : (k : ℕ) (ds : List OptionValue) (names : List (List ℕ)) (f g : Reads) → ((m : ℕ) (name : List ℕ) → k ≤ m → f m name ≡ g m name) → source_folders_of_first_option f k ds names ≡ source_folders_of_first_option g k ds names
 folders_rest k [] names f g h = refl
 folders_rest k (v ∷ vs) names f g h = each_rests reads_in (source_folder_read_at v.place) (folder_own v.place) f g k (folder_listings_of (without_dot_slash v.text) names) (λ m name lo hi. h m name lo)
 
 -- scripts and folders are explained together
 pub record AreParts (ss ds : List OptionValue) (names : List (List ℕ)) (scripts : Vec Script Global) (r : Result Packing MakeFault) (read : Reads) : Type 0 where
   pub given : List packages.Script
-  pub are : scripts_from read 0 ss ≡ Ok given
+  pub are : scripts_from_read read 0 ss ≡ Ok given
   pub view : AreScripts scripts given
-  pub rest : AgreesOrIsFault IsPacking r (folders_below read (length given) ds names)
+  pub rest : AgreesOrIsFault IsPacking r (source_folders_of_first_option read (length given) ds names)
 
 pub both_parts : (told : List TreeState) (ss ds : List OptionValue) (names : List (List ℕ)) (scripts : Vec Script Global) (r : Result Packing MakeFault)
-    → IsExplainedBySomeReads told (λ read. AgreesOrIsFault AreScripts (Ok scripts) (scripts_from read 0 ss)) → ((n : ℕ) → IsExplainedBySomeReads told (λ read. AgreesOrIsFault IsPacking r (folders_below read n ds names)))
+    → IsExplainedBySomeReads told (λ read. AgreesOrIsFault AreScripts (Ok scripts) (scripts_from_read read 0 ss)) → ((n : ℕ) → IsExplainedBySomeReads told (λ read. AgreesOrIsFault IsPacking r (source_folders_of_first_option read n ds names)))
     → IsExplainedBySomeReads told (AreParts ss ds names scripts r)
 both_parts told ss ds names scripts r p q =
     let k : ℕ = 0 + total one_read ss in
@@ -112,7 +112,7 @@ both_parts told ss ds names scripts r p q =
     let many : length p.is.0 ≡ length ss = each_long one_read (script_at p.read) 0 ss p.is.0 p.is.1 in
     let counted : total one_read ss ≡ length ss = ones ss in
     let long : k ≡ length p.is.0 = omega arith in
-    let P : ℕ → Type 0 = λ n. AgreesOrIsFault IsPacking r (folders_below both n ds names) in
+    let P : ℕ → Type 0 = λ n. AgreesOrIsFault IsPacking r (source_folders_of_first_option both n ds names) in
     let Q : Result (List SourceFolder) MakeFault → Type 0 = λ w. AgreesOrIsFault IsPacking r w in
     record {
       read = both;
@@ -129,20 +129,20 @@ both_parts told ss ds names scripts r p q =
 
 module _ (command : CommandLine) (names : List (List ℕ)) (read : Reads) where
   abbrev behind_info : List packages.Script → List FieldWithValue → Result (List ℕ) MakeFault
-  behind_info scripts about = and_then (folders_below read (length scripts) (values_of_letter FILES command.values) names) (package_of_parts command scripts about)
+  behind_info scripts about = and_then (source_folders_of_first_option read (length scripts) (values_of_letter FILES command.values) names) (package_of_parts command scripts about)
 
   abbrev after_scripts : List packages.Script → Result (List ℕ) MakeFault
   after_scripts scripts = and_then (or_info_bad (information command)) (behind_info scripts)
 
-  pub scripts_fault : (fault : MakeFault) → AgreesOrIsFault AreScripts (Err fault) (scripts_from read 0 (values_of_letter SCRIPT command.values)) → AgreesOrIsFault IsBytes (Err fault) (made_package command names read)
+  pub scripts_fault : (fault : MakeFault) → AgreesOrIsFault AreScripts (Err fault) (scripts_from_read read 0 (values_of_letter SCRIPT command.values)) → AgreesOrIsFault IsBytes (Err fault) (made_package command names read)
   unfolding made_package
-  scripts_fault fault h = fault_of_part AreScripts IsBytes fault (scripts_from read 0 (values_of_letter SCRIPT command.values)) after_scripts h
+  scripts_fault fault h = fault_of_part AreScripts IsBytes fault (scripts_from_read read 0 (values_of_letter SCRIPT command.values)) after_scripts h
 
-  to_info : (ys : List packages.Script) → scripts_from read 0 (values_of_letter SCRIPT command.values) ≡ Ok ys → made_package command names read ≡ after_scripts ys
+  to_info : (ys : List packages.Script) → scripts_from_read read 0 (values_of_letter SCRIPT command.values) ≡ Ok ys → made_package command names read ≡ after_scripts ys
   unfolding made_package
   to_info ys e = ap (λ (r : Result (List packages.Script) MakeFault). and_then r after_scripts) e
 
-  pub info_fault : (ys : List packages.Script) (fault : MakeFault) → scripts_from read 0 (values_of_letter SCRIPT command.values) ≡ Ok ys → IsInfoFault fault (information command) → AgreesOrIsFault IsBytes (Err fault) (made_package command names read)
+  pub info_fault : (ys : List packages.Script) (fault : MakeFault) → scripts_from_read read 0 (values_of_letter SCRIPT command.values) ≡ Ok ys → IsInfoFault fault (information command) → AgreesOrIsFault IsBytes (Err fault) (made_package command names read)
   info_fault ys (InfoBad place) e h = to_info ys e ∙ ap (λ (r : Result (List FieldWithValue) ℕ). and_then (or_info_bad r) (behind_info ys)) h
   info_fault ys Memory e h = tt
   info_fault ys Disk e h = tt
@@ -150,7 +150,7 @@ module _ (command : CommandLine) (names : List (List ℕ)) (read : Reads) where
   info_fault ys (FileBad p c) e h = absurd h
   info_fault ys (TooLarge b v) e h = absurd h
 
-  to_folders : (ys : List packages.Script) (about : List FieldWithValue) → scripts_from read 0 (values_of_letter SCRIPT command.values) ≡ Ok ys → information command ≡ Ok about → made_package command names read ≡ behind_info ys about
+  to_folders : (ys : List packages.Script) (about : List FieldWithValue) → scripts_from_read read 0 (values_of_letter SCRIPT command.values) ≡ Ok ys → information command ≡ Ok about → made_package command names read ≡ behind_info ys about
   to_folders ys about e i = to_info ys e ∙ ap (λ (r : Result (List FieldWithValue) ℕ). and_then (or_info_bad r) (behind_info ys)) i
 
   pub folders_fault : (scripts : Vec Script Global) (about : List FieldWithValue) (fault : MakeFault) → information command ≡ Ok about
@@ -158,7 +158,7 @@ module _ (command : CommandLine) (names : List (List ℕ)) (read : Reads) where
   folders_fault scripts about fault i h =
       let Q : Result (List ℕ) MakeFault → Type 0 = λ w. AgreesOrIsFault IsBytes (Err fault) w in
       subst Q (sym (to_folders h.given about h.are i))
-      (fault_of_part IsPacking IsBytes fault (folders_below read (length h.given) (values_of_letter FILES command.values) names) (package_of_parts command h.given about) h.rest)
+      (fault_of_part IsPacking IsBytes fault (source_folders_of_first_option read (length h.given) (values_of_letter FILES command.values) names) (package_of_parts command h.given about) h.rest)
 
   pub parts_made : (scripts : Vec Script Global) (about : List FieldWithValue) (packing : Packing) (r : Result (Vec ℕ Global) MakeFault) → information command ≡ Ok about
       → AreParts (values_of_letter SCRIPT command.values) (values_of_letter FILES command.values) names scripts (Ok packing) read
@@ -220,16 +220,16 @@ cut_run told command (Err e) fault h cut = let P : MakeFault → Type 0 = λ f. 
 -- ---- what is said of a command's values, and of lists as they are borrowed
 
 pub scripts_as : (told : List TreeState) (r : Result (Vec Script Global) MakeFault) (values wanted : List OptionValue) → values ≡ wanted
-    → IsExplainedBySomeReads told (λ read. AgreesOrIsFault AreScripts r (scripts_from read 0 (values_of_letter SCRIPT values))) → IsExplainedBySomeReads told (λ read. AgreesOrIsFault AreScripts r (scripts_from read 0 (values_of_letter SCRIPT wanted)))
-scripts_as told r values wanted e h = let P : List OptionValue → Type 0 = λ vs. IsExplainedBySomeReads told (λ read. AgreesOrIsFault AreScripts r (scripts_from read 0 (values_of_letter SCRIPT vs))) in subst P e h
+    → IsExplainedBySomeReads told (λ read. AgreesOrIsFault AreScripts r (scripts_from_read read 0 (values_of_letter SCRIPT values))) → IsExplainedBySomeReads told (λ read. AgreesOrIsFault AreScripts r (scripts_from_read read 0 (values_of_letter SCRIPT wanted)))
+scripts_as told r values wanted e h = let P : List OptionValue → Type 0 = λ vs. IsExplainedBySomeReads told (λ read. AgreesOrIsFault AreScripts r (scripts_from_read read 0 (values_of_letter SCRIPT vs))) in subst P e h
 
 -- folders behind scripts, after which the tree stayed as it was
 pub both_as : (t0 t1 : List TreeState) (command : CommandLine) (values : List OptionValue) (names : List (List ℕ)) (scripts : Vec Script Global) (r : Result Packing MakeFault) → values ≡ command.values → t1 ≡ t0
-    → IsExplainedBySomeReads t0 (λ read. AgreesOrIsFault AreScripts (Ok scripts) (scripts_from read 0 (values_of_letter SCRIPT values))) → ((n : ℕ) → IsExplainedBySomeReads t1 (λ read. AgreesOrIsFault IsPacking r (folders_below read n (values_of_letter FILES values) names)))
+    → IsExplainedBySomeReads t0 (λ read. AgreesOrIsFault AreScripts (Ok scripts) (scripts_from_read read 0 (values_of_letter SCRIPT values))) → ((n : ℕ) → IsExplainedBySomeReads t1 (λ read. AgreesOrIsFault IsPacking r (source_folders_of_first_option read n (values_of_letter FILES values) names)))
     → IsExplainedBySomeReads t0 (AreParts (values_of_letter SCRIPT command.values) (values_of_letter FILES command.values) names scripts r)
 both_as t0 t1 command values names scripts r e same p q =
     let P : List OptionValue → Type 0 = λ vs. IsExplainedBySomeReads t0 (AreParts (values_of_letter SCRIPT vs) (values_of_letter FILES vs) names scripts r) in
-    let Q : List TreeState → Type 0 = λ t. (n : ℕ) → IsExplainedBySomeReads t (λ read. AgreesOrIsFault IsPacking r (folders_below read n (values_of_letter FILES values) names)) in
+    let Q : List TreeState → Type 0 = λ t. (n : ℕ) → IsExplainedBySomeReads t (λ read. AgreesOrIsFault IsPacking r (source_folders_of_first_option read n (values_of_letter FILES values) names)) in
     subst P e (both_parts t0 (values_of_letter SCRIPT values) (values_of_letter FILES values) names scripts r p (subst Q same q))
 
 pub package_as : (command : CommandLine) (about : List FieldWithValue) (borrowed scripts : List Script) (packing : Packing) (r : Result (Vec ℕ Global) MakeFault) → borrowed ≡ scripts
@@ -241,29 +241,29 @@ package_as command about borrowed scripts packing r e made sources is =
 -- ---- of the folder that is given, or of none
 
 pub listed_for : (told : List TreeState) (vs : List OptionValue) (folder : List ℕ) (names : List (List ℕ)) → IsFolder vs folder
-    → IfObservable told (λ w. IsListOf folder w names) → IfObservable told (λ w. AreNamesBelowFirstOption (values_of_letter FILES vs) w names)
+    → IfObservable told (λ w. IsSortedListingOfFolder folder w names) → IfObservable told (λ w. AreNamesBelowFirstOption (values_of_letter FILES vs) w names)
 listed_for told vs folder names f h =
     let P : List OptionValue → Type 0 = λ l. IfObservable told (λ w. AreNamesBelowFirstOption l w names) in
-    let Q : List ℕ → Type 0 = λ d. IfObservable told (λ w. IsListOf d w names) in
+    let Q : List ℕ → Type 0 = λ d. IfObservable told (λ w. IsSortedListingOfFolder d w names) in
     subst P (sym f.first) (subst Q (sym f.name) h)
 
-pub named_for : (vs : List OptionValue) (folder : List ℕ) (names : List (List ℕ)) → IsFolder vs folder → AreNamesBelow folder names → AreNamesBelowFirstFolder (values_of_letter FILES vs) names
+pub named_for : (vs : List OptionValue) (folder : List ℕ) (names : List (List ℕ)) → IsFolder vs folder → AreSortedNamesBelowFolder folder names → AreNamesBelowFirstFolder (values_of_letter FILES vs) names
 named_for vs folder names f h =
     let P : List OptionValue → Type 0 = λ l. AreNamesBelowFirstFolder l names in
-    let Q : List ℕ → Type 0 = λ d. AreNamesBelow d names in
+    let Q : List ℕ → Type 0 = λ d. AreSortedNamesBelowFolder d names in
     subst P (sym f.first) (subst Q (sym f.name) h)
 
 pub packed_for : (told : List TreeState) (dirs : List OptionValue) (v : OptionValue) (others : List OptionValue) (dir : List ℕ) (names : List (List ℕ)) (r : Result Packing MakeFault) (n : ℕ) → dirs ≡ v ∷ others
-    → dir ≡ without_dot_slash v.text → IsExplainedBySomeReads told (λ read. AgreesOrIsFault IsPacking r (source_folders_from v.place read n (folder_listings_of dir names))) → IsExplainedBySomeReads told (λ read. AgreesOrIsFault IsPacking r (folders_below read n dirs names))
+    → dir ≡ without_dot_slash v.text → IsExplainedBySomeReads told (λ read. AgreesOrIsFault IsPacking r (source_folders_at_place_from_read v.place read n (folder_listings_of dir names))) → IsExplainedBySomeReads told (λ read. AgreesOrIsFault IsPacking r (source_folders_of_first_option read n dirs names))
 packed_for told dirs v others dir names r n e d h =
-    let P : List OptionValue → Type 0 = λ l. IsExplainedBySomeReads told (λ read. AgreesOrIsFault IsPacking r (folders_below read n l names)) in
-    let Q : List ℕ → Type 0 = λ f. IsExplainedBySomeReads told (λ read. AgreesOrIsFault IsPacking r (source_folders_from v.place read n (folder_listings_of f names))) in
+    let P : List OptionValue → Type 0 = λ l. IsExplainedBySomeReads told (λ read. AgreesOrIsFault IsPacking r (source_folders_of_first_option read n l names)) in
+    let Q : List ℕ → Type 0 = λ f. IsExplainedBySomeReads told (λ read. AgreesOrIsFault IsPacking r (source_folders_at_place_from_read v.place read n (folder_listings_of f names))) in
     subst P (sym e) (subst Q d h)
 
 pub nothing_packed : (told : List TreeState) (dirs : List OptionValue) (names : List (List ℕ)) (packing : Packing) (n : ℕ) → dirs ≡ [] → packing.blocks.items ≡ [] → packing.folders.items ≡ []
-    → IsExplainedBySomeReads told (λ read. AgreesOrIsFault IsPacking (Ok packing) (folders_below read n dirs names))
+    → IsExplainedBySomeReads told (λ read. AgreesOrIsFault IsPacking (Ok packing) (source_folders_of_first_option read n dirs names))
 nothing_packed told dirs names packing n e b f =
-    let P : List OptionValue → Type 0 = λ l. IsExplainedBySomeReads told (λ read. AgreesOrIsFault IsPacking (Ok packing) (folders_below read n l names)) in
+    let P : List OptionValue → Type 0 = λ l. IsExplainedBySomeReads told (λ read. AgreesOrIsFault IsPacking (Ok packing) (source_folders_of_first_option read n l names)) in
     subst P (sym e) (explained told (λ read. AgreesOrIsFault IsPacking (Ok packing) (Ok [])) (λ read. ([], refl, folders_none packing.blocks.items packing.folders b f)))
 
 -- ---- a run, of the tree

@@ -6,7 +6,7 @@ use Rattle.std.specs.Prelude.{◌≡◌, ℕ, List, [], ◌∷◌, Option, Some,
 use Rattle.std.specs.Borrow.{Bor}
 use Rattle.std.specs.declared.alloc.Global.{Global}
 use Rattle.base_core.specs.Calls.{IfObservable}
-use Rattle.base_core.specs.Listed.{IsListOf}
+use Rattle.base_core.specs.Listed.{IsSortedListingOfFolder}
 use Rattle.base_core.specs.Tree.{TreeState, files_of}
 use Rattle.command_core.specs.Command.{CommandLine}
 use Rattle.command_core.specs.Files.{without_dot_slash}
@@ -46,7 +46,7 @@ IsNotDisk result = Unit {0}
 -- tree of this state
 abbrev pub AreNamesBelowFirstOption : List OptionValue → TreeState → List (List ℕ) → Type 0
 AreNamesBelowFirstOption [] v names = Unit {0}
-AreNamesBelowFirstOption (dir ∷ dirs) v names = IsListOf (without_dot_slash dir.text) v names
+AreNamesBelowFirstOption (dir ∷ dirs) v names = IsSortedListingOfFolder (without_dot_slash dir.text) v names
 
 -- `P` holds of the refusal with this error; of an I/O error of the tree and of out of memory
 -- nothing is required
@@ -61,10 +61,14 @@ UnlessDiskOrMemory fault P = P (Err fault)
 -- its history is observable
 pub record IsMadeOf (history : List TreeState) (command : CommandLine)
     (made : Result (List ℕ) MakeFault) : Type 0 where
+  -- the names of the files below the folder of the option `-F`
   pub names : List (List ℕ)
+  -- they are names below this folder, in byte order
   pub named : AreNamesBelowFirstFolder (values_of_letter FILES command.values) names
+  -- if the tree is observable, they are exactly the tree's names below this folder
   pub below : IfObservable history
       (λ v. AreNamesBelowFirstOption (values_of_letter FILES command.values) v names)
+  -- some results of reads, which are the tree's if it is observable, give what is made
   pub reads : IsExplainedBySomeReads history (λ read. made_package command names read ≡ made)
 
 -- the result of a run is what is made; an I/O error of the tree and out of memory may occur in any case
@@ -75,13 +79,20 @@ IsMakeResult history command (Err fault) = UnlessDiskOrMemory fault (IsMadeOf hi
 -- `made` is made from a command and the files of a tree in this state
 pub record IsMadeFromTree (command : CommandLine) (v : TreeState) (made : Result (List ℕ) MakeFault) :
     Type 0 where
+  -- the names of the files below the folder of the option `-F`
   pub names : List (List ℕ)
+  -- they are exactly the tree's names below this folder
   pub below : AreNamesBelowFirstOption (values_of_letter FILES command.values) v names
+  -- the package is made with reads that return the tree's files
   pub is : made_package command names (λ n name. files_of v name) ≡ made
 
 -- `made` is made from a command, some names below its folder and some reads
 pub record IsMadeBySomeReads (command : CommandLine) (made : Result (List ℕ) MakeFault) : Type 0 where
+  -- the names of the files below the folder of the option `-F`
   pub names : List (List ℕ)
+  -- they are names below this folder, in byte order
   pub named : AreNamesBelowFirstFolder (values_of_letter FILES command.values) names
+  -- the results of the reads
   pub read : Reads
+  -- the package is made of the command, the names and these reads
   pub is : made_package command names read ≡ made

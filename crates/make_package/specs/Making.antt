@@ -9,27 +9,27 @@ use Rattle.package_files.specs.adb_schema.declared.read.TheConstants.{PACKAGE_WO
 use Rattle.package_files.specs.adb_write.Canonical.{PayloadCounts, overflow_of}
 use Rattle.package_files.specs.pkg_core.Contents.{Contents}
 use Rattle.command_core.specs.Command.{CommandLine}
-use Rattle.package_files.specs.adb_sound.Container.{container_of}
+use Rattle.package_files.specs.adb_sound.Container.{container_of_value_and_contents}
 use Rattle.package_files.specs.make_info.Information.{FieldWithValue, information, information_value, replaces_priority}
 use Rattle.package_files.specs.make_info.Reads.{Reads}
 use Rattle.package_files.specs.make_info.declared.fault.MakeFault.{MakeFault}
 use Rattle.package_files.specs.make_info.declared.fault.MakeFault.TheVariants.{InfoBad, TooLarge}
 use Rattle.package_files.specs.Package.{SourceFolder, Script, value_of_package, installed_size, contents_of_folders}
-use Rattle.package_files.specs.Sources.{and_then, values_of_letter, texts_of, scripts_from, folders_below}
+use Rattle.package_files.specs.Sources.{and_then, values_of_letter, texts_of, scripts_from_read, source_folders_of_first_option}
 
 -- ---- the file
 
 -- the container of a package, or, if its value exceeds a limit of the writer, the error with the
 -- two counts at which it does
-abbrev pub container_unless :
+abbrev pub container_unless_too_large :
     Option PayloadCounts → Plain → List Contents → Result (List ℕ) MakeFault
-container_unless None v contents = Ok (container_of PACKAGE_WORD v contents)
-container_unless (Some counts) v contents = Err (TooLarge counts.0 counts.1)
+container_unless_too_large None v contents = Ok (container_of_value_and_contents PACKAGE_WORD v contents)
+container_unless_too_large (Some counts) v contents = Err (TooLarge counts.0 counts.1)
 
 -- the container of a package's value and of the contents of its files; an error if the value
 -- exceeds a limit of the writer
 unfoldable pub package_container : Plain → List Contents → Result (List ℕ) MakeFault
-package_container v contents = container_unless (overflow_of v) v contents
+package_container v contents = container_unless_too_large (overflow_of v) v contents
 
 -- ---- the package
 
@@ -52,7 +52,8 @@ package_of_parts command scripts about folders =
 -- information, then the files below the folder; or the first refusal
 unfoldable pub made_package : CommandLine → List (List ℕ) → Reads → Result (List ℕ) MakeFault
 made_package command names read =
-    and_then (scripts_from read 0 (values_of_letter SCRIPT command.values)) (λ scripts.
+    and_then (scripts_from_read read 0 (values_of_letter SCRIPT command.values)) (λ scripts.
     and_then (or_info_bad (information command)) (λ about.
-    and_then (folders_below read (length scripts) (values_of_letter FILES command.values) names)
+    and_then (source_folders_of_first_option read (length scripts)
+    (values_of_letter FILES command.values) names)
     (package_of_parts command scripts about)))

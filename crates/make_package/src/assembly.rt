@@ -37,6 +37,7 @@ pub(crate) fn package(
     // Each packed regular file has its bytes in the blocks, so the sum of the sizes is at most
     // their length.
     requires { installed_size_of_folders packing.folders.items ≤ length packing.blocks.items }
+    // The result is the package of these parts, or its refusal, unless out of memory.
     ensures made { (sources : List SourceFolder) → IsPacking packing.entry sources
         → AgreesOrIsFault IsBytes result (package_of_parts command.now
         (scripts_view scripts.now) about.now sources) }
@@ -59,6 +60,7 @@ pub(crate) fn package(
 
 /// The installed size of a package: the sum of the sizes of the files of all folders.
 fn installed_size(folders: &[Folder<'_>]) -> u64
+    // The installed size fits into 64 bits.
     requires { installed_size_of_folders folders.now < 2 ^ 64 }
     ensures { result ≡ installed_size_of_folders folders.now }
 {
@@ -71,6 +73,7 @@ fn installed_size(folders: &[Folder<'_>]) -> u64
 
 /// The sum of the sizes of the files of a folder.
 fn size_in(files: &[File<'_>]) -> u64
+    // The size of the files fits into 64 bits.
     requires { files_size files.now < 2 ^ 64 }
     ensures { result ≡ files_size files.now }
 {
@@ -91,11 +94,14 @@ fn payload(
     scripts: &[Script<'_>],
     size: u64,
 ) -> Result<Vec<u8>, MakeFault>
+    // On Ok, the payload is that of the package with these parts.
     ensures made { IfOk result (λ payload. payload_or_overflow
         (package_with (information_value about.now size) (map packed_folder folders.now)
         (scripts_view scripts.now) (texts_of (values_of_letter TRIGGER values.now))
         (replaces_priority about.now)) ≡ Ok payload.items) }
+    // The payload is not longer than a payload may be.
     ensures small { IfOk result (λ payload. length payload.items ≤ MOST_BYTES) }
+    // An error is the limit of a payload that is exceeded, or out of memory.
     ensures err { IfErr result (λ fault. IsOverflowFault fault
         (payload_or_overflow (package_with (information_value about.now size)
         (map packed_folder folders.now) (scripts_view scripts.now)
@@ -109,6 +115,7 @@ fn payload(
 /// The bytes of the package with this payload followed by these blocks, which are in memory only
 /// once.
 fn package_file(alloc: Global, payload: &[u8], mut blocks: Vec<u8>) -> Result<Vec<u8>, AllocError>
+    // The payload is not above the greatest length of a payload.
     requires { length payload.now ≤ MOST_BYTES }
     ensures { IfOk result (λ bytes. bytes.items
         ≡ file_of PACKAGE_WORD payload.now ++ blocks.items) }

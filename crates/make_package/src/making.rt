@@ -25,6 +25,7 @@ use std::alloc::Global;
 /// `TooLarge` if the package's values exceed a limit of the writer. `Disk` if the tree failed, and
 /// `Memory`.
 pub fn make<T: Tree>(alloc: Global, command: &Command, tree: &mut T) -> Result<Vec<u8>, MakeFault>
+    // The command is `mkpkg`.
     requires { command.now.applet ≡ Applet.Mkpkg }
     // The tree is only read, and `Disk` has a fault of the tree as its cause.
     ensures tree { OnlyReads MakeFault.Disk (T.history tree.old) (T.history tree.new)
@@ -47,9 +48,13 @@ fn pack<T: Tree>(
     tree: &mut T,
     names: &Names,
 ) -> Result<Vec<u8>, MakeFault>
+    // The command is `mkpkg`.
     requires { command.now.applet ≡ Applet.Mkpkg }
+    // The tree is only read: no file changes, no I/O error is hidden, and no call is a misuse.
     ensures tree { OnlyReads MakeFault.Disk (T.history tree.old) (T.history tree.new)
         (T.counts tree.old) (T.counts tree.new) result }
+    // There are results of reads that give this result; if the tree is observable, they are its
+    // files.
     ensures read { IsExplainedBySomeReads (T.history tree.old) (λ read.
         AgreesOrIsFault IsBytes result (made_package command.now names.now read)) }
 {

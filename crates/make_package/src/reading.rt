@@ -13,7 +13,7 @@ ghost use Rattle.make_package.specs.Answers.{IsOkOrDiskOrMemory, IsFirstValue, A
 ghost use Rattle.package_files.specs.Packed.{IsPacking};
 ghost use Rattle.package_files.specs.Runs.{AgreesOrIsFault, IsExplainedBySomeReads};
 ghost use Rattle.make_package.specs.Scripts.{AreScripts, IsScript};
-ghost use Rattle.package_files.specs.Sources.{AreNamesBelowFirstFolder, folders_below, values_of_letter, script_at, scripts_from};
+ghost use Rattle.package_files.specs.Sources.{AreNamesBelowFirstFolder, source_folders_of_first_option, values_of_letter, script_at, scripts_from_read};
 ghost use Rattle.std.specs.Prelude.{◌≡◌, ◌++◌, ◌∷◌, [], ℕ, IfOk, IsTrue, OnOk};
 
 use crate::writing::Script;
@@ -31,6 +31,7 @@ pub(crate) fn list_names<T: Tree>(
 ) -> Result<Names, MakeFault>
     // The values are those that `mkpkg` may have.
     requires { IsTrue (are_allowed_values (value_rules Mkpkg) values.now) }
+    // The tree is only read: no file changes, no I/O error is hidden, and no call is a misuse.
     ensures tree { OnlyReads MakeFault.Disk (T.history tree.old) (T.history tree.new)
         (T.counts tree.old) (T.counts tree.new) result }
     // A listing can fail only by an I/O error of the tree or out of memory.
@@ -59,10 +60,13 @@ pub(crate) fn pack_below<'a, T: Tree>(
     values: &Values,
     names: &'a Names,
 ) -> Result<Packing<'a>, MakeFault>
+    // The tree is only read: no file changes, no I/O error is hidden, and no call is a misuse.
     ensures tree { OnlyReads MakeFault.Disk (T.history tree.old) (T.history tree.new)
         (T.counts tree.old) (T.counts tree.new) result }
+    // There are results of reads that give this result; if the tree is observable, they are its
+    // files.
     ensures read { (n : ℕ) → IsExplainedBySomeReads (T.history tree.old) (λ read.
-        AgreesOrIsFault IsPacking result (folders_below read n
+        AgreesOrIsFault IsPacking result (source_folders_of_first_option read n
         (values_of_letter FILES values.now) names.now)) }
 {
     match first_folder(values) {
@@ -90,11 +94,15 @@ pub(crate) fn read_scripts<'a, T: Tree>(
     tree: &mut T,
     values: &'a Values,
 ) -> Result<Vec<Script<'a>>, MakeFault>
+    // Each value is one that `mkpkg` allows.
     requires { IsTrue (are_allowed_values (value_rules Mkpkg) values.now) }
+    // The tree is only read: no file changes, no I/O error is hidden, and no call is a misuse.
     ensures tree { OnlyReads MakeFault.Disk (T.history tree.old) (T.history tree.new)
         (T.counts tree.old) (T.counts tree.new) result }
+    // There are results of reads that give this result; if the tree is observable, they are its
+    // files.
     ensures read { (n : ℕ) → IsExplainedBySomeReads (T.history tree.old) (λ read.
-        AgreesOrIsFault AreScripts result (scripts_from read n
+        AgreesOrIsFault AreScripts result (scripts_from_read read n
         (values_of_letter SCRIPT values.entry.now))) }
 {
     let mut scripts = Vec::new(alloc);
@@ -125,9 +133,13 @@ fn read_script<'a, T: Tree>(
     value: &'a OptionValue,
     file: &Name,
 ) -> Result<Script<'a>, MakeFault>
+    // The name is that of the file in the value of `-s`.
     requires { file.now ≡ without_dot_slash (script_file value.now.text) }
+    // The tree is only read: no file changes, no I/O error is hidden, and no call is a misuse.
     ensures tree { OnlyReads MakeFault.Disk (T.history tree.old) (T.history tree.new)
         (T.counts tree.old) (T.counts tree.new) result }
+    // There are results of reads that give this result; if the tree is observable, they are its
+    // files.
     ensures read { (n : ℕ) → IsExplainedBySomeReads (T.history tree.old) (λ read.
         AgreesOrIsFault IsScript result (script_at read n value.entry.now)) }
 {

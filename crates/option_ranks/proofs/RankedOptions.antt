@@ -13,7 +13,7 @@ use Rattle.std.proofs.lemmas.List.Sorted.{All-permutation, IsPermutation-map, Is
 use Rattle.version_core.specs.Order.{version_cmp}
 use Rattle.candidate_core.specs.Candidates.{Candidate, Need, version_meeting_need}
 use Rattle.candidate_core.specs.Options.{rank_order_of}
-use Rattle.candidate_core.specs.Rank.{SealedPool, bytes_cmp, candidate_at, earlier_repository, greater_version, is_better, is_pinned, quality_first, rank_cmp, tag_name_kept_cmp}
+use Rattle.candidate_core.specs.Rank.{SealedPool, bytes_cmp, candidate_at, earlier_repository_first_cmp, greater_version_first_cmp, is_better, is_pinned, quality_first, rank_cmp, tag_name_kept_cmp}
 use Rattle.option_ranks.specs.Ranking.{IsRankingIn, Ranking, ranking_from_parts, ranking_cmp, version_order, with_values_of_candidate}
 use Rattle.option_ranks.specs.VersionRanks.{AreRankedTwice, AreComparableByKey, rank_among, version_of, with_version_rank}
 use Rattle.option_ranks.specs.declared.rank.VersionKey.{VersionKey}
@@ -86,7 +86,7 @@ module _ (pool : SealedPool) (need : Need) where
   unfolding ranking_cmp rank_cmp
   read_by_text a b x y h g =
       rw (h, g) (ap (λ (o : Ordering). ordering_then (ordering_then (quality_first (is_pinned pool.world) x y) (ordering_then (tag_name_kept_cmp pool.upgraded need x y) o)) (nat_cmp a.place b.place))
-      (regroup (greater_version (version_meeting_need need x) (version_meeting_need need y)) (nat_cmp y.priority x.priority) (bytes_cmp x.name y.name) (greater_version x.version y.version) (option_cmp bytes_cmp x.version y.version) (earlier_repository x.repository y.repository)))
+      (regroup (greater_version_first_cmp (version_meeting_need need x) (version_meeting_need need y)) (nat_cmp y.priority x.priority) (bytes_cmp x.name y.name) (greater_version_first_cmp x.version y.version) (option_cmp bytes_cmp x.version y.version) (earlier_repository_first_cmp x.repository y.repository)))
 
   same_by_text : (a b : Ranking) → IsRankingIn pool need a → IsRankingIn pool need b → ranking_cmp ByText a b ≡ rank_cmp pool need a.place b.place
   same_by_text a b p q =
@@ -101,19 +101,19 @@ module _ (versions : IsTotalOrder version_cmp) (pool : SealedPool) (need : Need)
     pub under : HasRank Under unders r
     pub own : HasRank Own owns r
 
-  as_read : (a b : Ranking) (x y : Candidate) → candidate_at pool a.place ≡ Some x → candidate_at pool b.place ≡ Some y → nat_cmp a.under.rank b.under.rank ≡ greater_version (version_meeting_need need x) (version_meeting_need need y) → nat_cmp a.version.rank b.version.rank ≡ ordering_then (greater_version x.version y.version) (option_cmp bytes_cmp x.version y.version) → ranking_cmp ByRank (with_values_of_candidate pool need x a) (with_values_of_candidate pool need y b) ≡ rank_cmp pool need a.place b.place
+  as_read : (a b : Ranking) (x y : Candidate) → candidate_at pool a.place ≡ Some x → candidate_at pool b.place ≡ Some y → nat_cmp a.under.rank b.under.rank ≡ greater_version_first_cmp (version_meeting_need need x) (version_meeting_need need y) → nat_cmp a.version.rank b.version.rank ≡ ordering_then (greater_version_first_cmp x.version y.version) (option_cmp bytes_cmp x.version y.version) → ranking_cmp ByRank (with_values_of_candidate pool need x a) (with_values_of_candidate pool need y b) ≡ rank_cmp pool need a.place b.place
   unfolding ranking_cmp rank_cmp
   as_read a b x y h g under own =
       rw (h, g, under, own) (ap (λ (o : Ordering). ordering_then (ordering_then (quality_first (is_pinned pool.world) x y) (ordering_then (tag_name_kept_cmp pool.upgraded need x y) o)) (nat_cmp a.place b.place))
-      (regroup (greater_version (version_meeting_need need x) (version_meeting_need need y)) (nat_cmp y.priority x.priority) (bytes_cmp x.name y.name) (greater_version x.version y.version) (option_cmp bytes_cmp x.version y.version) (earlier_repository x.repository y.repository)))
+      (regroup (greater_version_first_cmp (version_meeting_need need x) (version_meeting_need need y)) (nat_cmp y.priority x.priority) (bytes_cmp x.name y.name) (greater_version_first_cmp x.version y.version) (option_cmp bytes_cmp x.version y.version) (earlier_repository_first_cmp x.repository y.repository)))
 
   same_order : (a b : Ranking) → IsRanked a → IsRanked b → ranking_cmp ByRank a b ≡ rank_cmp pool need a.place b.place
   same_order a b p q =
       let x : Candidate = p.read.0 in
       let y : Candidate = q.read.0 in
-      let under : nat_cmp a.under.rank b.under.rank ≡ greater_version (version_meeting_need need x) (version_meeting_need need y) =
+      let under : nat_cmp a.under.rank b.under.rank ≡ greater_version_first_cmp (version_meeting_need need x) (version_meeting_need need y) =
       same_by_rank versions Under unders a b p.under q.under
-      ∙ (ap (λ (r : Ranking). greater_version r.under.version b.under.version) p.read.1.1 ∙ ap (λ (r : Ranking). greater_version (version_meeting_need need x) r.under.version) q.read.1.1) in
+      ∙ (ap (λ (r : Ranking). greater_version_first_cmp r.under.version b.under.version) p.read.1.1 ∙ ap (λ (r : Ranking). greater_version_first_cmp (version_meeting_need need x) r.under.version) q.read.1.1) in
       let own : nat_cmp a.version.rank b.version.rank ≡ version_order Own x.version y.version =
       same_by_rank versions Own owns a b p.own q.own
       ∙ (ap (λ (r : Ranking). version_order Own r.version.version b.version.version) p.read.1.1 ∙ ap (λ (r : Ranking). version_order Own x.version r.version.version) q.read.1.1) in

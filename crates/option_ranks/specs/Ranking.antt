@@ -8,7 +8,7 @@ use Rattle.std.specs.Option.{option_cmp}
 use Rattle.std.specs.Ordering.{bool_cmp, flip_args, nat_cmp, on, then_cmp}
 use Rattle.std.specs.declared.cmp.Ordering.{Ordering}
 use Rattle.candidate_core.specs.Candidates.{Candidate, Need, version_meeting_need}
-use Rattle.candidate_core.specs.Rank.{SealedPool, bytes_cmp, candidate_at, earlier_repository, greater_version, has_needed_name, is_kept_installed, is_pinned, is_untagged}
+use Rattle.candidate_core.specs.Rank.{SealedPool, bytes_cmp, candidate_at, earlier_repository_first_cmp, greater_version_first_cmp, has_needed_name, is_kept_installed, is_pinned, is_untagged}
 use Rattle.option_ranks.specs.declared.rank.VersionKey.{VersionKey}
 use Rattle.option_ranks.specs.declared.rank.VersionKey.TheVariants.{ByRank, ByText}
 use Rattle.candidate_core.specs.declared.versions.RankedVersion.{RankedVersion}
@@ -19,15 +19,22 @@ use Rattle.candidate_core.specs.declared.versions.VersionKind.TheVariants.{Under
 -- the needed name, whether it is installed and kept; `under` is the version under which it meets the
 -- need, `version` its own; `place` counts from 0
 pub record Ranking : Type 0 where
+  -- keys 1 to 4, each a test that an option passes or not
   pub pinned : Bool
   pub untagged : Bool
   pub named : Bool
   pub kept : Bool
+  -- key 5: the version under which the option meets the need
   pub under : RankedVersion
+  -- key 6: the `provider-priority`
   pub priority : ℕ
+  -- key 7: the name
   pub name : List ℕ
+  -- keys 8 and 9: the option's own version
   pub version : RankedVersion
+  -- key 10: the repository, counted from 1, if there is one
   pub repository : Option ℕ
+  -- key 11: the place in the list of candidates, counted from 0
   pub place : ℕ
 
 -- a ranking from its parts
@@ -67,8 +74,8 @@ IsRankingIn pool need r = (c : Candidate) × ((candidate_at pool r.place ≡ Som
 -- the order of two versions of a kind: the greater is first; equal own versions of candidates are
 -- ordered by their texts
 abbrev pub version_order : VersionKind → Option (List ℕ) → Option (List ℕ) → Ordering
-version_order Under = greater_version
-version_order Own = then_cmp greater_version (option_cmp bytes_cmp)
+version_order Under = greater_version_first_cmp
+version_order Own = then_cmp greater_version_first_cmp (option_cmp bytes_cmp)
 
 -- the order of two versions of a kind by their ranks, the lesser first, or by the versions themselves
 abbrev pub version_key_cmp : VersionKey → VersionKind → RankedVersion → RankedVersion → Ordering
@@ -104,9 +111,9 @@ merit_ranking_cmp key =
 
 -- key 10: the earlier repository first, and none last
 abbrev pub repository_ranking_cmp : Ranking → Ranking → Ordering
-repository_ranking_cmp = on (λ (r : Ranking). r.repository) earlier_repository
+repository_ranking_cmp = on (λ (r : Ranking). r.repository) earlier_repository_first_cmp
 
--- keys 2 to 10, of two options that world pins both, or neither
+-- the order of two options by keys 2 to 10, if world pins both of them, or neither of them
 abbrev pub unpinned_ranking_cmp : VersionKey → Ranking → Ranking → Ordering
 unpinned_ranking_cmp key =
     then_cmp quality_ranking_cmp (then_cmp (merit_ranking_cmp key) repository_ranking_cmp)
@@ -115,6 +122,6 @@ unpinned_ranking_cmp key =
 abbrev pub candidate_ranking_cmp : VersionKey → Ranking → Ranking → Ordering
 candidate_ranking_cmp key = then_cmp (truth_first (λ r. r.pinned)) (unpinned_ranking_cmp key)
 
--- all eleven keys: the place decides if the others are equal
+-- the order of two options by all eleven keys: the place decides if keys 1 to 10 are equal
 unfoldable pub ranking_cmp : VersionKey → Ranking → Ranking → Ordering
 ranking_cmp key = then_cmp (candidate_ranking_cmp key) (on (λ (r : Ranking). r.place) nat_cmp)

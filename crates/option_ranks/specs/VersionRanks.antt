@@ -20,8 +20,11 @@ use Rattle.candidate_core.specs.declared.versions.VersionKind.TheVariants.{Under
 
 -- both are versions, or neither is, and their texts are at one place: the same word in the same source
 pub record HaveSamePlace (one other : RankedVersion) : Type 0 where
+  -- both are versions, or neither is
   pub version : is_some one.version ≡ is_some other.version
+  -- both texts are in the same source
   pub source : one.source ≡ other.source
+  -- both texts have the same word (32-bit value) there
   pub word : one.word ≡ other.word
 
 -- A ranking has the candidate's own version (`version`), and the version under which the candidate
@@ -32,22 +35,22 @@ HasVersionTextsOfSources sources r =
 
 -- ---- ranks
 
--- the version of an option by a kind: the one under which it meets the need, or its own
+-- one of the two versions of an option, as the kind says: the one under which it meets the need, or its own
 abbrev pub version_of : VersionKind → Ranking → RankedVersion
 version_of Under r = r.under
 version_of Own r = r.version
 
--- the rank of a version among some: how many of them precede it
+-- the rank of a version among the versions of a list: how many of them precede it in the order of the kind
 abbrev pub rank_among : VersionKind → List (Option (List ℕ)) → Option (List ℕ) → ℕ
 rank_among kind versions version =
     length (filter (λ one. is_lt (version_order kind one version)) versions)
 
--- a ranking in which the version of a kind has this rank
+-- the ranking, with this rank for one of its versions: the one that the kind says
 abbrev pub with_version_rank : VersionKind → ℕ → Ranking → Ranking
 with_version_rank Under n r = record r { under = record r.under { rank = n } }
 with_version_rank Own n r = record r { version = record r.version { rank = n } }
 
--- a ranking in which the version of a kind has its rank among these
+-- the ranking, in which one version gets its rank among these: the one that the kind says
 abbrev pub with_rank_among : VersionKind → List (Option (List ℕ)) → Ranking → Ranking
 with_rank_among kind versions r =
     with_version_rank kind (rank_among kind versions (version_of kind r).version) r
@@ -74,7 +77,7 @@ abbrev pub IsRankAt : List RankedVersion → RankedVersion → ℕ → Type 0
 IsRankAt versions other rank = (v : RankedVersion)
     × (IsIn v versions × (HaveSamePlace v other × (v.rank ≡ rank)))
 
--- the ranking's version of a kind is one of the list
+-- the version of the ranking that the kind says is in the list
 abbrev pub IsVersionAmong : VersionKind → List (Option (List ℕ)) → Ranking → Type 0
 IsVersionAmong kind versions r = IsIn (version_of kind r).version versions
 
@@ -97,16 +100,23 @@ AreReadTogether kind versions rankings = (text : ℕ → ℕ → List ℕ)
 -- the rankings `after` are those `before` in some order, each with the rank of its version among some
 -- that include the versions of all
 pub record AreRankedFrom (kind : VersionKind) (before after : List Ranking) : Type 0 where
+  -- the versions among which those of the options are ranked
   pub versions : List (Option (List ℕ))
+  -- the options in the order after the call, with the ranks before it
   pub moved : List Ranking
+  -- they are the options before the call, in some order
   pub permutation : IsPermutation before moved
+  -- the version of each option is among the ranked ones
   pub listed : All (IsVersionAmong kind versions) moved
+  -- each option then gets the rank of its version
   pub ranked : after ≡ map (with_rank_among kind versions) moved
 
 -- the rankings `after` are those `before` in some order, each with the ranks of both its versions
 pub record AreRankedTwice (before after : List Ranking) : Type 0 where
+  -- the options after the first ranking, by the versions under which the need is met
   pub between : List Ranking
   pub under : AreRankedFrom Under before between
+  -- the second ranking is by the options' own versions
   pub own : AreRankedFrom Own between after
 
 -- the rankings `after` are those `before`, and may be compared by a key: both versions of each are

@@ -6,7 +6,7 @@
 ghost use Rattle.std.specs.Prelude.{◌≡◌};
 ghost use Rattle.std.specs.Option.{option_cmp};
 ghost use Rattle.std.specs.Ordering.{bool_cmp, flip_args, then_cmp};
-ghost use Rattle.candidate_core.specs.Rank.{bytes_cmp, earlier_repository, greater_version};
+ghost use Rattle.candidate_core.specs.Rank.{bytes_cmp, earlier_repository_first_cmp, greater_version_first_cmp};
 ghost use Rattle.option_ranks.specs.Ranking.{candidate_ranking_cmp, merit_ranking_cmp, name_ranking_cmp, priority_ranking_cmp, quality_ranking_cmp, ranking_cmp, repository_ranking_cmp, unpinned_ranking_cmp, version_key_cmp, version_order};
 ghost use Rattle.option_ranks.specs.VersionRanks.{version_of, with_version_rank};
 
@@ -54,12 +54,13 @@ impl<'a> Model for RankedOption<'a> {
 
     ghost Value = { Ranking };
 
+    // The eleven keys as one value.
     ghost view = { λ r. ranking_from_parts r.pinned r.untagged r.named r.kept r.under r.priority r.name.now
         r.version r.repo r.id };
 }
 
 impl<'a> RankedOption<'a> {
-    /// The version of the option that a kind names.
+    /// One of the two versions of the option: the one that the kind says.
     pub(crate) fn version_of(&self, kind: VersionKind) -> &RankedVersion<'a>
         ensures { result.now ≡ version_of kind self.now }
     {
@@ -69,7 +70,7 @@ impl<'a> RankedOption<'a> {
         }
     }
 
-    /// Sets the rank of the version of the option that a kind names.
+    /// Sets the rank of one of the two versions of the option: of the one that the kind says.
     pub(crate) fn set_rank(&mut self, kind: VersionKind, rank: usize)
         ensures { self.new ≡ with_version_rank kind rank self.old }
     {
@@ -91,7 +92,7 @@ impl<'a> RankedOption<'a> {
         }
     }
 
-    // The order by all keys but the place: 1 to 10.
+    // The order of two options by keys 1 to 10, which are all but the place.
     fn by_candidate(&self, other: &RankedOption<'_>, key: VersionKey) -> Ordering
         ensures { result ≡ candidate_ranking_cmp key self.now other.now }
     {
@@ -102,7 +103,7 @@ impl<'a> RankedOption<'a> {
         }
     }
 
-    // The order by keys 2 to 10, of options that world pins both, or neither.
+    // The order of two options by keys 2 to 10. By key 1 they are equal.
     fn by_unpinned(&self, other: &RankedOption<'_>, key: VersionKey) -> Ordering
         ensures { result ≡ unpinned_ranking_cmp key self.now other.now }
     {
@@ -113,8 +114,8 @@ impl<'a> RankedOption<'a> {
         }
     }
 
-    // The order by keys 2 to 4: whether an option has no tag, has the needed name, is installed and
-    // kept.
+    // The order of two options by keys 2 to 4: first those without tag, then those with the needed
+    // name, then those that are installed and kept.
     fn by_quality(&self, other: &RankedOption<'_>) -> Ordering
         ensures { result ≡ quality_ranking_cmp self.now other.now }
     {
@@ -124,7 +125,7 @@ impl<'a> RankedOption<'a> {
         untagged.then(named.then(kept))
     }
 
-    // The order by keys 5 to 10.
+    // The order of two options by keys 5 to 10: the version, and so on to the repository.
     fn by_merit_and_repo(&self, other: &RankedOption<'_>, key: VersionKey) -> Ordering
         ensures { result
             ≡ then_cmp (merit_ranking_cmp key) repository_ranking_cmp self.now other.now }
@@ -136,7 +137,8 @@ impl<'a> RankedOption<'a> {
         }
     }
 
-    // The order by keys 5 to 9, from the version under which the need is met on.
+    // The order of two options by keys 5 to 9, of which the first is the version under which the
+    // need is met.
     fn by_merit(&self, other: &RankedOption<'_>, key: VersionKey) -> Ordering
         ensures { result ≡ merit_ranking_cmp key self.now other.now }
     {
@@ -147,7 +149,8 @@ impl<'a> RankedOption<'a> {
         }
     }
 
-    // The order by keys 6 to 9: the greater priority is first.
+    // The order of two options by keys 6 to 9, of which the first is the priority: the greater is
+    // first.
     fn by_priority(&self, other: &RankedOption<'_>, key: VersionKey) -> Ordering
         ensures { result ≡ priority_ranking_cmp key self.now other.now }
     {
@@ -158,8 +161,8 @@ impl<'a> RankedOption<'a> {
         }
     }
 
-    // The order by keys 7 to 9: the byte-lesser name is first, then the greater own version, and of
-    // equal ones the byte-lesser text.
+    // The order of two options by keys 7 to 9: the name that is less in byte order is first, then
+    // the greater own version. Of equal versions, the text that is less in byte order is first.
     fn by_name(&self, other: &RankedOption<'_>, key: VersionKey) -> Ordering
         ensures { result ≡ name_ranking_cmp key self.now other.now }
     {
@@ -173,15 +176,16 @@ impl<'a> RankedOption<'a> {
     }
 }
 
-// The order by a quality, of which the first option has `one` and the second `other`: an option
-// with the quality is first.
+// The order of two options by one test, which gives `one` for the first option and `other` for the
+// second: an option that passes the test is first.
 fn truth_first(one: bool, other: bool) -> Ordering
     ensures { result ≡ flip_args bool_cmp one other }
 {
     other.cmp(&one)
 }
 
-// The order of two versions of a kind by their ranks, or by the versions themselves.
+// The order of two versions of one kind: by their ranks, or by the versions themselves, as the key
+// says.
 fn by_version_key(
     key: VersionKey,
     kind: VersionKind,
@@ -196,9 +200,9 @@ fn by_version_key(
     }
 }
 
-/// The order of two versions of a kind: the greater first. Equal own versions of candidates are
-/// ordered by their texts, the byte-lesser first. Under which of two equal versions a need is met
-/// makes no difference.
+/// The order of two versions of one kind: the greater first. Equal own versions of candidates are
+/// ordered by the bytes of their texts. If two versions under which a need is met are equal, their
+/// texts make no difference.
 pub(crate) fn compare_versions(
     kind: VersionKind,
     one: &Option<Version<'_>>,
@@ -212,10 +216,10 @@ pub(crate) fn compare_versions(
     }
 }
 
-// The order of two versions: the greater first, and of equal ones the byte-lesser text. Only then
-// are texts read, since they may be long.
+// The order of two versions: the greater first. Equal versions are ordered by the bytes of their
+// texts, which are compared only then, since they may be long.
 fn by_version_and_text(one: &Option<Version<'_>>, other: &Option<Version<'_>>) -> Ordering
-    ensures { result ≡ then_cmp greater_version (option_cmp bytes_cmp) one.now other.now }
+    ensures { result ≡ then_cmp greater_version_first_cmp (option_cmp bytes_cmp) one.now other.now }
 {
     match by_version(one, other) {
         Ordering::Less => Ordering::Less,
@@ -226,7 +230,7 @@ fn by_version_and_text(one: &Option<Version<'_>>, other: &Option<Version<'_>>) -
 
 // The order of two versions: the greater is first, and none last.
 fn by_version(one: &Option<Version<'_>>, other: &Option<Version<'_>>) -> Ordering
-    ensures { result ≡ greater_version one.now other.now }
+    ensures { result ≡ greater_version_first_cmp one.now other.now }
 {
     match (one, other) {
         (None, None) => Ordering::Equal,
@@ -250,7 +254,7 @@ fn by_version_text(one: &Option<Version<'_>>, other: &Option<Version<'_>>) -> Or
 
 // The order of two repositories: the smaller number is first, and none last.
 fn by_repo(one: Option<u64>, other: Option<u64>) -> Ordering
-    ensures { result ≡ earlier_repository one other }
+    ensures { result ≡ earlier_repository_first_cmp one other }
 {
     match (one, other) {
         (None, None) => Ordering::Equal,

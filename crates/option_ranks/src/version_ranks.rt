@@ -30,8 +30,12 @@ pub fn rank_long_versions<'a>(
     alloc: Global,
     options: &mut Vec<RankedOption<'a>>,
 ) -> Result<VersionKey, AllocError>
+    // Versions under which a need is met, and that refer to the same text, are equal.
     requires under { HaveVersionsFromSameTexts Kinds.Under options.old.items }
+    // Own versions of candidates that refer to the same text are equal.
     requires own { HaveVersionsFromSameTexts Kinds.Own options.old.items }
+    // Comparing the options after the call by this key gives the same order as comparing the
+    // options before it by their texts.
     ensures { IfOk result (λ key. AreComparableByKey key options.old.items options.new.items) }
 {
     if !has_long_version(options) {
@@ -52,8 +56,8 @@ fn has_long_version(options: &[RankedOption<'_>]) -> bool {
     false
 }
 
-// Ranks one version of each option, that of a kind, among those of all, and may reorder the
-// options.
+// Ranks one of the two versions of each option, the one that the kind says, among those of all
+// options. It may reorder the options.
 fn rank_versions<'a>(
     alloc: Global,
     options: &mut Vec<RankedOption<'a>>,
@@ -62,15 +66,16 @@ fn rank_versions<'a>(
     requires { HaveVersionsFromSameTexts kind options.old.items }
     ensures { OnOk result (AreRankedFrom kind options.old.items options.new.items) }
 {
+    // A law that the proof needs; it has no effect at run time.
     order_is_total();
-    // Then options that read one text are adjacent.
+    // After this sort, options that refer to the same text are adjacent.
     options.sort_by(|one, other| by_place(one.version_of(kind), other.version_of(kind)))?;
     let mut versions = distinct_versions(alloc, options, kind)?;
     // Known ranks are nearly the order, and then few versions are compared.
     versions.sort_by(|one, other| one.rank.cmp(&other.rank))?;
     versions.sort_by(|one, other| compare_versions(kind, &one.version, &other.version))?;
     rank_sorted(&mut versions, kind);
-    // Then a version is found by its place.
+    // After this sort, a version can be found by the place of its text.
     versions.sort_by(|one, other| by_place(one, other))?;
     set_ranks(options, kind, &versions);
     Ok(())
@@ -84,15 +89,17 @@ fn by_place(one: &RankedVersion<'_>, other: &RankedVersion<'_>) -> Ordering {
         .then(one.word.cmp(&other.word))
 }
 
-// The versions of options, each once if options that read one text are adjacent.
+// The versions of options, each once if options that refer to the same text are adjacent.
 fn distinct_versions<'a>(
     alloc: Global,
     options: &[RankedOption<'a>],
     kind: VersionKind,
 ) -> Result<Vec<RankedVersion<'a>>, AllocError>
     requires { HaveVersionsFromSameTexts kind options.now }
+    // The version of each option is in the list.
     ensures listed { IfOk result
         (λ versions. All (IsVersionAmong kind (versions_in versions.items)) options.now) }
+    // If the options' versions have their texts where they say, so have the versions of the list.
     ensures read { IfOk result (λ versions. (text : ℕ → ℕ → List ℕ)
         → All (λ r. HasVersionTextFrom text (version_of kind r)) options.now
         → All (HasVersionTextFrom text) versions.items) }
@@ -106,9 +113,9 @@ fn distinct_versions<'a>(
     Ok(versions)
 }
 
-// A copy of the version of an option and a kind; its text is borrowed. Its rank is that of the
-// version under which the option meets the need, which is mostly the same one; it is 0 before these
-// are ranked. It only affects time.
+// A copy of one version of an option: of the one that the kind says. Its rank is set to that of the
+// version under which the option meets the need, which is mostly the same version; it is 0 before
+// these are ranked. The rank affects only the time of the sort.
 fn version_to_rank<'a>(option: &RankedOption<'a>, kind: VersionKind) -> RankedVersion<'a>
     ensures { result
         ≡ version_with_rank option.entry.now.under.rank (version_of kind option.entry.now) }
@@ -125,7 +132,9 @@ fn version_to_rank<'a>(option: &RankedOption<'a>, kind: VersionKind) -> RankedVe
 // Whether the version of an option is read from the same text as that of the option before it.
 fn reads_the_text_before(options: &[RankedOption<'_>], i: usize, kind: VersionKind) -> bool
     requires { i < length options.now }
+    // The first of the list has none before it.
     ensures first { result ≡ true → 0 < i }
+    // If the result is true, both versions refer to the same text.
     ensures same { result ≡ true → (one other : Ranking) → slice_get options.now (i - 1) ≡ Some one
         → slice_get options.now i ≡ Some other
         → HaveSamePlace (version_of kind one) (version_of kind other) }
@@ -145,14 +154,15 @@ fn is_same_place(one: &RankedVersion<'_>, other: &RankedVersion<'_>) -> bool
         && one.word == other.word
 }
 
-// Gives each of some sorted versions its rank among them: how many precede it and its equals. Each
-// is only compared with the one before it.
+// Gives each version of a sorted list its rank: how many versions of the list are less. Each
+// version is compared only with the one before it.
 fn rank_sorted(versions: &mut Vec<RankedVersion<'_>>, kind: VersionKind)
     requires { IsSorted (on (λ (v : RankedVersion). v.version) (version_order kind))
         versions.old.items }
     ensures { versions.new.items
         ≡ map (version_with_rank_among kind (versions_in versions.old.items)) versions.old.items }
 {
+    // A law that the proof needs; it has no effect at run time.
     order_is_total();
     for i in 0..versions.len() {
         let rank = if equals_the_one_before(versions, i, kind) {
@@ -167,7 +177,10 @@ fn rank_sorted(versions: &mut Vec<RankedVersion<'_>>, kind: VersionKind)
 // Whether a version is equal to the one before it.
 fn equals_the_one_before(versions: &[RankedVersion<'_>], i: usize, kind: VersionKind) -> bool
     requires { i < length versions.now }
+    // The first of the list has none before it.
     ensures first { result ≡ true → 0 < i }
+    // The result says whether the version and the one before it are equal in the order of their
+    // kind.
     ensures equal { 0 < i → (one other : RankedVersion) → slice_get versions.now (i - 1) ≡ Some one
         → slice_get versions.now i ≡ Some other
         → result ≡ is_eq (version_order kind one.version other.version) }
@@ -191,7 +204,9 @@ fn set_ranks<'a>(
     kind: VersionKind,
     versions: &[RankedVersion<'_>],
 )
+    // Each version of the list has its rank among them.
     requires ranked { All (HasRankAmong kind (versions_in versions.now)) versions.now }
+    // The versions of options and those of the list that refer to the same text are equal.
     requires alike { AreReadTogether kind versions.now options.old.items }
     ensures { options.new.items
         ≡ map (with_rank_among kind (versions_in versions.now)) options.old.items }
@@ -202,10 +217,12 @@ fn set_ranks<'a>(
     }
 }
 
-// The rank of a version among versions that have ranks. Each version of an option is one of them,
-// so none is counted again; the contract need not say so.
+// The rank of a version among versions that have ranks. If none of these refers to its text, the
+// lesser ones are counted, which never happens here.
 fn rank_of(version: &RankedVersion<'_>, versions: &[RankedVersion<'_>], kind: VersionKind) -> usize
+    // Each version of the list has its rank among them.
     requires ranked { All (HasRankAmong kind (versions_in versions.now)) versions.now }
+    // The version equals each version of the list that refers to the same text.
     requires alike { IsReadTogether versions.now version.now }
     ensures { result ≡ rank_among kind (versions_in versions.now) version.now.version }
 {
@@ -230,7 +247,8 @@ fn rank_at_place(version: &RankedVersion<'_>, versions: &[RankedVersion<'_>]) ->
     None
 }
 
-// How many of some versions precede one; each is compared with it.
+// How many versions of the list are before this version in the order of the kind. Each is compared
+// with it.
 fn rank_among(
     kind: VersionKind,
     versions: &[RankedVersion<'_>],

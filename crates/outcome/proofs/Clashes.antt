@@ -4,7 +4,7 @@ use Rattle.base_core.specs.Files.{Files, HasNamesAmong}
 use Rattle.tell_core.specs.change_inputs.Inputs.{Inputs}
 use Rattle.engine_core.specs.change_outcome.ChangeOutcome.{ChangeWishes, IsClashOfChange}
 use Rattle.command_core.specs.Command.{CommandLine}
-use Rattle.engine_core.specs.Changed.{IsClashOfSelected, IsClashUnlessSimulated, InputsAndReplacement, selected_for}
+use Rattle.engine_core.specs.Changed.{IsClashOfSelected, IsClashUnlessSimulated, InputsAndReplacement, selected_from_reads_by_choice}
 use Rattle.engine_core.specs.Wishes.{wishes_of}
 use Rattle.make_core.specs.make_info.Reads.{Reads}
 use Rattle.engine_core.specs.package_changes.Changes.{Replacement}
@@ -34,7 +34,7 @@ of_selected have command read files within (Err refusal) finite = (None, refl)
 
 pub clash_exists : HaveClash → (effect : Effect) (command : CommandLine) (read : Reads) (files : Files) (within : List (List ℕ)) (chosen : Option (List ℕ)) → HasNamesAmong within files
     → (clash : Option NamePair) × IsFirstClashForEffect effect command read files chosen clash
-clash_exists have Changes command read files within chosen finite = of_selected have command read files within (selected_for command read chosen) finite
+clash_exists have Changes command read files within chosen finite = of_selected have command read files within (selected_from_reads_by_choice command read chosen) finite
 clash_exists have other command read files within chosen finite = (None, refl)
 
 one_unless : HaveOneClash → (simulate : Bool) (wishes : ChangeWishes) (read : Reads) (files : Files) (s : InputsAndReplacement) (a b : Option NamePair)
@@ -49,5 +49,5 @@ one_selected one command read files (Err refusal) a b x y = x ∙ sym y
 
 pub clash_one : HaveOneClash → (effect : Effect) (command : CommandLine) (read : Reads) (files : Files) (chosen : Option (List ℕ)) (a b : Option NamePair)
     → IsFirstClashForEffect effect command read files chosen a → IsFirstClashForEffect effect command read files chosen b → a ≡ b
-clash_one one Changes command read files chosen a b x y = one_selected one command read files (selected_for command read chosen) a b x y
+clash_one one Changes command read files chosen a b x y = one_selected one command read files (selected_from_reads_by_choice command read chosen) a b x y
 clash_one one other command read files chosen a b x y = x ∙ sym y

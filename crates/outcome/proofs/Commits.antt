@@ -24,7 +24,7 @@ use Rattle.outcome.specs.Changing.{change_outcome}
 use Rattle.outcome.specs.Given.{Given}
 use Rattle.outcome.specs.Commands.{IsOutcomeWithoutDemo, IsOutcomeUnlessBadIntent, effect_outcome, reads_in}
 use Rattle.outcome.specs.Effect.{Effect, Computes, OnlyReadsFiles, AsksRoot, Makes, Changes, does_only_read, effect_of_arguments, effect_of, reads_only}
-use Rattle.outcome.specs.Make.{files_with_output, index_report_line, make_outcome, unless_reserved}
+use Rattle.outcome.specs.Make.{files_with_output, index_report_line, make_outcome, outcome_unless_output_reserved}
 use Rattle.outcome.specs.Outcome.{Outcome, commit_report, just_refusal}
 use Rattle.outcome.specs.Work.{recovery_fault, files_recovered_if_needed}
 
@@ -36,7 +36,7 @@ unless_name : (reserved : Bool) (files : Files) (name : List ℕ) (o : Outcome) 
 unless_name true files name o h = refl
 unless_name false files name o h = h
 
-unless_output : (files : Files) (output : Option (List ℕ)) (o : Outcome) → CommitsUnlessRefused o → CommitsUnlessRefused (unless_reserved files output o)
+unless_output : (files : Files) (output : Option (List ℕ)) (o : Outcome) → CommitsUnlessRefused o → CommitsUnlessRefused (outcome_unless_output_reserved files output o)
 unless_output files None o h = h
 unless_output files (Some name) o h = unless_name (is_reserved name) files name o h
 

@@ -26,11 +26,11 @@ use Rattle.words_core.specs.Options.{applet_of_help_or_version_option}
 use Rattle.outcome.proofs.Existing.{work_within}
 use Rattle.outcome.proofs.Looking.{read_leaves}
 use Rattle.outcome.specs.Commands.{IsOutcomeWithoutDemo, IsOutcomeUnlessBadIntent, effect_outcome, reads_in}
-use Rattle.outcome.specs.Demo.{IsDemoOutcomeAfterIndexing, IsDemoOutcomeAfterInstalling, IsDemoOutcomeAfterPackaging, IsDemoOutcome, IsOutcomeOfNextRun, IsOutcomeOfNextRunUnlessRefused, outcome_before_demo, with_demo_file}
+use Rattle.outcome.specs.Demo.{IsDemoOutcomeAfterIndexing, IsDemoOutcomeAfterInstalling, IsDemoOutcomeAfterPackaging, IsDemoOutcome, IsOutcomeOfNextRun, IsOutcomeOfNextRunUnlessRefused, outcome_with_demo_repositories, with_demo_file}
 use Rattle.outcome.specs.Effect.{Makes, does_only_read, effect_of}
 use Rattle.outcome.specs.Given.{Given}
-use Rattle.outcome.specs.Make.{files_with_output, index_report_line, make_outcome, unless_reserved}
-use Rattle.outcome.specs.Outcome.{Outcome, just_refusal, just_report, outcome_of, report_unless}
+use Rattle.outcome.specs.Make.{files_with_output, index_report_line, make_outcome, outcome_unless_output_reserved}
+use Rattle.outcome.specs.Outcome.{Outcome, just_refusal, just_report, outcome_without_commit, just_report_unless_refusal}
 use Rattle.outcome.specs.Work.{recovery_fault, files_recovered_if_needed}
 
 -- ---- files under finitely many names
@@ -63,7 +63,7 @@ few_name : (reserved : Bool) (files : Files) (name : List ℕ) (o : Outcome) →
 few_name true files name o few after = few
 few_name false files name o few after = after
 
-few_output : (files : Files) (output : Option (List ℕ)) (o : Outcome) → AreFew files → AreFew o.files → AreFew ((unless_reserved files output o).files)
+few_output : (files : Files) (output : Option (List ℕ)) (o : Outcome) → AreFew files → AreFew o.files → AreFew ((outcome_unless_output_reserved files output o).files)
 few_output files None o few after = after
 few_output files (Some name) o few after = few_name (is_reserved name) files name o few after
 
@@ -165,7 +165,7 @@ few_after None words files before o makes is few few_now = few_by (command_of wo
 packaged_exists : HaveOutcome → (n : ℕ) → One (IsDemoOutcomeAfterPackaging n)
 packaged_exists have zero =
     let start : Files = put_name no_names repositories_name demo_repositories in
-    (outcome_before_demo, refl, few_put no_names repositories_name demo_repositories ([], λ q some. cc))
+    (outcome_with_demo_repositories, refl, few_put no_names repositories_name demo_repositories ([], λ q some. cc))
 packaged_exists have (suc i) =
     let (before, is, few) = packaged_exists have i in
     let files = with_demo_file (suc i) before.files in
@@ -188,7 +188,7 @@ installed_exists have n =
 pub demo_exists : HaveOutcome → (n : ℕ) (files : Files) → (o : Outcome) × IsDemoOutcome n files o
 demo_exists have n files =
     let (last, is) = installed_exists have n in
-    (report_unless files last.refusal (demo_line n last.out), (last, is, refl))
+    (just_report_unless_refusal files last.refusal (demo_line n last.out), (last, is, refl))
 
 -- ---- there is no second one
 
@@ -218,11 +218,11 @@ installed_one one n a b (p, is_p, x) (q, is_q, y) = behind_one one (add_words n)
 
 pub demo_one : HaveOneOutcome → (n : ℕ) (files : Files) (a b : Outcome) → IsDemoOutcome n files a → IsDemoOutcome n files b → a ≡ b
 demo_one one n files a b (p, is_p, x) (q, is_q, y) =
-    x ∙ ap (λ (last : Outcome). report_unless files last.refusal (demo_line n last.out)) (installed_one one n p q is_p is_q) ∙ sym y
+    x ∙ ap (λ (last : Outcome). just_report_unless_refusal files last.refusal (demo_line n last.out)) (installed_one one n p q is_p is_q) ∙ sym y
 
 -- ---- it leaves the files, whichever these are
 
-unless_leaves : (files : Files) (refusal : Option Refusal) (report : List ℕ) → ((report_unless files refusal report).files ≡ files) × ((report_unless files refusal report).commits ≡ false)
+unless_leaves : (files : Files) (refusal : Option Refusal) (report : List ℕ) → ((just_report_unless_refusal files refusal report).files ≡ files) × ((just_report_unless_refusal files refusal report).commits ≡ false)
 unless_leaves files None report = (refl, refl)
 unless_leaves files (Some refusal) report = (refl, refl)
 
@@ -230,10 +230,10 @@ pub demo_leaves : (n : ℕ) (files : Files) (o : Outcome) → IsDemoOutcome n fi
 demo_leaves n files o (last, is_last, is) = subst (λ (p : Outcome). (p.files ≡ files) × (p.commits ≡ false)) (sym is) (unless_leaves files last.refusal (demo_line n last.out))
 
 unless_same : (files others : Files) (refusal : Option Refusal) (report : List ℕ)
-    → outcome_of (report_unless files refusal report).refusal (report_unless files refusal report).out others ≡ report_unless others refusal report
+    → outcome_without_commit (just_report_unless_refusal files refusal report).refusal (just_report_unless_refusal files refusal report).out others ≡ just_report_unless_refusal others refusal report
 unless_same files others None report = refl
 unless_same files others (Some refusal) report = refl
 
-pub demo_everywhere : (n : ℕ) (files others : Files) (o : Outcome) → IsDemoOutcome n files o → IsDemoOutcome n others (outcome_of o.refusal o.out others)
+pub demo_everywhere : (n : ℕ) (files others : Files) (o : Outcome) → IsDemoOutcome n files o → IsDemoOutcome n others (outcome_without_commit o.refusal o.out others)
 demo_everywhere n files others o (last, is_last, is) =
-    (last, is_last, subst (λ (p : Outcome). outcome_of p.refusal p.out others ≡ report_unless others last.refusal (demo_line n last.out)) (sym is) (unless_same files others last.refusal (demo_line n last.out)))
+    (last, is_last, subst (λ (p : Outcome). outcome_without_commit p.refusal p.out others ≡ just_report_unless_refusal others last.refusal (demo_line n last.out)) (sym is) (unless_same files others last.refusal (demo_line n last.out)))

@@ -5,11 +5,11 @@ use Rattle.gen_core.specs.adb_schema.Soundness.{container_fault_except_contents}
 use Rattle.adb_view.specs.declared.tables.Which.TheVariants.{Idb, Index}
 use Rattle.base_core.specs.declared.cause.Cause.{Cause}
 use Rattle.tell_core.specs.change_inputs.Candidates.{candidates_of, root_pool}
-use Rattle.tell_core.specs.change_inputs.Chains.{and_then, refused_as, unless_cause}
+use Rattle.tell_core.specs.change_inputs.Chains.{and_then, with_error_as_refusal, unless_cause}
 use Rattle.tell_core.specs.change_inputs.Database.{payload_database, root_database}
-use Rattle.tell_core.specs.change_inputs.Indexes.{index_file, index_files_from, index_in_file, indexes_in_files}
-use Rattle.tell_core.specs.change_inputs.Inputs.{Inputs, database_read_number, first_index_read_number, index_reads_from, indexes_of, inputs_of, repositories_read_number, root_for, root_found, text_database_read_number, world_read_number}
-use Rattle.tell_core.specs.change_inputs.Repositories.{if_untrusted_allowed, root_repositories}
+use Rattle.tell_core.specs.change_inputs.Indexes.{file_or_index_missing, index_files_from, index_in_file, indexes_in_files}
+use Rattle.tell_core.specs.change_inputs.Inputs.{Inputs, database_read_number, first_index_read_number, index_reads_from, indexes_of, inputs_of, repositories_read_number, root_for, root_from_files_found, text_database_read_number, world_read_number}
+use Rattle.tell_core.specs.change_inputs.Repositories.{repositories_if_untrusted_allowed, root_repositories}
 use Rattle.tell_core.specs.change_inputs.World.{root_world, found_text_or_empty}
 use Rattle.command_core.specs.Command.{CommandLine}
 use Rattle.dep_core.specs.Repositories.{Repository, repositories_of}
@@ -40,7 +40,7 @@ cause_stated : {A : Type 0} (refusal : Cause → Refusal) (cause : Option Cause)
 cause_stated refusal None a h = tt
 cause_stated refusal (Some cause) a h = h cause
 
-as_stated : {A E : Type 0} (refusal : E → Refusal) (r : Result A E) → ((e : E) → is_input_refusal (refusal e) ≡ true) → HasKnownRefusal is_input_refusal (refused_as refusal r)
+as_stated : {A E : Type 0} (refusal : E → Refusal) (r : Result A E) → ((e : E) → is_input_refusal (refusal e) ≡ true) → HasKnownRefusal is_input_refusal (with_error_as_refusal refusal r)
 as_stated refusal (Ok a) h = tt
 as_stated refusal (Err e) h = h e
 
@@ -58,29 +58,29 @@ database_stated may_begin None (Some text) = payload_stated (payload_of_text tex
 database_stated true None None = tt
 database_stated false None None = refl
 
-trusted_stated : (is_allowed : Bool) (repositories : List Repository) → HasKnownRefusal is_input_refusal (if_untrusted_allowed is_allowed repositories)
+trusted_stated : (is_allowed : Bool) (repositories : List Repository) → HasKnownRefusal is_input_refusal (repositories_if_untrusted_allowed is_allowed repositories)
 trusted_stated is_allowed [] = tt
 trusted_stated true (repository ∷ repositories) = tt
 trusted_stated false (repository ∷ repositories) = refl
 
 repositories_stated : (is_allowed : Bool) (text : List ℕ) → HasKnownRefusal is_input_refusal (root_repositories is_allowed text)
 repositories_stated is_allowed text =
-    then_stated is_input_refusal (refused_as RepositoriesBad (repositories_of text)) (if_untrusted_allowed is_allowed) (as_stated RepositoriesBad (repositories_of text) (λ e. refl)) (trusted_stated is_allowed)
+    then_stated is_input_refusal (with_error_as_refusal RepositoriesBad (repositories_of text)) (repositories_if_untrusted_allowed is_allowed) (as_stated RepositoriesBad (repositories_of text) (λ e. refl)) (trusted_stated is_allowed)
 
-found_stated : (command : CommandLine) (file text world_file repositories_file : Option (List ℕ)) → HasKnownRefusal is_input_refusal (root_found command file text world_file repositories_file)
+found_stated : (command : CommandLine) (file text world_file repositories_file : Option (List ℕ)) → HasKnownRefusal is_input_refusal (root_from_files_found command file text world_file repositories_file)
 found_stated command file text world_file repositories_file =
     then_stated is_input_refusal (root_database command.flags.initdb file text) _ (database_stated command.flags.initdb file text) (λ database.
     then_stated is_input_refusal (root_world (found_text_or_empty world_file)) _ (as_stated WorldBad (world_of (found_text_or_empty world_file)) (λ e. refl)) (λ world.
     then_stated is_input_refusal (root_repositories command.flags.allow_untrusted (found_text_or_empty repositories_file)) _ (repositories_stated command.flags.allow_untrusted (found_text_or_empty repositories_file)) (λ repositories. tt)))
 
-file_stated : (n : ℕ) (found : Option (List ℕ)) → HasKnownRefusal is_input_refusal (index_file n found)
+file_stated : (n : ℕ) (found : Option (List ℕ)) → HasKnownRefusal is_input_refusal (file_or_index_missing n found)
 file_stated n None = refl
 file_stated n (Some file) = tt
 
 files_stated : (n : ℕ) (found : List (Option (List ℕ))) → HasKnownRefusal is_input_refusal (index_files_from n found)
 files_stated n [] = tt
 files_stated n (f ∷ found) =
-    then_stated is_input_refusal (index_file n f) _ (file_stated n f) (λ file.
+    then_stated is_input_refusal (file_or_index_missing n f) _ (file_stated n f) (λ file.
     then_stated is_input_refusal (index_files_from (n + 1) found) _ (files_stated (n + 1) found) (λ files. tt))
 
 indexes_stated : (n : ℕ) (files : List (List ℕ)) → HasKnownRefusal is_input_refusal (indexes_in_files n files)

@@ -5,7 +5,7 @@ use Rattle.std.specs.List.{list_any, starts_with}
 use Rattle.std.specs.Str.{bytes_eq}
 use Rattle.std.proofs.lemmas.Bool.{false≢true}
 use Rattle.base_core.specs.Files.{Files, HasNamesAmong}
-use Rattle.base_core.specs.Listed.{IsNamesOf}
+use Rattle.base_core.specs.Listed.{AreSortedNamesInMap}
 use Rattle.base_core.specs.declared.cause.Cause.{Cause}
 use Rattle.engine_core.specs.Choice.{IsChoiceFrom}
 use Rattle.engine_core.specs.Selecting.{pool_of_command}
@@ -23,7 +23,7 @@ use Rattle.command_core.specs.declared.values.OptionValue.{OptionValue}
 use Rattle.make_core.specs.package_files.Sources.{values_of_letter}
 use Rattle.outcome.proofs.Clashes.{HaveClash, HaveOneClash, clash_exists, clash_one}
 use Rattle.outcome.proofs.Recovered.{unstaged_within}
-use Rattle.outcome.specs.Given.{Given, IsChosenFor, IsFirstClashForEffect, IsListingChoiceAndClashFor, IsListingFor}
+use Rattle.outcome.specs.Given.{Given, IsChoiceForCommand, IsFirstClashForEffect, IsListingChoiceAndClashFor, AreNamesListedForApplet}
 use Rattle.outcome.specs.Commands.{IsOutcomeWithoutDemo, IsOutcomeOverRecoveredFiles, IsOutcomeUnlessBadIntent, effect_outcome, reads_in}
 use Rattle.outcome.specs.Effect.{Effect, Computes, OnlyReadsFiles, AsksRoot, Makes, Changes, effect_of}
 use Rattle.outcome.specs.Make.{AreNamesBelowOptionFolder, files_below}
@@ -32,10 +32,10 @@ use Rattle.outcome.specs.Work.{recovery_fault, files_recovered_if_needed}
 
 -- files under finitely many names have a list of them, and no second one
 abbrev pub HaveList : Type 0
-HaveList = (files : Files) (within : List (List ℕ)) → HasNamesAmong within files → (names : List (List ℕ)) × IsNamesOf files names
+HaveList = (files : Files) (within : List (List ℕ)) → HasNamesAmong within files → (names : List (List ℕ)) × AreSortedNamesInMap files names
 
 abbrev pub HaveOneList : Type 0
-HaveOneList = (files : Files) (a b : List (List ℕ)) → IsNamesOf files a → IsNamesOf files b → a ≡ b
+HaveOneList = (files : Files) (a b : List (List ℕ)) → AreSortedNamesInMap files a → AreSortedNamesInMap files b → a ≡ b
 
 -- what is below a folder is within the files
 within_below : (folder : List ℕ) (files : Files) (within : List (List ℕ)) → HasNamesAmong within files → HasNamesAmong within (files_below folder files)
@@ -49,7 +49,7 @@ listing_exists : HaveList → (values : List OptionValue) (files : Files) (withi
 listing_exists have [] files within h = ([], refl)
 listing_exists have (v ∷ values) files within h = have (files_below (without_dot_slash v.text) files) within (within_below (without_dot_slash v.text) files within h)
 
-names_exist : HaveList → (applet : Applet) (command : CommandLine) (files : Files) (within : List (List ℕ)) → HasNamesAmong within files → (names : List (List ℕ)) × IsListingFor applet command files names
+names_exist : HaveList → (applet : Applet) (command : CommandLine) (files : Files) (within : List (List ℕ)) → HasNamesAmong within files → (names : List (List ℕ)) × AreNamesListedForApplet applet command files names
 names_exist have Mkpkg command files within h = listing_exists have (values_of_letter FILES command.values) files within h
 names_exist have other command files within h = ([], refl)
 
@@ -67,11 +67,11 @@ HaveChoice = (pool : Result SealedPool Refusal) → (chosen : Option (List ℕ))
 abbrev pub HaveOneChoice : Type 0
 HaveOneChoice = (pool : Result SealedPool Refusal) (a b : Option (List ℕ)) → IsChoiceFrom pool a → IsChoiceFrom pool b → a ≡ b
 
-chosen_exists : HaveChoice → (effect : Effect) (command : CommandLine) (read : Reads) → (chosen : Option (List ℕ)) × IsChosenFor effect command read chosen
+chosen_exists : HaveChoice → (effect : Effect) (command : CommandLine) (read : Reads) → (chosen : Option (List ℕ)) × IsChoiceForCommand effect command read chosen
 chosen_exists choose Changes command read = choose (pool_of_command command read)
 chosen_exists choose other command read = (None, refl)
 
-chosen_one : HaveOneChoice → (effect : Effect) (command : CommandLine) (read : Reads) (a b : Option (List ℕ)) → IsChosenFor effect command read a → IsChosenFor effect command read b → a ≡ b
+chosen_one : HaveOneChoice → (effect : Effect) (command : CommandLine) (read : Reads) (a b : Option (List ℕ)) → IsChoiceForCommand effect command read a → IsChoiceForCommand effect command read b → a ≡ b
 chosen_one one Changes command read a b x y = one (pool_of_command command read) a b x y
 chosen_one one other command read a b x y = x ∙ sym y
 
@@ -98,7 +98,7 @@ pub listing_one : HaveOneList → (values : List OptionValue) (files : Files) (a
 listing_one one [] files a b x y = x ∙ sym y
 listing_one one (v ∷ values) files a b x y = one (files_below (without_dot_slash v.text) files) a b x y
 
-names_one : HaveOneList → (applet : Applet) (command : CommandLine) (files : Files) (a b : List (List ℕ)) → IsListingFor applet command files a → IsListingFor applet command files b → a ≡ b
+names_one : HaveOneList → (applet : Applet) (command : CommandLine) (files : Files) (a b : List (List ℕ)) → AreNamesListedForApplet applet command files a → AreNamesListedForApplet applet command files b → a ≡ b
 names_one one Mkpkg command files a b x y = listing_one one (values_of_letter FILES command.values) files a b x y
 names_one one other command files a b x y = x ∙ sym y
 

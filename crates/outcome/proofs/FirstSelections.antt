@@ -12,7 +12,7 @@ use Rattle.engine_core.specs.change_outcome.ChangeOutcome.{ChangeDone, ChangeWis
 use Rattle.engine_core.specs.change_outcome.ConfigurationLines.{configuration_lines}
 use Rattle.engine_core.specs.change_outcome.Triggers.{trigger_lines}
 use Rattle.command_core.specs.Command.{CommandLine}
-use Rattle.engine_core.specs.Changed.{IsClashOfCommand, InputsAndReplacement, change_of_selected, change_of_command, selected_by, selected_of_inputs, simulated_change}
+use Rattle.engine_core.specs.Changed.{IsClashOfCommand, InputsAndReplacement, change_of_selected, change_of_command, selected_from_pool_by_choice, selected_from_inputs_by_choice, simulated_change}
 use Rattle.engine_core.specs.Choice.{IsChoiceFrom}
 use Rattle.engine_core.specs.Selecting.{pool_of_inputs, pool_of_command, replacement_of_choice}
 use Rattle.engine_core.specs.Wishes.{names_to_reinstall, names_to_upgrade, unknown_operand_place, unless_unknown_operand, wishes_of}
@@ -31,7 +31,7 @@ use Rattle.outcome.specs.ChangeEnd.{IsChangeEnd, IsEndOfSelectedChange, IsChange
 use Rattle.outcome.specs.Changing.{change_outcome}
 use Rattle.outcome.specs.Commands.{IsOutcomeWithoutDemo, IsOutcomeOverRecoveredFiles, IsOutcomeUnlessBadIntent, reads_in}
 use Rattle.outcome.specs.Effect.{Changes, Effect, effect_of}
-use Rattle.outcome.specs.Given.{IsChosenFor, IsFirstClashForEffect}
+use Rattle.outcome.specs.Given.{IsChoiceForCommand, IsFirstClashForEffect}
 use Rattle.outcome.specs.Outcome.{Outcome}
 use Rattle.outcome.specs.Work.{recovery_fault, files_recovered_if_needed}
 
@@ -102,7 +102,7 @@ module _ (known : IsMadeKnown) (command : CommandLine) (files : Files) where
   by_choice : (inputs : Inputs) (pool : SealedPool) (chosen : Option (List ℕ)) (clash : Option NamePair)
       → inputs_of command (reads_in files) ≡ Ok inputs → pool_of_inputs command inputs ≡ Ok pool → unknown_operand_place command.applet inputs command.operands ≡ None
       → IsChoiceFrom (Ok pool) chosen → IsClashOfCommand command (reads_in files) files chosen clash
-      → IsChangeEnd command files (end_of clash (selected_by command inputs pool chosen))
+      → IsChangeEnd command files (end_of clash (selected_from_pool_by_choice command inputs pool chosen))
   by_choice inputs pool None clash are is known_names choice is_clash =
       inr (inl (record { pool = pool; is_pool = ap (λ (r : Result Inputs Refusal). and_then r (pool_of_inputs command)) are ∙ is; none = choice; outcome = refl }))
   by_choice inputs pool (Some trace) clash are is known_names choice is_clash =
@@ -113,9 +113,9 @@ module _ (known : IsMadeKnown) (command : CommandLine) (files : Files) where
         trace = trace;
         first = choice;
         selected = s;
-        selects = ap (λ (r : Result Inputs Refusal). and_then r (selected_of_inputs command (Some trace))) are
-            ∙ ap (λ (r : Result SealedPool Refusal). and_then r (λ pool. unless_unknown_operand (unknown_operand_place command.applet inputs command.operands) (selected_by command inputs pool (Some trace)))) is
-            ∙ ap (λ (place : Option ℕ). unless_unknown_operand place (selected_by command inputs pool (Some trace))) known_names;
+        selects = ap (λ (r : Result Inputs Refusal). and_then r (selected_from_inputs_by_choice command (Some trace))) are
+            ∙ ap (λ (r : Result SealedPool Refusal). and_then r (λ pool. unless_unknown_operand (unknown_operand_place command.applet inputs command.operands) (selected_from_pool_by_choice command inputs pool (Some trace)))) is
+            ∙ ap (λ (place : Option ℕ). unless_unknown_operand place (selected_from_pool_by_choice command inputs pool (Some trace))) known_names;
         candidates = refl;
         clash = clash;
         is_clash = is_clash;
@@ -127,7 +127,7 @@ module _ (known : IsMadeKnown) (command : CommandLine) (files : Files) where
   by_place : (inputs : Inputs) (pool : SealedPool) (place : Option ℕ) (chosen : Option (List ℕ)) (clash : Option NamePair)
       → inputs_of command (reads_in files) ≡ Ok inputs → pool_of_inputs command inputs ≡ Ok pool → unknown_operand_place command.applet inputs command.operands ≡ place
       → IsChoiceFrom (Ok pool) chosen → IsClashOfCommand command (reads_in files) files chosen clash
-      → IsChangeEnd command files (end_of clash (unless_unknown_operand place (selected_by command inputs pool chosen)))
+      → IsChangeEnd command files (end_of clash (unless_unknown_operand place (selected_from_pool_by_choice command inputs pool chosen)))
   by_place inputs pool None chosen clash are is at choice is_clash = by_choice inputs pool chosen clash are is at choice is_clash
   by_place inputs pool (Some place) chosen clash are is at choice is_clash =
       inl (record {
@@ -135,15 +135,15 @@ module _ (known : IsMadeKnown) (command : CommandLine) (files : Files) where
         stated = refl;
         outcome = refl;
         unchosen = λ other.
-            ap (λ (r : Result Inputs Refusal). and_then r (selected_of_inputs command other)) are
-            ∙ ap (λ (r : Result SealedPool Refusal). and_then r (λ pool. unless_unknown_operand (unknown_operand_place command.applet inputs command.operands) (selected_by command inputs pool other))) is
-            ∙ ap (λ (p : Option ℕ). unless_unknown_operand p (selected_by command inputs pool other)) at;
+            ap (λ (r : Result Inputs Refusal). and_then r (selected_from_inputs_by_choice command other)) are
+            ∙ ap (λ (r : Result SealedPool Refusal). and_then r (λ pool. unless_unknown_operand (unknown_operand_place command.applet inputs command.operands) (selected_from_pool_by_choice command inputs pool other))) is
+            ∙ ap (λ (p : Option ℕ). unless_unknown_operand p (selected_from_pool_by_choice command inputs pool other)) at;
       })
 
   by_pool : (inputs : Inputs) (pool : Result SealedPool Refusal) (chosen : Option (List ℕ)) (clash : Option NamePair)
       → inputs_of command (reads_in files) ≡ Ok inputs → pool_of_inputs command inputs ≡ pool
       → IsChoiceFrom pool chosen → IsClashOfCommand command (reads_in files) files chosen clash
-      → IsChangeEnd command files (end_of clash (and_then pool (λ pool. unless_unknown_operand (unknown_operand_place command.applet inputs command.operands) (selected_by command inputs pool chosen))))
+      → IsChangeEnd command files (end_of clash (and_then pool (λ pool. unless_unknown_operand (unknown_operand_place command.applet inputs command.operands) (selected_from_pool_by_choice command inputs pool chosen))))
   by_pool inputs (Ok pool) chosen clash are is choice is_clash = by_place inputs pool (unknown_operand_place command.applet inputs command.operands) chosen clash are is refl choice is_clash
   by_pool inputs (Err refusal) chosen clash are is choice is_clash =
       inl (record {
@@ -151,16 +151,16 @@ module _ (known : IsMadeKnown) (command : CommandLine) (files : Files) where
         stated = subst (HasKnownRefusal is_input_refusal) is (pool_stated inputs (names_to_upgrade command.applet command.operands));
         outcome = refl;
         unchosen = λ other.
-            ap (λ (r : Result Inputs Refusal). and_then r (selected_of_inputs command other)) are
-            ∙ ap (λ (r : Result SealedPool Refusal). and_then r (λ pool. unless_unknown_operand (unknown_operand_place command.applet inputs command.operands) (selected_by command inputs pool other))) is;
+            ap (λ (r : Result Inputs Refusal). and_then r (selected_from_inputs_by_choice command other)) are
+            ∙ ap (λ (r : Result SealedPool Refusal). and_then r (λ pool. unless_unknown_operand (unknown_operand_place command.applet inputs command.operands) (selected_from_pool_by_choice command inputs pool other))) is;
       })
 
   by_inputs : (inputs : Result Inputs Refusal) (chosen : Option (List ℕ)) (clash : Option NamePair) → inputs_of command (reads_in files) ≡ inputs
       → IsChoiceFrom (and_then inputs (pool_of_inputs command)) chosen → IsClashOfCommand command (reads_in files) files chosen clash
-      → IsChangeEnd command files (end_of clash (and_then inputs (selected_of_inputs command chosen)))
+      → IsChangeEnd command files (end_of clash (and_then inputs (selected_from_inputs_by_choice command chosen)))
   by_inputs (Ok inputs) chosen clash are choice is_clash = by_pool inputs (pool_of_inputs command inputs) chosen clash are refl choice is_clash
   by_inputs (Err refusal) chosen clash are choice is_clash =
-      inl (record { refusal = refusal; stated = subst (HasKnownRefusal is_input_refusal) are (inputs_stated command (reads_in files)); outcome = refl; unchosen = λ other. ap (λ (r : Result Inputs Refusal). and_then r (selected_of_inputs command other)) are })
+      inl (record { refusal = refusal; stated = subst (HasKnownRefusal is_input_refusal) are (inputs_stated command (reads_in files)); outcome = refl; unchosen = λ other. ap (λ (r : Result Inputs Refusal). and_then r (selected_from_inputs_by_choice command other)) are })
 
   change_end : (chosen : Option (List ℕ)) (clash : Option NamePair) → IsChoiceFrom (pool_of_command command (reads_in files)) chosen → IsClashOfCommand command (reads_in files) files chosen clash
       → IsChangeEnd command files (change_outcome files (change_of_command command (reads_in files) files chosen clash))
@@ -173,7 +173,7 @@ pub over_end : IsMadeKnown → (command : CommandLine) (files : Files) (o : Outc
 over_end known command files o changes (given, are, is) =
     subst (IsChangeEnd command files) (change_is command.applet command given (reads_in files) files changes ∙ sym is)
     (change_end known command files given.chosen given.clash
-    (subst (λ (e : Effect). IsChosenFor e command (reads_in files) given.chosen) changes are.chosen)
+    (subst (λ (e : Effect). IsChoiceForCommand e command (reads_in files) given.chosen) changes are.chosen)
     (subst (λ (e : Effect). IsFirstClashForEffect e command (reads_in files) files given.chosen given.clash) changes are.clash))
 
 unless_end : IsMadeKnown → (fault : Option Cause) (command : CommandLine) (files : Files) (o : Outcome) → effect_of command.applet ≡ Changes → recovery_fault Changes files ≡ fault → IsOutcomeUnlessBadIntent fault command files o → IsChangeEndOrIntentRefusal command files o

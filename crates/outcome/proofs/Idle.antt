@@ -6,7 +6,7 @@ use Rattle.base_core.specs.Files.{Files}
 use Rattle.base_core.specs.declared.cause.Cause.{Cause}
 use Rattle.tell_core.specs.change_inputs.Chains.{and_then}
 use Rattle.tell_core.specs.change_inputs.Inputs.{Inputs, inputs_of}
-use Rattle.engine_core.specs.change_outcome.Premises.{IsRootOfFiles}
+use Rattle.engine_core.specs.change_outcome.Premises.{AreDatabaseAndWorldReadFromFiles}
 use Rattle.engine_core.specs.change_outcome.ChangeOutcome.{ChangeDone, ChangeWishes, change_or_refusal}
 use Rattle.command_core.specs.Command.{CommandLine}
 use Rattle.command_core.specs.Files.{without_dot_slash}
@@ -14,7 +14,7 @@ use Rattle.command_core.specs.declared.command.Applet.{Applet}
 use Rattle.command_core.specs.declared.command.Applet.TheVariants.{Adbdump, Adbgen, Mkndx, Mkpkg, Verify, Version}
 use Rattle.command_core.specs.declared.command.Flags.{Flags}
 use Rattle.command_core.specs.declared.operands.Operand.{Operand}
-use Rattle.engine_core.specs.Changed.{InputsAndReplacement, change_of_selected, change_of_command, selected_by, selected_for, selected_of_inputs, simulated_change}
+use Rattle.engine_core.specs.Changed.{InputsAndReplacement, change_of_selected, change_of_command, selected_from_pool_by_choice, selected_from_reads_by_choice, selected_from_inputs_by_choice, simulated_change}
 use Rattle.engine_core.specs.Selecting.{pool_of_inputs}
 use Rattle.engine_core.specs.Wishes.{unknown_operand_place, unless_unknown_operand, wishes_of}
 use Rattle.gen_core.specs.Generated.{generated_file}
@@ -40,8 +40,8 @@ use Rattle.outcome.specs.Dump.{adbdump, dump_of, dump_outcome, text_outcome}
 use Rattle.outcome.specs.Effect.{Effect, Changes, Computes, Makes, OnlyReadsFiles, AsksRoot, effect_of_arguments, effect_of}
 use Rattle.outcome.specs.Generate.{adbgen, container_outcome, generate_outcome}
 use Rattle.outcome.specs.Given.{Given}
-use Rattle.outcome.specs.Make.{files_with_output, index_report_line, make_outcome, unless_reserved}
-use Rattle.outcome.specs.Outcome.{Outcome, commit_report, just_refusal, outcome_of, report_unless}
+use Rattle.outcome.specs.Make.{files_with_output, index_report_line, make_outcome, outcome_unless_output_reserved}
+use Rattle.outcome.specs.Outcome.{Outcome, commit_report, just_refusal, outcome_without_commit, just_report_unless_refusal}
 use Rattle.outcome.specs.Verify.{sound_lines, verify_refusal}
 use Rattle.outcome.specs.Version.{invalid_version_lines, version_order_report, version, version_refusal}
 use Rattle.outcome.specs.Work.{recovery_fault, files_recovered_if_needed}
@@ -51,14 +51,14 @@ LeavesIdle files o = o.commits ≡ false → o.files ≡ files
 
 -- ---- commands that compute or read
 
-unless_idle : (files : Files) (refusal : Option Refusal) (report : List ℕ) → LeavesIdle files (report_unless files refusal report)
+unless_idle : (files : Files) (refusal : Option Refusal) (report : List ℕ) → LeavesIdle files (just_report_unless_refusal files refusal report)
 unless_idle files None report idle = refl
 unless_idle files (Some refusal) report idle = refl
 
 version_idle : (files : Files) (flags : Flags) (operands : List Operand) → LeavesIdle files (version files flags operands)
 version_idle files flags operands = by_test flags.test
   where
-    by_test : (b : Bool) → LeavesIdle files (if b then report_unless files (version_refusal operands) (version_order_report operands) else outcome_of (version_refusal operands) (invalid_version_lines operands) files)
+    by_test : (b : Bool) → LeavesIdle files (if b then just_report_unless_refusal files (version_refusal operands) (version_order_report operands) else outcome_without_commit (version_refusal operands) (invalid_version_lines operands) files)
     by_test true = unless_idle files (version_refusal operands) (version_order_report operands)
     by_test false = λ idle. refl
 
@@ -104,7 +104,7 @@ reserved_idle : (reserved : Bool) (files : Files) (name : List ℕ) (o : Outcome
 reserved_idle true files name o h = λ idle. refl
 reserved_idle false files name o h = h
 
-output_idle : (files : Files) (output : Option (List ℕ)) (o : Outcome) → LeavesIdle files o → LeavesIdle files (unless_reserved files output o)
+output_idle : (files : Files) (output : Option (List ℕ)) (o : Outcome) → LeavesIdle files o → LeavesIdle files (outcome_unless_output_reserved files output o)
 output_idle files None o h = h
 output_idle files (Some name) o h = reserved_idle (is_reserved name) files name o h
 
@@ -126,12 +126,12 @@ making_idle other command names read files = λ idle. refl
 
 -- what a change reads of a root stands there
 abbrev pub HaveRoot : Type 0
-HaveRoot = (command : CommandLine) (read : Reads) (inputs : Inputs) (files : Files) → ((n : ℕ) (name : List ℕ) → read n name ≡ files name) → inputs_of command read ≡ Ok inputs → IsRootOfFiles files inputs.root
+HaveRoot = (command : CommandLine) (read : Reads) (inputs : Inputs) (files : Files) → ((n : ℕ) (name : List ℕ) → read n name ≡ files name) → inputs_of command read ≡ Ok inputs → AreDatabaseAndWorldReadFromFiles files inputs.root
 
 -- one that writes nothing leaves the files
 abbrev pub HaveIdle : Type 0
 HaveIdle = (inputs : Inputs) (r : Replacement) (wishes : ChangeWishes) (read : Reads) (clash : Option NamePair) (files : Files) (done : ChangeDone)
-    → change_or_refusal inputs r wishes read clash files ≡ Ok done → IsRootOfFiles files inputs.root → done.commits ≡ false → done.files ≡ files
+    → change_or_refusal inputs r wishes read clash files ≡ Ok done → AreDatabaseAndWorldReadFromFiles files inputs.root → done.commits ≡ false → done.files ≡ files
 
 pub chain_ok : {A B : Type 0} (a : Result A Refusal) (next : A → Result B Refusal) (b : B) → and_then a next ≡ Ok b → (x : A) × (a ≡ Ok x) × (next x ≡ Ok b)
 chain_ok (Ok x) next b e = (x, refl, e)
@@ -141,7 +141,7 @@ place_ok : {A : Type 0} (place : Option ℕ) (next : Result A Refusal) (a : A) �
 place_ok None next a e = e
 place_ok (Some place) next a e = absurd (cc (e))
 
-chosen_inputs : (command : CommandLine) (inputs : Inputs) (pool : SealedPool) (chosen : Option (List ℕ)) (s : InputsAndReplacement) → selected_by command inputs pool chosen ≡ Ok s → s.inputs ≡ inputs
+chosen_inputs : (command : CommandLine) (inputs : Inputs) (pool : SealedPool) (chosen : Option (List ℕ)) (s : InputsAndReplacement) → selected_from_pool_by_choice command inputs pool chosen ≡ Ok s → s.inputs ≡ inputs
 chosen_inputs command inputs pool None s e = absurd (cc (e))
 chosen_inputs command inputs pool (Some trace) s e = ap (λ (r : Result InputsAndReplacement Refusal). inputs_or r) (sym e)
   where
@@ -149,13 +149,13 @@ chosen_inputs command inputs pool (Some trace) s e = ap (λ (r : Result InputsAn
     inputs_or (Ok t) = t.inputs
     inputs_or (Err refusal) = inputs
 
-pub selected_inputs : (command : CommandLine) (read : Reads) (chosen : Option (List ℕ)) (s : InputsAndReplacement) → selected_for command read chosen ≡ Ok s → inputs_of command read ≡ Ok s.inputs
+pub selected_inputs : (command : CommandLine) (read : Reads) (chosen : Option (List ℕ)) (s : InputsAndReplacement) → selected_from_reads_by_choice command read chosen ≡ Ok s → inputs_of command read ≡ Ok s.inputs
 selected_inputs command read chosen s e =
-    let (inputs, are, rest) = chain_ok (inputs_of command read) (selected_of_inputs command chosen) s e in
-    let (pool, is, left) = chain_ok (pool_of_inputs command inputs) (λ pool. unless_unknown_operand (unknown_operand_place command.applet inputs command.operands) (selected_by command inputs pool chosen)) s rest in
-    are ∙ ap (λ (x : Inputs). Ok x) (sym (chosen_inputs command inputs pool chosen s (place_ok (unknown_operand_place command.applet inputs command.operands) (selected_by command inputs pool chosen) s left)))
+    let (inputs, are, rest) = chain_ok (inputs_of command read) (selected_from_inputs_by_choice command chosen) s e in
+    let (pool, is, left) = chain_ok (pool_of_inputs command inputs) (λ pool. unless_unknown_operand (unknown_operand_place command.applet inputs command.operands) (selected_from_pool_by_choice command inputs pool chosen)) s rest in
+    are ∙ ap (λ (x : Inputs). Ok x) (sym (chosen_inputs command inputs pool chosen s (place_ok (unknown_operand_place command.applet inputs command.operands) (selected_from_pool_by_choice command inputs pool chosen) s left)))
 
-selected_idle : HaveIdle → (command : CommandLine) (read : Reads) (files : Files) (clash : Option NamePair) (s : InputsAndReplacement) (done : ChangeDone) → IsRootOfFiles files s.inputs.root
+selected_idle : HaveIdle → (command : CommandLine) (read : Reads) (files : Files) (clash : Option NamePair) (s : InputsAndReplacement) (done : ChangeDone) → AreDatabaseAndWorldReadFromFiles files s.inputs.root
     → (simulate : Bool) → (if simulate then Ok (simulated_change s.replacement (wishes_of command) files) else change_or_refusal s.inputs s.replacement (wishes_of command) read clash files) ≡ Ok done
     → done.commits ≡ false → done.files ≡ files
 selected_idle idle command read files clash s done root true is nothing = ap (λ (r : Result ChangeDone Refusal). files_or r) (sym is)
@@ -169,7 +169,7 @@ changed_idle : HaveRoot → HaveIdle → (command : CommandLine) (read : Reads) 
     → ((n : ℕ) (name : List ℕ) → read n name ≡ files name) → change_of_command command read files chosen clash ≡ Ok done → done.commits ≡ false → done.files ≡ files
 unfolding change_of_command
 changed_idle rooted idle command read files chosen clash done reads is nothing =
-    let (s, selected, rest) = chain_ok (selected_for command read chosen) (change_of_selected command read files clash) done is in
+    let (s, selected, rest) = chain_ok (selected_from_reads_by_choice command read chosen) (change_of_selected command read files clash) done is in
     selected_idle idle command read files clash s done (rooted command read s.inputs files reads (selected_inputs command read chosen s selected)) command.flags.simulate rest nothing
 
 pub change_idle : HaveRoot → HaveIdle → (command : CommandLine) (files : Files) (chosen : Option (List ℕ)) (clash : Option NamePair) (result : Result ChangeDone Refusal)

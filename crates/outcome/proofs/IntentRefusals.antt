@@ -23,7 +23,7 @@ use Rattle.outcome.specs.ChangeEnd.{IsChangeEnd, IsEndOfSelectedChange, is_input
 use Rattle.outcome.specs.Commands.{IsOutcomeWithoutDemo, IsOutcomeOverRecoveredFiles, IsOutcomeUnlessBadIntent, effect_outcome, reads_in}
 use Rattle.outcome.specs.Effect.{Effect, Computes, OnlyReadsFiles, AsksRoot, Makes, Changes, does_recover, effect_of_arguments, effect_of}
 use Rattle.outcome.specs.Given.{Given}
-use Rattle.outcome.specs.Make.{make_outcome, unless_reserved}
+use Rattle.outcome.specs.Make.{make_outcome, outcome_unless_output_reserved}
 use Rattle.outcome.specs.Outcome.{Outcome, just_refusal}
 use Rattle.outcome.specs.OutcomeOfReport.{outcome_of_report}
 use Rattle.outcome.specs.Words.{IsOutcome, IsOutcomeOfApplet}
@@ -66,7 +66,7 @@ reserved_by : (files : Files) (name : List ℕ) (otherwise : Outcome) (b : Bool)
 reserved_by files name otherwise true other = refused_other files (Reserved name) (λ cause is. cc (is))
 reserved_by files name otherwise false other = other
 
-reserved_other : (files : Files) (output : Option (List ℕ)) (otherwise : Outcome) → NamesNoIntent otherwise → NamesNoIntent (unless_reserved files output otherwise)
+reserved_other : (files : Files) (output : Option (List ℕ)) (otherwise : Outcome) → NamesNoIntent otherwise → NamesNoIntent (outcome_unless_output_reserved files output otherwise)
 reserved_other files None otherwise other = other
 reserved_other files (Some name) otherwise other = reserved_by files name otherwise (is_reserved name) other
 

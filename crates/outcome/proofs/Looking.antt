@@ -19,7 +19,7 @@ use Rattle.outcome.specs.Dump.{adbdump, dump_of, dump_outcome, text_outcome}
 use Rattle.outcome.specs.Effect.{Effect, Changes, Computes, Makes, OnlyReadsFiles, AsksRoot, does_only_read, effect_of, reads_only}
 use Rattle.outcome.specs.Generate.{adbgen, container_outcome, generate_outcome}
 use Rattle.outcome.specs.Given.{Given}
-use Rattle.outcome.specs.Outcome.{Outcome, outcome_of, report_unless}
+use Rattle.outcome.specs.Outcome.{Outcome, outcome_without_commit, just_report_unless_refusal}
 use Rattle.outcome.specs.Verify.{sound_lines, verify_refusal}
 use Rattle.outcome.specs.Version.{invalid_version_lines, version_order_report, version_refusal}
 use Rattle.outcome.specs.Work.{recovery_fault, files_recovered_if_needed}
@@ -29,7 +29,7 @@ LeavesFiles files o = (o.files ≡ files) × (o.commits ≡ false)
 
 -- ---- each such command
 
-unless_leaves : (files : Files) (refusal : Option Refusal) (report : List ℕ) → LeavesFiles files (report_unless files refusal report)
+unless_leaves : (files : Files) (refusal : Option Refusal) (report : List ℕ) → LeavesFiles files (just_report_unless_refusal files refusal report)
 unless_leaves files None report = (refl, refl)
 unless_leaves files (Some refusal) report = (refl, refl)
 
@@ -61,7 +61,7 @@ adbgen_leaves read files (o ∷ os) = generate_leaves files o.place (read 0 (wit
 
 pub computing_leaves : (applet : Applet) (command : CommandLine) (files : Files) → LeavesFiles files (outcome_from_arguments_alone applet command files)
 computing_leaves Version command files =
-    elim command.flags.test as (λ b. LeavesFiles files (if b then report_unless files (version_refusal command.operands) (version_order_report command.operands) else outcome_of (version_refusal command.operands) (invalid_version_lines command.operands) files)) [
+    elim command.flags.test as (λ b. LeavesFiles files (if b then just_report_unless_refusal files (version_refusal command.operands) (version_order_report command.operands) else outcome_without_commit (version_refusal command.operands) (invalid_version_lines command.operands) files)) [
       | true ↦ unless_leaves files (version_refusal command.operands) (version_order_report command.operands)
       | false ↦ (refl, refl)
     ]

@@ -7,7 +7,7 @@ use Rattle.tell_core.specs.change_inputs.Inputs.{Inputs}
 use Rattle.engine_core.specs.change_outcome.ChangeOutcome.{ChangeDone, ChangeWishes, IsClashOfChange, change_or_refusal}
 use Rattle.command_core.specs.Command.{CommandLine}
 use Rattle.command_core.specs.declared.command.Applet.{Applet}
-use Rattle.engine_core.specs.Changed.{IsClashOfCommand, IsClashOfSelected, IsClashUnlessSimulated, InputsAndReplacement, change_of_selected, change_of_command, selected_for, simulated_change}
+use Rattle.engine_core.specs.Changed.{IsClashOfCommand, IsClashOfSelected, IsClashUnlessSimulated, InputsAndReplacement, change_of_selected, change_of_command, selected_from_reads_by_choice, simulated_change}
 use Rattle.engine_core.specs.Wishes.{wishes_of}
 use Rattle.engine_core.specs.journal_core.Recovery.{Intent, intent_in_file, intent_name, is_staged, recovered_files, files_after_intent}
 use Rattle.engine_core.specs.journal_core.Staged.{AreReplayPathsFree, AreStagingPathsFree, unstaged_files}
@@ -57,7 +57,7 @@ module _ (room : KeepsRoom) (gone : BringsNoIntent) where
       → IsClashOfCommand command read files chosen clash → change_of_command command read files chosen clash ≡ Ok done → HasRoomNow files → HasRoomNow done.files
   unfolding change_of_command
   changed_room command read files chosen clash done is_clash is now =
-      let (s, selected, rest) = chain_ok (selected_for command read chosen) (change_of_selected command read files clash) done is in
+      let (s, selected, rest) = chain_ok (selected_from_reads_by_choice command read chosen) (change_of_selected command read files clash) done is in
       selected_room command read files clash s done command.flags.simulate rest (subst (λ (r : Result InputsAndReplacement Refusal). IsClashOfSelected command read files r clash) selected is_clash) now
 
   change_room : (command : CommandLine) (files : Files) (chosen : Option (List ℕ)) (clash : Option NamePair) (result : Result ChangeDone Refusal)

@@ -9,9 +9,9 @@ use Rattle.base_core.specs.declared.cause.Cause.{Cause}
 use Rattle.engine_core.specs.change_files.PlanLists.{first_reserved_path}
 use Rattle.tell_core.specs.change_inputs.Chains.{and_then}
 use Rattle.tell_core.specs.change_inputs.Inputs.{Inputs}
-use Rattle.engine_core.specs.change_outcome.ChangeOutcome.{ChangeDone, ChangeWishes, intent_of_change, change_done, members_after_change, change_or_refusal, change_with_members, file_change, new_records, touched_paths, unless_clash, unless_contested, or_result_too_large, unless_overflow, unless_reserved_path, unless_too_large}
-use Rattle.engine_core.specs.change_outcome.MembersAfter.{MemberFound, added_package_by_path, added_member_found, members_after, member_of_name_after, member_of_name_by_change, member_of_name_by_selected, member_of_removed_name, names_after}
-use Rattle.engine_core.specs.change_outcome.PackageFiles.{AddedPackage, first_script_of, package_file_of, added_package_or_refusal, scripts_of_change, unless_different, unless_script_number, unless_package_bad, unless_script_needed}
+use Rattle.engine_core.specs.change_outcome.ChangeOutcome.{ChangeDone, ChangeWishes, intent_of_change, change_done, members_after_change, change_or_refusal, change_with_members, file_change, database_and_world_after_change, touched_paths, unless_clash, unless_contested, or_result_too_large, unless_overflow, unless_reserved_path, change_done_unless_too_large}
+use Rattle.engine_core.specs.change_outcome.MembersAfter.{MemberFound, added_package_by_path, added_member_found, members_after, member_of_name_after, member_of_name_by_change, member_of_name_by_selected, member_of_removed_name, members_of_names_after}
+use Rattle.engine_core.specs.change_outcome.PackageFiles.{AddedPackage, first_script_of, package_file_path_of_candidate, added_package_or_refusal, scripts_of_change, package_unless_other_than_candidate, unless_script_number, unless_package_bad, unless_script_needed}
 use Rattle.engine_core.specs.change_outcome.Triggers.{folders_of_paths, has_due_trigger, unless_trigger_due}
 use Rattle.tell_core.specs.db_core.Members.{Member}
 use Rattle.engine_core.specs.db_write.NewDatabase.{database_of}
@@ -37,7 +37,7 @@ test_stated : {A : Type 0} (test : Bool) (refusal : Refusal) (next : Result A Re
 test_stated true refusal next stated h = stated
 test_stated false refusal next stated h = h
 
-different_stated : (c : Candidate) (pkg : AddedPackage) → IsPackagesResult (unless_different c pkg)
+different_stated : (c : Candidate) (pkg : AddedPackage) → IsPackagesResult (package_unless_other_than_candidate c pkg)
 different_stated c pkg =
     test_stated (not (is_same_id c.id pkg.id)) _ _ refl
     (test_stated (not (bytes_eq c.name (package_name pkg.value))) _ _ refl
@@ -73,7 +73,7 @@ selected_stated : (read : Reads) (repositories : List Repository) (no_scripts : 
     → IsPackagesResult (member_of_name_by_selected read repositories no_scripts n name change before selected)
 selected_stated read repositories no_scripts n name change before None = goes_stated no_scripts name change before
 selected_stated read repositories no_scripts n name change before (Some c) =
-    then_stated is_refusal_after_choice (added_package_by_path read n c (package_file_of repositories c)) _ (path_stated read n c (package_file_of repositories c)) (λ pkg.
+    then_stated is_refusal_after_choice (added_package_by_path read n c (package_file_path_of_candidate repositories c)) _ (path_stated read n c (package_file_path_of_candidate repositories c)) (λ pkg.
     script_stated no_scripts name pkg.value (scripts_of_change change) (Some (added_member_found pkg)))
 
 change_stated : (read : Reads) (repositories : List Repository) (no_scripts : Bool) (n : ℕ) (name : List ℕ) (change : Option Change) (before : Option Plain) (selected : Option Candidate)
@@ -81,11 +81,11 @@ change_stated : (read : Reads) (repositories : List Repository) (no_scripts : Bo
 change_stated read repositories no_scripts n name None before selected = tt
 change_stated read repositories no_scripts n name (Some change) before selected = selected_stated read repositories no_scripts n name change before selected
 
-names_stated : (r : Replacement) (read : Reads) (repositories : List Repository) (no_scripts : Bool) (n : ℕ) (names : List (List ℕ)) → IsPackagesResult (names_after r read repositories no_scripts n names)
+names_stated : (r : Replacement) (read : Reads) (repositories : List Repository) (no_scripts : Bool) (n : ℕ) (names : List (List ℕ)) → IsPackagesResult (members_of_names_after r read repositories no_scripts n names)
 names_stated r read repositories no_scripts n [] = tt
 names_stated r read repositories no_scripts n (name ∷ names) =
     then_stated is_refusal_after_choice (member_of_name_after r read repositories no_scripts n name) _ (change_stated read repositories no_scripts n name _ _ _) (λ first.
-    then_stated is_refusal_after_choice (names_after r read repositories no_scripts (suc n) names) _ (names_stated r read repositories no_scripts (suc n) names) (λ others. tt))
+    then_stated is_refusal_after_choice (members_of_names_after r read repositories no_scripts (suc n) names) _ (names_stated r read repositories no_scripts (suc n) names) (λ others. tt))
 
 members_stated : (r : Replacement) (read : Reads) (repositories : List Repository) (no_scripts : Bool) → IsPackagesResult (members_after r read repositories no_scripts)
 unfolding members_after
@@ -118,17 +118,17 @@ overflow_stated : {A : Type 0} (counts : Option PayloadCounts) (a : A) → IsPac
 overflow_stated None a = tt
 overflow_stated (Some counts) a = refl
 
-too_large_stated : (inputs : Inputs) (r : Replacement) (wishes : ChangeWishes) (found : List MemberFound) (files : Files) → IsPackagesResult (unless_too_large inputs r wishes found files)
+too_large_stated : (inputs : Inputs) (r : Replacement) (wishes : ChangeWishes) (found : List MemberFound) (files : Files) → IsPackagesResult (change_done_unless_too_large inputs r wishes found files)
 too_large_stated inputs r wishes found files =
     let members = (file_change inputs wishes found).members in
     then_stated {A = List ℕ} {B = ChangeDone} is_refusal_after_choice (or_result_too_large (database_of members (owned_flags_of members)))
     (λ database.
-    let records = new_records inputs database in
+    let records = database_and_world_after_change inputs database in
     let actions = intent_of_change inputs (file_change inputs wishes found) files records in
     unless_overflow (overflow_of (value_of_intent (intent_of_lists actions.removals actions.writes))) (change_done inputs r wishes found files records))
     (large_stated (database_of members (owned_flags_of members)))
     (λ database.
-    let records = new_records inputs database in
+    let records = database_and_world_after_change inputs database in
     let actions = intent_of_change inputs (file_change inputs wishes found) files records in
     overflow_stated (overflow_of (value_of_intent (intent_of_lists actions.removals actions.writes))) (change_done inputs r wishes found files records))
 
@@ -136,10 +136,10 @@ with_members_stated : (inputs : Inputs) (r : Replacement) (wishes : ChangeWishes
 with_members_stated inputs r wishes clash files found =
     let change = file_change inputs wishes found in
     let paths = touched_paths change files in
-    let rest : IsPackagesResult (and_then (unless_trigger_due wishes.no_scripts paths change.members) (λ is_allowed. unless_too_large inputs r wishes found files)) =
-    then_stated is_refusal_after_choice (unless_trigger_due wishes.no_scripts paths change.members) (λ is_allowed. unless_too_large inputs r wishes found files) (trigger_stated wishes.no_scripts paths change.members) (λ is_allowed. too_large_stated inputs r wishes found files) in
-    let owned : Result ChangeDone Refusal = unless_contested change.members (first_contested_path_of_members change.members) (and_then (unless_trigger_due wishes.no_scripts paths change.members) (λ is_allowed. unless_too_large inputs r wishes found files)) in
-    reserved_stated (first_reserved_path change.members) (unless_clash clash owned) (clash_stated clash owned (contested_stated change.members (first_contested_path_of_members change.members) (and_then (unless_trigger_due wishes.no_scripts paths change.members) (λ is_allowed. unless_too_large inputs r wishes found files)) rest))
+    let rest : IsPackagesResult (and_then (unless_trigger_due wishes.no_scripts paths change.members) (λ is_allowed. change_done_unless_too_large inputs r wishes found files)) =
+    then_stated is_refusal_after_choice (unless_trigger_due wishes.no_scripts paths change.members) (λ is_allowed. change_done_unless_too_large inputs r wishes found files) (trigger_stated wishes.no_scripts paths change.members) (λ is_allowed. too_large_stated inputs r wishes found files) in
+    let owned : Result ChangeDone Refusal = unless_contested change.members (first_contested_path_of_members change.members) (and_then (unless_trigger_due wishes.no_scripts paths change.members) (λ is_allowed. change_done_unless_too_large inputs r wishes found files)) in
+    reserved_stated (first_reserved_path change.members) (unless_clash clash owned) (clash_stated clash owned (contested_stated change.members (first_contested_path_of_members change.members) (and_then (unless_trigger_due wishes.no_scripts paths change.members) (λ is_allowed. change_done_unless_too_large inputs r wishes found files)) rest))
 
 pub refusal_stated : (inputs : Inputs) (r : Replacement) (wishes : ChangeWishes) (read : Reads) (clash : Option NamePair) (files : Files) → IsPackagesResult (change_or_refusal inputs r wishes read clash files)
 unfolding change_or_refusal

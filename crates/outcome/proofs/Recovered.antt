@@ -17,10 +17,10 @@ use Rattle.adb_view.specs.declared.tables.Which.{Which}
 use Rattle.adb_view.specs.declared.tables.Which.TheVariants.{Intent as IntentTable}
 use Rattle.adb_view.specs.Plain.{Plain, Plains, none, more}
 use Rattle.adb_view.specs.Shaped.{Each}
-use Rattle.base_core.specs.Files.{AreNamedFiles, Files, AreFileBytes, HasNamesAmong, drop_name, move_name}
+use Rattle.base_core.specs.Files.{HaveValidNamesAndBytes, Files, AreFileBytes, HasNamesAmong, drop_name, move_name}
 use Rattle.base_core.specs.Name.{IsName, is_name}
 use Rattle.base_core.specs.declared.cause.Cause.{Cause}
-use Rattle.engine_core.specs.journal_core.Recovery.{Intent, files_after_actions, files_after_moves, intent_in_file, intent_of_value, intent_name, intent_of, is_staged, move_if_present, read_intent, recovered_files, files_after_intent, stage_name, without_names}
+use Rattle.engine_core.specs.journal_core.Recovery.{Intent, files_after_actions, files_after_staged_moves_from, intent_in_file, intent_of_value, intent_name, intent_of, is_staged, move_if_present, read_intent, recovered_files, files_after_intent, stage_name, files_without_names}
 use Rattle.engine_core.specs.journal_core.Staged.{unstaged_files}
 
 -- ---- of each file
@@ -51,7 +51,7 @@ move_holds : (P : Property) (files : Files) (from to : List ℕ) (found : Option
 move_holds P files from to None is carry holds = holds
 move_holds P files from to (Some bytes) is carry holds = moved_holds P files from to bytes (carry from bytes (holds from bytes is)) holds
 
-moves_hold : (P : Property) (k : ℕ) (names : List (List ℕ)) (files : Files) → Carries P names → Holds P files → Holds P (files_after_moves k names files)
+moves_hold : (P : Property) (k : ℕ) (names : List (List ℕ)) (files : Files) → Carries P names → Holds P files → Holds P (files_after_staged_moves_from k names files)
 moves_hold P k [] files carry holds = holds
 moves_hold P k (name ∷ names) files (one, others) holds =
     moves_hold P (k + 1) names (move_if_present files (stage_name k) name (files (stage_name k))) others (move_holds P files (stage_name k) name (files (stage_name k)) refl one holds)
@@ -59,7 +59,7 @@ moves_hold P k (name ∷ names) files (one, others) holds =
 recovered_by_holds : (P : Property) (files : Files) (intent : Option Intent) → ((i : Intent) → intent ≡ Some i → Carries P i.writes) → Holds P files → Holds P (files_after_intent intent files)
 recovered_by_holds P files None carry holds = holds
 recovered_by_holds P files (Some intent) carry holds = λ q bytes is.
-    moves_hold P 1 intent.writes (without_names intent.removals files) (carry intent refl)
+    moves_hold P 1 intent.writes (files_without_names intent.removals files) (carry intent refl)
     (λ p other is_there. holds p other (if_there (list_any (bytes_eq p) intent.removals) (files p) other is_there)) q bytes (if_there (bytes_eq q intent_name) (files_after_actions intent files q) bytes is)
 
 pub unstaged_holds : (P : Property) (files : Files) → ((i : Intent) → intent_of files ≡ Some i → Carries P i.writes) → Holds P files → Holds P (unstaged_files files)
@@ -144,7 +144,7 @@ at_named : ReadSound → ReadNone → HoldsSound → (found : Option (List ℕ))
 at_named read none_read sound None intent is = cc
 at_named read none_read sound (Some file) intent is = file_named read none_read sound file intent is
 
-pub unstaged_named : ReadSound → ReadNone → HoldsSound → (files : Files) → AreNamedFiles files → AreNamedFiles (unstaged_files files)
+pub unstaged_named : ReadSound → ReadNone → HoldsSound → (files : Files) → HaveValidNamesAndBytes files → HaveValidNamesAndBytes (unstaged_files files)
 unstaged_named read none_read sound files good =
     let all : Holds NamedFile (unstaged_files files) =
     unstaged_holds NamedFile files (λ i is. at_named read none_read sound (files intent_name) i is) (λ q bytes is. (good.named q (ap (λ (o : Option (List ℕ)). is_some o) is), good.each q bytes is)) in

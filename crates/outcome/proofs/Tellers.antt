@@ -1,7 +1,7 @@
 -- A command that only reports is refused for its input alone.
 use Rattle.std.proofs.Common.{◌≡◌, ℕ, Bool, true, false, List, [], ◌∷◌, ◌++◌, Option, Some, None, Result, Ok, Err, refl, ap, sym, subst, ◌∙◌}
 use Rattle.adb_view.specs.Plain.{Plain}
-use Rattle.tell_core.specs.audit_core.Manifest.{manifest_of, manifest_with, operand_package, package_manifest}
+use Rattle.tell_core.specs.audit_core.Manifest.{manifest_of, manifest_with_package_of_operand, package_named_by_operand, package_manifest}
 use Rattle.tell_core.specs.candidate_core.Rank.{no_names}
 use Rattle.tell_core.specs.change_inputs.Candidates.{root_pool}
 use Rattle.tell_core.specs.change_inputs.Chains.{and_then}
@@ -11,7 +11,7 @@ use Rattle.command_core.specs.declared.command.Applet.{Applet}
 use Rattle.command_core.specs.declared.command.Applet.TheVariants.{Audit, Info, List as ListApplet, Manifest, Policy, Search}
 use Rattle.command_core.specs.declared.operands.Operand.{Operand}
 use Rattle.tell_core.specs.installed_info.Info.{info_of}
-use Rattle.tell_core.specs.installed_info.Refusals.{IsRefusalOfSomeOperand}
+use Rattle.tell_core.specs.installed_info.Refusals.{IsNotInstalledRefusalOfOperand}
 use Rattle.tell_core.specs.installed_info.declared.telling.ReportAndRefusal.{ReportAndRefusal}
 use Rattle.make_core.specs.make_info.Reads.{Reads}
 use Rattle.report_core.specs.declared.refusal.Refusal.{Refusal}
@@ -36,13 +36,13 @@ then_all_stated (Err refusal) next h rest = h
 -- ---- a manifest
 
 -- with one operand more
-with_stated : (o : Operand) (found : Option Plain) (further : Result (List ℕ) Refusal) → HasKnownRefusal is_input_refusal further → HasKnownRefusal is_input_refusal (manifest_with o found further)
+with_stated : (o : Operand) (found : Option Plain) (further : Result (List ℕ) Refusal) → HasKnownRefusal is_input_refusal further → HasKnownRefusal is_input_refusal (manifest_with_package_of_operand o found further)
 with_stated o None further h = refl
 with_stated o (Some pkg) further h = then_stated is_input_refusal further (λ more. Ok (package_manifest pkg ++ more)) h (λ more. tt)
 
 manifest_stated : (packages : List Plain) (operands : List Operand) → HasKnownRefusal is_input_refusal (manifest_of packages operands)
 manifest_stated packages [] = tt
-manifest_stated packages (o ∷ operands) = with_stated o (operand_package packages o) (manifest_of packages operands) (manifest_stated packages operands)
+manifest_stated packages (o ∷ operands) = with_stated o (package_named_by_operand packages o) (manifest_of packages operands) (manifest_stated packages operands)
 
 -- ---- a query
 
@@ -51,9 +51,9 @@ query_stated command read =
     then_all_stated (inputs_of command read) (query_report command) (inputs_stated command read)
     (λ inputs. then_all_stated (root_pool inputs no_names) _ (pool_stated inputs no_names) (λ pool refusal beside. absurd (cc (beside))))
 
-module _ (refused : (c : CommandLine) (packages : List Plain) (refusal : Refusal) → info_of c packages ≡ Err refusal → IsRefusalOfSomeOperand c.operands refusal)
-    (following_refusal : (c : CommandLine) (packages : List Plain) (done : ReportAndRefusal) (refusal : Refusal) → info_of c packages ≡ Ok done → done.following_refusal ≡ Some refusal → (c.flags.installed ≡ true) × IsRefusalOfSomeOperand c.operands refusal) where
-  operand_stated : (command : CommandLine) (refusal : Refusal) → IsRefusalOfSomeOperand command.operands refusal → IsAnsweredInFull refusal
+module _ (refused : (c : CommandLine) (packages : List Plain) (refusal : Refusal) → info_of c packages ≡ Err refusal → IsNotInstalledRefusalOfOperand c.operands refusal)
+    (following_refusal : (c : CommandLine) (packages : List Plain) (done : ReportAndRefusal) (refusal : Refusal) → info_of c packages ≡ Ok done → done.following_refusal ≡ Some refusal → (c.flags.installed ≡ true) × IsNotInstalledRefusalOfOperand c.operands refusal) where
+  operand_stated : (command : CommandLine) (refusal : Refusal) → IsNotInstalledRefusalOfOperand command.operands refusal → IsAnsweredInFull refusal
   operand_stated command refusal (operand, among, is) = ap is_input_refusal is
 
   info_stated : (command : CommandLine) (packages : List Plain) (told : Result ReportAndRefusal Refusal) → info_of command packages ≡ told → AreStated told

@@ -10,7 +10,7 @@ use Rattle.outcome.proofs.Demos.{HaveOneOutcome, HaveOutcome, demo_everywhere, d
 use Rattle.outcome.specs.Commands.{IsOutcomeWithoutDemo}
 use Rattle.outcome.specs.Demo.{IsDemoOutcome}
 use Rattle.outcome.specs.Effect.{Effect, Computes, AsksRoot, Makes, Changes, ignores_files, effect_of_arguments, effect_of, output_name_of_arguments, output_name_for_effect, depends_only_on_arguments}
-use Rattle.outcome.specs.Outcome.{Outcome, outcome_of}
+use Rattle.outcome.specs.Outcome.{Outcome, outcome_without_commit}
 use Rattle.outcome.specs.Words.{IsOutcome, IsOutcomeOfApplet}
 
 -- ---- there is one, and no second one
@@ -73,13 +73,13 @@ leaves_by P read files o of demo is = ⊎_elim of (λ d. demo (demo_leaves d.0 f
 
 -- so it is of a command that rests on the words alone
 abbrev pub SameEverywhere : Type 0
-SameEverywhere = (read : Result CommandLine ℕ) (files others : Files) (o : Outcome) → IsTrue (depends_only_on_arguments read) → IsOutcomeWithoutDemo read files o → IsOutcomeWithoutDemo read others (outcome_of o.refusal o.out others)
+SameEverywhere = (read : Result CommandLine ℕ) (files others : Files) (o : Outcome) → IsTrue (depends_only_on_arguments read) → IsOutcomeWithoutDemo read files o → IsOutcomeWithoutDemo read others (outcome_without_commit o.refusal o.out others)
 
 applet_everywhere : SameEverywhere → (applet : Applet) (command : CommandLine) (files others : Files) (o : Outcome) → IsTrue (ignores_files (effect_of command.applet)) → IsOutcomeOfApplet applet command files o
-    → IsOutcomeOfApplet applet command others (outcome_of o.refusal o.out others)
+    → IsOutcomeOfApplet applet command others (outcome_without_commit o.refusal o.out others)
 applet_everywhere same Demo command files others o rests is = demo_everywhere (demo_count command.operands) files others o is
 applet_everywhere same other command files others o rests is = same (Ok command) files others o rests is
 
-pub by_everywhere : SameEverywhere → (read : Result CommandLine ℕ) (files others : Files) (o : Outcome) → IsTrue (depends_only_on_arguments read) → IsOutcome read files o → IsOutcome read others (outcome_of o.refusal o.out others)
+pub by_everywhere : SameEverywhere → (read : Result CommandLine ℕ) (files others : Files) (o : Outcome) → IsTrue (depends_only_on_arguments read) → IsOutcome read files o → IsOutcome read others (outcome_without_commit o.refusal o.out others)
 by_everywhere same (Ok command) files others o rests is = applet_everywhere same command.applet command files others o rests is
 by_everywhere same (Err place) files others o rests is = same (Err place) files others o rests is

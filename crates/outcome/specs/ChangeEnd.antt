@@ -7,7 +7,7 @@ use Rattle.base_core.specs.Files.{Files}
 use Rattle.base_core.specs.declared.cause.Cause.{Cause}
 use Rattle.engine_core.specs.change_outcome.ChangeOutcome.{ChangeDone}
 use Rattle.command_core.specs.Command.{CommandLine}
-use Rattle.engine_core.specs.Changed.{IsClashOfCommand, InputsAndReplacement, change_of_selected, selected_for}
+use Rattle.engine_core.specs.Changed.{IsClashOfCommand, InputsAndReplacement, change_of_selected, selected_from_reads_by_choice}
 use Rattle.engine_core.specs.Selecting.{pool_of_command}
 use Rattle.engine_core.specs.package_changes.Changes.{changes_of}
 use Rattle.engine_core.specs.package_changes.Placed.{candidates_at}
@@ -59,17 +59,23 @@ is_refusal_after_choice other = false
 
 -- a command is refused for its input, whichever candidates might be chosen
 pub record IsInputRefused (command : CommandLine) (files : Files) (o : Outcome) : Type 0 where
+  -- the refusal, which is one of those for an input
   pub refusal : Refusal
   pub stated : is_input_refusal refusal ≡ true
+  -- the input is refused whichever candidates are chosen
   pub unchosen : (chosen : Option (List ℕ))
-      → selected_for command (reads_in files) chosen ≡ Err refusal
+      → selected_from_reads_by_choice command (reads_in files) chosen ≡ Err refusal
+  -- the outcome is this refusal, and the files are unchanged
   pub outcome : o ≡ just_refusal files refusal
 
 -- no selection of the candidates satisfies the new world, and exactly this is reported
-pub record HasNoSelection (command : CommandLine) (files : Files) (o : Outcome) : Type 0 where
+pub record IsRefusedAsUnsatisfiable (command : CommandLine) (files : Files) (o : Outcome) : Type 0 where
+  -- the candidates of the command, under its new world
   pub pool : SealedPool
   pub is_pool : pool_of_command command (reads_in files) ≡ Ok pool
+  -- no selection of them satisfies the new world
   pub none : (selection : List ℕ) → IsSatisfying pool selection → ⊥
+  -- the outcome is the refusal *Unsatisfied*, and the files are unchanged
   pub outcome : o ≡ just_refusal files Unsatisfied
 
 -- ---- with the preferred selection
@@ -78,9 +84,12 @@ pub record HasNoSelection (command : CommandLine) (files : Files) (o : Outcome) 
 -- simulated change leaves the files unchanged, and commits nothing.
 pub record IsChangeDoneAndReported (command : CommandLine) (files : Files) (selected : InputsAndReplacement)
     (done : ChangeDone) (o : Outcome) : Type 0 where
+  -- the outcome is that of this change
   pub outcome : o ≡ change_outcome files (Ok done)
+  -- the report: a line for each package that changes, and then the rest
   pub rest : List ℕ
   pub report : o.out ≡ change_lines (changes_of selected.replacement) ++ rest
+  -- a simulated change leaves the files unchanged, and commits nothing
   pub simulated : command.flags.simulate ≡ true → (o.files ≡ files) × (o.commits ≡ false)
 
 -- how a change ends once its candidates are selected: it is carried out and reported, or refused for a
@@ -97,16 +106,21 @@ IsEndOfSelectedChange command files selected (Err refusal) o =
 pub record TakesFirstPreferredSelection (command : CommandLine) (files : Files) (o : Outcome) : Type 0 where
   -- the candidates of the command
   pub pool : SealedPool
+  -- the command has these candidates, under its new world
   pub is_pool : pool_of_command command (reads_in files) ≡ Ok pool
   -- the places of the chosen candidates, in the order chosen
   pub trace : List ℕ
+  -- the trace is the preferred selection of them
   pub first : IsFirstPreferredSelection pool trace
   -- what is read, and the packages before with the candidates that replace them
   pub selected : InputsAndReplacement
-  pub selects : selected_for command (reads_in files) (Some trace) ≡ Ok selected
+  -- the command takes this selection
+  pub selects : selected_from_reads_by_choice command (reads_in files) (Some trace) ≡ Ok selected
+  -- the selected candidates are those of the trace
   pub candidates : selected.replacement.selected ≡ candidates_at pool trace
   -- the first clash of the names after the change, if there is one
   pub clash : Option NamePair
+  -- the first clash of names that the change makes, if there is one
   pub is_clash : IsClashOfCommand command (reads_in files) files (Some trace) clash
   -- how the change ends
   pub end : IsEndOfSelectedChange command files selected
@@ -119,12 +133,14 @@ pub record TakesFirstPreferredSelection (command : CommandLine) (files : Files) 
 abbrev pub IsChangeEnd : CommandLine → Files → Outcome → Type 0
 IsChangeEnd command files o =
     IsInputRefused command files o
-    ⊎ (HasNoSelection command files o ⊎ TakesFirstPreferredSelection command files o)
+    ⊎ (IsRefusedAsUnsatisfiable command files o ⊎ TakesFirstPreferredSelection command files o)
 
 -- a run refuses a corrupt journal entry (intent) before all else; `files` are those at its start
 pub record IsIntentRefused (files : Files) (o : Outcome) : Type 0 where
+  -- the first test that the intent fails
   pub cause : Cause
   pub bad : recovery_fault Changes files ≡ Some cause
+  -- the outcome is the refusal with this cause, and the files are unchanged
   pub outcome : o ≡ just_refusal files (IntentBad cause)
 
 -- each end of a change that recovers first: a corrupt journal entry (intent) is refused, or the change

@@ -11,8 +11,8 @@ use Rattle.report_core.specs.declared.refusal.Refusal.TheVariants.{IntentBad, Us
 use Rattle.command_core.specs.Command.{CommandLine}
 use Rattle.command_core.specs.declared.command.Applet.{Applet}
 use Rattle.command_core.specs.declared.command.Applet.TheVariants.{Adbdump, Adbgen, Help, Mkndx, Mkpkg, ProgramVersion, Verify, Version}
-use Rattle.engine_core.specs.ChangeRun.{HasSpoiledPackage}
-use Rattle.engine_core.specs.Changed.{change_of_command, found_packages, selected_for}
+use Rattle.engine_core.specs.ChangeRun.{IsRefusalOfSpoiledPackage}
+use Rattle.engine_core.specs.Changed.{change_of_command, packages_found_after_change, selected_from_reads_by_choice}
 use Rattle.tell_core.specs.ReportForCommand.{report_for_command}
 use Rattle.words_core.specs.HelpTexts.{help_text, version_line}
 use Rattle.outcome.specs.Changing.{change_outcome}
@@ -101,13 +101,18 @@ IsOutcomeWithoutDemo (Ok command) files outcome =
 pub record IsRefusedForSpoiledPackage (command : CommandLine) (read : Reads) (given : Given) (files :
     Files)
     (outcome : Outcome) : Type 0 where
+  -- the command changes what is installed
   pub changes : effect_of command.applet ≡ Changes
+  -- without the refusal the outcome commits
   pub commits :
       (effect_outcome (effect_of command.applet) command.applet command given read files).commits
       ≡ true
+  -- the refusal, which is that of a spoiled package
   pub refusal : Refusal
-  pub spoiled : HasSpoiledPackage
-      (found_packages command read (selected_for command read given.chosen)) refusal
+  pub spoiled : IsRefusalOfSpoiledPackage
+      (packages_found_after_change command read
+      (selected_from_reads_by_choice command read given.chosen)) refusal
+  -- the outcome is this refusal, and the files are unchanged
   pub is : outcome ≡ just_refusal files refusal
 
 -- the outcome is one for some listing, some contents at each read, some files, and the first clash of

@@ -7,7 +7,7 @@ use Rattle.words_core.specs.Grammar.{command_of}
 use Rattle.outcome.specs.Commands.{IsOutcomeWithoutDemo}
 use Rattle.demo_lines.specs.Lines.{add_words, demo_file, demo_repositories, demo_text, mkndx_words, mkpkg_words}
 use Rattle.demo_lines.specs.Report.{demo_line}
-use Rattle.outcome.specs.Outcome.{Outcome, just_report, report_unless}
+use Rattle.outcome.specs.Outcome.{Outcome, just_report, just_report_unless_refusal}
 
 -- ---- one run after another
 
@@ -27,16 +27,16 @@ IsOutcomeOfNextRun words files before outcome =
 -- ---- the runs
 
 -- the outcome before the first run: the tree has only the list of repositories
-abbrev pub outcome_before_demo : Outcome
-outcome_before_demo = just_report (put_name no_names repositories_name demo_repositories) []
+abbrev pub outcome_with_demo_repositories : Outcome
+outcome_with_demo_repositories = just_report (put_name no_names repositories_name demo_repositories) []
 
--- the files, with the one file that package i contains put under its name
+-- the files, to which the file that package i contains was added under its name
 abbrev pub with_demo_file : ℕ → Files → Files
 with_demo_file i files = put_name files (demo_file i) (demo_text i)
 
 -- the outcome after packages 1 to n are made; the one file of each is written before its run of `mkpkg`
 abbrev pub IsDemoOutcomeAfterPackaging : ℕ → Outcome → Type 0
-IsDemoOutcomeAfterPackaging zero outcome = outcome ≡ outcome_before_demo
+IsDemoOutcomeAfterPackaging zero outcome = outcome ≡ outcome_with_demo_repositories
 IsDemoOutcomeAfterPackaging (suc i) outcome =
     (before : Outcome)
     × IsDemoOutcomeAfterPackaging i before
@@ -64,4 +64,4 @@ abbrev pub IsDemoOutcome : ℕ → Files → Outcome → Type 0
 IsDemoOutcome n files outcome =
     (last : Outcome)
     × IsDemoOutcomeAfterInstalling n last
-    × (outcome ≡ report_unless files last.refusal (demo_line n last.out))
+    × (outcome ≡ just_report_unless_refusal files last.refusal (demo_line n last.out))

@@ -8,7 +8,7 @@ use Rattle.base_core.specs.declared.cause.Cause.TheVariants.{WrongSchema}
 use Rattle.report_core.specs.declared.refusal.Refusal.TheVariants.{FileMissing, FileBad}
 use Rattle.command_core.specs.Files.{without_dot_slash}
 use Rattle.command_core.specs.declared.operands.Operand.{Operand}
-use Rattle.adb_block.specs.Header.{header_of}
+use Rattle.adb_block.specs.Header.{schema_of_header}
 use Rattle.adb_block.specs.ReaderPosition.{first_block_position}
 use Rattle.adb_block.specs.Reading.{Reading, done, fault, more, block_stream_from}
 use Rattle.adb_view.specs.Head.{payload_head_fault, root_word_of_payload}
@@ -67,7 +67,7 @@ dump_by_schema file (Ok schema) =
 -- the text of a file, or the first test that it fails: of its header, of its schema (one of four), of its
 -- first block, and of the framing of the later blocks
 unfoldable pub dump_of : List ℕ → Result (List ℕ) Cause
-dump_of file = dump_by_schema file (header_of file)
+dump_of file = dump_by_schema file (schema_of_header file)
 
 -- the outcome of a dump text or of a fault: the text is the report, or the operand at this place is refused
 abbrev pub text_outcome : Files → ℕ → Result (List ℕ) Cause → Outcome

@@ -34,17 +34,17 @@ no_listing_choice_or_clash = record { names = []; chosen = None; clash = None }
 -- ---- the choice
 
 -- the places of the candidates that a command chooses, given what reads find; only a change chooses
-abbrev pub IsChosenFor : Effect → CommandLine → Reads → Option (List ℕ) → Type 0
-IsChosenFor Changes command read chosen = IsChoiceFrom (pool_of_command command read) chosen
-IsChosenFor other command read chosen = chosen ≡ None
+abbrev pub IsChoiceForCommand : Effect → CommandLine → Reads → Option (List ℕ) → Type 0
+IsChoiceForCommand Changes command read chosen = IsChoiceFrom (pool_of_command command read) chosen
+IsChoiceForCommand other command read chosen = chosen ≡ None
 
 -- ---- over these files
 
 -- the names that an applet lists: `mkpkg` those below its folder, the others none
-abbrev pub IsListingFor : Applet → CommandLine → Files → List (List ℕ) → Type 0
-IsListingFor Mkpkg command files names =
+abbrev pub AreNamesListedForApplet : Applet → CommandLine → Files → List (List ℕ) → Type 0
+AreNamesListedForApplet Mkpkg command files names =
     AreNamesBelowOptionFolder (values_of_letter FILES command.values) files names
-IsListingFor other command files names = names ≡ []
+AreNamesListedForApplet other command files names = names ≡ []
 
 -- the first clash of the names after a command, which only a change has
 abbrev pub IsFirstClashForEffect :
@@ -56,8 +56,11 @@ IsFirstClashForEffect other command read files chosen clash = clash ≡ None
 -- all parts that a command is given, if reads find the contents of these files
 pub record IsListingChoiceAndClashFor (command : CommandLine) (read : Reads) (files : Files) (given : Given)
     : Type 0 where
-  pub names : IsListingFor command.applet command files given.names
-  pub chosen : IsChosenFor (effect_of command.applet) command read given.chosen
+  -- the names that the command lists are those of the files
+  pub names : AreNamesListedForApplet command.applet command files given.names
+  -- for a change: the chosen candidates are the preferred selection; None if no selection satisfies world
+  pub chosen : IsChoiceForCommand (effect_of command.applet) command read given.chosen
+  -- the clash is the first one of the change over these files, if there is one
   pub clash :
       IsFirstClashForEffect (effect_of command.applet) command read files given.chosen given.clash
 
@@ -65,9 +68,10 @@ pub record IsListingChoiceAndClashFor (command : CommandLine) (read : Reads) (fi
 
 -- names that an applet may list: `mkpkg` some below its folder, in byte order and each once, the others
 -- none
-abbrev pub MayBeListedFor : Applet → CommandLine → List (List ℕ) → Type 0
-MayBeListedFor Mkpkg command names = AreNamesBelowFirstFolder (values_of_letter FILES command.values) names
-MayBeListedFor other command names = names ≡ []
+abbrev pub MayBeNamesListedForApplet : Applet → CommandLine → List (List ℕ) → Type 0
+MayBeNamesListedForApplet Mkpkg command names =
+    AreNamesBelowFirstFolder (values_of_letter FILES command.values) names
+MayBeNamesListedForApplet other command names = names ≡ []
 
 -- the first clash of names after a command among some present files; only a change has one
 abbrev pub MayBeFirstClashForEffect :
@@ -80,7 +84,10 @@ MayBeFirstClashForEffect other command read files chosen clash = clash ≡ None
 pub record MayBeListingChoiceAndClashFor (command : CommandLine) (read : Reads) (files : Files)
     (given : Given)
     : Type 0 where
-  pub names : MayBeListedFor command.applet command given.names
-  pub chosen : IsChosenFor (effect_of command.applet) command read given.chosen
+  -- some names that a tree may list
+  pub names : MayBeNamesListedForApplet command.applet command given.names
+  -- for a change: the chosen candidates are the preferred selection; None if no selection satisfies world
+  pub chosen : IsChoiceForCommand (effect_of command.applet) command read given.chosen
+  -- a clash that is the first one over some files, if there is one
   pub clash :
       MayBeFirstClashForEffect (effect_of command.applet) command read files given.chosen given.clash

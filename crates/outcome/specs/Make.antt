@@ -5,8 +5,8 @@ use Rattle.std.specs.Fmt.{decimal}
 use Rattle.std.specs.List.{starts_with}
 use Rattle.gen_core.specs.adb_schema.Reserved.{is_reserved}
 use Rattle.base_core.specs.Files.{Files}
-use Rattle.base_core.specs.Listed.{IsNamesOf}
-use Rattle.engine_core.specs.journal_core.Replacing.{replaced_files}
+use Rattle.base_core.specs.Listed.{AreSortedNamesInMap}
+use Rattle.engine_core.specs.journal_core.Replacing.{files_after_replacement}
 use Rattle.make_core.specs.make_index.Index.{made_index}
 use Rattle.make_core.specs.make_package.Making.{made_package}
 use Rattle.make_core.specs.make_info.Output.{output_name}
@@ -30,33 +30,34 @@ files_below folder files name =
 abbrev pub AreNamesBelowOptionFolder : List OptionValue → Files → List (List ℕ) → Type 0
 AreNamesBelowOptionFolder [] files names = names ≡ []
 AreNamesBelowOptionFolder (folder ∷ values) files names =
-    IsNamesOf (files_below (without_dot_slash folder.text) files) names
+    AreSortedNamesInMap (files_below (without_dot_slash folder.text) files) names
 
 -- ---- the outcome
 
 -- an outcome, unless its output has a reserved name, which is refused
-abbrev pub unless_reserved : Files → Option (List ℕ) → Outcome → Outcome
-unless_reserved files None otherwise = otherwise
-unless_reserved files (Some name) otherwise =
+abbrev pub outcome_unless_output_reserved : Files → Option (List ℕ) → Outcome → Outcome
+outcome_unless_output_reserved files None otherwise = otherwise
+outcome_unless_output_reserved files (Some name) otherwise =
     if is_reserved name then just_refusal files (Reserved name) else otherwise
 
 -- the files once an output is written: these bytes are under its name, and no file is under its scratch
 -- name
 abbrev pub files_with_output : Option (List ℕ) → List ℕ → Files → Files
 files_with_output None bytes files = files
-files_with_output (Some name) bytes files = replaced_files name bytes files
+files_with_output (Some name) bytes files = files_after_replacement name bytes files
 
 -- A container is written and reported; a fault of its input is refused. A reserved output is refused
 -- after all other faults except a container that is too large.
 abbrev pub make_outcome : Files → Option (List ℕ) → List ℕ → Result (List ℕ) MakeFault → Outcome
 make_outcome files output report (Ok bytes) =
-    unless_reserved files output (commit_report (files_with_output output bytes files) report)
+    outcome_unless_output_reserved files output
+    (commit_report (files_with_output output bytes files) report)
 make_outcome files output report (Err (NoFile place)) = just_refusal files (FileMissing place)
 make_outcome files output report (Err (BadFile place cause)) =
     just_refusal files (FileBad place cause)
 make_outcome files output report (Err (BadInfo place)) = just_refusal files (InfoBad place)
 make_outcome files output report (Err (TooLarge bytes values)) =
-    unless_reserved files output (just_refusal files (ResultTooLarge bytes values))
+    outcome_unless_output_reserved files output (just_refusal files (ResultTooLarge bytes values))
 -- an I/O error of the file tree, and out of memory: the definitions of what is made give neither
 make_outcome files output report (Err Disk) = just_report files []
 make_outcome files output report (Err Memory) = just_report files []

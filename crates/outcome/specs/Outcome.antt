@@ -24,8 +24,8 @@ refusal_line_or_empty None = []
 refusal_line_or_empty (Some refusal) = refusal_line refusal
 
 -- the outcome with a report, and with a refusal after it, if there is one; nothing is written
-abbrev pub outcome_of : Option Refusal → List ℕ → Files → Outcome
-outcome_of refusal report files = record {
+abbrev pub outcome_without_commit : Option Refusal → List ℕ → Files → Outcome
+outcome_without_commit refusal report files = record {
   refusal = refusal;
   out = report;
   err = refusal_line_or_empty refusal;
@@ -35,17 +35,17 @@ outcome_of refusal report files = record {
 
 -- the outcome with a report, whose files are written
 abbrev pub commit_report : Files → List ℕ → Outcome
-commit_report files report = record (outcome_of None report files) { commits = true }
+commit_report files report = record (outcome_without_commit None report files) { commits = true }
 
 -- the outcome with a report, without writing or removing anything
 abbrev pub just_report : Files → List ℕ → Outcome
-just_report files report = outcome_of None report files
+just_report files report = outcome_without_commit None report files
 
 -- the outcome with a refusal; nothing is printed on standard output, written or removed
 abbrev pub just_refusal : Files → Refusal → Outcome
-just_refusal files refusal = outcome_of (Some refusal) [] files
+just_refusal files refusal = outcome_without_commit (Some refusal) [] files
 
 -- the outcome with the refusal, if there is one, and with the report otherwise
-abbrev pub report_unless : Files → Option Refusal → List ℕ → Outcome
-report_unless files None report = just_report files report
-report_unless files (Some refusal) report = just_refusal files refusal
+abbrev pub just_report_unless_refusal : Files → Option Refusal → List ℕ → Outcome
+just_report_unless_refusal files None report = just_report files report
+just_report_unless_refusal files (Some refusal) report = just_refusal files refusal

@@ -4,10 +4,10 @@ use Rattle.std.specs.Prelude.{Result, Ok, Err}
 use Rattle.base_core.specs.Files.{Files}
 use Rattle.tell_core.specs.installed_info.declared.telling.ReportAndRefusal.{ReportAndRefusal}
 use Rattle.report_core.specs.declared.refusal.Refusal.{Refusal}
-use Rattle.outcome.specs.Outcome.{Outcome, just_refusal, outcome_of}
+use Rattle.outcome.specs.Outcome.{Outcome, just_refusal, outcome_without_commit}
 
 -- the outcome of a report: it is printed, with the refusal after it, if there is one; or a refusal
 -- instead. Nothing is written.
 abbrev pub outcome_of_report : Files → Result ReportAndRefusal Refusal → Outcome
-outcome_of_report files (Ok done) = outcome_of done.following_refusal done.report files
+outcome_of_report files (Ok done) = outcome_without_commit done.following_refusal done.report files
 outcome_of_report files (Err refusal) = just_refusal files refusal

@@ -10,17 +10,17 @@ use Rattle.report_core.specs.declared.refusal.Refusal.TheVariants.{FileMissing, 
 use Rattle.command_core.specs.Files.{without_dot_slash}
 use Rattle.command_core.specs.declared.operands.Operand.{Operand}
 use Rattle.make_core.specs.pkg_core.Whole.{container_fault}
-use Rattle.outcome.specs.Outcome.{Outcome, report_unless}
+use Rattle.outcome.specs.Outcome.{Outcome, just_report_unless_refusal}
 
 -- the refusal of a file that fails a test
-abbrev pub test_refusal : ℕ → Option Cause → Option Refusal
-test_refusal place None = None
-test_refusal place (Some cause) = Some (FileBad place cause)
+abbrev pub refusal_if_file_bad : ℕ → Option Cause → Option Refusal
+refusal_if_file_bad place None = None
+refusal_if_file_bad place (Some cause) = Some (FileBad place cause)
 
 -- the refusal of what a read finds for the argument at a place, if it is no sound container
 abbrev pub file_refusal : ℕ → Option (List ℕ) → Option Refusal
 file_refusal place None = Some (FileMissing place)
-file_refusal place (Some bytes) = test_refusal place (container_fault bytes)
+file_refusal place (Some bytes) = refusal_if_file_bad place (container_fault bytes)
 
 -- the refusal of the first missing or bad file, operand by operand; the first file has the read number `n`
 abbrev pub verify_refusal : Reads → ℕ → List Operand → Option Refusal
@@ -41,4 +41,4 @@ sound_lines (o ∷ operands) = sound_line (without_dot_slash o.text) ++ sound_li
 -- the outcome of `verify`: a line for each file, unless one is refused
 abbrev pub verify : Reads → Files → List Operand → Outcome
 verify read files operands =
-    report_unless files (verify_refusal read 0 operands) (sound_lines operands)
+    just_report_unless_refusal files (verify_refusal read 0 operands) (sound_lines operands)

@@ -10,7 +10,7 @@ use Rattle.report_core.specs.declared.refusal.Refusal.TheVariants.{VersionBad}
 use Rattle.version_core.specs.Order.{is_version, version_cmp}
 use Rattle.command_core.specs.declared.command.Flags.{Flags}
 use Rattle.command_core.specs.declared.operands.Operand.{Operand}
-use Rattle.outcome.specs.Outcome.{Outcome, outcome_of, report_unless}
+use Rattle.outcome.specs.Outcome.{Outcome, outcome_without_commit, just_report_unless_refusal}
 
 -- the refusal of the first operand that is no version
 abbrev pub version_refusal : List Operand → Option Refusal
@@ -43,5 +43,6 @@ invalid_version_lines (o ∷ operands) = invalid_version_line o.text ++ invalid_
 -- no versions, and refuses the first of them after that report.
 abbrev pub version : Files → Flags → List Operand → Outcome
 version files flags operands =
-    if flags.test then report_unless files (version_refusal operands) (version_order_report operands) else
-    outcome_of (version_refusal operands) (invalid_version_lines operands) files
+    if flags.test then just_report_unless_refusal files (version_refusal operands)
+    (version_order_report operands) else
+    outcome_without_commit (version_refusal operands) (invalid_version_lines operands) files

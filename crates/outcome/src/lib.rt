@@ -20,7 +20,7 @@
 
 ghost use Rattle.std.specs.Prelude.{◌≡◌, ◌⊎◌, ℕ, true, false, List, None, Some, Result, Ok, Err, IsSome, IsTrue, is_some, not};
 ghost use Rattle.base_core.specs.Files.{Files, HasNamesAmong};
-ghost use Rattle.base_core.specs.Listed.{IsListOf, IsNamesOf};
+ghost use Rattle.base_core.specs.Listed.{IsSortedListingOfFolder, AreSortedNamesInMap};
 ghost use Rattle.base_core.specs.Tree.{IsWellFormed, TreeState, files_of};
 ghost use Rattle.base_core.specs.declared.cause.Cause.{Cause};
 ghost use Rattle.tell_core.specs.change_inputs.Inputs.{database_for};
@@ -34,7 +34,7 @@ ghost use Rattle.outcome.specs.ChangeEnd.{IsChangeEnd, IsChangeEndOrIntentRefusa
 ghost use Rattle.outcome.specs.Commands.{IsOutcomeWithoutDemo, IsOutcomeOverRecoveredFiles, reads_in};
 ghost use Rattle.outcome.specs.Effect.{Changes, Makes, AsksRoot, does_recover, effect_of_arguments, effect_of, output, reads_only, depends_only_on_arguments};
 ghost use Rattle.outcome.specs.Make.{files_below};
-ghost use Rattle.outcome.specs.Outcome.{Outcome, just_refusal, outcome_of};
+ghost use Rattle.outcome.specs.Outcome.{Outcome, just_refusal, outcome_without_commit};
 ghost use Rattle.outcome.specs.Recovers.{must_recover};
 ghost use Rattle.outcome.specs.Sound.{IsSoundFileAt};
 ghost use Rattle.outcome.specs.Words.{IsOutcome};
@@ -61,6 +61,7 @@ pub fn an_outcome_exists()
     ensures { (words within : List (List ℕ)) (files : Files)
         → HasNamesAmong within files → (o : Outcome) × IsOutcome (command_of words) files o }
 {
+    // Laws that the proof needs; they have no effect at run time.
     files_have_one_list_of_names();
     a_choice_exists();
     a_change_has_a_first_clash_or_none();
@@ -71,6 +72,7 @@ pub fn an_outcome_is_unique()
     ensures { (words : List (List ℕ)) (files : Files) (a b : Outcome)
         → IsOutcome (command_of words) files a → IsOutcome (command_of words) files b → a ≡ b }
 {
+    // Laws that the proof needs; they have no effect at run time.
     files_have_one_list_of_names();
     a_choice_is_unique();
     a_change_has_a_first_clash_or_none();
@@ -82,6 +84,7 @@ pub fn an_outcome_over_files_is_unique()
         → IsOutcomeOverRecoveredFiles command files a
         → IsOutcomeOverRecoveredFiles command files b → a ≡ b }
 {
+    // Laws that the proof needs; they have no effect at run time.
     files_have_one_list_of_names();
     a_choice_is_unique();
     a_change_has_a_first_clash_or_none();
@@ -89,21 +92,26 @@ pub fn an_outcome_over_files_is_unique()
 
 /// A command that only reads leaves the files unchanged, and commits nothing.
 pub fn a_command_that_reads_leaves_the_files()
+    // All files are unchanged.
     ensures files { (words : List (List ℕ)) (files : Files) (o : Outcome)
         → IsTrue (reads_only (command_of words)) → IsOutcome (command_of words) files o
         → o.files ≡ files }
+    // The outcome commits nothing.
     ensures commits { (words : List (List ℕ)) (files : Files) (o : Outcome)
         → IsTrue (reads_only (command_of words)) → IsOutcome (command_of words) files o
         → o.commits ≡ false }
 {
+    // A law that the proof needs; it has no effect at run time.
     reading_leaves_the_files();
 }
 
 // `a_command_that_reads_leaves_the_files` for each command except `demo`, once its arguments are
 // parsed.
 fn reading_leaves_the_files()
+    // All files are unchanged.
     ensures files { (read : Result CommandLine ℕ) (files : Files) (o : Outcome)
         → IsTrue (reads_only read) → IsOutcomeWithoutDemo read files o → o.files ≡ files }
+    // The outcome commits nothing.
     ensures commits { (read : Result CommandLine ℕ) (files : Files) (o : Outcome)
         → IsTrue (reads_only read) → IsOutcomeWithoutDemo read files o → o.commits ≡ false }
 {}
@@ -111,9 +119,11 @@ fn reading_leaves_the_files()
 /// A command that recovers and then only reads commits nothing. It leaves the recovered files, or
 /// the old ones if it cannot recover.
 pub fn a_reporting_command_leaves_the_files()
+    // The files are the old ones, or those that recovery leaves.
     ensures files { (words : List (List ℕ)) (files : Files) (o : Outcome)
         → effect_of_arguments (command_of words) ≡ AsksRoot → IsOutcome (command_of words) files o
         → (o.files ≡ files) ⊎ (o.files ≡ files_recovered_if_needed AsksRoot files) }
+    // The outcome commits nothing.
     ensures commits { (words : List (List ℕ)) (files : Files) (o : Outcome)
         → effect_of_arguments (command_of words) ≡ AsksRoot → IsOutcome (command_of words) files o
         → o.commits ≡ false }
@@ -131,6 +141,7 @@ pub fn a_refusal_commits_nothing()
     ensures { (words : List (List ℕ)) (files : Files) (o : Outcome)
         → IsOutcome (command_of words) files o → IsSome o.refusal → o.commits ≡ false }
 {
+    // Laws that the proof needs; they have no effect at run time.
     a_command_that_reads_leaves_the_files();
     a_reporting_command_leaves_the_files();
     a_command_that_makes_commits_unless_refused();
@@ -138,14 +149,15 @@ pub fn a_refusal_commits_nothing()
 
 /// A command that commits nothing leaves the files unchanged, or as recovery leaves them.
 pub fn a_command_that_commits_nothing_leaves_the_files()
-    // Of a command over the files on which it works.
+    // For a command, and the files on which it works after recovery.
     ensures over { (command : CommandLine) (files : Files) (o : Outcome)
         → IsOutcomeOverRecoveredFiles command files o → o.commits ≡ false → o.files ≡ files }
-    // Of a command line, which may first recover.
+    // For a command line, whose run may first recover.
     ensures words { (words : List (List ℕ)) (files : Files) (o : Outcome)
         → IsOutcome (command_of words) files o → o.commits ≡ false → (o.files ≡ files)
         ⊎ (o.files ≡ files_recovered_if_needed (effect_of_arguments (command_of words)) files) }
 {
+    // Laws that the proof needs; they have no effect at run time.
     what_is_read_of_a_root_is_in_the_tree();
     a_change_that_writes_nothing_leaves_the_files();
 }
@@ -178,6 +190,7 @@ pub fn a_command_recovers()
         → command_of words ≡ Ok command → must_recover command.applet ≡ false
         → IsOutcome (command_of words) files o → (o.files ≡ files) × (o.commits ≡ false) }
 {
+    // Laws that the proof needs; they have no effect at run time.
     a_command_that_reads_leaves_the_files();
     what_is_read_of_a_root_is_in_the_tree();
     a_change_that_writes_nothing_leaves_the_files();
@@ -192,6 +205,7 @@ pub fn only_a_bad_intent_is_refused_as_one()
         → o.refusal ≡ Some (IntentBad cause)
         → recovery_fault (effect_of_arguments (command_of words)) files ≡ Some cause }
 {
+    // Laws that the proof needs; they have no effect at run time.
     a_reporting_command_is_refused_for_its_input();
     a_change_takes_the_first_selection_or_is_refused();
 }
@@ -208,6 +222,7 @@ pub fn a_reporting_command_is_refused_for_its_input()
         → report_for_command command read ≡ Ok done → done.following_refusal ≡ Some refusal
         → is_input_refusal refusal ≡ true }
 {
+    // A law that the proof needs; it has no effect at run time.
     info_refuses_only_for_an_operand();
 }
 
@@ -226,15 +241,16 @@ pub fn a_root_without_a_database_file_has_no_database()
 /// preferred solution) replaces the packages before. This is committed and reported, unless the
 /// packages have a stated fault.
 pub fn a_change_takes_the_first_selection_or_is_refused()
-    // Of a command over the files on which it works.
+    // For a command, and the files on which it works after recovery.
     ensures over { (command : CommandLine) (files : Files) (o : Outcome)
         → effect_of command.applet ≡ Changes → IsOutcomeOverRecoveredFiles command files o
         → IsChangeEnd command files o }
-    // Of a run, which first recovers.
+    // For a command line, whose run first recovers.
     ensures words { (words : List (List ℕ)) (command : CommandLine) (files : Files) (o : Outcome)
         → command_of words ≡ Ok command → effect_of command.applet ≡ Changes
         → IsOutcome (command_of words) files o → IsChangeEndOrIntentRefusal command files o }
 {
+    // A law that the proof needs; it has no effect at run time.
     a_change_that_is_made_passes_each_test();
 }
 
@@ -248,6 +264,7 @@ pub fn a_change_leaves_free_paths_for_the_next()
         → AreReplayPathsFree o.files
         × AreStagingPathsFree (files_recovered_if_needed Changes o.files) }
 {
+    // Laws that the proof needs; they have no effect at run time.
     a_change_keeps_paths_free();
     an_intent_is_read_from_a_sound_container();
 }
@@ -259,8 +276,9 @@ pub fn an_outcome_of_arguments_is_the_same_on_every_tree()
     ensures { (words : List (List ℕ)) (files others : Files) (o : Outcome)
         → IsTrue (depends_only_on_arguments (command_of words))
         → IsOutcome (command_of words) files o
-        → IsOutcome (command_of words) others (outcome_of o.refusal o.out others) }
+        → IsOutcome (command_of words) others (outcome_without_commit o.refusal o.out others) }
 {
+    // A law that the proof needs; it has no effect at run time.
     words_alone_are_the_same_everywhere();
 }
 
@@ -268,13 +286,14 @@ pub fn an_outcome_of_arguments_is_the_same_on_every_tree()
 fn words_alone_are_the_same_everywhere()
     ensures { (read : Result CommandLine ℕ) (files others : Files) (o : Outcome)
         → IsTrue (depends_only_on_arguments read) → IsOutcomeWithoutDemo read files o
-        → IsOutcomeWithoutDemo read others (outcome_of o.refusal o.out others) }
+        → IsOutcomeWithoutDemo read others (outcome_without_commit o.refusal o.out others) }
 {}
 
 /// The names below a folder, as a tree lists them, are those of its files.
 pub fn a_listing_of_a_tree_is_that_of_its_files()
     ensures { (folder : List ℕ) (v : TreeState) (names : List (List ℕ))
-        → IsListOf folder v names → IsNamesOf (files_below folder (files_of v)) names }
+        → IsSortedListingOfFolder folder v names
+        → AreSortedNamesInMap (files_below folder (files_of v)) names }
 {}
 
 /// The file that `mkpkg` or `mkndx` leaves as its output passes all tests of a container, if it has
@@ -284,6 +303,7 @@ pub fn what_is_made_is_sound()
         → IsWellFormed v → IsOutcome (command_of words) (files_of v) o → o.refusal ≡ None
         → output words ≡ Some name → IsSoundFileAt name o.files }
 {
+    // Laws that the proof needs; they have no effect at run time.
     the_files_of_a_well_formed_state_are_named_files();
     an_intent_is_read_from_a_sound_container();
     sound_containers_hold_sound_values();

@@ -14,9 +14,9 @@ use Rattle.base_core.specs.Lists.{IsIn}
 use Rattle.command_core.specs.declared.operands.Operand.{Operand}
 use Rattle.dep_core.specs.World.{is_line_end}
 use Rattle.outcome.specs.demo_lines.Count.{demo_count}
-use Rattle.outcome.specs.demo_lines.Lines.{demo_name, name_unless_needed_by_first_n, names_not_needed_by_first_n}
+use Rattle.outcome.specs.demo_lines.Lines.{demo_package_name, name_unless_needed_by_first_n, names_not_needed_by_first_n}
 use Rattle.outcome.specs.demo_lines.Report.{demo_line, last_line}
-use Rattle.outcome_laws.specs.DemoLines.{AreWholeLines, IsNeededByNone, IsOneLine}
+use Rattle.outcome_laws.specs.DemoLines.{AreWholeLines, IsDemoPackageNeededByNone, IsOneLine}
 use Rattle.report_core.specs.Reports.{report_line}
 
 -- ---- the last line
@@ -94,7 +94,7 @@ twice i =
 
 -- the name of package i is among the names if it is one of theirs
 abbrev IsTopUpTo : ℕ → ℕ → List ℕ → Type 0
-IsTopUpTo n k name = (i : ℕ) × (1 ≤ i) × (i ≤ k) × (name ≡ demo_name i) × (nat_lt n (2 * i) ≡ true)
+IsTopUpTo n k name = (i : ℕ) × (1 ≤ i) × (i ≤ k) × (name ≡ demo_package_name i) × (nat_lt n (2 * i) ≡ true)
 
 in_back : (xs ys : List (List ℕ)) (name : List ℕ) → IsIn name (xs ++ ys) → IsIn name xs ⊎ IsIn name ys
 in_back [] ys name h = inr h
@@ -124,7 +124,7 @@ told n (suc k) name h = elim (in_back (names_not_needed_by_first_n n k) (name_un
   | inl earlier ↦
       let (i, least, most, is, top) = told n k name earlier in (i, least, omega (arith, most), is, top)
   | inr here ↦
-      let one = one_of (nat_lt n (2 * suc k)) (demo_name (suc k)) name here in (suc k, omega arith, omega arith, one.1, one.0)
+      let one = one_of (nat_lt n (2 * suc k)) (demo_package_name (suc k)) name here in (suc k, omega arith, omega arith, one.1, one.0)
 ]
 
 top_at : (b : Bool) (x name : List ℕ) → b ≡ true → name ≡ x → IsIn name (if b then x ∷ [] else [])
@@ -138,16 +138,16 @@ found n (suc k) name (i, least, most, is, top) = elim (cases_Bool (nat_lt k i)) 
       let low = ltb-true k i e in
       let here : i ≡ suc k = omega (arith, low, most) in
       in_right (names_not_needed_by_first_n n k) (name_unless_needed_by_first_n n (suc k)) name
-      (top_at (nat_lt n (2 * suc k)) (demo_name (suc k)) name (subst (λ (m : ℕ). nat_lt n (2 * m) ≡ true) here top) (is ∙ ap demo_name here))
+      (top_at (nat_lt n (2 * suc k)) (demo_package_name (suc k)) name (subst (λ (m : ℕ). nat_lt n (2 * m) ≡ true) here top) (is ∙ ap demo_package_name here))
   | inr e ↦
       let high = ltb-false k i e in
       in_left (names_not_needed_by_first_n n k) (name_unless_needed_by_first_n n (suc k)) name (found n k name (i, least, omega (arith, high), is, top))
 ]
 
-pub added : (n : ℕ) (name : List ℕ) → IsIn name (names_not_needed_by_first_n n n) ↔ IsNeededByNone n name
+pub added : (n : ℕ) (name : List ℕ) → IsIn name (names_not_needed_by_first_n n n) ↔ IsDemoPackageNeededByNone n name
 added n name = (there, back)
   where
-    there : IsIn name (names_not_needed_by_first_n n n) → IsNeededByNone n name
+    there : IsIn name (names_not_needed_by_first_n n n) → IsDemoPackageNeededByNone n name
     there h =
         let (i, least, most, is, top) = told n n name h in
         let low = ltb-true n (2 * i) top in
@@ -159,7 +159,7 @@ added n name = (there, back)
           none = λ j two below half. half_below n i low j below half;
         }
 
-    back : IsNeededByNone n name → IsIn name (names_not_needed_by_first_n n n)
+    back : IsDemoPackageNeededByNone n name → IsIn name (names_not_needed_by_first_n n n)
     back x = elim (cases_Bool (nat_lt n (2 * x.number))) [
       | inl e ↦ found n n name (x.number, x.least, x.most, x.named, e)
       | inr e ↦

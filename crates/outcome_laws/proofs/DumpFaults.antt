@@ -2,7 +2,7 @@
 use Rattle.std.proofs.Common.{ℕ, ◌≡◌, ◌↔◌, inl, inr, ◌∙◌, zero, suc, ◌<◌, true, List, [], ◌∷◌, Option, Some, None, Result, Ok, Err, refl, ap, sym, arith}
 use Rattle.std.specs.Prelude.{is_some, slice_get}
 use Rattle.std.specs.Option.{option_or}
-use Rattle.adb_block.specs.Header.{header_of}
+use Rattle.adb_block.specs.Header.{schema_of_header}
 use Rattle.adb_block.specs.Reading.{Reading, done, fault, more, block_stream_from}
 use Rattle.adb_block.specs.ReaderPosition.{first_block_position}
 use Rattle.adb_view.specs.Head.{payload_head_fault, root_word_of_payload}
@@ -94,7 +94,7 @@ no_text : (o : Option Cause) (text : List ℕ) (c : Cause) → text_unless_fault
 no_text None text c e = absurd (cc (e))
 no_text (Some d) text c e = let same : d ≡ c = cc (e) in ap Some same
 
-by_root : (file : List ℕ) (c : Cause) (schema : ℕ) (root : Option Which) → header_of file ≡ Ok schema → table_of_schema schema ≡ root
+by_root : (file : List ℕ) (c : Cause) (schema : ℕ) (root : Option Which) → schema_of_header file ≡ Ok schema → table_of_schema schema ≡ root
     → dump_by_root_table schema (block_stream_from (first_block_position schema file)) root ≡ Err c → IsDumpRefusalCause file c
 by_root file c schema None header root e =
     let same : WrongSchema schema ≡ c = cc (e) in
@@ -103,7 +103,7 @@ by_root file c schema (Some which) header root e =
     let r = block_stream_from (first_block_position schema file) in
     inr (schema, header, inr (which, root, blocks_told which r c (no_text (dump_fault_of_blocks which r) (dump_text which (root_value which (first_block_payload r))) c e)))
 
-by_header : (file : List ℕ) (c : Cause) (h : Result ℕ Cause) → header_of file ≡ h → dump_by_schema file h ≡ Err c → IsDumpRefusalCause file c
+by_header : (file : List ℕ) (c : Cause) (h : Result ℕ Cause) → schema_of_header file ≡ h → dump_by_schema file h ≡ Err c → IsDumpRefusalCause file c
 by_header file c (Err d) header e =
     let same : d ≡ c = cc (e) in
     inl (header ∙ ap Err same)
@@ -111,7 +111,7 @@ by_header file c (Ok schema) header e = by_root file c schema (table_of_schema s
 
 fault_told : (file : List ℕ) (c : Cause) → dump_of file ≡ Err c → IsDumpRefusalCause file c
 unfolding dump_of
-fault_told file c e = by_header file c (header_of file) refl e
+fault_told file c e = by_header file c (schema_of_header file) refl e
 
 file_refused : (file : List ℕ) (c : Cause) → IsDumpRefusalCause file c → dump_of file ≡ Err c
 unfolding dump_of

@@ -2,13 +2,13 @@
 use Rattle.std.proofs.Common.{◌≡◌, ◌∙◌, ℕ, Bool, true, false, List, [], ◌∷◌, length, Option, Some, None, Result, Ok, Err, refl, ap, sym, subst}
 use Rattle.std.specs.Prelude.{if◌then◌else◌, nat_lt}
 use Rattle.std.specs.Option.{option_or}
-use Rattle.adb_block.specs.Header.{header_of}
+use Rattle.adb_block.specs.Header.{schema_of_header}
 use Rattle.adb_block.specs.Reading.{Reading, done, fault, more, block_stream_from}
 use Rattle.adb_block.specs.ReaderPosition.{first_block_position}
 use Rattle.adb_block.specs.declared.block.BlockKind.{BlockKind}
 use Rattle.adb_block.specs.declared.block.BlockKind.TheVariants as Kinds
 use Rattle.outcome.specs.adb_dump.Dump.{dump_text}
-use Rattle.container_laws.specs.adb_schema.Soundness.{further_block_fault, contents_positions, first_block_payload, further_blocks_fault, payload_after_header, payload_in, root_value}
+use Rattle.container_laws.specs.adb_schema.Soundness.{unexpected_contents_block_fault, contents_positions, first_block_payload, further_blocks_fault, payload_after_header, payload_in, root_value}
 use Rattle.adb_view.specs.Head.{root_word_of_payload}
 use Rattle.adb_view.specs.Plain.{Plain}
 use Rattle.adb_view.specs.Schema.{shape_of}
@@ -22,13 +22,13 @@ use Rattle.base_core.specs.declared.cause.Cause.TheVariants.{DataOrder, Truncate
 use Rattle.base_core.proofs.Causes.{both_none}
 use Rattle.command_core.specs.Files.{without_dot_slash}
 use Rattle.command_core.specs.declared.operands.Operand.{Operand}
-use Rattle.container_laws.specs.TestsInOrder.{PassesEveryTest}
+use Rattle.container_laws.specs.TestsInOrder.{PassesEveryContainerTest}
 use Rattle.outcome.specs.make_info.Reads.{Reads}
 use Rattle.outcome.specs.Dump.{adbdump, dump_fault_of_blocks, dump_of, dump_of_blocks, dump_outcome, dump_by_root_table, dump_by_schema, framing_fault, text_unless_fault, text_outcome}
 use Rattle.container_laws.specs.pkg_core.Contents.{ExpectedFile, POSITIONS_LEN, contents_block_fault, expected_files_of_package, fault_of_files_read, files_at_block, files_read_from_blocks, files_unless_fault, with_contents_of_next}
 use Rattle.container_laws.specs.pkg_core.Whole.{fault_of_further_blocks, table_of_schema}
 use Rattle.report_core.specs.declared.refusal.Refusal.TheVariants.{FileBad, FileMissing}
-use Rattle.outcome_laws.specs.DumpedFiles.{HasTextOfValue}
+use Rattle.outcome_laws.specs.DumpedFiles.{HasDumpTextOfRootValue}
 
 -- ---- the printed text
 
@@ -39,7 +39,7 @@ told_text which r text e = go (dump_fault_of_blocks which r) e
     go None e = let same : dump_text which (root_value which (first_block_payload r)) ≡ text = cc in sym same
     go (Some c) e = absurd cc
 
-text_by_root : (file text : List ℕ) (schema : ℕ) (root : Option Which) → header_of file ≡ Ok schema → table_of_schema schema ≡ root → dump_by_root_table schema (block_stream_from (first_block_position schema file)) root ≡ Ok text → HasTextOfValue file text
+text_by_root : (file text : List ℕ) (schema : ℕ) (root : Option Which) → schema_of_header file ≡ Ok schema → table_of_schema schema ≡ root → dump_by_root_table schema (block_stream_from (first_block_position schema file)) root ≡ Ok text → HasDumpTextOfRootValue file text
 unfolding payload_in
 text_by_root file text schema None header root e = absurd cc
 text_by_root file text schema (Some which) header root e =
@@ -52,21 +52,21 @@ text_by_root file text schema (Some which) header root e =
           ∙ ap (λ (o : Result ℕ Cause). dump_text which (root_value which (payload_after_header file o))) (sym header);
     }
 
-text_by_header : (file text : List ℕ) (h : Result ℕ Cause) → header_of file ≡ h → dump_by_schema file h ≡ Ok text → HasTextOfValue file text
+text_by_header : (file text : List ℕ) (h : Result ℕ Cause) → schema_of_header file ≡ h → dump_by_schema file h ≡ Ok text → HasDumpTextOfRootValue file text
 text_by_header file text (Err c) header e = absurd cc
 text_by_header file text (Ok schema) header e = text_by_root file text schema (table_of_schema schema) header refl e
 
-text_of : (file text : List ℕ) → dump_of file ≡ Ok text → HasTextOfValue file text
+text_of : (file text : List ℕ) → dump_of file ≡ Ok text → HasDumpTextOfRootValue file text
 unfolding dump_of
-text_of file text e = text_by_header file text (header_of file) refl e
+text_of file text e = text_by_header file text (schema_of_header file) refl e
 
 pub text_printed : (read : Reads) (files : Files) (o : Operand) (file : List ℕ) → read 0 (without_dot_slash o.text) ≡ Some file
-    → (adbdump read files (o ∷ [])).refusal ≡ None → HasTextOfValue file (adbdump read files (o ∷ [])).out
+    → (adbdump read files (o ∷ [])).refusal ≡ None → HasDumpTextOfRootValue file (adbdump read files (o ∷ [])).out
 text_printed read files o file found e = go (dump_of file) refl
   where
-    go : (r : Result (List ℕ) Cause) → dump_of file ≡ r → HasTextOfValue file (dump_outcome files o.place (read 0 (without_dot_slash o.text))).out
+    go : (r : Result (List ℕ) Cause) → dump_of file ≡ r → HasDumpTextOfRootValue file (dump_outcome files o.place (read 0 (without_dot_slash o.text))).out
     go (Ok text) is =
-        subst (HasTextOfValue file)
+        subst (HasDumpTextOfRootValue file)
         (sym (ap (λ (f : Option (List ℕ)). (dump_outcome files o.place f).out) found ∙ ap (λ (r : Result (List ℕ) Cause). (text_outcome files o.place r).out) is))
         (text_of file text is)
     go (Err cause) is =
@@ -79,7 +79,7 @@ framed_further : (r : Reading) → further_blocks_fault r ≡ None → framing_f
 unfolding further_blocks_fault
 framed_further done e = refl
 framed_further (fault c) e = absurd cc
-framed_further (more b at r) e = framed_further r (both_none (further_block_fault b.kind b.payload at) (further_blocks_fault r) e).1
+framed_further (more b at r) e = framed_further r (both_none (unexpected_contents_block_fault b.kind b.payload at) (further_blocks_fault r) e).1
 
 never_none : {A : Type 0} (b : Bool) (x y : A) → (if b then Some x else Some y) ≡ None → ⊥
 never_none true x y e = absurd cc
@@ -117,7 +117,7 @@ framed Tables.Intent value r e = framed_further r e
 
 -- ---- what passes every test is printed
 
-dumped : (file : List ℕ) → PassesEveryTest file → (text : List ℕ) × (dump_of file ≡ Ok text)
+dumped : (file : List ℕ) → PassesEveryContainerTest file → (text : List ℕ) × (dump_of file ≡ Ok text)
 unfolding dump_of
 dumped file p =
     let r : Reading = more p.first p.at p.behind in
@@ -134,7 +134,7 @@ dumped file p =
           ∙ ap (λ (o : Option Cause). text_unless_fault o text) good,
     )
 
-pub sound_dumped : (read : Reads) (files : Files) (o : Operand) (file : List ℕ) → read 0 (without_dot_slash o.text) ≡ Some file → PassesEveryTest file
+pub sound_dumped : (read : Reads) (files : Files) (o : Operand) (file : List ℕ) → read 0 (without_dot_slash o.text) ≡ Some file → PassesEveryContainerTest file
     → (adbdump read files (o ∷ [])).refusal ≡ None
 sound_dumped read files o file found p =
     ap (λ (f : Option (List ℕ)). (dump_outcome files o.place f).refusal) found

@@ -13,9 +13,9 @@ use Rattle.outcome.specs.make_info.declared.fault.MakeFault.{MakeFault}
 use Rattle.outcome.specs.make_info.declared.fault.MakeFault.TheVariants.{FileMissing as NoFile, FileBad as BadFile, InfoBad as BadInfo, TooLarge, Disk, Memory}
 use Rattle.report_core.specs.declared.refusal.Refusal.{Refusal}
 use Rattle.report_core.specs.declared.refusal.Refusal.TheVariants.{FileBad, FileMissing, InfoBad, Reserved, ResultTooLarge}
-use Rattle.outcome.specs.Make.{files_with_output, make_outcome, unless_reserved}
+use Rattle.outcome.specs.Make.{files_with_output, make_outcome, outcome_unless_output_reserved}
 use Rattle.outcome.specs.Outcome.{Outcome, commit_report, just_refusal}
-use Rattle.outcome_laws.specs.MadeFiles.{HasOutput, IsMadeOrTooLarge, IsRefusedWith, IsReservedName, IsUnreserved, IsWritten, input_refusal}
+use Rattle.outcome_laws.specs.MadeFiles.{HasOutput, IsMadeOrTooLarge, IsRefusedWith, IsReservedName, IsUnreserved, IsOutputWrittenAndReported, refusal_if_input_fault}
 
 -- ---- reserved names
 
@@ -69,7 +69,7 @@ refused files refusal = record { refused = refl; prints = refl; explains = refl;
 refused_by : (files : Files) (refusal other : Refusal) → refusal ≡ other → IsRefusedWith other files (just_refusal files refusal)
 refused_by files refusal other same = subst (λ (r : Refusal). IsRefusedWith r files (just_refusal files refusal)) same (refused files refusal)
 
-pub input_first : (files : Files) (output : Option (List ℕ)) (report : List ℕ) (fault : MakeFault) (refusal : Refusal) → input_refusal fault ≡ Some refusal → IsRefusedWith refusal files (make_outcome files output report (Err fault))
+pub input_first : (files : Files) (output : Option (List ℕ)) (report : List ℕ) (fault : MakeFault) (refusal : Refusal) → refusal_if_input_fault fault ≡ Some refusal → IsRefusedWith refusal files (make_outcome files output report (Err fault))
 input_first files output report (NoFile place) refusal is = refused_by files (FileMissing place) refusal cc
 input_first files output report (BadFile place cause) refusal is = refused_by files (FileBad place cause) refusal cc
 input_first files output report (BadInfo place) refusal is = refused_by files (InfoBad place) refusal cc
@@ -77,7 +77,7 @@ input_first files output report (TooLarge bytes values) refusal is = absurd (cc)
 input_first files output report Disk refusal is = absurd (cc)
 input_first files output report Memory refusal is = absurd (cc)
 
-refused_if : (files : Files) (name : List ℕ) (otherwise : Outcome) → IsReservedName name → IsRefusedWith (Reserved name) files (unless_reserved files (Some name) otherwise)
+refused_if : (files : Files) (name : List ℕ) (otherwise : Outcome) → IsReservedName name → IsRefusedWith (Reserved name) files (outcome_unless_output_reserved files (Some name) otherwise)
 refused_if files name otherwise is = rw ((reserved name).1 is) (refused files (Reserved name))
 
 pub reserved_first : (files : Files) (name report : List ℕ) (made : Result (List ℕ) MakeFault) → IsReservedName name → IsMadeOrTooLarge made → IsRefusedWith (Reserved name) files (make_outcome files (Some name) report made)
@@ -85,7 +85,7 @@ reserved_first files name report made is (inl (bytes, e)) = rw e (refused_if fil
 reserved_first files name report made is (inr (bytes, values, e)) = rw e (refused_if files name (just_refusal files (ResultTooLarge bytes values)) is)
 
 -- an output that is not reserved is as if it were not tested
-untested : (files : Files) (output : Option (List ℕ)) (otherwise : Outcome) → IsUnreserved output → unless_reserved files output otherwise ≡ otherwise
+untested : (files : Files) (output : Option (List ℕ)) (otherwise : Outcome) → IsUnreserved output → outcome_unless_output_reserved files output otherwise ≡ otherwise
 untested files None otherwise free = refl
 untested files (Some name) otherwise free = rw (false_from_ne_true (is_reserved name) (λ e. free name refl ((reserved name).0 e))) refl
 
@@ -109,9 +109,9 @@ has_output files (Some name) bytes = record {
     differ : (a b : List ℕ) → a ≢ b → bytes_eq a b ≡ false
     differ a b apart = false_from_ne_true (bytes_eq a b) (λ e. apart ((bytes_eq-Decides a b).0 e))
 
-pub written : (files : Files) (output : Option (List ℕ)) (report bytes : List ℕ) → IsUnreserved output → IsWritten output bytes report files (make_outcome files output report (Ok bytes))
+pub written : (files : Files) (output : Option (List ℕ)) (report bytes : List ℕ) → IsUnreserved output → IsOutputWrittenAndReported output bytes report files (make_outcome files output report (Ok bytes))
 written files output report bytes free =
-    subst (IsWritten output bytes report files) (sym (untested files output (commit_report (files_with_output output bytes files) report) free)) (record {
+    subst (IsOutputWrittenAndReported output bytes report files) (sym (untested files output (commit_report (files_with_output output bytes files) report) free)) (record {
       accepted = refl;
       prints = refl;
       explains = refl;

@@ -10,30 +10,30 @@ use Rattle.command_core.specs.declared.operands.Operand.{Operand}
 use Rattle.container_laws.proofs.EveryTest.{every_test}
 use Rattle.container_laws.proofs.FirstTests.{any_told}
 use Rattle.outcome.specs.make_info.Reads.{Reads}
-use Rattle.outcome.specs.Outcome.{report_unless}
-use Rattle.outcome.specs.Verify.{file_refusal, sound_lines, test_refusal, verify, verify_refusal}
+use Rattle.outcome.specs.Outcome.{just_report_unless_refusal}
+use Rattle.outcome.specs.Verify.{file_refusal, sound_lines, refusal_if_file_bad, verify, verify_refusal}
 use Rattle.container_laws.specs.pkg_core.Whole.{container_fault}
 use Rattle.report_core.specs.Reports.{report_line, report_lines}
 use Rattle.report_core.specs.declared.refusal.Refusal.{Refusal}
 use Rattle.report_core.specs.declared.refusal.Refusal.TheVariants.{FileBad, FileMissing}
-use Rattle.outcome_laws.specs.TestedFiles.{AreFilesSound, IsFileRefusal, IsFirstUnsound, IsFoundSound}
+use Rattle.outcome_laws.specs.TestedFiles.{AreFilesSound, IsFileRefusal, IsRefusalOfFirstUnsoundFile, IsFoundSound}
 
 -- ---- the outcome of a refusal, or of none
 
-refusal_is : (files : Files) (refusal : Option Refusal) (report : List ℕ) → (report_unless files refusal report).refusal ≡ refusal
+refusal_is : (files : Files) (refusal : Option Refusal) (report : List ℕ) → (just_report_unless_refusal files refusal report).refusal ≡ refusal
 refusal_is files None report = refl
 refusal_is files (Some r) report = refl
 
-printed_by : (files : Files) (refusal : Option Refusal) (report : List ℕ) → refusal ≡ None → (report_unless files refusal report).out ≡ report
-printed_by files refusal report e = ap (λ (o : Option Refusal). (report_unless files o report).out) e
+printed_by : (files : Files) (refusal : Option Refusal) (report : List ℕ) → refusal ≡ None → (just_report_unless_refusal files refusal report).out ≡ report
+printed_by files refusal report e = ap (λ (o : Option Refusal). (just_report_unless_refusal files o report).out) e
 
-silent_by : (files : Files) (refusal : Option Refusal) (report : List ℕ) → is_some refusal ≡ true → (report_unless files refusal report).out ≡ []
+silent_by : (files : Files) (refusal : Option Refusal) (report : List ℕ) → is_some refusal ≡ true → (just_report_unless_refusal files refusal report).out ≡ []
 silent_by files None report e = absurd cc
 silent_by files (Some r) report e = refl
 
 -- ---- one file
 
-test_none : (place : ℕ) (fault : Option Cause) → test_refusal place fault ≡ None → fault ≡ None
+test_none : (place : ℕ) (fault : Option Cause) → refusal_if_file_bad place fault ≡ None → fault ≡ None
 test_none place None e = refl
 test_none place (Some c) e = absurd cc
 
@@ -43,7 +43,7 @@ sound_found place (Some file) e = record { file = file; is = refl; passes = (eve
 
 found_sound : (place : ℕ) (found : Option (List ℕ)) → IsFoundSound found → file_refusal place found ≡ None
 found_sound place found s =
-    ap (file_refusal place) s.is ∙ ap (test_refusal place) ((every_test s.file).1 s.passes)
+    ap (file_refusal place) s.is ∙ ap (refusal_if_file_bad place) ((every_test s.file).1 s.passes)
 
 refusal_of : (place : ℕ) (found : Option (List ℕ)) (refusal : Refusal) → file_refusal place found ≡ Some refusal → IsFileRefusal found place refusal
 refusal_of place None refusal e =
@@ -51,7 +51,7 @@ refusal_of place None refusal e =
     sym same
 refusal_of place (Some file) refusal e = go (container_fault file) refl e
   where
-    go : (fault : Option Cause) → container_fault file ≡ fault → test_refusal place fault ≡ Some refusal → IsFileRefusal (Some file) place refusal
+    go : (fault : Option Cause) → container_fault file ≡ fault → refusal_if_file_bad place fault ≡ Some refusal → IsFileRefusal (Some file) place refusal
     go None is e = absurd cc
     go (Some cause) is e =
         let same : FileBad place cause ≡ refusal = cc in
@@ -146,7 +146,7 @@ first_from read n (p ∷ operands) refusal e =
           earlier = later (sound_found p.place (read n (without_dot_slash p.text)) is) f;
         }
 
-pub first_unsound : (read : Reads) (files : Files) (operands : List Operand) (refusal : Refusal) → (verify read files operands).refusal ≡ Some refusal → IsFirstUnsound read operands refusal
+pub first_unsound : (read : Reads) (files : Files) (operands : List Operand) (refusal : Refusal) → (verify read files operands).refusal ≡ Some refusal → IsRefusalOfFirstUnsoundFile read operands refusal
 first_unsound read files operands refusal e =
     let f = first_from read 0 operands refusal (sym (refusal_is files (verify_refusal read 0 operands) (sound_lines operands)) ∙ e) in
     record {

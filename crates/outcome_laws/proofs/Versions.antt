@@ -8,33 +8,33 @@ use Rattle.base_core.specs.Files.{Files}
 use Rattle.base_core.specs.Lists.{IsIn}
 use Rattle.command_core.specs.declared.command.Flags.{Flags}
 use Rattle.command_core.specs.declared.operands.Operand.{Operand}
-use Rattle.outcome.specs.Outcome.{outcome_of, report_unless}
+use Rattle.outcome.specs.Outcome.{outcome_without_commit, just_report_unless_refusal}
 use Rattle.outcome.specs.Version.{invalid_version_lines, order_line, version_order_report, version, version_refusal}
 use Rattle.report_core.specs.Reports.{report_line, report_lines}
 use Rattle.report_core.specs.declared.refusal.Refusal.{Refusal}
 use Rattle.report_core.specs.declared.refusal.Refusal.TheVariants.{VersionBad}
 use Rattle.version_core.specs.Order.{is_version, version_cmp}
-use Rattle.outcome_laws.specs.CheckedVersions.{AreBothVersions, IsFirstNoVersion}
+use Rattle.outcome_laws.specs.CheckedVersions.{AreBothVersions, IsPlaceOfFirstInvalidVersion}
 
-refusal_by : (files : Files) (refusal : Option Refusal) (report : List ℕ) → (report_unless files refusal report).refusal ≡ refusal
+refusal_by : (files : Files) (refusal : Option Refusal) (report : List ℕ) → (just_report_unless_refusal files refusal report).refusal ≡ refusal
 refusal_by files None report = refl
 refusal_by files (Some r) report = refl
 
 refusal_is : (files : Files) (flags : Flags) (operands : List Operand) → (version files flags operands).refusal ≡ version_refusal operands
 refusal_is files flags operands = go flags.test
   where
-    go : (b : Bool) → (if b then report_unless files (version_refusal operands) (version_order_report operands) else outcome_of (version_refusal operands) (invalid_version_lines operands) files).refusal ≡ version_refusal operands
+    go : (b : Bool) → (if b then just_report_unless_refusal files (version_refusal operands) (version_order_report operands) else outcome_without_commit (version_refusal operands) (invalid_version_lines operands) files).refusal ≡ version_refusal operands
     go true = refusal_by files (version_refusal operands) (version_order_report operands)
     go false = refl
 
 -- ---- the first operand that is no version
 
-refused_at : (operands : List Operand) (place : ℕ) → version_refusal operands ≡ Some (VersionBad place) → IsFirstNoVersion operands place
+refused_at : (operands : List Operand) (place : ℕ) → version_refusal operands ≡ Some (VersionBad place) → IsPlaceOfFirstInvalidVersion operands place
 refused_at [] place e = absurd cc
 refused_at (o ∷ operands) place e = go (is_version o.text) refl e (refused_at operands place)
   where
     go : (b : Bool) → is_version o.text ≡ b → (if b then version_refusal operands else Some (VersionBad o.place)) ≡ Some (VersionBad place)
-        → (version_refusal operands ≡ Some (VersionBad place) → IsFirstNoVersion operands place) → IsFirstNoVersion (o ∷ operands) place
+        → (version_refusal operands ≡ Some (VersionBad place) → IsPlaceOfFirstInvalidVersion operands place) → IsPlaceOfFirstInvalidVersion (o ∷ operands) place
     go false is e more =
         let same : o.place ≡ place = cc in
         record { front = []; operand = o; rest = operands; operands_are = refl; place_is = same; none = is; earlier = λ p at. absurd at }
@@ -58,7 +58,7 @@ at_first (p ∷ front) o rest place at none earlier =
     ap (λ (b : Bool). if b then version_refusal (front ++ o ∷ rest) else Some (VersionBad p.place)) (earlier p (inl refl))
     ∙ at_first front o rest place at none (λ q within. earlier q (inr within))
 
-pub first_no_version : (files : Files) (flags : Flags) (operands : List Operand) (place : ℕ) → ((version files flags operands).refusal ≡ Some (VersionBad place)) ↔ IsFirstNoVersion operands place
+pub first_no_version : (files : Files) (flags : Flags) (operands : List Operand) (place : ℕ) → ((version files flags operands).refusal ≡ Some (VersionBad place)) ↔ IsPlaceOfFirstInvalidVersion operands place
 first_no_version files flags operands place = (
   λ e. refused_at operands place (sym (refusal_is files flags operands) ∙ e),
   λ f. refusal_is files flags operands ∙ ap version_refusal f.operands_are ∙ at_first f.front f.operand f.rest place f.place_is f.none f.earlier,
@@ -79,7 +79,7 @@ checked_lines (o ∷ operands) = go (is_version o.text) (checked_lines operands)
 pub checked : (files : Files) (flags : Flags) (operands : List Operand) → flags.test ≡ false
     → (version files flags operands).out ≡ report_lines (map (λ (o : Operand). o.text) (filter (λ (o : Operand). not (is_version o.text)) operands))
 checked files flags operands e =
-    ap (λ (b : Bool). (if b then report_unless files (version_refusal operands) (version_order_report operands) else outcome_of (version_refusal operands) (invalid_version_lines operands) files).out) e
+    ap (λ (b : Bool). (if b then just_report_unless_refusal files (version_refusal operands) (version_order_report operands) else outcome_without_commit (version_refusal operands) (invalid_version_lines operands) files).out) e
     ∙ checked_lines operands
 
 -- ---- what `--test` prints
@@ -102,8 +102,8 @@ accepted files flags a b test = (
 
 printed : (files : Files) (flags : Flags) (a b : Operand) → flags.test ≡ true → AreBothVersions a b → (version files flags (a ∷ b ∷ [])).out ≡ order_line (version_cmp a.text b.text)
 printed files flags a b test v =
-    ap (λ (t : Bool). (if t then report_unless files (version_refusal (a ∷ b ∷ [])) (version_order_report (a ∷ b ∷ [])) else outcome_of (version_refusal (a ∷ b ∷ [])) (invalid_version_lines (a ∷ b ∷ [])) files).out) test
-    ∙ ap (λ (r : Option Refusal). (report_unless files r (version_order_report (a ∷ b ∷ []))).out) (both_versions a b v)
+    ap (λ (t : Bool). (if t then just_report_unless_refusal files (version_refusal (a ∷ b ∷ [])) (version_order_report (a ∷ b ∷ [])) else outcome_without_commit (version_refusal (a ∷ b ∷ [])) (invalid_version_lines (a ∷ b ∷ [])) files).out) test
+    ∙ ap (λ (r : Option Refusal). (just_report_unless_refusal files r (version_order_report (a ∷ b ∷ []))).out) (both_versions a b v)
 
 line_less : (o : Ordering) → (order_line o ≡ codes "<\n") ↔ (o ≡ Less)
 line_less Less = (λ e. refl, λ e. refl)
@@ -145,10 +145,10 @@ shows_greater files flags a b test v =
 
 pub silent : (files : Files) (flags : Flags) (a b : Operand) → flags.test ≡ true → (AreBothVersions a b → ⊥) → (version files flags (a ∷ b ∷ [])).out ≡ []
 silent files flags a b test other =
-    ap (λ (t : Bool). (if t then report_unless files (version_refusal (a ∷ b ∷ [])) (version_order_report (a ∷ b ∷ [])) else outcome_of (version_refusal (a ∷ b ∷ [])) (invalid_version_lines (a ∷ b ∷ [])) files).out) test
+    ap (λ (t : Bool). (if t then just_report_unless_refusal files (version_refusal (a ∷ b ∷ [])) (version_order_report (a ∷ b ∷ [])) else outcome_without_commit (version_refusal (a ∷ b ∷ [])) (invalid_version_lines (a ∷ b ∷ [])) files).out) test
     ∙ go (version_refusal (a ∷ b ∷ [])) refl
   where
-    go : (r : Option Refusal) → version_refusal (a ∷ b ∷ []) ≡ r → (report_unless files r (version_order_report (a ∷ b ∷ []))).out ≡ []
+    go : (r : Option Refusal) → version_refusal (a ∷ b ∷ []) ≡ r → (just_report_unless_refusal files r (version_order_report (a ∷ b ∷ []))).out ≡ []
     go (Some r) is = refl
     go None is =
         let t = none_by (is_version a.text) (is_version b.text) a.place b.place is in

@@ -11,11 +11,15 @@ pub record AreBothVersions (a b : Operand) : Type 0 where
   pub second : is_version b.text ≡ true
 
 -- the operand at this place is no version, and each one before it is one
-pub record IsFirstNoVersion (operands : List Operand) (place : ℕ) : Type 0 where
+pub record IsPlaceOfFirstInvalidVersion (operands : List Operand) (place : ℕ) : Type 0 where
+  -- the operands before this one, this operand, and those after it
   pub front : List Operand
   pub operand : Operand
   pub rest : List Operand
   pub operands_are : operands ≡ front ++ operand ∷ rest
+  -- the operand has this place in the command line
   pub place_is : operand.place ≡ place
+  -- its text is no version
   pub none : is_version operand.text ≡ false
+  -- the text of each operand before it is a version
   pub earlier : (o : Operand) → IsIn o front → is_version o.text ≡ true

@@ -3,7 +3,7 @@
 use Rattle.std.specs.Prelude.{ℕ, ◌≡◌, ◌⊎◌, ◌≤◌, ◌/◌, false, List, [], ◌++◌, codes}
 use Rattle.std.specs.List.{list_any}
 use Rattle.dep_core.specs.World.{is_line_end}
-use Rattle.outcome.specs.demo_lines.Lines.{demo_name}
+use Rattle.outcome.specs.demo_lines.Lines.{demo_package_name}
 
 -- a text has no line end
 abbrev pub IsOneLine : List ℕ → Type 0
@@ -15,9 +15,12 @@ AreWholeLines text = (text ≡ []) ⊎ ((before : List ℕ) × (text ≡ before 
 
 -- the name is that of one of n packages, on which no other of them depends: from the second on, each
 -- depends on the package of half its number, rounded down
-pub record IsNeededByNone (n : ℕ) (name : List ℕ) : Type 0 where
+pub record IsDemoPackageNeededByNone (n : ℕ) (name : List ℕ) : Type 0 where
+  -- the number of the package, from 1 to n
   pub number : ℕ
   pub least : 1 ≤ number
   pub most : number ≤ n
-  pub named : name ≡ demo_name number
+  -- the name is that of the package with this number
+  pub named : name ≡ demo_package_name number
+  -- no package from the second on has half its number, rounded down, equal to this number
   pub none : (j : ℕ) → 2 ≤ j → j ≤ n → j / 2 ≡ number → ⊥

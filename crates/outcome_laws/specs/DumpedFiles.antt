@@ -3,7 +3,7 @@
 use Rattle.std.specs.Prelude.{ℕ, ◌≡◌, ◌⊎◌, List, [], ◌∷◌, Option, Some, None, Ok, Err}
 use Rattle.base_core.specs.declared.cause.Cause.{Cause}
 use Rattle.base_core.specs.declared.cause.Cause.TheVariants.{WrongSchema}
-use Rattle.adb_block.specs.Header.{header_of}
+use Rattle.adb_block.specs.Header.{schema_of_header}
 use Rattle.adb_block.specs.Piece.{Piece}
 use Rattle.adb_block.specs.Reading.{Reading, fault, more, block_stream_from}
 use Rattle.adb_block.specs.ReaderPosition.{first_block_position}
@@ -19,11 +19,14 @@ use Rattle.adb_view.specs.declared.tables.Which.{Which}
 use Rattle.container_laws.specs.pkg_core.Whole.{table_of_schema}
 
 -- a text is that of the value of a file, by the table that the schema of its header has at its root
-pub record HasTextOfValue (file text : List ℕ) : Type 0 where
+pub record HasDumpTextOfRootValue (file text : List ℕ) : Type 0 where
+  -- the schema number in the header of the file
   pub schema : ℕ
-  pub header : header_of file ≡ Ok schema
+  pub header : schema_of_header file ≡ Ok schema
+  -- the table that this schema has at its root
   pub which : Which
   pub root : table_of_schema schema ≡ Some which
+  -- the text is that of the value of the file, by this table
   pub text_is : text ≡ dump_text which (root_value which (payload_in file))
 
 -- ---- why a file is not printed
@@ -48,8 +51,8 @@ IsFaultOfPrinted which r c =
 -- then of its blocks
 abbrev pub IsDumpRefusalCause : List ℕ → Cause → Type 0
 IsDumpRefusalCause file c =
-    (header_of file ≡ Err c)
-    ⊎ ((schema : ℕ) × (header_of file ≡ Ok schema)
+    (schema_of_header file ≡ Err c)
+    ⊎ ((schema : ℕ) × (schema_of_header file ≡ Ok schema)
     × (((table_of_schema schema ≡ None) × (c ≡ WrongSchema schema))
     ⊎ ((which : Which) × (table_of_schema schema ≡ Some which)
     × IsFaultOfPrinted which (block_stream_from (first_block_position schema file)) c)))

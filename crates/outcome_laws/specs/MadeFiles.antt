@@ -19,8 +19,10 @@ four_names = codes "etc/apk/world" ∷ codes "lib/apk/intent" ∷ codes "lib/apk
 
 -- a name is one of the four, or one of them followed by a slash and by more
 pub record IsReservedName (name : List ℕ) : Type 0 where
+  -- one of the four names
   pub top : List ℕ
   pub listed : IsIn top four_names
+  -- the name is this one, or it is below it
   pub below : (name ≡ top) ⊎ ((rest : List ℕ) × (name ≡ top ++ codes "/" ++ rest))
 
 -- the output, if there is one, has no reserved name
@@ -32,17 +34,25 @@ IsUnreserved output = (name : List ℕ) → output ≡ Some name → IsReservedN
 -- the command is refused: it prints the line of the refusal on standard error, and nothing else, and
 -- writes nothing
 pub record IsRefusedWith (refusal : Refusal) (files : Files) (outcome : Outcome) : Type 0 where
+  -- the outcome is this refusal
   pub refused : outcome.refusal ≡ Some refusal
+  -- nothing is printed on standard output
   pub prints : outcome.out ≡ []
+  -- the line of the refusal is printed on standard error
   pub explains : outcome.err ≡ refusal_line refusal
+  -- the files are unchanged
   pub keeps : outcome.files ≡ files
+  -- nothing is committed
   pub commits : outcome.commits ≡ false
 
 -- the files after an output was written: it has these bytes, nothing is under its scratch name, and
 -- each other name is as before
 pub record HasOutputNamed (name bytes : List ℕ) (before after : Files) : Type 0 where
+  -- the output has these bytes
   pub written : after name ≡ Some bytes
+  -- there is no file under the scratch name
   pub scratch : after (name ++ codes ".apk-tmp") ≡ None
+  -- each other name has the same file as before, or none
   pub others : (q : List ℕ) → q ≢ name → q ≢ name ++ codes ".apk-tmp" → after q ≡ before q
 
 -- the files after a command that may have no output: they are as before if it has none, and otherwise as
@@ -52,24 +62,29 @@ HasOutput None bytes before after = after ≡ before
 HasOutput (Some name) bytes before after = HasOutputNamed name bytes before after
 
 -- the command has written its output and printed its report
-pub record IsWritten (output : Option (List ℕ)) (bytes report : List ℕ) (files : Files)
+pub record IsOutputWrittenAndReported (output : Option (List ℕ)) (bytes report : List ℕ) (files : Files)
     (outcome : Outcome) : Type 0 where
+  -- the command is not refused
   pub accepted : outcome.refusal ≡ None
+  -- the report is printed on standard output
   pub prints : outcome.out ≡ report
+  -- nothing is printed on standard error
   pub explains : outcome.err ≡ []
+  -- the output has these bytes
   pub writes : HasOutput output bytes files outcome.files
+  -- the outcome commits
   pub commits : outcome.commits ≡ true
 
 -- ---- what was made
 
 -- the refusal of a fault of the input, which is a file that is absent or bad, or a bad value of `-I`
-abbrev pub input_refusal : MakeFault → Option Refusal
-input_refusal (NoFile place) = Some (FileMissing place)
-input_refusal (BadFile place cause) = Some (FileBad place cause)
-input_refusal (BadInfo place) = Some (InfoBad place)
-input_refusal (TooLarge bytes values) = None
-input_refusal Disk = None
-input_refusal Memory = None
+abbrev pub refusal_if_input_fault : MakeFault → Option Refusal
+refusal_if_input_fault (NoFile place) = Some (FileMissing place)
+refusal_if_input_fault (BadFile place cause) = Some (FileBad place cause)
+refusal_if_input_fault (BadInfo place) = Some (InfoBad place)
+refusal_if_input_fault (TooLarge bytes values) = None
+refusal_if_input_fault Disk = None
+refusal_if_input_fault Memory = None
 
 -- the input has no fault: a container was made, or it is too large
 abbrev pub IsMadeOrTooLarge : Result (List ℕ) MakeFault → Type 0

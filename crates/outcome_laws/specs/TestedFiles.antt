@@ -4,16 +4,18 @@ use Rattle.std.specs.Prelude.{◌≡◌, ◌<◌, ℕ, List, Option, Some, None,
 use Rattle.base_core.specs.declared.cause.Cause.{Cause}
 use Rattle.command_core.specs.Files.{without_dot_slash}
 use Rattle.command_core.specs.declared.operands.Operand.{Operand}
-use Rattle.container_laws.specs.TestsInOrder.{IsContainerFault, PassesEveryTest}
+use Rattle.container_laws.specs.TestsInOrder.{IsContainerFault, PassesEveryContainerTest}
 use Rattle.outcome.specs.make_info.Reads.{Reads}
 use Rattle.report_core.specs.declared.refusal.Refusal.{Refusal}
 use Rattle.report_core.specs.declared.refusal.Refusal.TheVariants.{FileBad, FileMissing}
 
 -- a file was found, and passes every test of a container
 pub record IsFoundSound (found : Option (List ℕ)) : Type 0 where
+  -- the bytes that were found
   pub file : List ℕ
   pub is : found ≡ Some file
-  pub passes : PassesEveryTest file
+  -- they pass every test of a container
+  pub passes : PassesEveryContainerTest file
 
 -- the read with an operand's number, from 0, finds a file that passes every test
 abbrev pub IsOperandSound : Reads → List Operand → ℕ → Type 0
@@ -32,9 +34,13 @@ IsFileRefusal (Some file) place refusal =
     (cause : Cause) × IsContainerFault file cause × (refusal ≡ FileBad place cause)
 
 -- the refusal is that of the file of one operand, and the files before it pass every test
-pub record IsFirstUnsound (read : Reads) (operands : List Operand) (refusal : Refusal) : Type 0 where
+pub record IsRefusalOfFirstUnsoundFile (read : Reads) (operands : List Operand)
+    (refusal : Refusal) : Type 0 where
+  -- the index of the operand, counted from 0
   pub number : ℕ
   pub operand : Operand
   pub at : slice_get operands number ≡ Some operand
+  -- the refusal is that of the file under this operand
   pub refused : IsFileRefusal (read number (without_dot_slash operand.text)) operand.place refusal
+  -- the file of each operand before it passes every test
   pub earlier : (i : ℕ) → i < number → IsOperandSound read operands i

@@ -8,7 +8,7 @@ ghost use Rattle.command_core.specs.declared.operands.Operand.{Operand};
 ghost use Rattle.outcome.specs.demo_lines.Count.{demo_count};
 ghost use Rattle.outcome.specs.demo_lines.Lines.{names_not_needed_by_first_n};
 ghost use Rattle.outcome.specs.demo_lines.Report.{demo_line};
-ghost use Rattle.outcome_laws.specs.DemoLines.{AreWholeLines, IsNeededByNone, IsOneLine};
+ghost use Rattle.outcome_laws.specs.DemoLines.{AreWholeLines, IsDemoPackageNeededByNone, IsOneLine};
 ghost use Rattle.report_core.specs.Reports.{report_line};
 
 /// `demo` prints one line: `demo N: ` and the last line of a report, whatever whole lines precede
@@ -27,5 +27,5 @@ pub fn demo_makes_as_many_packages_as_its_operand_says()
 /// Of n packages exactly those are added on which no other one depends.
 pub fn demo_adds_the_packages_on_which_no_other_depends()
     ensures { (n : ℕ) (name : List ℕ) → IsIn name (names_not_needed_by_first_n n n)
-        ↔ IsNeededByNone n name }
+        ↔ IsDemoPackageNeededByNone n name }
 {}

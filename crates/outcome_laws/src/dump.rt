@@ -6,10 +6,10 @@ ghost use Rattle.base_core.specs.Files.{Files};
 ghost use Rattle.base_core.specs.declared.cause.Cause.{Cause};
 ghost use Rattle.command_core.specs.Files.{without_dot_slash};
 ghost use Rattle.command_core.specs.declared.operands.Operand.{Operand};
-ghost use Rattle.container_laws.specs.TestsInOrder.{PassesEveryTest};
+ghost use Rattle.container_laws.specs.TestsInOrder.{PassesEveryContainerTest};
 ghost use Rattle.outcome.specs.make_info.Reads.{Reads};
 ghost use Rattle.outcome.specs.Dump.{adbdump};
-ghost use Rattle.outcome_laws.specs.DumpedFiles.{HasTextOfValue, IsDumpRefusalCause};
+ghost use Rattle.outcome_laws.specs.DumpedFiles.{HasDumpTextOfRootValue, IsDumpRefusalCause};
 ghost use Rattle.report_core.specs.declared.refusal.Refusal.{Refusal};
 ghost use Rattle.report_core.specs.declared.refusal.Refusal.TheVariants.{FileBad, FileMissing};
 
@@ -19,15 +19,17 @@ pub fn adbdump_prints_the_text_of_the_value()
     ensures { (read : Reads) (files : Files) (o : Operand) (file : List ℕ)
         → read 0 (without_dot_slash o.text) ≡ Some file
         → (adbdump read files (o ∷ [])).refusal ≡ None
-        → HasTextOfValue file (adbdump read files (o ∷ [])).out }
+        → HasDumpTextOfRootValue file (adbdump read files (o ∷ [])).out }
 {}
 
 /// `adbdump` is not refused for a file that passes every test of a container, and refused for an
 /// absent one.
 pub fn adbdump_prints_what_passes_every_test()
+    // A file that passes every test is not refused.
     ensures sound { (read : Reads) (files : Files) (o : Operand) (file : List ℕ)
-        → read 0 (without_dot_slash o.text) ≡ Some file → PassesEveryTest file
+        → read 0 (without_dot_slash o.text) ≡ Some file → PassesEveryContainerTest file
         → (adbdump read files (o ∷ [])).refusal ≡ None }
+    // An absent file is refused as missing.
     ensures absent { (read : Reads) (files : Files) (o : Operand)
         → read 0 (without_dot_slash o.text) ≡ None
         → (adbdump read files (o ∷ [])).refusal ≡ Some (FileMissing o.place) }
@@ -38,14 +40,17 @@ pub fn adbdump_prints_what_passes_every_test()
 /// shapes of its values, the framing of the further blocks. It is refused exactly if one of them
 /// fails, and prints nothing then. The files stay as they are.
 pub fn adbdump_refuses_the_first_failed_test()
+    // The cause is the first test that the file fails.
     ensures refused { (read : Reads) (files : Files) (o : Operand) (file : List ℕ) (cause : Cause)
         → read 0 (without_dot_slash o.text) ≡ Some file
         → ((adbdump read files (o ∷ [])).refusal ≡ Some (FileBad o.place cause))
         ↔ IsDumpRefusalCause file cause }
+    // A file that is found is refused only as bad, with a cause.
     ensures only { (read : Reads) (files : Files) (o : Operand) (file : List ℕ)
         (refusal : Refusal) → read 0 (without_dot_slash o.text) ≡ Some file
         → (adbdump read files (o ∷ [])).refusal ≡ Some refusal
         → (cause : Cause) × (refusal ≡ FileBad o.place cause) }
+    // With a refusal nothing is printed on standard output.
     ensures nothing { (read : Reads) (files : Files) (o : Operand)
         → is_some (adbdump read files (o ∷ [])).refusal ≡ true
         → (adbdump read files (o ∷ [])).out ≡ [] }

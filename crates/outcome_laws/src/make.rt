@@ -7,7 +7,7 @@ ghost use Rattle.outcome.specs.Make.{make_outcome};
 ghost use Rattle.outcome.specs.adb_schema.Reserved.{is_reserved};
 ghost use Rattle.outcome.specs.make_info.declared.fault.MakeFault.{MakeFault};
 ghost use Rattle.outcome.specs.make_info.declared.fault.MakeFault.TheVariants.{TooLarge};
-ghost use Rattle.outcome_laws.specs.MadeFiles.{IsMadeOrTooLarge, IsRefusedWith, IsReservedName, IsUnreserved, IsWritten, input_refusal};
+ghost use Rattle.outcome_laws.specs.MadeFiles.{IsMadeOrTooLarge, IsRefusedWith, IsReservedName, IsUnreserved, IsOutputWrittenAndReported, refusal_if_input_fault};
 ghost use Rattle.report_core.specs.declared.refusal.Refusal.{Refusal};
 ghost use Rattle.report_core.specs.declared.refusal.Refusal.TheVariants.{Reserved, ResultTooLarge};
 
@@ -21,16 +21,18 @@ pub fn a_name_is_reserved_exactly_if_it_is_one_of_four_or_below_one()
 /// output is reserved. Such a fault is a file that is absent or bad, or a bad value of `-I`.
 pub fn a_fault_of_the_input_is_reported_before_a_reserved_output()
     ensures { (files : Files) (output : Option (List ℕ)) (report : List ℕ) (fault : MakeFault)
-        (refusal : Refusal) → input_refusal fault ≡ Some refusal
+        (refusal : Refusal) → refusal_if_input_fault fault ≡ Some refusal
         → IsRefusedWith refusal files (make_outcome files output report (Err fault)) }
 {}
 
 /// If the input has no fault, a reserved output is refused, even if the result is too large. A
 /// result that is too large is refused if the output is not reserved.
 pub fn a_reserved_output_is_reported_before_a_result_that_is_too_large()
+    // A reserved output is refused, even if the result is too large.
     ensures reserved { (files : Files) (name report : List ℕ) (made : Result (List ℕ) MakeFault)
         → IsReservedName name → IsMadeOrTooLarge made
         → IsRefusedWith (Reserved name) files (make_outcome files (Some name) report made) }
+    // If the output is not reserved, the result is refused as too large.
     ensures too_large { (files : Files) (output : Option (List ℕ)) (report : List ℕ)
         (bytes values : ℕ) → IsUnreserved output
         → IsRefusedWith (ResultTooLarge bytes values) files
@@ -42,5 +44,6 @@ pub fn a_reserved_output_is_reported_before_a_result_that_is_too_large()
 pub fn a_made_container_is_written_to_its_output()
     ensures { (files : Files) (output : Option (List ℕ)) (report bytes : List ℕ)
         → IsUnreserved output
-        → IsWritten output bytes report files (make_outcome files output report (Ok bytes)) }
+        → IsOutputWrittenAndReported output bytes report files (make_outcome files output report
+        (Ok bytes)) }
 {}

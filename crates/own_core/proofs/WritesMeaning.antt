@@ -27,7 +27,7 @@ use Rattle.std.specs.Option.{option_or}
 use Rattle.base_core.proofs.Orderings.{is_less}
 use Rattle.base_core.proofs.Listed.{in_both}
 use Rattle.change_files.specs.NamesAfter.{added_paths}
-use Rattle.change_files.specs.PlanLists.{FileWrite, file_writes_of, sorted_distinct_names, write_to}
+use Rattle.change_files.specs.PlanLists.{FileWrite, file_writes_of, sorted_distinct_names, file_write_under_name}
 use Rattle.change_files.proofs.InOrder.{from_with, in_sorted, from_sorted}
 use Rattle.change_files.proofs.Coming.{no_owner}
 use Rattle.own_core.specs.ClaimEntries.{claim_entry, is_of_added_owner}
@@ -252,9 +252,9 @@ module _ (change : FileChange) (files : Files) (coming : List PathClaim) (up : N
   asides = with_fate change files coming up each goes_aside
 
   abbrev as_written : List ℕ → Option FileWrite
-  as_written name = option_map (write_to name) (listing_written_under_name change files name)
+  as_written name = option_map (file_write_under_name name) (listing_written_under_name change files name)
 
-  same_write : (name : List ℕ) (l : Listing) (c : PathClaim) → IsClaimFor l c → write_to name l ≡ write_of_claim_under name c
+  same_write : (name : List ℕ) (l : Listing) (c : PathClaim) → IsClaimFor l c → file_write_under_name name l ≡ write_of_claim_under name c
   same_write name l c h = (λ j. record { name = name; member = sym h.member j; folder = sym h.folder j; file = sym h.file j })
 
   owner_claim : (c : PathClaim) → find (is_claim_of_path c.path) coming ≡ Some c → GoTogether (added_owner_listing change c.path) (Some c)
@@ -265,23 +265,23 @@ module _ (change : FileChange) (files : Files) (coming : List PathClaim) (up : N
   in_as_written c h = go (added_owner_listing change c.path) refl (owner_claim c h.0)
     where
       go : (a : Option Listing) → added_owner_listing change c.path ≡ a → GoTogether a (Some c)
-          → option_map (write_to c.path) (option_or (option_and_then (λ l. if_written_in_place l (fate_of change files l)) a) (option_and_then (apk_new_listing_at change files) (path_of_apk_new_name c.path))) ≡ Some (claim_write c)
+          → option_map (file_write_under_name c.path) (option_or (option_and_then (λ l. if_written_in_place l (fate_of change files l)) a) (option_and_then (apk_new_listing_at change files) (path_of_apk_new_name c.path))) ≡ Some (claim_write c)
       go None e k = absurd k
       go (Some l) e k =
-          ap (λ f. option_map (write_to c.path) (option_or (if_written_in_place l f) (option_and_then (apk_new_listing_at change files) (path_of_apk_new_name c.path)))) (sym (same_fate change files c.path l c e k) ∙ is_in (claim_fate change c (files c.path)) h.1)
+          ap (λ f. option_map (file_write_under_name c.path) (option_or (if_written_in_place l f) (option_and_then (apk_new_listing_at change files) (path_of_apk_new_name c.path)))) (sym (same_fate change files c.path l c e k) ∙ is_in (claim_fate change c (files c.path)) h.1)
           ∙ ap Some (same_write c.path l c k)
 
   aside_as_written : (c : PathClaim) → (find (is_claim_of_path c.path) coming ≡ Some c) × (are_equal_fates goes_aside (claim_fate change c (files c.path)) ≡ true) → as_written (apk_new_name c.path) ≡ Some (apk_new_write c)
   unfolding listing_written_under_name
   aside_as_written c h =
-      (λ j. option_map (write_to (apk_new_name c.path)) (option_or (option_and_then (λ l. if_written_in_place l (fate_of change files l)) (no_owner change (apk_new_name c.path) (free_beside change files c h.1) j)) (option_and_then (apk_new_listing_at change files) (front_of c.path j))))
+      (λ j. option_map (file_write_under_name (apk_new_name c.path)) (option_or (option_and_then (λ l. if_written_in_place l (fate_of change files l)) (no_owner change (apk_new_name c.path) (free_beside change files c h.1) j)) (option_and_then (apk_new_listing_at change files) (front_of c.path j))))
       ∙ go (added_owner_listing change c.path) refl (owner_claim c h.0)
     where
       go : (a : Option Listing) → added_owner_listing change c.path ≡ a → GoTogether a (Some c)
-          → option_map (write_to (apk_new_name c.path)) (option_and_then (λ l. if_written_as_apk_new l (fate_of change files l)) a) ≡ Some (apk_new_write c)
+          → option_map (file_write_under_name (apk_new_name c.path)) (option_and_then (λ l. if_written_as_apk_new l (fate_of change files l)) a) ≡ Some (apk_new_write c)
       go None e k = absurd k
       go (Some l) e k =
-          ap (λ f. option_map (write_to (apk_new_name c.path)) (if_written_as_apk_new l f)) (sym (same_fate change files c.path l c e k) ∙ is_aside (claim_fate change c (files c.path)) h.1)
+          ap (λ f. option_map (file_write_under_name (apk_new_name c.path)) (if_written_as_apk_new l f)) (sym (same_fate change files c.path l c e k) ∙ is_aside (claim_fate change c (files c.path)) h.1)
           ∙ ap Some (same_write (apk_new_name c.path) l c k)
 
   abbrev pub all_writes : List FileWrite
@@ -330,7 +330,7 @@ module _ (change : FileChange) (files : Files) (coming : List PathClaim) (up : N
   abbrev places : List (List ℕ)
   places = added_paths change.members ++ map apk_new_name (added_paths change.members)
 
-  mapped_some : (name : List ℕ) (o : Option Listing) → is_some (option_map (write_to name) o) ≡ is_some o
+  mapped_some : (name : List ℕ) (o : Option Listing) → is_some (option_map (file_write_under_name name) o) ≡ is_some o
   mapped_some name None = refl
   mapped_some name (Some l) = refl
 

@@ -1,4 +1,4 @@
-//! Who owns the files of packages, as text. The rules are in `docs/commands.md`,
+//! Answers `owners`: who owns the files of packages, as text. The rules are in `docs/commands.md`,
 //! "Files that several packages list".
 
 use adb_schema::FilePath;
@@ -9,9 +9,10 @@ use row_lines::{add_number, add_word};
 use row_members::{add_coming, front_of};
 use std::alloc::{AllocError, Global};
 
-/// Adds who owns the files of packages, which all come: for each path `PATH=PLACE`, or `PATH=?`
-/// where none owns it, then for each file that is listed `1` or `0` for whether its package owns
-/// it, and then the path that is contested and the places of two packages that contend for it.
+/// Adds who owns the files of these packages, which are all added by the change: for each path
+/// `PATH=PACKAGE` with the number of the owner, or `PATH=?` if none owns it. Then it has for each
+/// listed file `1` if its package owns it, else `0`; and then the contested path, if there is one,
+/// with the numbers of two packages that contend for it.
 pub(crate) fn add_owners(
     alloc: Global,
     containers: &[Vec<u8>],
@@ -27,7 +28,8 @@ pub(crate) fn add_owners(
     add_owners_of(alloc, &fronts, answer)
 }
 
-/// Adds who owns the files of the packages with these fronts, where nothing is installed.
+/// Adds who owns the files of the packages with these fronts (headers and first blocks), if no
+/// package is installed.
 fn add_owners_of<'a>(
     alloc: Global,
     fronts: &'a [Front],
@@ -36,8 +38,8 @@ fn add_owners_of<'a>(
     add_owners_beside(alloc, &Db::empty(alloc), fronts, answer)
 }
 
-/// Adds who owns the files of the packages with these fronts, beside a database of which none
-/// stays.
+/// Adds who owns the files of the packages with these fronts (headers and first blocks). No package
+/// of the installed database is kept.
 fn add_owners_beside<'a>(
     alloc: Global,
     db: &Db<'a>,
@@ -62,7 +64,8 @@ fn add_owners_beside<'a>(
     }
 }
 
-/// Adds each path once, with the place of its owner.
+/// Adds each path once, with the number of the package that owns it. A claim is a path that one
+/// package lists; equal paths follow each other.
 fn add_paths(alloc: Global, found: &Owners<'_>, answer: &mut Vec<u8>) -> Result<(), AllocError> {
     let mut last: Option<FilePath<'_>> = None;
     for i in 0..found.claims.len() {
@@ -81,7 +84,7 @@ fn add_paths(alloc: Global, found: &Owners<'_>, answer: &mut Vec<u8>) -> Result<
     Ok(())
 }
 
-/// Whether a path is another than the last one.
+/// Whether a path differs from the last one, or is the first.
 fn is_other(last: &Option<FilePath<'_>>, path: &FilePath<'_>) -> bool {
     match last {
         Some(last) => !last.compare(path).is_eq(),
@@ -89,7 +92,7 @@ fn is_other(last: &Option<FilePath<'_>>, path: &FilePath<'_>) -> bool {
     }
 }
 
-/// Adds a path, its folder and its name joined.
+/// Adds a path: its folder and its name, joined by a slash.
 fn add_path(path: &FilePath<'_>, answer: &mut Vec<u8>) -> Result<(), AllocError> {
     if !path.folder.is_empty() {
         answer.extend_from_slice(path.folder)?;
@@ -98,7 +101,7 @@ fn add_path(path: &FilePath<'_>, answer: &mut Vec<u8>) -> Result<(), AllocError>
     answer.extend_from_slice(path.name)
 }
 
-/// Adds for each file that is listed `1` or `0`: whether its package owns it.
+/// Adds for each listed file `1` if its package owns it, and else `0`.
 fn add_flags(found: &Owners<'_>, answer: &mut Vec<u8>) -> Result<(), AllocError> {
     add_word(answer, b"")?;
     for owned in &found.owned {
@@ -107,7 +110,7 @@ fn add_flags(found: &Owners<'_>, answer: &mut Vec<u8>) -> Result<(), AllocError>
     Ok(())
 }
 
-/// Adds the contested path and the places of its two rivals.
+/// Adds the contested path, and the numbers of two packages that contend for it.
 fn add_contested(
     alloc: Global,
     contested: &Contested<'_>,

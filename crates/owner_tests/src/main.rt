@@ -14,18 +14,18 @@ use std::alloc::{AllocError, Global};
 use std::io;
 use std::process::ExitCode;
 
-/// What is asked; the README of this crate says what each question answers.
+/// The questions of rows; the README of this crate says what each question answers.
 #[derive(Clone, Copy)]
 enum Question {
-    /// `new`.
+    /// `new`: the packages of earlier rows are forgotten.
     New,
-    /// `package NAME VERSION PRIORITY PATHS REPLACES ..`.
+    /// `package NAME VERSION PRIORITY PATHS REPLACES ..`: a package is added.
     Package,
-    /// `owners`.
+    /// `owners`: who owns the files of the added packages.
     Owners,
 }
 
-// The words that questions begin with.
+// The first word of each question.
 #[rattlefmt::skip]
 const QUESTIONS: [(&[u8], Question); 3] = [
     (b"new", Question::New),
@@ -33,15 +33,15 @@ const QUESTIONS: [(&[u8], Question); 3] = [
     (b"owners", Question::Owners),
 ];
 
-/// The added packages, as the rows before have told them.
+/// The added packages, as earlier rows describe them.
 #[derive(Drop)]
 struct AddedPackages {
-    /// Their containers, in the order in which they were told.
+    /// Their containers, in the order of their rows.
     packages: Vec<Vec<u8>>,
 }
 
 impl Subject for AddedPackages {
-    // Answers a question by its first word, on the packages that the rows before have told.
+    // Answers a question by its first word, about the packages of earlier rows.
     fn answer(
         &mut self,
         alloc: Global,

@@ -6,11 +6,13 @@ use gen_core::{GenFault, gen_};
 use row_lines::word_at;
 use std::alloc::{AllocError, Global};
 
-/// The container of `package NAME VERSION PRIORITY PATHS REPLACES..`. The paths have commas between
-/// them, and each is that of an empty file. What is replaced is `NAME:VERSION:MATCH`; the
-/// number says which versions match. None if the words give no container.
+/// The container of the package of a row `package NAME VERSION PRIORITY PATHS REPLACES..`. The
+/// paths have commas between them, and each is that of an empty file. REPLACES is
+/// `NAME:VERSION:MATCH`; the number MATCH says which versions match. None if the words give no
+/// container.
 pub(crate) fn package_of(alloc: Global, words: &Words) -> Result<Option<Vec<u8>>, AllocError> {
     let mut dump = Vec::new(alloc);
+    // The number is the schema of packages, in hexadecimal.
     dump.extend_from_slice(b"#%SCHEMA: 676b6370\ninfo:\n")?;
     add_field(&mut dump, b"  name: ", word_at(words, 1))?;
     add_field(&mut dump, b"  version: ", word_at(words, 2))?;
@@ -49,20 +51,21 @@ fn add_replaces(dump: &mut Vec<u8>, words: &Words) -> Result<(), AllocError> {
     Ok(())
 }
 
-/// Adds the lines of folders with their files. Files of one folder that stand side by side share
-/// it. Modes are in decimal: 420 is octal 644, 493 octal 755.
+/// Adds the lines of folders with their files. Neighbours in the list that have the same folder
+/// share it. Modes are in decimal: 420 is octal 644, 493 octal 755.
 fn add_files(dump: &mut Vec<u8>, paths: &[u8]) -> Result<(), AllocError> {
     if paths.is_empty() {
         return Ok(());
     }
     dump.extend_from_slice(b"paths:\n")?;
-    let mut above: Option<&[u8]> = None;
+    // The folder of the path before in the list.
+    let mut previous: Option<&[u8]> = None;
     for path in paths.split(|byte| *byte == b',') {
         let (folder, name) = parted_last(path);
-        if above != Some(folder) {
+        if previous != Some(folder) {
             add_folder(dump, folder)?;
         }
-        above = Some(folder);
+        previous = Some(folder);
         add_field(dump, b"      - name: ", name)?;
         add_rights(
             dump,
@@ -73,7 +76,7 @@ fn add_files(dump: &mut Vec<u8>, paths: &[u8]) -> Result<(), AllocError> {
     Ok(())
 }
 
-/// Adds a folder's lines down to its files; the root has no name.
+/// Adds the lines of a folder, down to the line before its files. The root folder has no name.
 fn add_folder(dump: &mut Vec<u8>, folder: &[u8]) -> Result<(), AllocError> {
     if folder.is_empty() {
         add_rights(
@@ -92,13 +95,14 @@ fn add_folder(dump: &mut Vec<u8>, folder: &[u8]) -> Result<(), AllocError> {
     dump.extend_from_slice(b"    files:\n")
 }
 
-/// Adds the lines of an access list of root.
+/// Adds the lines of an access list whose user and group are `root`. The arguments are the texts
+/// before these two names.
 fn add_rights(dump: &mut Vec<u8>, user: &[u8], group: &[u8]) -> Result<(), AllocError> {
     add_field(dump, user, b"root")?;
     add_field(dump, group, b"root")
 }
 
-/// What is before the first byte of this kind, and what after it.
+/// The text before the first byte `mark`, and the text after it. Without `mark`, all and nothing.
 fn parted(text: &[u8], mark: u8) -> (&[u8], &[u8]) {
     match text.iter().position(|byte| *byte == mark) {
         Some(i) if i < text.len() => (&text[..i], &text[i + 1..]),
@@ -106,7 +110,7 @@ fn parted(text: &[u8], mark: u8) -> (&[u8], &[u8]) {
     }
 }
 
-/// The folder and the name of a path.
+/// The folder of a path, and the name after its last slash.
 fn parted_last(path: &[u8]) -> (&[u8], &[u8]) {
     match path.iter().rposition(|byte| *byte == b'/') {
         Some(i) if i < path.len() => (&path[..i], &path[i + 1..]),

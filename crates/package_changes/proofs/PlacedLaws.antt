@@ -11,7 +11,7 @@ use Rattle.solve_core.specs.candidate_core.Candidates.{Candidate}
 use Rattle.solve_core.specs.candidate_core.Rank.{SealedPool, candidate_at, candidate_at_passes}
 use Rattle.report_core.specs.Reports.{Change}
 use Rattle.package_changes.specs.Changes.{change_between, change_of_name, changes_of, is_candidate_named, names_before_and_selected}
-use Rattle.package_changes.specs.Placed.{PlacedChange, PlacedName, PlacedReplacement, candidates_at, change_in, new_candidate, old_package, placed_change_of, placed_changes_of, placed_name_of, placed_name_with, placed_names_of, replacement_of, selected_place}
+use Rattle.package_changes.specs.Placed.{PlacedChange, PlacedName, PlacedReplacement, candidates_at, change_in, candidate_at_new_place, package_at_old_place, placed_change_of, placed_changes_of, placed_name_of, placed_name_with, placed_names_of, replacement_of, selected_place}
 use Rattle.package_changes.specs.SelectedNames.{place_paired_with_name, placed_name_at}
 
 -- ---- the first by its place
@@ -136,10 +136,10 @@ own_change p name =
     ap (λ o. change_between (list_any (bytes_eq name) p.again) name o (option_and_then (candidate_at p.pool) (selected_place p.pool p.trace name))) (found_at_position (is_package_named name) p.before)
     ∙ ap (λ o. change_between (list_any (bytes_eq name) p.again) name (find (is_package_named name) p.before) o) (found_at_place p.pool (is_candidate_named name) p.trace)
 
-pub own_package : (p : PlacedReplacement) (name : List ℕ) → old_package p.before (placed_name_of p name) ≡ find (is_package_named name) p.before
+pub own_package : (p : PlacedReplacement) (name : List ℕ) → package_at_old_place p.before (placed_name_of p name) ≡ find (is_package_named name) p.before
 unfolding placed_name_of
 own_package p name = found_at_position (is_package_named name) p.before
 
-pub own_candidate : (p : PlacedReplacement) (name : List ℕ) → new_candidate p.pool (placed_name_of p name) ≡ find (is_candidate_named name) (candidates_at p.pool p.trace)
+pub own_candidate : (p : PlacedReplacement) (name : List ℕ) → candidate_at_new_place p.pool (placed_name_of p name) ≡ find (is_candidate_named name) (candidates_at p.pool p.trace)
 unfolding placed_name_of
 own_candidate p name = found_at_place p.pool (is_candidate_named name) p.trace

@@ -21,8 +21,11 @@ use Rattle.report_core.specs.Reports.{Change, Downgrade, Install, Purge, Reinsta
 -- a replacement: the packages before, the selected candidates, and the names that are to be installed
 -- again
 pub record Replacement : Type 0 where
+  -- the packages that are installed before the change
   pub before : List Plain
+  -- the candidates that are to be installed after it
   pub selected : List Candidate
+  -- names of packages to be installed again, though they are installed
   pub again : List (List ℕ)
 
 -- the text of a candidate's version, as the index or the database has it

@@ -12,9 +12,13 @@ use Rattle.package_changes.specs.Changes.{Replacement, change_between, is_candid
 -- a replacement, by places: the packages before, the candidates, the places of the selected ones among
 -- them, and the names that are to be installed again
 pub record PlacedReplacement : Type 0 where
+  -- the packages that are installed before the change
   pub before : List Plain
+  -- the candidates, under the new world
   pub pool : SealedPool
+  -- the places of the selected candidates in the list of candidates
   pub trace : List ℕ
+  -- names of packages to be installed again, though they are installed
   pub again : List (List ℕ)
 
 -- the candidates at places, in the order of the places
@@ -33,8 +37,11 @@ selected_place pool trace name = find (candidate_at_passes pool (is_candidate_na
 -- the change of a package (`change`); its place among the packages before, counted from 0, if it was
 -- there (`old`); and the place of its candidate, if one is selected (`new`)
 pub record PlacedChange : Type 0 where
+  -- the change, such as an installation or an upgrade
   pub change : Change
+  -- the package's place before the change, counted from 0
   pub old : Option ℕ
+  -- the place of the selected candidate, counted from 0
   pub new : Option ℕ
 
 -- the change of the package of this name, with its two places; none if the package is kept
@@ -60,9 +67,13 @@ placed_changes_of p = filter_map (placed_change_of p) (names_before_and_selected
 -- a name of a package before or of a selected candidate; the change of the package, if it changes; and
 -- its two places, as in *PlacedChange*
 pub record PlacedName : Type 0 where
+  -- the name
   pub name : List ℕ
+  -- the change of the package with this name, if it changes
   pub change : Option Change
+  -- the package's place before the change, counted from 0
   pub old : Option ℕ
+  -- the place of the selected candidate, counted from 0
   pub new : Option ℕ
 
 -- what happens to the package of this name, with its two places, even if it is kept
@@ -87,12 +98,12 @@ unfoldable pub placed_names_of : PlacedReplacement → List PlacedName
 placed_names_of p = map (placed_name_of p) (names_before_and_selected (replacement_of p))
 
 -- the package before that the first place of a name leads to, if there is one
-abbrev pub old_package : List Plain → PlacedName → Option Plain
-old_package before n = option_and_then (slice_get before) n.old
+abbrev pub package_at_old_place : List Plain → PlacedName → Option Plain
+package_at_old_place before n = option_and_then (slice_get before) n.old
 
 -- the selected candidate that the second place of a name leads to, if there is one
-abbrev pub new_candidate : SealedPool → PlacedName → Option Candidate
-new_candidate pool n = option_and_then (candidate_at pool) n.new
+abbrev pub candidate_at_new_place : SealedPool → PlacedName → Option Candidate
+candidate_at_new_place pool n = option_and_then (candidate_at pool) n.new
 
 -- the change of a name with its places, if there is one
 abbrev pub change_in : PlacedName → Option PlacedChange

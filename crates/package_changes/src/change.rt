@@ -122,6 +122,7 @@ pub(crate) fn replace<'a>(
     _mark: PhantomData<PackageView<'a>>,
 ) -> Option<Change<'a>>
     requires { i < length (packages_of db.now) }
+    // The change between the package at the place and the new candidate, if they differ.
     ensures { option_map (λ p. change_between is_again name.entry.now (Some p)
         (Some (candidate_value new.now))) (slice_get (packages_of db.now) i)
         ≡ Some (option_map change_seen result) }

@@ -78,11 +78,12 @@ impl<'a> Changes<'a> {
     }
 }
 
-/// Adds the change of a name to the others, if there is one.
+/// Appends the change of a name to the list of changes, if the name has a change.
 fn push_change<'a>(
     list: &mut Vec<PlacedChange<'a>>,
     name: &PlacedName<'a>,
 ) -> Result<(), AllocError>
+    // The change of this name is appended, if there is one.
     ensures { OnOk result (map placed_change_seen list.new.items
         ≡ map placed_change_seen list.old.items
         ++ option_to_list (change_in (placed_name_seen name.now))) }

@@ -3,7 +3,7 @@
 //! to *Changes*, which knows them by their names.
 ghost use Rattle.change_files.specs.db_core.Packages.{is_package_named};
 ghost use Rattle.package_changes.specs.Changes.{change_of_name, is_candidate_named};
-ghost use Rattle.package_changes.specs.Placed.{PlacedReplacement, candidates_at, new_candidate, old_package, placed_name_of, replacement_of};
+ghost use Rattle.package_changes.specs.Placed.{PlacedReplacement, candidates_at, candidate_at_new_place, package_at_old_place, placed_name_of, replacement_of};
 ghost use Rattle.std.specs.List.{find};
 ghost use Rattle.std.specs.Prelude.{◌≡◌, ℕ, List};
 
@@ -17,9 +17,10 @@ pub fn places_lead_to_packages_and_candidates()
         → (placed_name_of p name).change ≡ change_of_name (replacement_of p) name }
     // Its place before leads to the first package before of that name.
     ensures old { (p : PlacedReplacement) (name : List ℕ)
-        → old_package p.before (placed_name_of p name) ≡ find (is_package_named name) p.before }
+        → package_at_old_place p.before (placed_name_of p name)
+        ≡ find (is_package_named name) p.before }
     // Its place among the candidates leads to the first selected one of that name.
     ensures new { (p : PlacedReplacement) (name : List ℕ)
-        → new_candidate p.pool (placed_name_of p name)
+        → candidate_at_new_place p.pool (placed_name_of p name)
         ≡ find (is_candidate_named name) (candidates_at p.pool p.trace) }
 {}

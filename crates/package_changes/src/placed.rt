@@ -7,7 +7,7 @@ ghost use Rattle.change_files.specs.PlanLists.{sorted_distinct_names};
 ghost use Rattle.change_files.specs.db_core.Packages.{is_package_named};
 ghost use Rattle.change_files.specs.db_core.Seen.{packages_of};
 ghost use Rattle.package_changes.specs.Changes.{change_between};
-ghost use Rattle.package_changes.specs.Placed.{candidates_at, new_candidate, placed_name_with, placed_names_of};
+ghost use Rattle.package_changes.specs.Placed.{candidates_at, candidate_at_new_place, placed_name_with, placed_names_of};
 ghost use Rattle.package_changes.specs.Seen.{change_seen, placed_name_seen, placed_names_seen, placed_replacement_from_parts};
 ghost use Rattle.package_changes.specs.SelectedNames.{placed_name_at};
 ghost use Rattle.solve_core.specs.candidate_core.Candidates.{Candidate as CandidateValue};
@@ -43,7 +43,7 @@ impl<'a> PlacedName<'a> {
     /// The package's candidate, if one is selected.
     pub fn candidate(&self, pool: &Sealed<'a>) -> Option<Candidate<'a>>
         ensures { option_map candidate_value result
-            ≡ new_candidate pool.now (placed_name_seen self.now) }
+            ≡ candidate_at_new_place pool.now (placed_name_seen self.now) }
     {
         candidate_of(pool, self.new)
     }
@@ -58,9 +58,9 @@ pub struct PlacedNames<'a> {
 }
 
 impl<'a> PlacedNames<'a> {
-    /// What happens to each package if the candidates of a selection replace the packages of a
-    /// database, and some names are to be installed again. It takes time in proportion to n log n
-    /// in the number of packages, candidates and names to be installed again.
+    /// The change of each package, if the candidates of a selection replace the packages of a
+    /// database, and the names `again` are to be installed again. It takes time in proportion to n
+    /// log n in the number of packages, candidates and names to be installed again.
     pub fn of(
         alloc: Global,
         db: &Db<'a>,
@@ -109,6 +109,7 @@ fn names_before_and_selected<'a>(
     pool: &Sealed<'a>,
     trace: &Trace,
 ) -> Result<Vec<&'a [u8]>, AllocError>
+    // The names of the packages before and of the selected candidates, in byte order, each once.
     ensures { IfOk result (λ names. map (λ n. n.now) names.items
         ≡ sorted_distinct_names (map package_name (packages_of db.now)
         ++ map (λ (c : CandidateValue). c.name) (candidates_at pool.now trace.now))) }
@@ -155,6 +156,7 @@ fn push_selected_names<'a>(
     pool: &Sealed<'a>,
     trace: &Trace,
 ) -> Result<(), AllocError>
+    // The names of the selected candidates are appended.
     ensures { OnOk result (map (λ n. n.now) names.new.items
         ≡ map (λ n. n.now) names.old.items
         ++ map (λ (c : CandidateValue). c.name) (candidates_at pool.now trace.now)) }
@@ -171,6 +173,7 @@ fn push_selected_name<'a>(
     pool: &Sealed<'a>,
     id: CandId,
 ) -> Result<(), AllocError>
+    // The name of the candidate at this place is appended, if there is one.
     ensures { OnOk result (map (λ n. n.now) names.new.items
         ≡ map (λ n. n.now) names.old.items
         ++ map (λ (c : CandidateValue). c.name) (option_to_list (candidate_at pool.now id))) }
@@ -194,6 +197,7 @@ fn placed_names<'a>(
     selected: &SelectedNames<'a>,
     names: &[&'a [u8]],
 ) -> Result<Vec<PlacedName<'a>>, AllocError>
+    // Each name with its change and its two places.
     ensures { IfOk result (λ list. map placed_name_seen list.items
         ≡ map (placed_name_at (packages_of db.now) pool.now again.now selected.now)
         (map (λ n. n.now) names.now)) }
@@ -214,6 +218,7 @@ fn placed_name<'a>(
     name: &'a [u8],
     new: Option<u32>,
 ) -> PlacedName<'a>
+    // The place before the change is that of the first package with this name.
     ensures { placed_name_seen result
         ≡ placed_name_with (packages_of db.now) pool.now again.now name.entry.now
         (position_from (is_package_named name.entry.now) 0 (packages_of db.now)) new }
@@ -239,6 +244,7 @@ fn change_between<'a>(
     new: Option<u32>,
 ) -> Option<Change<'a>>
     requires { ForSome old (λ i. i < length (packages_of db.now)) }
+    // The change from the package at `old` to the candidate at `new`; each may be absent.
     ensures { option_map change_seen result
         ≡ change_between (list_any (bytes_eq name.entry.now) again.now) name.entry.now
         (option_and_then (slice_get (packages_of db.now)) old)

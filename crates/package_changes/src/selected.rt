@@ -79,6 +79,7 @@ impl<'a> SelectedNames<'a> {
 
     // Adds the candidate at a place, if there is one and no other has its name.
     fn add(&mut self, pool: &Sealed<'a>, id: CandId) -> Result<(), AllocError>
+        // The place is stored for the candidate's name, unless the name has a place already.
         ensures { OnOk result ((name : List ℕ) → place_paired_with_name name self.new
             ≡ option_or (place_paired_with_name name self.old)
             (if candidate_at_passes pool.now (is_candidate_named name) id then Some id else None)) }
@@ -94,6 +95,7 @@ impl<'a> SelectedNames<'a> {
 
     // Adds a name with a place, unless the name is there.
     fn add_name(&mut self, name: &'a [u8], place: u32) -> Result<(), AllocError>
+        // The place is stored for this name, unless the name has a place already.
         ensures { OnOk result ((other : List ℕ) → place_paired_with_name other self.new
             ≡ option_or (place_paired_with_name other self.old)
             (if bytes_eq name.entry.now other then Some place else None)) }

@@ -42,7 +42,7 @@ pub fn push_stay_lines(
     Ok(())
 }
 
-/// Those of some names that a selected candidate has, in their order.
+/// Of these names, those that a selected candidate has, in the same order.
 fn selected_among<'n>(
     alloc: Global,
     names: &[&'n [u8]],
@@ -67,6 +67,7 @@ fn push_lines_of_names(
     trace: &Trace,
     names: &[&[u8]],
 ) -> Result<(), AllocError>
+    // The lines of the names that were installed are appended.
     ensures { OnOk result (report.new ≡ report.old
         ++ flat_map (still_needed_lines_of_name (candidates_at pool.now trace.now))
         (filter (was_installed (packages_of db.now)) (map (λ n. n.now) names.now))) }
@@ -86,6 +87,7 @@ fn push_lines_of_name(
     trace: &Trace,
     name: &[u8],
 ) -> Result<(), AllocError>
+    // The lines of this name are appended, if it was installed.
     ensures { OnOk result (report.new ≡ report.old
         ++ (if was_installed (packages_of db.now) name.now
         then still_needed_lines_of_name (candidates_at pool.now trace.now) name.now else [])) }
@@ -129,6 +131,7 @@ fn push_line_of(
     id: CandId,
     name: &[u8],
 ) -> Result<(), AllocError>
+    // A line is appended if the candidate at the place has the name.
     ensures { OnOk result (report.new ≡ report.old
         ++ flat_map (λ (c : Candidate). report_line (still_needed_text name.now
         (names_needing_candidate (candidates_at pool.now trace.now) c)))
@@ -152,6 +155,7 @@ fn push_line_if_named(
     details: &Details<'_>,
     name: &[u8],
 ) -> Result<(), AllocError>
+    // A line is appended if the candidate has the name.
     ensures { OnOk result (report.new ≡ report.old
         ++ (if is_candidate_named name.now details.now then report_line (still_needed_text name.now
         (names_needing_candidate (candidates_at pool.now trace.now) details.now)) else [])) }
@@ -186,6 +190,7 @@ fn push_names_in_need<'a>(
     trace: &Trace,
     needed: &Details<'_>,
 ) -> Result<(), AllocError>
+    // The names of the selected candidates that need the other one are appended.
     ensures { OnOk result (map (λ n. n.now) names.new.items ≡ map (λ n. n.now) names.old.items
         ++ map (λ (c : Candidate). c.name)
         (filter (is_other_candidate_needing needed.now) (candidates_at pool.now trace.now))) }
@@ -196,13 +201,14 @@ fn push_names_in_need<'a>(
     Ok(())
 }
 
-/// Adds the name of the candidate at a place, if there is one and it needs another one.
+/// Adds the name of the candidate at a place, if there is one, and it needs the candidate `needed`.
 fn push_name_if_it_needs<'a>(
     names: &mut Vec<&'a [u8]>,
     pool: &Sealed<'a>,
     id: CandId,
     needed: &Details<'_>,
 ) -> Result<(), AllocError>
+    // The name of the candidate at the place is appended, if it needs the other one.
     ensures { OnOk result (map (λ n. n.now) names.new.items ≡ map (λ n. n.now) names.old.items
         ++ map (λ (c : Candidate). c.name)
         (filter (is_other_candidate_needing needed.now) (option_to_list
@@ -221,7 +227,7 @@ fn push_name_if_it_needs<'a>(
     }
 }
 
-/// Adds a name to a list if it is wanted.
+/// Adds the name to the list if `is_wanted` is true.
 fn push_name_if<'a>(
     names: &mut Vec<&'a [u8]>,
     name: &'a [u8],

@@ -10,7 +10,7 @@ use Rattle.std.proofs.lemmas.List.Sorted.{IsPermutation-append_right, IsPermutat
 use Rattle.std.proofs.lemmas.List.Sums.{suffix_len_is}
 use Rattle.std.proofs.lemmas.Map.Text.{is_eq-slice_cmp}
 use Rattle.std.proofs.lemmas.Slice.Eq.{bytes_eq-Decides}
-use Rattle.package_files.specs.Folders.{FolderListing, prefixes_before_slashes, all_folders_above, folder_of, folder_listings_of, folders_above, is_slash, folder_listing_of, names_in_folder, path_relative_to, with_folder_inserted, with_folder_inserted_by_order, with_folders_inserted}
+use Rattle.package_files.specs.Folders.{FolderListing, prefixes_before_slashes, all_folders_above, folder_of, folder_listings_of, folders_above, is_slash, folder_listing_of, tree_names_in_package_folder, path_relative_to, with_folder_inserted, with_folder_inserted_by_order, with_folders_inserted}
 use Rattle.package_files.proofs.FolderLemmas.{cmp, placed_sorted, turned}
 use Rattle.package_files.proofs.PlaceLemmas.{differs}
 
@@ -257,7 +257,7 @@ module _ (key : List ℕ → List ℕ) where
 files_in : (dir : List ℕ) (names ks : List (List ℕ)) → flat_map (λ (f : FolderListing). f.files) (map (folder_listing_of dir names) ks) ≡ parts (λ n. folder_of (path_relative_to dir n)) names ks
 unfolding parts has
 files_in dir names [] = refl
-files_in dir names (k ∷ ks) = ap (λ l. names_in_folder dir names k ++ l) (files_in dir names ks)
+files_in dir names (k ∷ ks) = ap (λ l. tree_names_in_package_folder dir names k ++ l) (files_in dir names ks)
 
 pub each_in_one : (dir : List ℕ) (names : List (List ℕ)) → IsPermutation names (flat_map (λ (f : FolderListing). f.files) (folder_listings_of dir names))
 unfolding folder_listings_of

@@ -10,7 +10,7 @@ use Rattle.std.proofs.lemmas.Cmp.{nat_list_cmp_total}
 use borrow.Author.Tests.{ne_eqb}
 use Rattle.std.specs.declared.cmp.Ordering.{Ordering}
 use Rattle.std.specs.declared.cmp.Ordering.TheVariants.{Less, Equal, Greater}
-use Rattle.package_files.specs.Folders.{is_slash, prefixes_with_first_byte, prefixes_before_slashes, with_folder_inserted_by_order, with_folder_inserted, with_folders_inserted}
+use Rattle.package_files.specs.Folders.{is_slash, prefixes_extended_by_first_byte, prefixes_before_slashes, with_folder_inserted_by_order, with_folder_inserted, with_folders_inserted}
 
 abbrev pub cmp : List ℕ → List ℕ → Ordering
 cmp = slice_cmp nat_cmp
@@ -133,7 +133,7 @@ map_append : (f : List ℕ → List ℕ) (xs ys : List (List ℕ)) → map f (xs
 map_append f [] ys = refl
 map_append f (x ∷ xs) ys = ap (λ (l : List (List ℕ)). f x ∷ l) (map_append f xs ys)
 
-with_more : (a b : ℕ) (path : List ℕ) (l : List (List ℕ)) → prefixes_with_first_byte a (l ++ at_byte b path) ≡ prefixes_with_first_byte a l ++ at_byte b (a ∷ path)
+with_more : (a b : ℕ) (path : List ℕ) (l : List (List ℕ)) → prefixes_extended_by_first_byte a (l ++ at_byte b path) ≡ prefixes_extended_by_first_byte a l ++ at_byte b (a ∷ path)
 with_more a b path l = by (is_slash a) (is_slash b)
   where
     by : (s t : Bool) → (if s then [] ∷ map (λ folder. a ∷ folder) (l ++ (if t then path ∷ [] else [])) else map (λ folder. a ∷ folder) (l ++ (if t then path ∷ [] else [])))
@@ -146,7 +146,7 @@ with_more a b path l = by (is_slash a) (is_slash b)
 -- a path that goes on with one byte
 pub slashes_more : (path : List ℕ) (b : ℕ) → prefixes_before_slashes (path ++ b ∷ []) ≡ prefixes_before_slashes path ++ at_byte b path
 slashes_more [] b = refl
-slashes_more (a ∷ rest) b = ap (prefixes_with_first_byte a) (slashes_more rest b) ∙ with_more a b rest (prefixes_before_slashes rest)
+slashes_more (a ∷ rest) b = ap (prefixes_extended_by_first_byte a) (slashes_more rest b) ∙ with_more a b rest (prefixes_before_slashes rest)
 
 path_more : (path : List ℕ) (i : ℕ) → i < length path → prefixes_before_slashes (take (i + 1) path) ≡ prefixes_before_slashes (take i path) ++ at_byte (get_or path i 0) (take i path)
 path_more path i lt = ap prefixes_before_slashes (take_more path i 0 lt) ∙ slashes_more (take i path) (get_or path i 0)

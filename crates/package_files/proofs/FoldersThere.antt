@@ -11,7 +11,7 @@ use Rattle.std.proofs.lemmas.List.Concat.{flat_map-append}
 use Rattle.std.proofs.lemmas.Option.{get_or_from_slice_get, slice_get_within}
 use Rattle.std.proofs.lemmas.Slice.Eq.{bytes_eq-Decides}
 use borrow.Author.Tests.{eq-eqb}
-use Rattle.package_files.specs.Folders.{all_folders_above, prefixes_before_slashes, folder_of, folders_above, is_slash, path_relative_to, prefixes_with_first_byte, with_folder_inserted, with_folders_inserted}
+use Rattle.package_files.specs.Folders.{all_folders_above, prefixes_before_slashes, folder_of, folders_above, is_slash, path_relative_to, prefixes_extended_by_first_byte, with_folder_inserted, with_folders_inserted}
 use Rattle.package_files.specs.BorrowedNames.{IsIndexOf}
 use Rattle.package_files.proofs.FolderLemmas.{all_placed_append, cmp, placed_as, turned}
 use Rattle.package_files.proofs.PlaceLemmas.{Tri, tri}
@@ -49,10 +49,10 @@ folders_kept ys (x ∷ xs) s h =
 
 -- ---- the folders over a path that begins with a byte
 
-root_first : (b : ℕ) (folders : List (List ℕ)) → is_slash b ≡ true → Contains (prefixes_with_first_byte b folders) []
+root_first : (b : ℕ) (folders : List (List ℕ)) → is_slash b ≡ true → Contains (prefixes_extended_by_first_byte b folders) []
 root_first b folders e = subst (λ (c : Bool). Contains (if c then [] ∷ map (λ folder. b ∷ folder) folders else map (λ folder. b ∷ folder) folders) []) (sym e) (here [] (map (λ folder. b ∷ folder) folders))
 
-further_in : (b : ℕ) (folder : List ℕ) (folders : List (List ℕ)) → Contains folders folder → Contains (prefixes_with_first_byte b folders) (b ∷ folder)
+further_in : (b : ℕ) (folder : List ℕ) (folders : List (List ℕ)) → Contains folders folder → Contains (prefixes_extended_by_first_byte b folders) (b ∷ folder)
 further_in b folder folders h = by (is_slash b) (mapped (λ f. b ∷ f) folder folders h)
   where
     by : (c : Bool) → Contains (map (λ f. b ∷ f) folders) (b ∷ folder) → Contains (if c then [] ∷ map (λ f. b ∷ f) folders else map (λ f. b ∷ f) folders) (b ∷ folder)
@@ -70,7 +70,7 @@ from_further b (f ∷ fs) z h = by (from_further b fs z) (either z (b ∷ f) (ma
     by more (inl e) = (f, here f fs, e)
     by more (inr t) = let w = more t in (w.0, there w.0 f fs w.1, w.2)
 
-root_or_further : (b : ℕ) (folders : List (List ℕ)) (z : List ℕ) → Contains (prefixes_with_first_byte b folders) z → ((is_slash b ≡ true) × ([] ≡ z)) ⊎ Further b folders z
+root_or_further : (b : ℕ) (folders : List (List ℕ)) (z : List ℕ) → Contains (prefixes_extended_by_first_byte b folders) z → ((is_slash b ≡ true) × ([] ≡ z)) ⊎ Further b folders z
 root_or_further b folders z h = by (is_slash b) refl h
   where
     by : (c : Bool) → is_slash b ≡ c → Contains (if c then [] ∷ map (λ f. b ∷ f) folders else map (λ f. b ∷ f) folders) z → ((is_slash b ≡ true) × ([] ≡ z)) ⊎ Further b folders z

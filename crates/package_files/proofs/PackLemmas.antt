@@ -9,11 +9,11 @@ use Rattle.package_files.specs.declared.file.File.{File}
 use Rattle.package_files.specs.declared.file.Folder.{Folder}
 use Rattle.package_files.specs.Blocks.{contents_block, contents_blocks}
 use Rattle.package_files.specs.Package.{Source, SourceFolder, contents_of_file, contents_of_files, contents_of_folders, kind_of_file}
-use Rattle.package_files.specs.Folders.{last_part_of, folder_listing_of, all_folders_above, names_in_folder, path_relative_to, folder_listings_of, FolderListing}
+use Rattle.package_files.specs.Folders.{last_part_of, folder_listing_of, all_folders_above, tree_names_in_package_folder, path_relative_to, folder_listings_of, FolderListing}
 use Rattle.package_files.specs.Packed.{IsFileFrom, AreFilesFrom, IsPackedFile, ArePackedFiles, IsFolderFrom, AreFoldersFrom, IsPackedFolder, ArePackedFolders}
 use Rattle.package_files.specs.BorrowedNames.{listings_of, names_borrowed}
 use Rattle.package_files.specs.Runs.{AgreesOrIsFault, IsExplainedBySomeReads}
-use Rattle.package_files.specs.Sources.{found_bytes_or_missing, source_file_read_at, sources_from, source_folder_read_at, source_folders_from, and_then}
+use Rattle.package_files.specs.Sources.{found_bytes_or_missing, source_file_read_at, sources_at_place_from_read, source_folder_read_at, source_folders_at_place_from_read, and_then}
 use Rattle.make_info.specs.Reads.{Reads}
 use Rattle.base_core.specs.Tree.{TreeState}
 use Rattle.make_info.specs.declared.fault.MakeFault.{MakeFault}
@@ -128,9 +128,9 @@ files_go_on told place names i name R R' S file lt e so_far next grows =
 
 pub files_stop : {A : Type 0} (told : List TreeState) (place : ℕ) (names : List (Bor (List ℕ))) (i : ℕ) (name : Bor (List ℕ)) (R : List Source → Type 0) (S : File → Source → Type 0) (T : A → List Source → Type 0) (fault : MakeFault)
     → i < length names → name ≡ get_or names i name → IsSoFar told (λ (name : List ℕ). 1) (source_file_read_at place) (take i (now_of names)) R → IsNext told (source_file_read_at place) name.now S (Err fault)
-    → (n : ℕ) → IsExplainedBySomeReads told (λ read. AgreesOrIsFault T (Err fault) (sources_from place read n (now_of names)))
+    → (n : ℕ) → IsExplainedBySomeReads told (λ read. AgreesOrIsFault T (Err fault) (sources_at_place_from_read place read n (now_of names)))
 files_stop {A} told place names i name R S T fault lt e so_far next n =
-    let P : List (List ℕ) → Type 0 = λ xs. IsExplainedBySomeReads told (λ read. AgreesOrIsFault T (Err fault) (sources_from place read n xs)) in
+    let P : List (List ℕ) → Type 0 = λ xs. IsExplainedBySomeReads told (λ read. AgreesOrIsFault T (Err fault) (sources_at_place_from_read place read n xs)) in
     subst P (names_split names i name lt e) (so_far_stops told (λ (name : List ℕ). 1) (source_file_read_at place) (file_own place) (take i (now_of names)) name.now (drop (suc i) (now_of names)) R S T fault so_far next n)
 
 pub names_whole : (names : List (Bor (List ℕ))) (i : ℕ) → length names ≤ i → take i (now_of names) ≡ now_of names
@@ -155,12 +155,12 @@ folder_own place f g n folder h =
     (each_rests (λ (name : List ℕ). 1) (source_file_read_at place) (file_own place) f g n folder.files (λ m name lo hi. h m name lo (omega arith)))
 
 pub folder_fault : (position : ℕ) (before later : List ℕ) (place : ℕ) (read : Reads) (n : ℕ) (folder : FolderListing) (fault : MakeFault)
-    → AgreesOrIsFault (ArePackedFiles position before later) (Err fault) (sources_from place read n folder.files) → AgreesOrIsFault (IsPackedFolder position before later) (Err fault) (source_folder_read_at place read n folder)
+    → AgreesOrIsFault (ArePackedFiles position before later) (Err fault) (sources_at_place_from_read place read n folder.files) → AgreesOrIsFault (IsPackedFolder position before later) (Err fault) (source_folder_read_at place read n folder)
 folder_fault position before later place read n folder fault h =
-    fault_of_part (ArePackedFiles position before later) (IsPackedFolder position before later) fault (sources_from place read n folder.files) (with_name folder.name) h
+    fault_of_part (ArePackedFiles position before later) (IsPackedFolder position before later) fault (sources_at_place_from_read place read n folder.files) (with_name folder.name) h
 
 pub packed_folder_is : (position : ℕ) (before later : List ℕ) (place : ℕ) (read : Reads) (n : ℕ) (name : Bor (List ℕ)) (names : List (List ℕ)) (files : Vec File Global)
-    → AgreesOrIsFault (ArePackedFiles position before later) (Ok files) (sources_from place read n names)
+    → AgreesOrIsFault (ArePackedFiles position before later) (Ok files) (sources_at_place_from_read place read n names)
     → AgreesOrIsFault (IsPackedFolder position before later) (Ok (record { name = name; files = files })) (source_folder_read_at place read n (record { name = name.now; files = names }))
 packed_folder_is position before later place read n name names files h = (
   record { name = name.now; files = h.0 },
@@ -240,9 +240,9 @@ folders_go_on told place all i one R R' S folder lt e so_far next grows =
 
 pub folders_stop : {A : Type 0} (told : List TreeState) (place : ℕ) (all : List FolderListing) (i : ℕ) (one : FolderListing) (R : List SourceFolder → Type 0) (S : Folder → SourceFolder → Type 0) (T : A → List SourceFolder → Type 0) (fault : MakeFault)
     → i < length all → one ≡ get_or all i one → IsSoFar told reads_in (source_folder_read_at place) (take i all) R → IsNext told (source_folder_read_at place) one S (Err fault)
-    → (n : ℕ) → IsExplainedBySomeReads told (λ read. AgreesOrIsFault T (Err fault) (source_folders_from place read n all))
+    → (n : ℕ) → IsExplainedBySomeReads told (λ read. AgreesOrIsFault T (Err fault) (source_folders_at_place_from_read place read n all))
 folders_stop {A} told place all i one R S T fault lt e so_far next n =
-    let P : List FolderListing → Type 0 = λ xs. IsExplainedBySomeReads told (λ read. AgreesOrIsFault T (Err fault) (source_folders_from place read n xs)) in
+    let P : List FolderListing → Type 0 = λ xs. IsExplainedBySomeReads told (λ read. AgreesOrIsFault T (Err fault) (source_folders_at_place_from_read place read n xs)) in
     subst P (ap (λ (l : List FolderListing). take i all ++ l) (ap (λ (x : FolderListing). x ∷ drop (suc i) all) e ∙ sym (drop-cons all i one lt)) ∙ take-append-drop i all)
     (so_far_stops told reads_in (source_folder_read_at place) (folder_own place) (take i all) one (drop (suc i) all) R S T fault so_far next n)
 
@@ -254,22 +254,22 @@ listed_whole folders files i e le = take_all i (listings_of folders files) (let 
 
 -- ---- the folders of listed names
 
-listed_with : (dir : List ℕ) (names folders : List (List ℕ)) (files : List (Vec (Bor (List ℕ)) Global)) → map names_borrowed files ≡ map (names_in_folder dir names) folders
+listed_with : (dir : List ℕ) (names folders : List (List ℕ)) (files : List (Vec (Bor (List ℕ)) Global)) → map names_borrowed files ≡ map (tree_names_in_package_folder dir names) folders
     → listings_of folders files ≡ map (folder_listing_of dir names) folders
 listed_with dir names [] files e = refl
 listed_with dir names (f ∷ fs) [] e = absurd (cc)
 listed_with dir names (f ∷ fs) (v ∷ vs) e =
-    let here : names_borrowed v ≡ names_in_folder dir names f = cc in
-    let rest : map names_borrowed vs ≡ map (names_in_folder dir names) fs = cc in
+    let here : names_borrowed v ≡ tree_names_in_package_folder dir names f = cc in
+    let rest : map names_borrowed vs ≡ map (tree_names_in_package_folder dir names) fs = cc in
     λ j. let l : FolderListing = record { name = f; files = here j } in l ∷ listed_with dir names fs vs rest j
 
 pub listed_folders : (dir : List ℕ) (names folders : List (List ℕ)) (files given : List (Vec (Bor (List ℕ)) Global)) → folders ≡ all_folders_above (map (path_relative_to dir) names)
-    → map names_borrowed files ≡ map (names_in_folder dir names) folders → given ≡ files → listings_of folders given ≡ folder_listings_of dir names
+    → map names_borrowed files ≡ map (tree_names_in_package_folder dir names) folders → given ≡ files → listings_of folders given ≡ folder_listings_of dir names
 unfolding folder_listings_of
 listed_folders dir names folders files given e f same =
     ap (listings_of folders) same ∙ listed_with dir names folders files f ∙ ap (map (folder_listing_of dir names)) e
 
-pub listed_as_many : (dir : List ℕ) (names folders : List (List ℕ)) (files given : List (Vec (Bor (List ℕ)) Global)) → map names_borrowed files ≡ map (names_in_folder dir names) folders → given ≡ files
+pub listed_as_many : (dir : List ℕ) (names folders : List (List ℕ)) (files given : List (Vec (Bor (List ℕ)) Global)) → map names_borrowed files ≡ map (tree_names_in_package_folder dir names) folders → given ≡ files
     → length given ≡ length folders
 listed_as_many dir names folders files given f same =
-    ap length same ∙ sym (length-map files names_borrowed) ∙ ap length f ∙ length-map folders (names_in_folder dir names)
+    ap length same ∙ sym (length-map files names_borrowed) ∙ ap length f ∙ length-map folders (tree_names_in_package_folder dir names)

@@ -14,7 +14,7 @@ use Rattle.std.specs.declared.cmp.Ordering.{Ordering}
 use Rattle.std.specs.declared.cmp.Ordering.TheVariants.{Less, Greater}
 use Rattle.std.proofs.lemmas.Option.{get_or_from_slice_get, slice_get_within}
 use Rattle.base_core.proofs.AtName.{own_name}
-use Rattle.package_files.specs.Folders.{folder_of, path_relative_to, names_in_folder}
+use Rattle.package_files.specs.Folders.{folder_of, path_relative_to, tree_names_in_package_folder}
 use Rattle.package_files.specs.BorrowedNames.{IsIndexOf}
 use Rattle.package_files.proofs.FolderLemmas.{cmp, turned, against, searchable}
 
@@ -98,12 +98,12 @@ filter_one : (p : List ℕ → Bool) (name : List ℕ) (b : Bool) → p name ≡
 filter_one p name b e = ap (λ (c : Bool). if_there c name) e
 
 file_next : (dir : List ℕ) (names : List (List ℕ)) (i : ℕ) (name : List ℕ) (folder : List ℕ) (b : Bool) → slice_get names i ≡ Some name
-    → of_folder dir name folder ≡ b → names_in_folder dir (take (i + 1) names) folder ≡ names_in_folder dir (take i names) folder ++ if_there b name
+    → of_folder dir name folder ≡ b → tree_names_in_package_folder dir (take (i + 1) names) folder ≡ tree_names_in_package_folder dir (take i names) folder ++ if_there b name
 file_next dir names i name folder b here is =
     let lt : i < length names = slice_get_within names i name here in
     let p : List ℕ → Bool = λ n. of_folder dir n folder in
     ap (filter p) (take_more names i [] lt ∙ ap (λ (n : List ℕ). take i names ++ n ∷ []) (get_or_from_slice_get names i name [] here))
-    ∙ filter-append p (take i names) (name ∷ []) ∙ ap (λ (l : List (List ℕ)). names_in_folder dir (take i names) folder ++ l) (filter_one p name b is)
+    ∙ filter-append p (take i names) (name ∷ []) ∙ ap (λ (l : List (List ℕ)). tree_names_in_package_folder dir (take i names) folder ++ l) (filter_one p name b is)
 
 module _ {V : Type 0} (shown : V → List (List ℕ)) (old new : List ℕ → List (List ℕ)) where
   -- where the new list of each folder is the old one
@@ -162,13 +162,13 @@ abbrev Place : List ℕ → List (List ℕ) → List ℕ → Option ℕ → Type
 Place dir folders name o = IsIndexOf (folder_of (path_relative_to dir name)) folders o
 
 pub place_grows : (dir : List ℕ) (names folders : List (List ℕ)) (i at : ℕ) (name : List ℕ) → slice_get names i ≡ Some name → Place dir folders name (Some at)
-    → (k : ℕ) → k < length folders → names_in_folder dir (take (i + 1) names) (get_or folders k []) ≡ names_in_folder dir (take i names) (get_or folders k []) ++ if_there (k == at) name
+    → (k : ℕ) → k < length folders → tree_names_in_package_folder dir (take (i + 1) names) (get_or folders k []) ≡ tree_names_in_package_folder dir (take i names) (get_or folders k []) ++ if_there (k == at) name
 place_grows dir names folders i at name here place k lt = file_next dir names i name (get_or folders k []) (k == at) here (place.1 k lt)
 
 pub place_keeps : (dir : List ℕ) (names folders : List (List ℕ)) (i : ℕ) (name : List ℕ) → slice_get names i ≡ Some name → Place dir folders name None
-    → (k : ℕ) → k < length folders → names_in_folder dir (take (i + 1) names) (get_or folders k []) ≡ names_in_folder dir (take i names) (get_or folders k []) ++ if_there false name
+    → (k : ℕ) → k < length folders → tree_names_in_package_folder dir (take (i + 1) names) (get_or folders k []) ≡ tree_names_in_package_folder dir (take i names) (get_or folders k []) ++ if_there false name
 place_keeps dir names folders i name here place k lt = file_next dir names i name (get_or folders k []) false here (place k lt)
 
-pub no_files : (dir : List ℕ) (folders : List (List ℕ)) → replicate (length folders) [] ≡ map (names_in_folder dir []) folders
+pub no_files : (dir : List ℕ) (folders : List (List ℕ)) → replicate (length folders) [] ≡ map (tree_names_in_package_folder dir []) folders
 no_files dir [] = refl
 no_files dir (f ∷ fs) = ap (λ (l : List (List (List ℕ))). [] ∷ l) (no_files dir fs)

@@ -21,15 +21,15 @@ last_part_of path = after_last is_slash path
 
 -- the prefixes before each slash of the text that begins with `b`. `folders` are the prefixes
 -- before each slash of the rest of the text. If `b` is a slash, the first prefix is empty
-abbrev pub prefixes_with_first_byte : ℕ → List (List ℕ) → List (List ℕ)
-prefixes_with_first_byte b folders =
+abbrev pub prefixes_extended_by_first_byte : ℕ → List (List ℕ) → List (List ℕ)
+prefixes_extended_by_first_byte b folders =
     if is_slash b then [] ∷ map (λ folder. b ∷ folder) folders
     else map (λ folder. b ∷ folder) folders
 
 -- the texts before each slash of a text
 abbrev pub prefixes_before_slashes : List ℕ → List (List ℕ)
 prefixes_before_slashes [] = []
-prefixes_before_slashes (b ∷ bs) = prefixes_with_first_byte b (prefixes_before_slashes bs)
+prefixes_before_slashes (b ∷ bs) = prefixes_extended_by_first_byte b (prefixes_before_slashes bs)
 
 -- the folders that contain a path, at any depth: the root, and the text before each slash
 abbrev pub folders_above : List ℕ → List (List ℕ)
@@ -64,7 +64,9 @@ sorted_names_without_repeats names = with_folders_inserted [] names
 
 -- a folder of a package: its name in the package, and the names in the tree of its files
 pub record FolderListing : Type 0 where
+  -- the folder's name in the package
   pub name : List ℕ
+  -- the names in the tree of the files directly in this folder
   pub files : List (List ℕ)
 
 -- the path, relative to a folder, of a name below it: the name without the folder and the slash
@@ -79,13 +81,14 @@ all_folders_above paths = sorted_names_without_repeats (flat_map folders_above p
 
 -- those of the names listed below `dir` of the tree whose path relative to `dir` is directly in
 -- this folder of the package; their order is kept
-abbrev pub names_in_folder : List ℕ → List (List ℕ) → List ℕ → List (List ℕ)
-names_in_folder dir names folder =
+abbrev pub tree_names_in_package_folder : List ℕ → List (List ℕ) → List ℕ → List (List ℕ)
+tree_names_in_package_folder dir names folder =
     filter (λ name. bytes_eq (folder_of (path_relative_to dir name)) folder) names
 
 -- a folder of the package, with the names of its files
 abbrev pub folder_listing_of : List ℕ → List (List ℕ) → List ℕ → FolderListing
-folder_listing_of dir names folder = record { name = folder; files = names_in_folder dir names folder }
+folder_listing_of dir names folder =
+    record { name = folder; files = tree_names_in_package_folder dir names folder }
 
 -- the folders of a package, by the names that are listed below a folder of the tree
 unfoldable pub folder_listings_of : List ℕ → List (List ℕ) → List FolderListing

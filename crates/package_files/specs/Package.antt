@@ -14,17 +14,23 @@ use Rattle.package_files.specs.declared.file.FileKind.TheVariants.{Link, Regular
 
 -- a file that was read, by the last part of its path, and its bytes
 pub record Source : Type 0 where
+  -- the last part of the file's path
   pub name : List ℕ
+  -- the bytes that were read under this path
   pub bytes : List ℕ
 
 -- a folder that was read: its name in the package, and its files
 pub record SourceFolder : Type 0 where
+  -- the folder's name in the package
   pub name : List ℕ
+  -- the files directly in this folder
   pub files : List Source
 
 -- a script that was read: its type, which is its field's name, and its bytes
 pub record Script : Type 0 where
+  -- the name of the script's field
   pub field : List ℕ
+  -- the bytes of the script's file
   pub bytes : List ℕ
 
 -- ---- files

@@ -29,7 +29,9 @@ installed_size_of_folders folders = sum_by (λ (folder : Folder). files_size fol
 -- a packed file is the packed form of a source file: it has its name, and the kind that its bytes
 -- say
 pub record IsFileFrom (file : File) (source : Source) : Type 0 where
+  -- both have the same name
   pub name : file.name.now ≡ source.name
+  -- the kind follows from the bytes of the source
   pub kind : file.kind ≡ kind_of_file source.bytes
 
 -- files that were packed are those that were read, one by one, and as many
@@ -43,7 +45,9 @@ AreFilesFrom (file ∷ files) (source ∷ sources) =
 -- a packed folder is the packed form of a source folder: it has its name, and the packed forms of
 -- its files
 pub record IsFolderFrom (folder : Folder) (source : SourceFolder) : Type 0 where
+  -- both have the same name
   pub name : folder.name.now ≡ source.name
+  -- its files are the packed forms of the source's files, in order
   pub files : AreFilesFrom folder.files.items source.files
 
 -- folders that were packed are those that were read, one by one, and as many

@@ -3,7 +3,7 @@
 -- `-F`, and the place at which an absent file is reported.
 use Rattle.std.specs.Prelude.{ℕ, ◌+◌, ◌==◌, List, [], ◌∷◌, length, map, filter, Option, Some, None, Result, Ok, Err}
 pub use Rattle.base_core.specs.Lists.{and_then}
-use Rattle.base_core.specs.Listed.{AreNamesBelow}
+use Rattle.base_core.specs.Listed.{AreSortedNamesBelowFolder}
 use Rattle.command_core.specs.Values.{script_type, script_file}
 use Rattle.command_core.specs.Files.{without_dot_slash}
 use Rattle.command_core.specs.declared.values.OptionValue.{OptionValue}
@@ -41,7 +41,8 @@ texts_of values = map (λ (v : OptionValue). v.text) values
 -- the names are names below the folder that the first of some values gives, if there is one
 abbrev pub AreNamesBelowFirstFolder : List OptionValue → List (List ℕ) → Type 0
 AreNamesBelowFirstFolder [] names = Unit {0}
-AreNamesBelowFirstFolder (folder ∷ others) names = AreNamesBelow (without_dot_slash folder.text) names
+AreNamesBelowFirstFolder (folder ∷ others) names =
+    AreSortedNamesBelowFolder (without_dot_slash folder.text) names
 
 -- ---- scripts
 
@@ -57,8 +58,8 @@ script_at read n v =
 
 -- the scripts of some values of `-s`, from the read of number `n` on, or the fault of the first
 -- whose file is absent
-abbrev pub scripts_from : Reads → ℕ → List OptionValue → Result (List Script) MakeFault
-scripts_from read n values = results_from_read (λ v. 1) (script_at read) n values
+abbrev pub scripts_from_read : Reads → ℕ → List OptionValue → Result (List Script) MakeFault
+scripts_from_read read n values = results_from_read (λ v. 1) (script_at read) n values
 
 -- ---- files
 
@@ -74,26 +75,27 @@ source_file_read_at place read n name =
 
 -- the source files under these names in the tree, by one read each; if one is absent, the argument
 -- `-F` at `place` is reported
-abbrev pub sources_from : ℕ → Reads → ℕ → List (List ℕ) → Result (List Source) MakeFault
-sources_from place read n names = results_from_read (λ name. 1) (source_file_read_at place read) n names
+abbrev pub sources_at_place_from_read : ℕ → Reads → ℕ → List (List ℕ) → Result (List Source) MakeFault
+sources_at_place_from_read place read n names =
+    results_from_read (λ name. 1) (source_file_read_at place read) n names
 
 -- the source folder with all its files; the read of the first file has the number `n`
 abbrev pub source_folder_read_at : ℕ → Reads → ℕ → FolderListing → Result SourceFolder MakeFault
 source_folder_read_at place read n folder =
-    and_then (sources_from place read n folder.files)
+    and_then (sources_at_place_from_read place read n folder.files)
     (λ files. Ok (record { name = folder.name; files = files }))
 
 -- the source folders with all their files; the read of the first file has the number `n`
-abbrev pub source_folders_from :
+abbrev pub source_folders_at_place_from_read :
     ℕ → Reads → ℕ → List FolderListing → Result (List SourceFolder) MakeFault
-source_folders_from place read n folders =
+source_folders_at_place_from_read place read n folders =
     results_from_read (λ (folder : FolderListing). length folder.files)
     (source_folder_read_at place read) n folders
 
 -- the folders of a package, given the names that are listed below the folder of the first value of
 -- `-F`; no folders if it is not given
-abbrev pub folders_below :
+abbrev pub source_folders_of_first_option :
     Reads → ℕ → List OptionValue → List (List ℕ) → Result (List SourceFolder) MakeFault
-folders_below read n [] names = Ok []
-folders_below read n (v ∷ vs) names =
-    source_folders_from v.place read n (folder_listings_of (without_dot_slash v.text) names)
+source_folders_of_first_option read n [] names = Ok []
+source_folders_of_first_option read n (v ∷ vs) names =
+    source_folders_at_place_from_read v.place read n (folder_listings_of (without_dot_slash v.text) names)

@@ -3,7 +3,7 @@
 //! the root and each folder that holds a file at any depth, in byte order".
 ghost use Rattle.std.specs.Prelude.{◌≡◌, ◌<◌, ◌≤◌, ◌+◌, ◌-◌, not, [], length, drop, map, replicate, slice_get, OnOk, IfOk};
 ghost use Rattle.std.specs.List.{suffix_len};
-ghost use Rattle.package_files.specs.Folders.{is_slash, folder_of, last_part_of, folders_above, with_folders_inserted, with_folder_inserted, path_relative_to, all_folders_above, names_in_folder};
+ghost use Rattle.package_files.specs.Folders.{is_slash, folder_of, last_part_of, folders_above, with_folders_inserted, with_folder_inserted, path_relative_to, all_folders_above, tree_names_in_package_folder};
 ghost use Rattle.package_files.specs.BorrowedNames.{IsIndexOf, names_borrowed};
 
 use base_core::{Name, Names};
@@ -75,6 +75,7 @@ impl<'a> FolderNames<'a> {
 
     /// The folder at a place, counted from 0.
     pub(crate) fn get(&self, i: usize) -> &'a [u8]
+        // The index is that of an element.
         requires { i < length self.now }
         ensures { slice_get self.now i ≡ Some result.now }
     {
@@ -118,7 +119,7 @@ pub(crate) fn names_in_folders<'a>(
     folders: &FolderNames<'_>,
 ) -> Result<Vec<Vec<&'a Name>>, AllocError>
     ensures { IfOk result (λ files. map names_borrowed files.items ≡ map
-        (names_in_folder dir.now names.now) folders.now) }
+        (tree_names_in_package_folder dir.now names.now) folders.now) }
 {
     let mut files = empty_lists(alloc, folders.len())?;
     for i in 0..names.len() {
@@ -158,7 +159,9 @@ pub(crate) fn last_part_of(path: &[u8]) -> &[u8]
 
 /// The offset at which the last part of a path begins: after its last `/`, or 0.
 fn part_start(path: &[u8]) -> usize
+    // The offset is the path's length, less the length of its last part.
     ensures value { result ≡ length path.now - suffix_len (λ b. not (is_slash b)) path.now }
+    // The result is at most the length.
     ensures within { result ≤ length path.now }
 {
     let mut start = 0;

@@ -13,7 +13,7 @@ ghost use Rattle.package_files.specs.Folders.{folder_listings_of};
 ghost use Rattle.package_files.specs.Package.{has_contents};
 ghost use Rattle.package_files.specs.Packed.{IsPackedFile, ArePackedFiles, IsPackedFolder, IsPacking};
 ghost use Rattle.package_files.specs.Runs.{AgreesOrIsFault, IsExplainedBySomeReads};
-ghost use Rattle.package_files.specs.Sources.{found_bytes_or_missing, source_file_read_at, sources_from, source_folder_read_at, source_folders_from};
+ghost use Rattle.package_files.specs.Sources.{found_bytes_or_missing, source_file_read_at, sources_at_place_from_read, source_folder_read_at, source_folders_at_place_from_read};
 ghost use Rattle.std.specs.Option.{option_map};
 ghost use Rattle.std.specs.Prelude.{◌≡◌, ◌++◌, ◌≤◌, ◌-◌, length, take, drop, replicate, OnOk, IfOk, IfSome, [], ◌∷◌, ℕ, map, true, false};
 
@@ -64,9 +64,12 @@ fn begin_block(blocks: &mut Vec<u8>, position: (u64, u64), size: u64) -> Result<
 /// Ends the block that begins at `start`, of a file of this kind whose bytes are the last ones, by
 /// its padding. A file that has no contents has no block, and the begun one is removed.
 fn end_block(blocks: &mut Vec<u8>, start: usize, kind: &FileKind) -> Result<(), AllocError>
+    // The block begins within the bytes.
     requires { start ≤ length blocks.old.items }
+    // A file without contents leaves the blocks as they were before its block.
     ensures none { OnOk result (has_contents kind.now ≡ false
         → blocks.new.items ≡ take start blocks.old.items) }
+    // A file with contents has its block filled up by zeros.
     ensures padded { OnOk result (has_contents kind.now ≡ true
         → blocks.new.items ≡ blocks.old.items
         ++ replicate (padding_of (length blocks.old.items - start)) 0) }
@@ -113,7 +116,7 @@ pub fn pack_names<'a, T: Tree>(
     // For each number n there are reads, of which the first has the number n, that give this
     // result. If the tree's files are observable, the reads find these files.
     ensures read { (n : ℕ) → IsExplainedBySomeReads (T.history tree.old) (λ read.
-        AgreesOrIsFault IsPacking result (source_folders_from place read n
+        AgreesOrIsFault IsPacking result (source_folders_at_place_from_read place read n
         (folder_listings_of dir.now names.now))) }
 {
     let folders = all_folders_above(alloc, dir, names)?;
@@ -132,10 +135,13 @@ fn pack_folders<'a, T: Tree>(
     files: &[Vec<&'a Name>],
 ) -> Result<Packing<'a>, MakeFault>
     requires { length files.now ≡ length folders.now }
+    // The tree is only read: no file changes, no I/O error is hidden, and no call is a misuse.
     ensures tree { OnlyReads MakeFault.Disk (T.history tree.old) (T.history tree.new)
         (T.counts tree.old) (T.counts tree.new) result }
+    // There are results of reads that give this result; if the tree is observable, they are its
+    // files.
     ensures read { (n : ℕ) → IsExplainedBySomeReads (T.history tree.old) (λ read.
-        AgreesOrIsFault IsPacking result (source_folders_from place read n
+        AgreesOrIsFault IsPacking result (source_folders_at_place_from_read place read n
         (listings_of folders.now files.now))) }
 {
     let mut packed = Vec::new(alloc);
@@ -177,8 +183,11 @@ fn pack_folder<'a, T: Tree>(
     names: &[&'a Name],
     blocks: &mut Vec<u8>,
 ) -> Result<Folder<'a>, MakeFault>
+    // The tree is only read: no file changes, no I/O error is hidden, and no call is a misuse.
     ensures tree { OnlyReads MakeFault.Disk (T.history tree.old) (T.history tree.new)
         (T.counts tree.old) (T.counts tree.new) result }
+    // There are results of reads that give this result; if the tree is observable, they are its
+    // files.
     ensures read { (n : ℕ) → IsExplainedBySomeReads (T.history tree.old) (λ read.
         AgreesOrIsFault (IsPackedFolder position blocks.old.items blocks.new.items) result
         (source_folder_read_at place read n (record {
@@ -201,11 +210,14 @@ fn pack_files<'a, T: Tree>(
     names: &[&'a Name],
     blocks: &mut Vec<u8>,
 ) -> Result<Vec<File<'a>>, MakeFault>
+    // The tree is only read: no file changes, no I/O error is hidden, and no call is a misuse.
     ensures tree { OnlyReads MakeFault.Disk (T.history tree.old) (T.history tree.new)
         (T.counts tree.old) (T.counts tree.new) result }
+    // There are results of reads that give this result; if the tree is observable, they are its
+    // files.
     ensures read { (n : ℕ) → IsExplainedBySomeReads (T.history tree.old) (λ read.
         AgreesOrIsFault (ArePackedFiles folder blocks.old.items blocks.new.items) result
-        (sources_from place read n (map (λ name. name.now) names.now))) }
+        (sources_at_place_from_read place read n (map (λ name. name.now) names.now))) }
 {
     let mut files = Vec::new(alloc);
     for i in 0..names.len() {
@@ -233,8 +245,11 @@ fn pack_file<'a, T: Tree>(
     name: &'a Name,
     blocks: &mut Vec<u8>,
 ) -> Result<File<'a>, MakeFault>
+    // The tree is only read: no file changes, no I/O error is hidden, and no call is a misuse.
     ensures tree { OnlyReads MakeFault.Disk (T.history tree.old) (T.history tree.new)
         (T.counts tree.old) (T.counts tree.new) result }
+    // There are results of reads that give this result; if the tree is observable, they are its
+    // files.
     ensures read { (n : ℕ) → IsExplainedBySomeReads (T.history tree.old) (λ read.
         AgreesOrIsFault
         (IsPackedFile position.0 position.1 blocks.old.items blocks.new.items) result
@@ -260,8 +275,11 @@ fn read_listed<T: Tree>(
     // The tree is only read, and `Disk` has a counted fault of the tree as its cause.
     ensures tree { OnlyReads MakeFault.Disk (T.history tree.old) (T.history tree.new)
         (T.counts tree.old) (T.counts tree.new) result }
+    // The block begins with its header and the positions, before the file's bytes.
     ensures begun { IfOk result (λ at. HasBlockFront position.0 position.1 blocks.old.items
         blocks.new.items at) }
+    // There are results of reads that give this result; if the tree is observable, they are its
+    // files.
     ensures read { (n : ℕ) → IsExplainedBySomeReads (T.history tree.old) (λ read.
         AgreesOrIsFault (λ at bytes. bytes ≡ drop at blocks.new.items) result
         (found_bytes_or_missing place (read n name.now))) }
@@ -281,10 +299,13 @@ fn read_in_block<T: Tree>(
     name: &Name,
     blocks: &mut Vec<u8>,
 ) -> Result<Option<usize>, TreeFault>
+    // The tree is only read: no file changes, no I/O error is hidden, and no call is a misuse.
     ensures tree { OnlyReads TreeFault.Disk (T.history tree.old) (T.history tree.new)
         (T.counts tree.old) (T.counts tree.new) result }
+    // If the file is present, the block begins with its header and the positions.
     ensures begun { IfOk result (λ found. IfSome found (HasBlockFront position.0 position.1
         blocks.old.items blocks.new.items)) }
+    // If the tree is observable, the bytes from the result on are the file's.
     ensures answer { IfOk result (λ found. IfObservable (T.history tree.old) (λ v.
         option_map (λ at. drop at blocks.new.items) found ≡ files_of v name.now)) }
 {
@@ -305,8 +326,11 @@ pub fn read_file<T: Tree>(
     place: u32,
     name: &Name,
 ) -> Result<Vec<u8>, MakeFault>
+    // The tree is only read: no file changes, no I/O error is hidden, and no call is a misuse.
     ensures tree { OnlyReads MakeFault.Disk (T.history tree.old) (T.history tree.new)
         (T.counts tree.old) (T.counts tree.new) result }
+    // There are results of reads that give this result; if the tree is observable, they are its
+    // files.
     ensures read { (n : ℕ) → IsExplainedBySomeReads (T.history tree.old) (λ read.
         AgreesOrIsFault (λ bytes found. found ≡ bytes.items) result
         (found_bytes_or_missing place (read n name.now))) }

@@ -51,8 +51,9 @@ pub(crate) fn next_block<'a, T: Tree>(
     name: &Name,
     place: &mut BlockPlace<'a>,
 ) -> Result<BlockStep<'a>, PieceFault>
+    // The place is within the file.
     requires { place.old.at ≤ place.old.len }
-    // For each package of this length that has the bytes that were read.
+    // The result is right for each package of this length that has the bytes that were read.
     ensures block { (seen : List ℕ)
         × IsSeenIn (T.history tree.old) name.now place.old.len place.old.at seen
         × IfOk result (λ step. ReadEndsBeforeNext (place.old.at + length seen) step place.new)
@@ -101,6 +102,7 @@ pub(crate) fn read_block<T: Tree>(
     name: &Name,
     place: &BlockPlace<'_>,
 ) -> Result<BlockRead, PieceFault>
+    // The place is within the file.
     requires { place.now.at ≤ place.now.len }
     // The block ends within the file.
     ensures fits { IfOk result (λ read. IfSome read.framing (λ frame.
@@ -108,7 +110,7 @@ pub(crate) fn read_block<T: Tree>(
     // The end of the block is below 2^64.
     ensures small { IfOk result (λ read. IfSome read.framing (λ frame.
         place.now.at + raw_size frame < 2 ^ 64)) }
-    // For each file of this length that has the bytes that were read.
+    // The result is right for each file of this length that has the bytes that were read.
     ensures block { (seen : List ℕ)
         × IsSeenIn (T.history tree.old) name.now place.now.len place.now.at seen
         × IfOk result (λ read. AreSeenWithinPositions read.framing (length seen))
@@ -135,6 +137,7 @@ fn read_positions<T: Tree>(
     at: u64,
     framing: Option<Frame>,
 ) -> Result<[u8; POSITIONS_LEN], PieceFault>
+    // The end of the block fits into 64 bits.
     requires { IfSome framing (λ frame. at + raw_size frame < 2 ^ 64) }
     // The bytes that were read are the positions, if the payload has as many bytes.
     ensures seen { IfOk result (λ positions. (seen : List ℕ) × SeesPositions framing positions seen
@@ -164,8 +167,9 @@ pub(crate) fn next_file<'a, T: Tree>(
     name: &Name,
     place: &mut BlockPlace<'a>,
 ) -> Result<Option<OpenFile<'a>>, PieceFault>
+    // The place is within the file.
     requires { place.old.at ≤ place.old.len }
-    // For each package of this length that has the bytes that were read.
+    // The result is right for each package of this length that has the bytes that were read.
     ensures file { (seen : List ℕ)
         × IsSeenIn (T.history tree.old) name.now place.old.len place.old.at seen
         × IfOk result (λ found. IfSome found (λ next.

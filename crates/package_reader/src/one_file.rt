@@ -28,8 +28,11 @@ pub struct FilePieces<'a> {
     pub(crate) opened: Option<OpenFile<'a>>,
     // The test that failed, if one did.
     pub(crate) refused: Option<Cause>,
+    // The open file ends within the package.
     ghost within: { open_file_end opened ≤ len },
+    // An open file has bytes left.
     ghost more: { ForSome opened (λ o. 0 < file_bytes_left o.file) },
+    // If the file is open, `due` has its size and digest.
     ghost same: { ForSome opened (λ o. due ≡ Some o.file.wanted) },
 }
 
@@ -99,9 +102,11 @@ impl<'a> FilePieces<'a> {
         wanted: Wanted<'a>,
         at: Option<u64>,
     ) -> FilePieces<'a>
+        // The file is not empty.
         requires { 0 < wanted.size }
         ensures name { package_name_of_file result ≡ name.entry.now }
         ensures len { package_len_of_file result ≡ len }
+        // The expected file is the wanted one.
         ensures due { expected_file_of result ≡ Some (expected_of wanted.entry) }
         // No bytes were returned yet.
         ensures begun { HaveBeenReturned result [] }
@@ -157,14 +162,17 @@ impl<'a> FilePieces<'a> {
         // returned only if all bytes together have the expected size and digest.
         ensures tested { (so_far : List ℕ) → HaveBeenReturned self.old so_far
             → IsTestedReturn self.old so_far piece.new result self.new }
+        // The expected file is unchanged.
         ensures due { expected_file_of self.new ≡ expected_file_of self.old }
         // The bytes of the piece are subtracted from those that are left.
         ensures left { IfOk result (HasFewerLeft self.old (length piece.new) self.new) }
+        // A failed test is remembered for the next call.
         ensures refused { IfErr result (λ fault. RemembersFileFault fault self.new) }
         // Each later call returns a test that failed.
         ensures again { IfSome (remembered_fault self.old) (λ cause. result ≡ Err (Bad cause)) }
         // The name and the length of the package are unchanged.
         ensures name { package_name_of_file self.new ≡ package_name_of_file self.old }
+        // The length of the package is unchanged.
         ensures len { package_len_of_file self.new ≡ package_len_of_file self.old }
         // The tree is unchanged. `Disk` is returned only if the tree failed, and no call is a
         // misuse if the file still has its length.
@@ -188,6 +196,7 @@ impl<'a> FilePieces<'a> {
     /// Reads the next piece, if no test failed. The clauses are those of `next_piece`, except that
     /// a failed test is not remembered yet.
     fn read_next<T: Tree>(&mut self, tree: &mut T, piece: &mut Piece) -> Result<bool, PieceFault>
+        // No test has failed so far.
         requires { remembered_fault self.old ≡ None }
         // If the tree has the package: the piece is the next of the bytes that are left; or none
         // are left.
@@ -198,11 +207,13 @@ impl<'a> FilePieces<'a> {
         // The last piece and the end are returned only if all bytes pass the tests.
         ensures tested { (so_far : List ℕ) → HaveBeenReturned self.old so_far
             → IsTestedReturn self.old so_far piece.new result self.new }
+        // The expected file is unchanged.
         ensures due { expected_file_of self.new ≡ expected_file_of self.old }
         // The bytes of the piece are subtracted from those that are left.
         ensures left { IfOk result (HasFewerLeft self.old (length piece.new) self.new) }
         // The name and the length of the package are unchanged.
         ensures name { package_name_of_file self.new ≡ package_name_of_file self.old }
+        // The length of the package is unchanged.
         ensures len { package_len_of_file self.new ≡ package_len_of_file self.old }
         // The tree is unchanged. `Disk` is returned only if the tree failed, and no call is a
         // misuse if the file still has its length.

@@ -98,13 +98,17 @@ pub(crate) fn open_at<'a>(
     at: Option<u64>,
     len: u64,
 ) -> Result<OpenFile<'a>, Cause>
+    // The file is not empty.
     requires { 0 < wanted.size }
+    // The error is that of the definition.
     ensures fault { result_err result ≡ place_fault (Some (expected_of wanted.entry)) at len }
     // The file ends within the package.
     ensures within { IfOk result (λ o. o.at + file_bytes_left o.file ≤ len) }
+    // On Ok, the open file is the wanted one.
     ensures wanted { IfOk result (λ o. o.file.wanted ≡ wanted.entry) }
     // No bytes were taken yet, and some are left.
     ensures taken { IfOk result (λ o. HasTaken o.file []) }
+    // On Ok, bytes of the file are left.
     ensures more { IfOk result (λ o. 0 < file_bytes_left o.file) }
     // If the package has there bytes of the expected size and digest, they are to be read.
     ensures left { (pkg bytes : List ℕ) (start : ℕ) → length pkg ≡ len → at ≡ Some start

@@ -60,6 +60,7 @@ impl Piece {
         at: u64,
         len: usize,
     ) -> Result<(), PieceFault>
+        // The piece is not above the greatest length.
         requires { len ≤ PIECE_LEN }
         ensures len { OnOk result (length self.new ≡ len) }
         // The only error is that the tree failed.

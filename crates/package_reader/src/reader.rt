@@ -42,8 +42,11 @@ pub struct PieceReader<'a> {
     pub(crate) start: u64,
     /// Whether files are left, the last block was passed, or a test failed.
     pub(crate) due: Due,
+    // The place is within the package.
     ghost within: { place.at ≤ place.len },
+    // The open file does not end after the place.
     ghost behind: { open_file_end opened ≤ place.at },
+    // The open file's next byte is not before its start.
     ghost begun: { ForSome opened (λ file. start ≤ file.at) },
 }
 
@@ -89,6 +92,7 @@ impl<'a> PieceReader<'a> {
 
     /// A reader in front of the block at a place.
     pub(crate) fn in_front_of(name: &'a Name, place: BlockPlace<'a>) -> PieceReader<'a>
+        // The place is within the package.
         requires { place.at ≤ place.len }
         ensures name { name_in_tree result ≡ name.entry.now }
         ensures place { result.place ≡ place.entry }
@@ -157,6 +161,7 @@ impl<'a> PieceReader<'a> {
         ensures refused { IfErr result (λ fault. RemembersFault fault self.new) }
         // The name and the length of the package are unchanged.
         ensures name { name_in_tree self.new ≡ name_in_tree self.old }
+        // The length of the package is unchanged.
         ensures len { package_len self.new ≡ package_len self.old }
         // The tree is unchanged. `Disk` is returned only if the tree failed, and no call is a
         // misuse if the file still has its length.
@@ -179,7 +184,7 @@ impl<'a> PieceReader<'a> {
         piece: &mut Piece,
     ) -> Result<Option<Part>, PieceFault>
         requires { CanContinue self.old }
-        // For each package of this length that has the bytes that were read.
+        // The result is right for each package of this length that has the bytes that were read.
         ensures piece { (seen : List ℕ)
             × IsSeenIn (T.history tree.old) (name_in_tree self.old) (package_len self.old)
             (offset_of self.old) seen
@@ -202,9 +207,11 @@ impl<'a> PieceReader<'a> {
         // The offset at which the file begins is unchanged while the file is open.
         ensures start { IfOk result (λ found. IfSome found (λ part.
             KeepsFileStart part (length piece.new) self.old self.new)) }
+        // A failed test is remembered for the next call.
         ensures refused { IfErr result (λ fault. RemembersFault fault self.new) }
         // The name and the length of the package are unchanged.
         ensures name { name_in_tree self.new ≡ name_in_tree self.old }
+        // The length of the package is unchanged.
         ensures len { package_len self.new ≡ package_len self.old }
         // The tree is unchanged. `Disk` is returned only if the tree failed, and no call is a
         // misuse if the file still has its length.
@@ -261,6 +268,7 @@ impl<'a> PieceReader<'a> {
             is_none self.new.opened ≡ part.last)) }
         // The name and the length of the package are unchanged.
         ensures name { name_in_tree self.new ≡ name_in_tree self.old }
+        // The length of the package is unchanged.
         ensures len { package_len self.new ≡ package_len self.old }
         // The tree is unchanged. `Disk` is returned only if the tree failed, and no call is a
         // misuse if the file still has its length.
@@ -305,6 +313,7 @@ impl<'a> PieceReader<'a> {
         ensures due { self.new.due ≡ self.old.due }
         // The name and the length of the package are unchanged.
         ensures name { name_in_tree self.new ≡ name_in_tree self.old }
+        // The length of the package is unchanged.
         ensures len { package_len self.new ≡ package_len self.old }
         // The tree is unchanged. `Disk` is returned only if the tree failed, and no call is a
         // misuse if the file still has its length.

@@ -2,7 +2,7 @@
 use Rattle.std.proofs.Common.{◌≡◌, ℕ, ◌==◌, ◌&&◌, Bool, true, false, cond, List, [], ◌∷◌, length, Option, Some, None, option_map, Result, Ok, Err, refl, ap, sym, subst, ◌∙◌}
 use Rattle.std.specs.List.{find}
 use Rattle.base_core.specs.declared.cause.Cause.{Cause}
-use Rattle.adb_block.specs.Header.{header_of}
+use Rattle.adb_block.specs.Header.{schema_of_header}
 use Rattle.adb_block.specs.Reading.{Reading, done, fault, more, block_stream_from}
 use Rattle.adb_block.specs.ReaderPosition.{first_block_position}
 use Rattle.adb_view.specs.Plain.{Plain}
@@ -32,7 +32,7 @@ header_right file (Err c) e = (cc)
 
 pub package_right : (file : List ℕ) → package_fault file ≡ None → AreContentsOf (expected_files_of_package (root_value Package (payload_in file))) (contents_in (files_read_from_package file))
 unfolding container_fault_of_table files_read_from_package payload_in
-package_right file h = header_right file (header_of file) h
+package_right file h = header_right file (schema_of_header file) h
 
 -- ---- the file with two positions
 

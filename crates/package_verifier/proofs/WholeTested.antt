@@ -10,7 +10,7 @@ use Rattle.base_core.specs.Tree.{TreeState, files_of}
 use Rattle.base_core.specs.declared.cause.Cause.{Cause}
 use Rattle.base_core.specs.declared.cause.Cause.TheVariants.{WrongSchema}
 use Rattle.base_core.specs.declared.tree.TreeFault.{TreeFault}
-use Rattle.adb_block.specs.Header.{header_of}
+use Rattle.adb_block.specs.Header.{schema_of_header}
 use Rattle.adb_block.specs.Reading.{Reading, block_stream_from}
 use Rattle.adb_block.specs.ReaderPosition.{first_block_position}
 use Rattle.adb_view.specs.Plain.{Plain}
@@ -130,7 +130,7 @@ by_schema : (wanted : Bool) (schema : ℕ) (r : Reading) (fault : Option Cause) 
 by_schema true schema r fault other is = refl
 by_schema false schema r fault other is = absurd (other schema (sym is))
 
-container_by_header : (file : List ℕ) (header : Result ℕ Cause) (fault : Option Cause) → ((found : ℕ) → fault ≢ Some (WrongSchema found)) → header_of file ≡ header → file_fault_after_header (fault_of_further_blocks Package) Package file header ≡ fault → container_fault_after_header file header ≡ fault
+container_by_header : (file : List ℕ) (header : Result ℕ Cause) (fault : Option Cause) → ((found : ℕ) → fault ≢ Some (WrongSchema found)) → schema_of_header file ≡ header → file_fault_after_header (fault_of_further_blocks Package) Package file header ≡ fault → container_fault_after_header file header ≡ fault
 unfolding container_fault_of_table
 container_by_header file (Err c) fault other is told = told
 container_by_header file (Ok schema) fault other is told =
@@ -141,7 +141,7 @@ container_by_header file (Ok schema) fault other is told =
 
 pub as_container : (file : List ℕ) (fault : Option Cause) → ((found : ℕ) → fault ≢ Some (WrongSchema found)) → package_fault file ≡ fault → container_fault file ≡ fault
 unfolding container_fault container_fault_of_table
-as_container file fault other told = container_by_header file (header_of file) fault other refl told
+as_container file fault other told = container_by_header file (schema_of_header file) fault other refl told
 
 pub said_sound : (pkg : TestedPackage) (name : List ℕ) (found : Option (List ℕ)) → IsPackageReadResult name found (Reads.Sound pkg) → IsPackageTestResult found Says.Sound
 said_sound pkg name None is = absurd is

@@ -22,6 +22,7 @@ pub struct TestedPackage {
     pub(crate) front: Front,
     /// Where the contents of each file begin, in the order of the files.
     pub(crate) places: Vec<FilePlace>,
+    // All tests of the payload were passed.
     ghost tested: { is_none (payload_fault Tables.Package (front_payload front)) ≡ true },
 }
 
@@ -44,8 +45,11 @@ impl TestedPackage {
 
     /// The values of the package. They are not tested again, and no memory is allocated.
     pub fn contents(&self) -> Contents<'_>
+        // The result has the value of the tested package.
         ensures value { value_of_contents result ≡ tested_value self.now }
+        // The result has the payload of the tested package.
         ensures payload { payload_of_contents result ≡ tested_payload self.now }
+        // The id is the digest of the payload.
         ensures id { sha256 (payload_of_contents result) ≡ tested_id self.now }
     {
         Contents::open(self.front.payload())
@@ -54,13 +58,16 @@ impl TestedPackage {
     /// The contents of the file with these positions in pieces, from the first on. A file without
     /// contents has no pieces.
     pub fn file(&self, folder: u32, file: u32) -> FilePieces<'_>
+        // The pieces are read from the file with the package's name.
         ensures name { package_name_of_file result ≡ tested_name self.now }
+        // The file has the length of the tested package.
         ensures len { package_len_of_file result ≡ tested_len self.now }
         // Whatever the tree has, its bytes are compared with the size and the digest that the
         // package's value lists for it.
         ensures due { expected_file_of result ≡ expected_file_at folder file
             (expected_files_of_package (tested_value self.now)) }
         ensures begun { HaveBeenReturned result [] }
+        // The pieces give the contents of the file in the package that was tested.
         ensures reading { (name pkg : List ℕ) → IsTestedOf name pkg self.now → HasUnreadBytes
             result pkg (bytes_of_file folder file (contents_in (files_read_from_package pkg))) }
     {

@@ -56,7 +56,9 @@ pub(crate) fn offset_of(places: &[FilePlace], folder: u32, file: u32) -> Option<
 
 /// How many of the places are those of files before the one with these positions.
 fn count_before(places: &[FilePlace], folder: u32, file: u32) -> usize
+    // The result is at most the length.
     ensures within { result ≤ length places.now }
+    // All elements before this index are before the wanted one, and none from it on.
     ensures point { AreInFileOrder places.now → IsPartitionPoint
         (λ place. is_before_file place.folder place.file folder file ≡ true)
         (λ place. is_before_file place.folder place.file folder file ≡ false) places.now result }

@@ -63,7 +63,9 @@ fn read_named<T: Tree>(
     name: &Name,
     own_name: Name,
 ) -> Result<PackageRead, TreeFault>
+    // The copy has the bytes of the name.
     requires { own_name ≡ name.now }
+    // If the tree is observable, the result is that for its file of this name.
     ensures read { IfOk result (λ read. (found : Option (List ℕ))
         × IfObservable (T.history tree.old) (λ v. found ≡ files_of v name.now)
         × IsPackageReadResult name.now found read) }

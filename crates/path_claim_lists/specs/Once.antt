@@ -8,5 +8,7 @@ use Rattle.path_claims.specs.Claims.{PathClaim, is_claim_of_path}
 
 -- the second list has the first claim of each path of the first list, in byte order of the paths
 pub record HasFirstClaimOfEachPath (all firsts : List PathClaim) : Type 0 where
+  -- the paths are in byte order, each once
   pub rising : AreSortedDistinctNames (map (λ c. c.path) firsts)
+  -- for each path, both lists have the same first claim of it, or none
   pub each : (path : List ℕ) → find (is_claim_of_path path) firsts ≡ find (is_claim_of_path path) all

@@ -23,8 +23,11 @@ use std::alloc::{AllocError, Global};
 /// The place of the first claim of a path, counted from 0, by a binary search among claims in the
 /// order of their paths. None is returned exactly if no claim has the path.
 pub fn find_claim(claims: &[Claim<'_>], path: &FilePath<'_>) -> Option<usize>
+    // The claims are in the order of their paths.
     requires { IsSorted claim_cmp (map claim_seen claims.now) }
+    // An index that is returned is that of an element.
     ensures within { IfSome result (λ i. i < length claims.now) }
+    // The claim at the result is the first claim of the path; without a claim of it there is none.
     ensures found { option_and_then (slice_get (map claim_seen claims.now)) result
         ≡ find (is_claim_of_path (joined_path path.now)) (map claim_seen claims.now) }
 {
@@ -37,8 +40,11 @@ pub fn find_claim(claims: &[Claim<'_>], path: &FilePath<'_>) -> Option<usize>
 /// claim, or to the place where the path would be. If the first place is right, it makes three
 /// comparisons.
 pub fn find_next_claim(claims: &[Claim<'_>], path: &FilePath<'_>, next: &mut usize) -> Option<usize>
+    // The claims are in the order of their paths.
     requires { IsSorted claim_cmp (map claim_seen claims.now) }
+    // An index that is returned is that of an element.
     ensures within { IfSome result (λ i. i < length claims.now) }
+    // The claim at the result is the first claim of the path; without a claim of it there is none.
     ensures found { option_and_then (slice_get (map claim_seen claims.now)) result
         ≡ find (is_claim_of_path (joined_path path.now)) (map claim_seen claims.now) }
 {
@@ -54,11 +60,16 @@ pub fn find_next_claim(claims: &[Claim<'_>], path: &FilePath<'_>, next: &mut usi
 /// The place of a path among claims, if the claim there has the path: `at` is how many claims have
 /// paths before it.
 fn claim_at(claims: &[Claim<'_>], path: &FilePath<'_>, at: usize) -> Option<usize>
+    // The claims are in the order of their paths.
     requires sorted { IsSorted claim_cmp (map claim_seen claims.now) }
+    // The place is not after the end of the claims.
     requires bound { at ≤ length claims.now }
+    // `at` claims have paths before this one, and the others have not.
     requires place { IsPartitionPoint (λ c. precedes c.path (joined_path path.now) ≡ true)
         (λ c. precedes c.path (joined_path path.now) ≡ false) (map claim_seen claims.now) at }
+    // An index that is returned is that of an element.
     ensures within { IfSome result (λ i. i < length claims.now) }
+    // The claim at the result is the first claim of the path; without a claim of it there is none.
     ensures found { option_and_then (slice_get (map claim_seen claims.now)) result
         ≡ find (is_claim_of_path (joined_path path.now)) (map claim_seen claims.now) }
 {
@@ -74,8 +85,10 @@ fn claim_at(claims: &[Claim<'_>], path: &FilePath<'_>, at: usize) -> Option<usiz
 
 /// How many claims have paths before this one; the search starts at `guess`.
 fn place_near(claims: &[Claim<'_>], path: &FilePath<'_>, guess: usize) -> usize
+    // The claims are in the order of their paths.
     requires { IsSorted claim_cmp (map claim_seen claims.now) }
     ensures bound { result ≤ length claims.now }
+    // So many claims have paths before this one, and the others have not.
     ensures place { IsPartitionPoint (λ c. precedes c.path (joined_path path.now) ≡ true)
         (λ c. precedes c.path (joined_path path.now) ≡ false) (map claim_seen claims.now) result }
 {
@@ -93,8 +106,10 @@ fn place_near(claims: &[Claim<'_>], path: &FilePath<'_>, guess: usize) -> usize
 
 /// How many claims have paths before this one, by binary search.
 fn place_of(claims: &[Claim<'_>], path: &FilePath<'_>) -> usize
+    // The claims are in the order of their paths.
     requires { IsSorted claim_cmp (map claim_seen claims.now) }
     ensures bound { result ≤ length claims.now }
+    // So many claims have paths before this one, and the others have not.
     ensures place { IsPartitionPoint (λ c. precedes c.path (joined_path path.now) ≡ true)
         (λ c. precedes c.path (joined_path path.now) ≡ false) (map claim_seen claims.now) result }
 {
@@ -110,6 +125,7 @@ pub fn one_of_each_path<'a>(
     alloc: Global,
     claims: &[Claim<'a>],
 ) -> Result<Vec<Claim<'a>>, AllocError>
+    // The claims are in the order of their paths.
     requires { IsSorted claim_cmp (map claim_seen claims.now) }
     ensures { IfOk result
         (λ firsts. HasFirstClaimOfEachPath (map claim_seen claims.now)
@@ -131,6 +147,7 @@ pub fn one_of_each_path<'a>(
 ///
 /// Out of memory.
 pub fn name_of_path(alloc: Global, path: &FilePath<'_>) -> Result<Name, AllocError>
+    // The path is a valid name.
     requires { IsName (joined_path path.now) }
     ensures { IfOk result (λ name. name ≡ joined_path path.now) }
 {
@@ -144,6 +161,7 @@ pub fn name_of_path(alloc: Global, path: &FilePath<'_>) -> Result<Name, AllocErr
 ///
 /// Out of memory.
 pub fn names_of_claims(alloc: Global, claims: &[Claim<'_>]) -> Result<Names, AllocError>
+    // Each path is a valid name.
     requires { HaveValidPaths (map claim_seen claims.now) }
     ensures { IfOk result (λ names. names ≡ map (λ c. c.path) (map claim_seen claims.now)) }
 {

@@ -13,10 +13,15 @@ use Rattle.path_claims.specs.declared.contest.Rivals.{Rivals}
 -- a claim: a file that a member lists. The member's place counts from 0, those of the folder and of the
 -- file in it count from 1; the number says how many claims are before it
 pub record PathClaim : Type 0 where
+  -- the path of the file
   pub path : List ℕ
+  -- the place of the member that lists it, counted from 0
   pub member : ℕ
+  -- the place of the folder in the member's package, counted from 1
   pub folder : ℕ
+  -- the place of the file in the folder, counted from 1
   pub file : ℕ
+  -- how many claims are before this one
   pub number : ℕ
 
 -- the number of each claim is its place in the list
@@ -57,7 +62,9 @@ first_path_without_owner beats claims =
 
 -- a contested path, and its rivals: two candidate owners, the first of which does not beat the second
 pub record ContestedPath : Type 0 where
+  -- the path that no member owns
   pub path : List ℕ
+  -- the two members that are reported for it
   pub rivals : Rivals
 
 -- a path with its rivals, if no member owns it

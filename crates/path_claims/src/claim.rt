@@ -41,6 +41,7 @@ pub fn sort_claims(claims: &mut Vec<Claim<'_>>) -> Result<(), AllocError>
 /// Whether the claim at a place, counted from 0, is the first one of its path: it is the first
 /// claim, or has another path than the claim before it.
 pub fn begins_path(claims: &[Claim<'_>], i: usize) -> bool
+    // The index is that of an element.
     requires { i < length claims.now }
     ensures { result ≡ is_first_of_path (map claim_seen claims.now) i }
 {
@@ -64,6 +65,7 @@ fn run_in_front<'c, 'a>(claims: &'c [Claim<'a>], path: &FilePath<'_>) -> &'c [Cl
 
 /// The claims from the one at a place on, up to the first that has another path.
 pub fn run_at<'c, 'a>(claims: &'c [Claim<'a>], from: usize) -> &'c [Claim<'a>]
+    // The place is that of a claim.
     requires { from < length claims.now }
     ensures { (c : PathClaim) → slice_get (map claim_seen claims.now) from ≡ Some c
         → map claim_seen result.now

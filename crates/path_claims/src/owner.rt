@@ -48,12 +48,17 @@ fn owner_at<C: Contest>(
     i: usize,
     before: Option<u32>,
 ) -> Option<u32>
+    // The place is that of a claim.
     requires at { i < length claims.now }
+    // Of two members, at most one beats the other.
     requires one_way { IsAsymmetric (C.beats contest.now) }
+    // The claims are in the order of their paths.
     requires sorted { IsSorted claim_cmp (map claim_seen claims.now) }
+    // `before` is the owner of the path of the claim before this one, if there is such a claim.
     requires before { (j : ℕ) (c : PathClaim) → j + 1 ≡ i
         → slice_get (map claim_seen claims.now) j ≡ Some c
         → before ≡ owner_among (C.beats contest.now) (map claim_seen claims.now) c.path }
+    // The result is the owner of the claim's path, or none.
     ensures { (c : PathClaim) → slice_get (map claim_seen claims.now) i ≡ Some c
         → result ≡ owner_among (C.beats contest.now) (map claim_seen claims.now) c.path }
 {
@@ -70,7 +75,9 @@ fn owners_in_order<C: Contest>(
     contest: &C,
     claims: &[Claim<'_>],
 ) -> Result<Vec<Option<u32>>, AllocError>
+    // Of two members, at most one beats the other.
     requires one_way { IsAsymmetric (C.beats contest.now) }
+    // The claims are in the order of their paths.
     requires sorted { IsSorted claim_cmp (map claim_seen claims.now) }
     ensures { IfOk result (λ owners. owners.items
         ≡ map (λ c. owner_among (C.beats contest.now) (map claim_seen claims.now) c.path)
@@ -97,7 +104,9 @@ fn is_owning_member(member: u32, owner: Option<u32>) -> bool
 
 /// Sets the flag of each claim, by its number: whether its member owns its path.
 fn mark_owned(flags: &mut [bool], claims: &[Claim<'_>], owners: &[Option<u32>])
+    // There is one entry of `owners` for each claim.
     requires owners { length owners.now ≡ length claims.now }
+    // There is a flag for the number of each claim.
     requires flags { (j : ℕ) (c : PathClaim) → slice_get (map claim_seen claims.now) j ≡ Some c
         → c.number < length flags.old }
     // Each number belongs to one claim, so it gets one flag.
@@ -106,6 +115,7 @@ fn mark_owned(flags: &mut [bool], claims: &[Claim<'_>], owners: &[Option<u32>])
         → slice_get (map claim_seen claims.now) k ≡ Some d → slice_get owners.now k ≡ Some p
         → c.number ≡ d.number → is_owning_member c.member o ≡ is_owning_member d.member p }
     ensures len { length flags.new ≡ length flags.old }
+    // The flag of each claim says whether its member owns its path.
     ensures marked { (j : ℕ) (c : PathClaim) (o : Option ℕ)
         → slice_get (map claim_seen claims.now) j ≡ Some c → slice_get owners.now j ≡ Some o
         → slice_get flags.new c.number ≡ Some (is_owning_member c.member o) }
@@ -122,8 +132,11 @@ fn contested_from<'a, C: Contest>(
     claims: &[Claim<'a>],
     i: usize,
 ) -> Option<Contested<'a>>
+    // The place is that of a claim.
     requires at { i < length claims.now }
+    // The claims are in the order of their paths.
     requires sorted { IsSorted claim_cmp (map claim_seen claims.now) }
+    // No earlier claim has the same path.
     requires first { is_first_of_path (map claim_seen claims.now) i ≡ true }
     ensures { (c : PathClaim) → slice_get (map claim_seen claims.now) i ≡ Some c
         → option_map contested_seen result
@@ -144,7 +157,9 @@ fn first_contested<'a, C: Contest>(
     claims: &[Claim<'a>],
     owners: &[Option<u32>],
 ) -> Option<Contested<'a>>
+    // The claims are in the order of their paths.
     requires sorted { IsSorted claim_cmp (map claim_seen claims.now) }
+    // `owners` has the owner of each claim's path.
     requires owners { owners.now
         ≡ map (λ c. owner_among (C.beats contest.now) (map claim_seen claims.now) c.path)
         (map claim_seen claims.now) }
@@ -168,14 +183,19 @@ fn owned_flags(
     claims: &[Claim<'_>],
     owners: &[Option<u32>],
 ) -> Result<Vec<bool>, AllocError>
+    // There is one entry of `owners` for each claim.
     requires owners { length owners.now ≡ length claims.now }
+    // The number of each claim is below the number of claims.
     requires numbers { (j : ℕ) (c : PathClaim) → slice_get (map claim_seen claims.now) j ≡ Some c
         → c.number < length claims.now }
+    // Claims of one number have the same flag.
     requires same { (j k : ℕ) (c d : PathClaim) (o p : Option ℕ)
         → slice_get (map claim_seen claims.now) j ≡ Some c → slice_get owners.now j ≡ Some o
         → slice_get (map claim_seen claims.now) k ≡ Some d → slice_get owners.now k ≡ Some p
         → c.number ≡ d.number → is_owning_member c.member o ≡ is_owning_member d.member p }
+    // There is one flag for each claim.
     ensures len { IfOk result (λ flags. length flags.items ≡ length claims.now) }
+    // The flag of each claim says whether its member owns its path.
     ensures marked { IfOk result (λ flags. (j : ℕ) (c : PathClaim) (o : Option ℕ)
         → slice_get (map claim_seen claims.now) j ≡ Some c → slice_get owners.now j ≡ Some o
         → slice_get flags.items c.number ≡ Some (is_owning_member c.member o)) }
@@ -198,7 +218,9 @@ pub fn owners_of<'a, C: Contest>(
     contest: &C,
     claims: Vec<Claim<'a>>,
 ) -> Result<Owners<'a>, AllocError>
+    // Of two members, at most one beats the other.
     requires one_way { IsAsymmetric (C.beats contest.now) }
+    // The number of each claim is its place in the list.
     requires numbered { AreNumberedByPlace (map claim_seen claims.items) }
     // The claims in the order of their paths; those of one path keep their order.
     ensures claims { IfOk result (λ found. map claim_seen found.claims.items

@@ -7,7 +7,7 @@ use Rattle.std.proofs.lemmas.Bool.{and_from, and_parts, cases_order}
 use Rattle.std.proofs.lemmas.List.{at_drop_more, get_or_default}
 use Rattle.std.proofs.lemmas.Option.{get_or_from_slice_get, slice_get_within}
 use Rattle.base_core.specs.Files.{IsFolderOf}
-use Rattle.base_core.specs.Listed.{IsListOf}
+use Rattle.base_core.specs.Listed.{IsSortedListingOfFolder}
 use Rattle.base_core.specs.Tree.{File, TreeState, bytes_of_file_number, files_of}
 use Rattle.base_core.specs.ByteOrder.{bytes_cmp, precedes}
 use Rattle.base_core.proofs.Orderings.{precedes_one_way}
@@ -74,7 +74,7 @@ pub is_present : (files : ℕ → File) (o : Option ℕ) → is_some (bytes_of_f
 is_present files None some = absurd (cc)
 is_present files (Some n) some = refl
 
-module _ (does_release : List ℕ → Bool) (v : TreeState) (folder : List ℕ) (names : List (List ℕ)) (list : IsListOf folder v names) where
+module _ (does_release : List ℕ → Bool) (v : TreeState) (folder : List ℕ) (names : List (List ℕ)) (list : IsSortedListingOfFolder folder v names) where
   abbrev stays : List ℕ → Bool
   stays name = not (does_release name)
 

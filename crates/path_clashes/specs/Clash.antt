@@ -6,7 +6,9 @@ use Rattle.base_core.specs.ByteOrder.{precedes}
 
 -- how a change treats names: which count as written, and under which a file is removed
 pub record NameChange : Type 0 where
+  -- whether a name counts as written by the change
   pub counts_as_written : List ℕ → Bool
+  -- whether the change releases a name: the file under it is removed
   pub does_release : List ℕ → Bool
 
 -- whether a name is present after the change: a file is under it and is kept, or it counts as written
@@ -16,7 +18,9 @@ is_present_after_change change files name =
 
 -- two names, of which the first would be a folder of the second
 pub record NamePair : Type 0 where
+  -- the name that would be a folder
   pub path : List ℕ
+  -- the name below it
   pub other : List ℕ
 
 -- a clash: the first name is a folder of the second, both are present after the change, and at least

@@ -105,6 +105,7 @@ pub record IsClashNear (change : NameChange) (files : Files) (before name : List
 -- before
 pub record IsNewClashOverSomeFiles (change : NameChange) (before name : List ℕ)
     (pair : NamePair) : Type 0 where
+  -- the files of some tree
   pub files : Files
   -- the pair is a clash over these files
   pub is : IsClash change files pair
@@ -117,6 +118,9 @@ pub record IsNewClashOverSomeFiles (change : NameChange) (before name : List ℕ
 -- it
 pub record MayBeClashNear (change : NameChange) (before name : List ℕ)
     (found : Option NamePair) : Type 0 where
+  -- the pair that is found is a clash over some files
   pub one : IfSome found (IsNewClashOverSomeFiles change before name)
+  -- each folder above `name` is also above the name before, or is no earlier clash with `name` than the
+  -- found pair
   pub above : (folder : List ℕ) → IsFolderOf folder name → IsFolderOf folder before
       ⊎ IsNoEarlierClash change no_names found (record { path = folder; other = name })

@@ -104,17 +104,21 @@ fn clash_near<T: Tree, G: IsReleased>(
     before: &[u8],
     bytes: &[u8],
 ) -> Result<Option<Clash>, TreeFault>
+    // The paths are in byte order.
     requires sorted { IsSorted bytes_cmp (map joined_path written.now) }
+    // Each path is a name.
     requires names { All IsName (map joined_path written.now) }
+    // The name is one of the written paths.
     requires written { is_one_of_paths written.now bytes.now ≡ true }
-    // If the tree's files are observable.
+    // If the tree is observable, the result is the one for its files.
     ensures near { IfOk result (λ found. IfObservable (T.history tree.old) (λ v.
         IsClashNear (name_change_of_paths written.now (G.does_release let_go.now)) (files_of v)
         before.now bytes.now (option_map clash_seen found))) }
-    // Over any tree, even one whose files are not observable.
+    // Over any tree, even an unobservable one, the result may be the one for some files.
     ensures may { IfOk result (λ found. MayBeClashNear
         (name_change_of_paths written.now (G.does_release let_go.now))
         before.now bytes.now (option_map clash_seen found)) }
+    // The tree is only read: no file changes, no I/O error is hidden, and no call is a misuse.
     ensures tree { OnlyReads TreeFault.Disk (T.history tree.old) (T.history tree.new)
         (T.counts tree.old) (T.counts tree.new) result }
 {
@@ -148,18 +152,21 @@ pub fn first_clash<T: Tree, G: IsReleased>(
     written: &[FilePath<'_>],
     let_go: &G,
 ) -> Result<Option<Clash>, TreeFault>
+    // The paths are in byte order.
     requires sorted { IsSorted bytes_cmp (map joined_path written.now) }
+    // Each path is a name.
     requires names { All IsName (map joined_path written.now) }
-    // If the tree's files are observable.
+    // If the tree is observable, the result is the first clash over its files, or none.
     ensures first { IfOk result (λ found. IfObservable (T.history tree.old) (λ v.
         IsFirstClashOrNone (name_change_of_paths written.now (G.does_release let_go.now))
         (files_of v)
         (option_map clash_seen found))) }
-    // Over any tree, even one whose files are not observable: it is the first clash over some
-    // files, or there is none over some.
+    // Over any tree, even an unobservable one, the result is right for some files: it is the first
+    // clash, or there is none.
     ensures may { IfOk result (λ found. IsFirstClashOverSomeFiles
         (name_change_of_paths written.now (G.does_release let_go.now))
         (option_map clash_seen found)) }
+    // The tree is only read: no file changes, no I/O error is hidden, and no call is a misuse.
     ensures tree { OnlyReads TreeFault.Disk (T.history tree.old) (T.history tree.new)
         (T.counts tree.old) (T.counts tree.new) result }
 {
@@ -187,10 +194,12 @@ pub trait IsReleased {
 /// If a change has no clash, no name that is present after it is a folder of another: so a file
 /// system can have the files after it.
 pub fn files_without_a_clash_have_no_file_as_folder()
+    // For the files after a change.
     ensures files { (change : NameChange) (files after : Files) → HasNoFileAsFolder files
         → HasNoClash change files
         → ((name : List ℕ) → IsSome (after name) → is_present_after_change change files name ≡ true)
         → HasNoFileAsFolder after }
+    // For a map of the names after a change.
     ensures names { (change : NameChange) (files : Files) (after : NameMap)
         → HasNoFileAsFolder files
         → HasNoClash change files

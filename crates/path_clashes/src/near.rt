@@ -22,6 +22,7 @@ use std::alloc::{AllocError, Global};
 
 /// Whether a name is one of these paths, by binary search.
 fn is_one_of_paths(paths: &[FilePath<'_>], name: &[u8]) -> bool
+    // The paths are in byte order.
     requires { IsSorted bytes_cmp (map joined_path paths.now) }
     ensures { result ≡ is_one_of_paths paths.now name.now }
 {
@@ -36,10 +37,13 @@ fn is_name_present<T: Tree, G: IsReleased>(
     let_go: &G,
     name: &Name,
 ) -> Result<bool, TreeFault>
+    // On Ok, if the tree is observable, the result says whether the name has a file that is kept.
     ensures answer { IfOk result (λ present_files. IfObservable (T.history tree.old) (λ v.
         present_files ≡ is_name_present (G.does_release let_go.now) (files_of v) name.now)) }
+    // A name that the change releases does not count as present.
     ensures stays { IfOk result (λ present_files.
         present_files ≡ true → G.does_release let_go.now name.now ≡ false) }
+    // The tree is only read: no file changes, no I/O error is hidden, and no call is a misuse.
     ensures tree { OnlyReads TreeFault.Disk (T.history tree.old) (T.history tree.new)
         (T.counts tree.old) (T.counts tree.new) result }
 {
@@ -59,16 +63,21 @@ fn folder_after<T: Tree, G: IsReleased>(
     let_go: &G,
     folder: &[u8],
 ) -> Result<Option<Name>, TreeFault>
+    // The paths are in byte order.
     requires sorted { IsSorted bytes_cmp (map joined_path written.now) }
+    // Each path is a name.
     requires names { All IsName (map joined_path written.now) }
+    // On Ok, the folder's name is returned exactly if it is present after the change.
     ensures found { IfOk result (λ found. IfObservable (T.history tree.old) (λ v.
         found ≡ name_if_holds (is_present_after_change (name_change_of_paths written.now
         (G.does_release let_go.now))
         (files_of v) folder.now) folder.now)) }
+    // Over any tree, the result is right for a tree that has only the name found, if any.
     ensures may { IfOk result (λ found.
         found ≡ name_if_holds (is_present_after_change (name_change_of_paths written.now
         (G.does_release let_go.now))
         (files_with_only_name found) folder.now) folder.now) }
+    // The tree is only read: no file changes, no I/O error is hidden, and no call is a misuse.
     ensures tree { OnlyReads TreeFault.Disk (T.history tree.old) (T.history tree.new)
         (T.counts tree.old) (T.counts tree.new) result }
 {
@@ -91,16 +100,22 @@ pub(crate) fn first_folder<T: Tree, G: IsReleased>(
     name: &[u8],
     len: usize,
 ) -> Result<Option<Name>, TreeFault>
+    // The paths are in byte order.
     requires sorted { IsSorted bytes_cmp (map joined_path written.now) }
+    // Each path is a name.
     requires names { All IsName (map joined_path written.now) }
+    // On Ok, the result is the shortest folder of the name that is present after the change, or
+    // none.
     ensures found { IfOk result (λ found. IfObservable (T.history tree.old) (λ v.
         IsShortestFolderOrNone (name_change_of_paths written.now (G.does_release let_go.now))
         (files_of v)
         name.now len found)) }
+    // Over any tree, the result is right for a tree that has only the name found, if any.
     ensures may { IfOk result (λ found.
         IsShortestFolderOrNone (name_change_of_paths written.now (G.does_release let_go.now))
         (files_with_only_name found)
         name.now len found) }
+    // The tree is only read: no file changes, no I/O error is hidden, and no call is a misuse.
     ensures tree { OnlyReads TreeFault.Disk (T.history tree.old) (T.history tree.new)
         (T.counts tree.old) (T.counts tree.new) result }
 {
@@ -139,11 +154,15 @@ pub(crate) fn first_below<T: Tree, G: IsReleased>(
     let_go: &G,
     folder: &Name,
 ) -> Result<Option<Name>, TreeFault>
+    // On Ok, if the tree is observable, the result is the first name below the folder whose file is
+    // kept.
     ensures found { IfOk result (λ found. IfObservable (T.history tree.old) (λ v.
         IsFirstNameBelowOrNone (G.does_release let_go.now) (files_of v) folder.now found)) }
+    // Over any tree, the result is right for a tree that has only the name found, if any.
     ensures may { IfOk result (λ found.
         IsFirstNameBelowOrNone (G.does_release let_go.now)
         (files_with_only_name found) folder.now found) }
+    // The tree is only read: no file changes, no I/O error is hidden, and no call is a misuse.
     ensures tree { OnlyReads TreeFault.Disk (T.history tree.old) (T.history tree.new)
         (T.counts tree.old) (T.counts tree.new) result }
 {

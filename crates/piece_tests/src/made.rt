@@ -15,9 +15,9 @@ const INFO: &[u8] = b"\0\0\0\0\0\0\0\0\x01a\x011\x03\0\0\0\x08\0\0\x80\x0a\0\0\x
 /// The flaw of a package.
 #[derive(Clone, Copy)]
 pub(crate) enum Flaw {
-    /// Nothing.
+    /// No flaw.
     None,
-    /// The byte at an offset of the last file is another than its digest is of.
+    /// The byte at this offset of the last file differs from that of which the digest was made.
     Spoiled(usize),
     /// The last block of contents is replaced by a copy of the first one.
     Repeated,
@@ -40,22 +40,25 @@ pub(crate) fn package_of(alloc: Global, sizes: &[u32], flaw: Flaw) -> Result<Vec
     file.extend_from_slice(b"ADB.")?;
     file.extend_from_slice(&PACKAGE_WORD.to_le_bytes())?;
     let payload = payload_of(alloc, sizes)?;
+    // Kind 0: the block of the values.
     add_block(&mut file, 0, &payload)?;
     for i in 0..sizes.len() {
         if sizes[i] > 0 {
+            // Only the last file has the flaw.
             let flaw = if i + 1 == sizes.len() {
                 flaw
             } else {
                 Flaw::None
             };
             let contents = contents_with(alloc, sizes, i, flaw)?;
+            // Kind 2: a block of contents. An empty file has none.
             add_block(&mut file, 2, &contents)?;
         }
     }
     Ok(file)
 }
 
-/// The payload of the contents of the file at a place, counted from 0, with a flaw.
+/// The payload of the contents of the file at an index, counted from 0, with a flaw.
 fn contents_with(alloc: Global, sizes: &[u32], i: usize, flaw: Flaw) -> Result<Vec<u8>, AllocError>
     requires { i < length sizes.now }
 {
@@ -68,8 +71,8 @@ fn contents_with(alloc: Global, sizes: &[u32], i: usize, flaw: Flaw) -> Result<V
     }
 }
 
-/// The payload of the contents of the file with this many files before it: its two positions, which
-/// count from 1, and its bytes.
+/// The payload of the contents of the file that follows `before` others: the positions of its
+/// folder and of itself, which count from 1, and its bytes.
 fn contents_of(alloc: Global, before: usize, size: u32) -> Result<Vec<u8>, AllocError> {
     let mut payload = Vec::new(alloc);
     payload.extend_from_slice(&1u32.to_le_bytes())?;
@@ -78,8 +81,8 @@ fn contents_of(alloc: Global, before: usize, size: u32) -> Result<Vec<u8>, Alloc
     Ok(payload)
 }
 
-/// The payload of contents with a flaw. A file's bytes follow its two positions, eight bytes; 255
-/// is none of them.
+/// The payload of contents with a flaw. The bytes of the file follow its two positions, which are
+/// eight bytes. No byte of the file is 255.
 fn flawed(alloc: Global, payload: &[u8], flaw: Flaw) -> Result<Vec<u8>, AllocError> {
     let mut bytes = payload.to_vec(alloc)?;
     match flaw {
@@ -112,6 +115,7 @@ pub(crate) fn payload_of(alloc: Global, sizes: &[u32]) -> Result<Vec<u8>, AllocE
     let folder = add_words(&mut payload, &[0, 0, 0xd000_0000 | files])?;
     let folders = add_words(&mut payload, &[0xe000_0000 | folder])?;
     let root = add_words(&mut payload, &[0xe000_000c, 0xd000_0000 | folders])?;
+    // The word of the root is in the bytes 4 to 7.
     if payload.len() >= 8 {
         payload[4..8].copy_from_slice(&(0xe000_0000 | root).to_le_bytes());
     }
@@ -129,6 +133,7 @@ fn add_file(
     let name = low_word(payload.len());
     payload.extend_from_slice(&[1, letter])?;
     let digest = low_word(payload.len());
+    // The length of a blob is in the byte before it.
     payload.push(20)?;
     payload.extend_from_slice(hash)?;
     let words = [
@@ -162,8 +167,10 @@ pub(crate) fn low_word(number: usize) -> u32
     (number & 0x0fff_ffff) as u32
 }
 
-/// Adds a block of the kind of this number (0 is values, 2 contents), and its padding.
+/// Adds a block of the kind of this number (0 is values, 2 contents), and pads it to a multiple of
+/// eight bytes.
 fn add_block(file: &mut Vec<u8>, kind: u32, payload: &[u8]) -> Result<(), AllocError> {
+    // The header of a block has the block's kind and length; the header itself is four bytes.
     let raw = low_word(payload.len()) + 4;
     file.extend_from_slice(&(kind << 30 | raw).to_le_bytes())?;
     file.extend_from_slice(payload)?;

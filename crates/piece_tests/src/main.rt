@@ -1,7 +1,7 @@
-//! Answers questions about `pkg_core`, `package_reader` and `package_verifier`: a file's contents in
-//! pieces, a block of contents against the next file, the front of a package, and the pieces of a
-//! package's files in a tree. Its stored run has all rows; `tests/lines.md` describes their form.
-//! The README of this crate has a row for each question.
+//! Answers questions about `pkg_core`, `package_reader` and `package_verifier`: the contents of a
+//! file in pieces, and a block of contents that names a file; the front (header and first block) of
+//! a package, and the pieces of all its files in a tree. Its stored run has all rows;
+//! `tests/lines.md` describes their form. The README of this crate has a row for each question.
 #![tactic(auto)]
 
 ghost use Rattle.std.specs.Prelude.{◌≡◌, IfSome};
@@ -28,23 +28,23 @@ const MOST_BYTES: u32 = 1_000_000;
 /// The most pieces of a row's file.
 const MOST_PIECES: usize = 100;
 
-/// The length of the file whose contents are opened.
+/// The length in bytes of the only file of the package of the question `open`.
 const OPENED: u32 = 3;
 
 /// The kinds of questions; the README of this crate has their answers.
 #[derive(Clone, Copy)]
 enum Question {
-    /// `pieces LEN`, `pieces LEN AT`.
+    /// `pieces LEN`, `pieces LEN AT`: the pieces of one file, also with a wrong byte.
     Pieces,
-    /// `open FOLDER FILE LEN`.
+    /// `open FOLDER FILE LEN`: a block of contents that names this file.
     Open,
-    /// `cuts BYTES`.
+    /// `cuts BYTES`: the front (header and first block) of a package that is cut off.
     Cuts,
-    /// About a package with files of some sizes.
+    /// `read`, `spoil` and the other questions about a package with files of some sizes.
     Package(Asked),
 }
 
-// The words that questions begin with.
+// The first word of each question.
 #[rattlefmt::skip]
 const QUESTIONS: [(&[u8], Question); 10] = [
     (b"pieces", Question::Pieces),
@@ -59,7 +59,7 @@ const QUESTIONS: [(&[u8], Question); 10] = [
     (b"ends", Question::Package(Asked::Ends)),
 ];
 
-/// The contents of a package's files.
+/// The subject of the rows. It keeps nothing: each row has a package of its own.
 #[derive(Drop)]
 struct Files;
 
@@ -87,7 +87,8 @@ pub(crate) fn small_number(word: &[u8]) -> u32 {
     u32::try_from(number).unwrap_or(0).min(MOST_BYTES)
 }
 
-/// The positions that contents begin with: of the folder, and of the file in it.
+/// The eight bytes that a block of contents begins with: the position of the folder, and that of
+/// the file in it.
 fn positions(folder: u32, file: u32) -> [u8; 8] {
     let mut bytes = [0; 8];
     bytes[..4].copy_from_slice(&folder.to_le_bytes());
@@ -95,7 +96,8 @@ fn positions(folder: u32, file: u32) -> [u8; 8] {
     bytes
 }
 
-/// The values of a package with this payload; None if a test fails.
+/// The values of a package with this payload; None if a test fails. The contract: their table is
+/// that of packages.
 fn values(alloc: Global, payload: &[u8]) -> Option<Checked<'_>>
     ensures { IfSome result (λ checked. table_of_checked checked ≡ Tables.Package) }
 {
@@ -104,8 +106,8 @@ fn values(alloc: Global, payload: &[u8]) -> Option<Checked<'_>>
     Checked::new(alloc, shaped).ok()
 }
 
-/// Adds the pieces of a file: `pieces LEN`, or `pieces LEN AT`, in which the byte at an offset
-/// differs from the bytes of the digest.
+/// Answers `pieces LEN` and `pieces LEN AT`: adds the pieces of one file of LEN bytes. With AT, its
+/// byte at this offset differs from the bytes of the digest.
 fn add_pieces(alloc: Global, words: &Words, answer: &mut Vec<u8>) -> Result<(), AllocError> {
     let len = small_number(word_at(words, 1));
     let mut bytes = bytes_of(alloc, len)?;
@@ -120,20 +122,23 @@ fn add_pieces(alloc: Global, words: &Words, answer: &mut Vec<u8>) -> Result<(), 
     let Some(checked) = values(alloc, &payload) else {
         return add_word(answer, b"no package");
     };
+    // The files that the package lists, in their order.
     let mut walk = Walk::new(checked.package().paths());
+    // Eight bytes of positions precede the file, which is file 1 of folder 1.
     match open_file(&mut walk, u64::from(len) + 8, &positions(1, 1)) {
         Ok(file) => add_each(alloc, file, &bytes, answer),
         Err(cause) => add_cause(alloc, cause, answer),
     }
 }
 
-/// Adds each piece of a file, and the result after the last.
+/// Adds each piece of a file, and the result after the last one.
 fn add_each(
     alloc: Global,
     file: FileCheck<'_>,
     bytes: &[u8],
     answer: &mut Vec<u8>,
 ) -> Result<(), AllocError> {
+    // The test of the bytes that are left; None after the last piece.
     let mut left = Some(file);
     let mut rest = bytes;
     for _ in 0..MOST_PIECES {
@@ -156,7 +161,8 @@ fn add_each(
     Ok(())
 }
 
-/// Adds the file that a piece is a part of, how long the piece is, and whether it is the last.
+/// Adds the positions of a piece's folder and file, how long the piece is, and `last` if it is the
+/// last one of the file.
 pub(crate) fn add_part(
     alloc: Global,
     part: Part,
@@ -171,7 +177,8 @@ pub(crate) fn add_part(
     Ok(())
 }
 
-/// Adds a cause, as its variant and its fields; of a digest that differs no more than that.
+/// Adds the cause of a refusal, as its variant and its fields; for a wrong digest no more than
+/// that.
 pub(crate) fn add_cause(
     alloc: Global,
     cause: Cause,
@@ -186,8 +193,9 @@ pub(crate) fn add_cause(
     }
 }
 
-/// Adds the result for blocks of contents in a package whose only file has three bytes: `open
-/// FOLDER FILE LEN`, by the positions and the length of the payload, and the same a second time.
+/// Answers `open FOLDER FILE LEN`: adds the result for a block of contents with these positions and
+/// this length of its payload. The only file of the package has three bytes. Then the same block
+/// follows once more.
 fn add_opened(alloc: Global, words: &Words, answer: &mut Vec<u8>) -> Result<(), AllocError> {
     let payload = payload_of(alloc, &[OPENED])?;
     let Some(checked) = values(alloc, &payload) else {
@@ -197,6 +205,7 @@ fn add_opened(alloc: Global, words: &Words, answer: &mut Vec<u8>) -> Result<(), 
     let folder = small_number(word_at(words, 1));
     let file = small_number(word_at(words, 2));
     let len = number_of(word_at(words, 3)).unwrap_or(0);
+    // At least the eight bytes of the positions.
     let len = u64::try_from(len).unwrap_or(0).max(8);
     let positions = positions(folder, file);
     for _ in 0..2 {

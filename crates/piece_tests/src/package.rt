@@ -1,5 +1,5 @@
-//! Packages in a tree: their fronts, and their files, which are read in pieces. The tests are in
-//! `docs/formats.md`, "The other blocks", its last two paragraphs.
+//! Packages in a tree: their fronts (headers and first blocks), and their files, which are read in
+//! pieces. The tests are in `docs/formats.md`, "The other blocks", its last two paragraphs.
 
 use crate::made::{Flaw, low_word, package_of};
 use crate::{add_cause, add_part, small_number};
@@ -12,15 +12,15 @@ use row_lines::{add_number, add_word, word_at};
 use std::alloc::{AllocError, Global};
 use tree_memory::MemoryTree;
 
-/// The most pieces that are asked for, and the most files of a row's package.
+/// The most pieces that are read, and the most files of a row's package.
 const MOST: usize = 100;
 
 /// The questions about a package with files of some sizes.
 #[derive(Clone, Copy)]
 pub(crate) enum Asked {
-    /// Its pieces, and how it was read: `read SIZES`.
+    /// Its pieces, the number of calls on the tree, and the longest read: `read SIZES`.
     Read,
-    /// Its pieces if a byte of the last file differs: `spoil AT SIZES`.
+    /// Its pieces if the byte at the offset AT of the last file is wrong: `spoil AT SIZES`.
     Spoil,
     /// Its pieces if the last block of contents is replaced by the first: `repeat SIZES`.
     Repeat,
@@ -30,7 +30,7 @@ pub(crate) enum Asked {
     /// exist to the first: `back SIZES`.
     Back,
     /// Its pieces, and then the lengths of those of each file read again, from the last to the
-    /// first, with a byte of the last file changed in between: `change AT SIZES`.
+    /// first. In between, a byte of the last file is changed: `change AT SIZES`.
     Change,
     /// The result for the package cut at each length, from one offset on: `ends FROM SIZES`.
     Ends,
@@ -39,19 +39,19 @@ pub(crate) enum Asked {
 /// Which parts of a package are read.
 #[derive(Clone, Copy)]
 struct Reading<'r> {
-    /// The front alone is read, and no piece.
+    /// Whether the front (header and first block) alone is read, and no piece.
     front: bool,
-    /// Whether the number of calls of the tree after the front is printed, and the longest read of
-    /// them.
+    /// Whether the number of calls on the tree after the front was read is printed, and the longest
+    /// read.
     counts: bool,
-    /// How many of the files are read again, from the last to the first.
+    /// The position of the file that is read again first, and then all files before it; 0 for none.
     back: u32,
-    /// The bytes that replace the package before that.
+    /// The bytes that replace the package before its files are read again, if it is replaced.
     changed: Option<&'r [u8]>,
 }
 
 impl Reading<'_> {
-    /// The pieces alone, once.
+    /// All pieces are read once, and nothing else is printed.
     const PIECES: Reading<'static> = Reading {
         front: false,
         counts: false,
@@ -69,6 +69,7 @@ pub(crate) fn add_asked(
     answer: &mut Vec<u8>,
 ) -> Result<(), AllocError> {
     let number = small_number(word_at(words, 1)) as usize;
+    // The index of the word with the first size, and the flaw of the package.
     let (first, flaw) = match asked {
         Asked::Read | Asked::Back => (1, Flaw::None),
         Asked::Repeat => (1, Flaw::Repeated),
@@ -81,7 +82,8 @@ pub(crate) fn add_asked(
     add_asked_of(alloc, asked, number, &sizes, &file, answer)
 }
 
-/// Adds to `answer` the answer to a question about a package that was made.
+/// Adds to `answer` the answer to a question about the package in `file`. The number is the one of
+/// the row, an offset or a length.
 fn add_asked_of(
     alloc: Global,
     asked: Asked,
@@ -95,13 +97,15 @@ fn add_asked_of(
         Asked::Ends => return add_cuts(alloc, file, number, reading, answer),
         Asked::Change => return add_changed(alloc, file, sizes, number, answer),
         Asked::Read => reading.counts = true,
+        // The file that is read again first does not exist.
         Asked::Back => reading.back = low_word(sizes.len()) + 1,
         _ => {}
     }
     add_package(alloc, file, reading, answer)
 }
 
-/// Adds the result of reading a package that is changed at an offset of its last file in between.
+/// Adds the result of reading a package and then its files again, from the last to the first. In
+/// between, the byte at the offset `at` of the last file is changed.
 fn add_changed(
     alloc: Global,
     file: &[u8],
@@ -119,7 +123,7 @@ fn add_changed(
     add_package(alloc, file, reading, answer)
 }
 
-/// The sizes in the words from an index on.
+/// The sizes of files in the words from an index on.
 fn sizes_from(alloc: Global, words: &Words, first: usize) -> Result<Vec<u32>, AllocError> {
     let mut sizes = Vec::new(alloc);
     for i in first..words.len() {
@@ -130,7 +134,8 @@ fn sizes_from(alloc: Global, words: &Words, first: usize) -> Result<Vec<u32>, Al
     Ok(sizes)
 }
 
-/// Answers `cuts BYTES`: the result for the front of a package whose file is cut at each length.
+/// Answers `cuts BYTES`: adds the results for the front (header and first block) of a package whose
+/// file is cut to each length.
 pub(crate) fn add_fronts(
     alloc: Global,
     file: &[u8],
@@ -141,8 +146,8 @@ pub(crate) fn add_fronts(
     add_cuts(alloc, file, 0, reading, answer)
 }
 
-/// Adds the result for a package that is cut at each length from one on, at each length at which it
-/// differs from the one before.
+/// Adds the results for a package that is cut to each length from `first` on: a length and its
+/// result wherever the result differs from that of the length before.
 fn add_cuts(
     alloc: Global,
     file: &[u8],
@@ -161,7 +166,7 @@ fn add_cuts(
     Ok(())
 }
 
-/// Adds a length, and the result for it.
+/// Adds a length, and the result for a package that is cut to it.
 fn add_cut(
     alloc: Global,
     len: usize,
@@ -197,7 +202,7 @@ fn add_package(
     add_readings(alloc, &mut tree, &name, reading, answer)
 }
 
-/// Sets a file of the tree.
+/// Puts a file into the tree, if the tree can have it.
 fn put(tree: &mut MemoryTree, name: &Name, bytes: &[u8]) -> Result<(), AllocError> {
     if tree.can_put(name) {
         tree.put(name, bytes)?;
@@ -205,7 +210,7 @@ fn put(tree: &mut MemoryTree, name: &Name, bytes: &[u8]) -> Result<(), AllocErro
     Ok(())
 }
 
-/// Adds the result of reading the package under a name.
+/// Adds the result of reading the package that is the file of this name.
 fn add_readings(
     alloc: Global,
     tree: &mut MemoryTree,
@@ -222,7 +227,8 @@ fn add_readings(
     }
 }
 
-/// Adds the pieces after a front, and those of files read again.
+/// Adds the pieces of a package whose front (header and first block) was read; then, if the row
+/// asks for it, the pieces of files read again, and the counts of calls.
 fn add_after_front(
     alloc: Global,
     tree: &mut MemoryTree,
@@ -242,7 +248,7 @@ fn add_after_front(
     Ok(())
 }
 
-/// Adds how many calls of the tree followed the first ones, and the longest read.
+/// Adds how many calls on the tree followed the first `before` calls, and the longest read.
 fn add_counts(
     alloc: Global,
     tree: &MemoryTree,
@@ -256,7 +262,8 @@ fn add_counts(
     add_number(alloc, answer, u128::from(tree.longest_read()))
 }
 
-/// Adds the result for the values after a front, or its pieces, and returns whether all were read.
+/// Adds the pieces of a package, or why its values are bad, and returns whether all pieces were
+/// read.
 fn add_contents(
     alloc: Global,
     tree: &mut MemoryTree,
@@ -275,7 +282,8 @@ fn add_contents(
     }
 }
 
-/// Adds the number of folders if only the front is read, else the pieces.
+/// Adds the number of folders if only the front is read, and else the pieces; returns whether all
+/// pieces were read.
 fn add_pieces(
     alloc: Global,
     tree: &mut MemoryTree,
@@ -292,7 +300,7 @@ fn add_pieces(
     add_all(alloc, tree, &mut reader, answer)
 }
 
-/// Adds how many folders the values of a package have; no piece is read.
+/// Adds how many folders the values of a package have. The result is false, as no piece is read.
 fn add_folders(
     alloc: Global,
     contents: &Contents<'_>,
@@ -332,8 +340,8 @@ fn add_all(
     Ok(false)
 }
 
-/// Adds the lengths of the pieces of each of the last files of a package that is read once, from
-/// the last file to the first; of the changed bytes if there are any.
+/// Tests the package, and replaces it by the changed bytes if there are any. Then adds the lengths
+/// of the pieces of file `reading.back` and of all before it, from the last to the first.
 fn add_again(
     alloc: Global,
     tree: &mut MemoryTree,
@@ -355,7 +363,8 @@ fn add_again(
     }
 }
 
-/// Adds the lengths of the pieces of each of the last files, until one has a fault.
+/// Adds the lengths of the pieces of the files from the position `back` to the first, until one has
+/// a fault.
 fn add_files(
     alloc: Global,
     tree: &mut MemoryTree,
@@ -364,6 +373,7 @@ fn add_files(
     answer: &mut Vec<u8>,
 ) -> Result<(), AllocError> {
     for i in 0..back {
+        // All files are in folder 1, and count from 1.
         let mut file = package.file(1, back - i);
         if !add_file(alloc, tree, &mut file, answer)? {
             return Ok(());

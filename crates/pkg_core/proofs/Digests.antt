@@ -16,20 +16,20 @@ use Rattle.adb_view.specs.Plain.{Plain, null, Plains, none, more, Shape, hash, a
 use Rattle.adb_schema.specs.adb_fields.Repeated.{list_of, files_in}
 use Rattle.adb_schema.specs.Rules.{is_digest_length, is_digest_length_or_none}
 use Rattle.adb_view.specs.Schema.{shape_of, shapes_of, table}
-use Rattle.adb_schema.specs.Texts.{Surroundings, Leaf, text_leaf, keeps_rule, leaves, field_leaves, leaves_of_all_values, surroundings_of_fields, surroundings_of_root, leaves_of, text_fault, is_allowed_text_of_field, is_file_with_contents, needs_file_hash}
+use Rattle.adb_schema.specs.Texts.{Surroundings, Leaf, text_leaf, keeps_rule, leaves, field_leaves, leaves_of_all_values, surroundings_of_fields, surroundings_of_root, leaves_of, text_or_number_fault, is_allowed_text_of_field, is_file_with_contents, needs_file_hash}
 use Rattle.adb_schema.specs.FirstBad.{IsFirstBadLeafIfAny}
 use Rattle.adb_view.specs.Values.{nth, entries_in, entry_in, int_in, text_in}
 use Rattle.adb_view.specs.declared.tables.Which.{Which}
 use Rattle.adb_view.specs.declared.tables.Kind.TheVariants.{Obj}
 use Rattle.adb_view.specs.declared.tables.Which.TheVariants as Tables
 use Rattle.pkg_core.specs.Contents.{Contents, ExpectedFile, digest_fault, expected_at, expected_files_of_package, expected_files_of_folder, expected_files_of_folders, hash_fault}
-use Rattle.pkg_core.specs.GoodContents.{AreContentsOf, MatchEachExpected, HaveValidDigestLengths, IsDigestOf}
+use Rattle.pkg_core.specs.GoodContents.{AreContentsOf, MatchEachExpectedSizeAndDigest, HaveValidDigestLengths, IsDigestOf}
 
 -- ---- if nothing is told, each text and number keeps its rule
 
 -- what is told of texts, as adb_schema's law says
 abbrev pub HasFirstValue : Type 0
-HasFirstValue = (which : Which) (v : Plain) → IsFirstBadLeafIfAny (leaves_of which v) (text_fault which v)
+HasFirstValue = (which : Which) (v : Plain) → IsFirstBadLeafIfAny (leaves_of which v) (text_or_number_fault which v)
 
 abbrev Keep : List Leaf → Type 0
 Keep all = list_all keeps_rule all ≡ true
@@ -115,8 +115,8 @@ texts_keep v h =
     let folders = field_keeps (shapes_of (table Tables.Package)) 1 701 (surroundings_of_fields 7 (surroundings_of_root Tables.Package) v) (entries_in v) (array (shape_of (Obj Tables.Dir))) refl h in
     folders_digests 1 702 (surroundings_of_fields 7 (surroundings_of_root Tables.Package) v) (entries_in (entry_in v 1)) refl folders
 
-pub texts_give_digests : HasFirstValue → (v : Plain) → text_fault Tables.Package v ≡ None → HaveValidDigestLengths (expected_files_of_package v)
-texts_give_digests told v h = texts_keep v (none_told (leaves_of Tables.Package v) (text_fault Tables.Package v) (told Tables.Package v) h)
+pub texts_give_digests : HasFirstValue → (v : Plain) → text_or_number_fault Tables.Package v ≡ None → HaveValidDigestLengths (expected_files_of_package v)
+texts_give_digests told v h = texts_keep v (none_told (leaves_of Tables.Package v) (text_or_number_fault Tables.Package v) (told Tables.Package v) h)
 
 -- ---- what a good digest says
 
@@ -144,7 +144,7 @@ digest_is wanted bytes h e =
       ]
     ]
 
-pub true_contents : (es : List ExpectedFile) (all : List Contents) → HaveValidDigestLengths es → AreContentsOf es all → MatchEachExpected es all
+pub true_contents : (es : List ExpectedFile) (all : List Contents) → HaveValidDigestLengths es → AreContentsOf es all → MatchEachExpectedSizeAndDigest es all
 true_contents [] [] d h = tt
 true_contents [] (c ∷ cs) d h = h
 true_contents (e ∷ es) [] d h = h

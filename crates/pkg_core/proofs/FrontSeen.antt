@@ -9,7 +9,7 @@ use Rattle.pkg_core.specs.Seen.{AreBytesRead, HasBytesAtOffset, IsSeenIn}
 use Rattle.pkg_core.specs.declared.front.Front.{Front}
 use Rattle.pkg_core.specs.declared.front.FrontFault.{FrontFault}
 use Rattle.pkg_core.specs.declared.front.FrontFault.TheVariants.{Bad, Disk, Memory}
-use Rattle.adb_block.specs.Header.{header_of}
+use Rattle.adb_block.specs.Header.{schema_of_header}
 use Rattle.pkg_core.proofs.HeaderFront.{header_front}
 use Rattle.pkg_core.proofs.SeenBytes.{IsFilled, filled, seen_then}
 
@@ -53,7 +53,7 @@ bad_not_disk c e = (cc)
 
 -- ---- the header
 
-pub header_is : (file header : List ℕ) (len schema found : ℕ) → length header ≡ min len 8 → length file ≡ len → HasBytesAtOffset file 0 header → header_of header ≡ Ok found → found ≡ schema → header_of file ≡ Ok schema
+pub header_is : (file header : List ℕ) (len schema found : ℕ) → length header ≡ min len 8 → length file ≡ len → HasBytesAtOffset file 0 header → schema_of_header header ≡ Ok found → found ≡ schema → schema_of_header file ≡ Ok schema
 header_is file header len schema found n long has is same = sym (header_front file header len n long has) ∙ (is ∙ ap (λ (k : ℕ). Ok k) same)
 
 -- ---- the padding, which nobody reads

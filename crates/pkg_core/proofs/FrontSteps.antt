@@ -7,7 +7,7 @@ use Rattle.base_core.specs.declared.cause.Cause.{Cause}
 use Rattle.base_core.specs.declared.cause.Cause.TheVariants.{Compressed, NotAdb, Truncated, WrongSchema}
 use Rattle.adb_block.specs.Framing.{block, failed, next_step}
 use Rattle.adb_block.specs.Frames.{framed_piece, raw_size}
-use Rattle.adb_block.specs.Header.{header_of, is_compressed, word_at}
+use Rattle.adb_block.specs.Header.{schema_of_header, is_compressed_file_mark, word_at}
 use Rattle.adb_block.specs.Piece.{may_be_next_kind, padding_of}
 use Rattle.adb_block.specs.Reading.{more, block_stream_from}
 use Rattle.adb_block.specs.ReaderPosition.{first_block_position}
@@ -52,19 +52,19 @@ first_head_bad file payload at c blocks bad schema = ap front_block_fault (block
 by_schema : (file : List ℕ) (schema : ℕ) (h : Result ℕ Cause) (found : ℕ) → h ≡ Ok found → front_fault_after_header schema file h ≡ (if schema == found then front_block_fault (block_stream_from (first_block_position found file)) else Some (WrongSchema found))
 by_schema file schema h found e = ap (front_fault_after_header schema file) e
 
-pub header_bad : (file : List ℕ) (schema : ℕ) (c : Cause) → header_of file ≡ Err c → front_fault schema file ≡ Some c
+pub header_bad : (file : List ℕ) (schema : ℕ) (c : Cause) → schema_of_header file ≡ Err c → front_fault schema file ≡ Some c
 unfolding front_fault
 header_bad file schema c e = ap (front_fault_after_header schema file) e
 
-pub schema_bad : (file : List ℕ) (schema found : ℕ) → header_of file ≡ Ok found → (found ≡ schema → ⊥) → front_fault schema file ≡ Some (WrongSchema found)
+pub schema_bad : (file : List ℕ) (schema found : ℕ) → schema_of_header file ≡ Ok found → (found ≡ schema → ⊥) → front_fault schema file ≡ Some (WrongSchema found)
 unfolding front_fault
-schema_bad file schema found e other = by_schema file schema (header_of file) found e ∙ ap (λ (b : Bool). if b then front_block_fault (block_stream_from (first_block_position found file)) else Some (WrongSchema found)) (eq_false schema found (λ e. other (sym e)))
+schema_bad file schema found e other = by_schema file schema (schema_of_header file) found e ∙ ap (λ (b : Bool). if b then front_block_fault (block_stream_from (first_block_position found file)) else Some (WrongSchema found)) (eq_false schema found (λ e. other (sym e)))
 
-pub first_bad : (file : List ℕ) (schema : ℕ) (c : Cause) → header_of file ≡ Ok schema → front_block_fault (block_stream_from (first_block_position schema file)) ≡ Some c → front_fault schema file ≡ Some c
+pub first_bad : (file : List ℕ) (schema : ℕ) (c : Cause) → schema_of_header file ≡ Ok schema → front_block_fault (block_stream_from (first_block_position schema file)) ≡ Some c → front_fault schema file ≡ Some c
 unfolding front_fault
 first_bad file schema c e bad =
     let same : (schema == schema) ≡ true = grind arith in
-    by_schema file schema (header_of file) schema e ∙ (ap (λ (b : Bool). if b then front_block_fault (block_stream_from (first_block_position schema file)) else Some (WrongSchema schema)) same ∙ bad)
+    by_schema file schema (schema_of_header file) schema e ∙ (ap (λ (b : Bool). if b then front_block_fault (block_stream_from (first_block_position schema file)) else Some (WrongSchema schema)) same ∙ bad)
 
 header_long_by : (a b d e : Bool) (x y z w : Cause) (n s : ℕ) → (if a then Err x else if b then Err y else if d then Err z else if e then Err w else Ok n) ≡ Ok s → e ≡ false
 header_long_by true b d e x y z w n s h = (cc)
@@ -74,6 +74,6 @@ header_long_by false false false true x y z w n s h = (cc)
 header_long_by false false false false x y z w n s h = refl
 
 -- a header that is whole takes eight bytes
-pub header_eight : (bytes : List ℕ) (schema : ℕ) → header_of bytes ≡ Ok schema → 8 ≤ length bytes
-unfolding header_of
-header_eight bytes schema h = ltb-false (length bytes) 8 (header_long_by (nat_lt (length bytes) 4) (is_compressed (take 4 bytes)) (not (bytes_eq (take 4 bytes) (codes "ADB."))) (nat_lt (length bytes) 8) (Truncated 0) Compressed NotAdb (Truncated 0) (word_at 4 bytes) schema h)
+pub header_eight : (bytes : List ℕ) (schema : ℕ) → schema_of_header bytes ≡ Ok schema → 8 ≤ length bytes
+unfolding schema_of_header
+header_eight bytes schema h = ltb-false (length bytes) 8 (header_long_by (nat_lt (length bytes) 4) (is_compressed_file_mark (take 4 bytes)) (not (bytes_eq (take 4 bytes) (codes "ADB."))) (nat_lt (length bytes) 8) (Truncated 0) Compressed NotAdb (Truncated 0) (word_at 4 bytes) schema h)

@@ -3,7 +3,7 @@ use Rattle.std.proofs.Common.{◌≡◌, ℕ, Bool, true, false, not, ◌==◌, 
 use Rattle.std.proofs.lemmas.Bool.{eqb-true}
 use Rattle.base_core.specs.declared.cause.Cause.{Cause}
 use Rattle.base_core.specs.declared.cause.Cause.TheVariants.{Truncated, DataOrder, DataSize}
-use Rattle.adb_block.specs.Header.{header_of}
+use Rattle.adb_block.specs.Header.{schema_of_header}
 use Rattle.adb_block.specs.Reading.{Reading, done, fault, more, block_stream_from}
 use Rattle.adb_block.specs.ReaderPosition.{first_block_position}
 use Rattle.adb_block.specs.declared.block.BlockKind.{BlockKind}
@@ -14,13 +14,13 @@ use Rattle.adb_view.specs.Schema.{shape_of}
 use Rattle.adb_view.specs.Values.{value_at}
 use Rattle.base_core.proofs.Causes.{first_none, second_none}
 use Rattle.adb_view.specs.Walk.{shape_fault}
-use Rattle.adb_schema.specs.Texts.{text_fault}
+use Rattle.adb_schema.specs.Texts.{text_or_number_fault}
 use Rattle.adb_view.specs.declared.tables.Kind.TheVariants.{Obj}
 use Rattle.adb_schema.specs.Soundness.{blocks_fault, file_fault_after_header, contents_positions, first_block_payload, payload_after_header, payload_fault, payload_in, root_value, schema_fault}
 use Rattle.adb_view.specs.declared.tables.Which.TheVariants.{Package}
 use Rattle.pkg_core.specs.Contents as C
 use Rattle.pkg_core.specs.Contents.{ExpectedFile, FilesRead, contents_bytes, contents_of_expected, contents_fault, contents_in, expected_files_of_package, fault_of_files_read, files_read_from_blocks, hash_fault}
-use Rattle.pkg_core.specs.GoodContents.{AreContentsOf, MatchEachExpected, IsContentsOf}
+use Rattle.pkg_core.specs.GoodContents.{AreContentsOf, MatchEachExpectedSizeAndDigest, IsContentsOf}
 use Rattle.pkg_core.proofs.Digests.{texts_give_digests, true_contents, HasFirstValue}
 use Rattle.pkg_core.specs.Whole.{fault_of_further_blocks, files_after_first_block, files_after_header, files_read_from_package, package_fault, package_with_contents, container_fault_of_table}
 
@@ -79,23 +79,23 @@ pub nothing_expected : expected_files_of_package (root_value Package []) ≡ []
 unfolding value_at plain_of shape_of
 nothing_expected = refl
 
-pub texts_good : (payload : List ℕ) → payload_fault Package payload ≡ None → text_fault Package (root_value Package payload) ≡ None
+pub texts_good : (payload : List ℕ) → payload_fault Package payload ≡ None → text_or_number_fault Package (root_value Package payload) ≡ None
 texts_good payload h =
     let shape = second_none (payload_head_fault payload) _ h in
     let texts = second_none (shape_fault payload (shape_of (Obj Package)) (root_word_of_payload payload)) _ shape in
-    first_none (text_fault Package (root_value Package payload)) _ texts
+    first_none (text_or_number_fault Package (root_value Package payload)) _ texts
 
-blocks_true : HasFirstValue → (r : Reading) → blocks_fault (fault_of_further_blocks Package) Package r ≡ None → MatchEachExpected (expected_files_of_package (root_value Package (first_block_payload r))) (contents_in (files_after_first_block r))
-blocks_true told done h = let A : List ExpectedFile → Type 0 = λ es. MatchEachExpected es [] in subst A (sym nothing_expected) tt
+blocks_true : HasFirstValue → (r : Reading) → blocks_fault (fault_of_further_blocks Package) Package r ≡ None → MatchEachExpectedSizeAndDigest (expected_files_of_package (root_value Package (first_block_payload r))) (contents_in (files_after_first_block r))
+blocks_true told done h = let A : List ExpectedFile → Type 0 = λ es. MatchEachExpectedSizeAndDigest es [] in subst A (sym nothing_expected) tt
 blocks_true told (fault c) h = (cc)
 blocks_true told (more b at r) h =
     let v : Plain = root_value Package b.payload in
     true_contents (expected_files_of_package v) (contents_in (files_read_from_blocks (expected_files_of_package v) r)) (texts_give_digests told v (texts_good b.payload (first_none (payload_fault Package b.payload) _ h))) (files_right (expected_files_of_package v) r (second_none (payload_fault Package b.payload) _ h))
 
-header_true : HasFirstValue → (file : List ℕ) (h : Result ℕ Cause) → file_fault_after_header (fault_of_further_blocks Package) Package file h ≡ None → MatchEachExpected (expected_files_of_package (root_value Package (payload_after_header file h))) (contents_in (files_after_header file h))
+header_true : HasFirstValue → (file : List ℕ) (h : Result ℕ Cause) → file_fault_after_header (fault_of_further_blocks Package) Package file h ≡ None → MatchEachExpectedSizeAndDigest (expected_files_of_package (root_value Package (payload_after_header file h))) (contents_in (files_after_header file h))
 header_true told file (Ok schema) e = blocks_true told (block_stream_from (first_block_position schema file)) (second_none (schema_fault Package schema) _ e)
 header_true told file (Err c) e = (cc)
 
-pub package_true : HasFirstValue → (file : List ℕ) → package_fault file ≡ None → MatchEachExpected (expected_files_of_package (package_with_contents file).value) (package_with_contents file).contents
+pub package_true : HasFirstValue → (file : List ℕ) → package_fault file ≡ None → MatchEachExpectedSizeAndDigest (expected_files_of_package (package_with_contents file).value) (package_with_contents file).contents
 unfolding container_fault_of_table files_read_from_package payload_in
-package_true told file h = header_true told file (header_of file) h
+package_true told file h = header_true told file (schema_of_header file) h

@@ -1,7 +1,7 @@
 -- The tests of a whole container, by those of its values and those after them.
 use Rattle.std.proofs.Common.{◌≡◌, ◌≢◌, ℕ, List, Option, Some, None, Result, Ok, Err, refl}
 use Rattle.base_core.specs.declared.cause.Cause.{Cause}
-use Rattle.adb_block.specs.Header.{header_of}
+use Rattle.adb_block.specs.Header.{schema_of_header}
 use Rattle.adb_block.specs.Reading.{Reading, done, fault, more, block_stream_from}
 use Rattle.adb_block.specs.ReaderPosition.{first_block_position}
 use Rattle.std.specs.Option.{option_or}
@@ -45,7 +45,7 @@ header_then file (Err c) e = refl
 
 pub files_then : (file : List ℕ) → container_fault_except_contents Package file ≡ None → package_fault file ≡ fault_of_files_read (files_read_from_package file)
 unfolding container_fault_except_contents container_fault_of_table files_read_from_package
-files_then file h = header_then file (header_of file) h
+files_then file h = header_then file (schema_of_header file) h
 
 -- and a package whose values are refused is refused by that
 tests_first : (payload : Option Cause) (c : Cause) (o : Option Cause) → option_or payload None ≡ Some c → option_or payload o ≡ Some c
@@ -67,7 +67,7 @@ header_first file (Err d) c e = e
 
 pub values_first : (file : List ℕ) (c : Cause) → container_fault_except_contents Package file ≡ Some c → package_fault file ≡ Some c
 unfolding container_fault_except_contents container_fault_of_table
-values_first file c h = header_first file (header_of file) c h
+values_first file c h = header_first file (schema_of_header file) c h
 
 -- both in one
 pub package_steps : (file : List ℕ) → package_fault file ≡ option_or (container_fault_except_contents Package file) (fault_of_files_read (files_read_from_package file))

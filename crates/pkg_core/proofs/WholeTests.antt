@@ -3,7 +3,7 @@ use Rattle.std.proofs.Common.{◌≡◌, ◌≢◌, ℕ, Bool, true, false, ◌=
 use Rattle.std.proofs.lemmas.Bool.{eqb-true}
 use Rattle.base_core.specs.declared.cause.Cause.{Cause}
 use Rattle.base_core.specs.declared.cause.Cause.TheVariants.{WrongSchema}
-use Rattle.adb_block.specs.Header.{header_of}
+use Rattle.adb_block.specs.Header.{schema_of_header}
 use Rattle.adb_block.specs.Reading.{Reading, done, fault, more, block_stream_from}
 use Rattle.adb_block.specs.ReaderPosition.{first_block_position}
 use Rattle.adb_view.specs.Head.{payload_head_fault}
@@ -39,7 +39,7 @@ header_alike file (Ok found) c h = schema_alike (PACKAGE_WORD == found) found (b
 
 pub front_alike : (file : List ℕ) (c : Cause) → front_fault PACKAGE_WORD file ≡ Some c → container_fault_except_contents Package file ≡ Some c
 unfolding front_fault container_fault_except_contents
-front_alike file c h = header_alike file (header_of file) c h
+front_alike file c h = header_alike file (schema_of_header file) c h
 
 pub values_alike : (file : List ℕ) (front : Front) → IsFrontOf PACKAGE_WORD file front → container_fault_except_contents Package file ≡ payload_fault Package (front_payload front)
 unfolding container_fault_except_contents
@@ -76,17 +76,17 @@ package_by_schema : (wanted : Bool) (file : List ℕ) (found : ℕ) (r : Reading
 package_by_schema true file found r c h other = (refl, front_first r c h)
 package_by_schema false file found r c h other = absurd (other found (let e : Some (WrongSchema found) ≡ Some c = h in (cc)))
 
-whole_by_header : (file : List ℕ) (header : Result ℕ Cause) (c : Cause) → header_of file ≡ header → front_fault_after_header PACKAGE_WORD file header ≡ Some c → ((other : ℕ) → c ≢ WrongSchema other) → container_fault_after_header file header ≡ Some c
+whole_by_header : (file : List ℕ) (header : Result ℕ Cause) (c : Cause) → schema_of_header file ≡ header → front_fault_after_header PACKAGE_WORD file header ≡ Some c → ((other : ℕ) → c ≢ WrongSchema other) → container_fault_after_header file header ≡ Some c
 unfolding container_fault_of_table
 whole_by_header file (Err d) c is h other = h
 whole_by_header file (Ok found) c is h other =
     let (wanted, first) = package_by_schema (PACKAGE_WORD == found) file found (block_stream_from (first_block_position found file)) c h other in
     let same : PACKAGE_WORD ≡ found = eqb-true PACKAGE_WORD found wanted in
-    let header : header_of file ≡ Ok PACKAGE_WORD = is ∙ ap (λ (n : ℕ). Ok n) (sym same) in
+    let header : schema_of_header file ≡ Ok PACKAGE_WORD = is ∙ ap (λ (n : ℕ). Ok n) (sym same) in
     ap (λ (n : ℕ). container_fault_after_header file (Ok n)) (sym same)
     ∙ (ap (file_fault_after_header (fault_of_further_blocks Package) Package file) header
     ∙ subst (λ (n : ℕ). blocks_fault (fault_of_further_blocks Package) Package (block_stream_from (first_block_position n file)) ≡ Some c) (sym same) first)
 
 pub front_is_first : (file : List ℕ) (c : Cause) → front_fault PACKAGE_WORD file ≡ Some c → ((other : ℕ) → c ≢ WrongSchema other) → container_fault file ≡ Some c
 unfolding front_fault container_fault
-front_is_first file c h other = whole_by_header file (header_of file) c refl h other
+front_is_first file c h other = whole_by_header file (schema_of_header file) c refl h other

@@ -39,7 +39,11 @@ contents_test_fault_at es r k =
 
 -- one of the tests has this fault, and none before it has one
 pub record IsFirstContentsFault (es : List ExpectedFile) (r : Reading) (c : Cause) : Type 0 where
+  -- the number of the block whose test fails, counted from 0
   pub k : ℕ
+  -- there is a test for each block, and one more after the last block
   pub reached : k ≤ length (blocks_of_contents r)
+  -- this test fails with the fault
   pub fault : contents_test_fault_at es r k ≡ Some c
+  -- each earlier test passes
   pub before : (j : ℕ) → j < k → contents_test_fault_at es r j ≡ None

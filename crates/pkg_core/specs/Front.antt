@@ -4,7 +4,7 @@
 use Rattle.std.specs.Prelude.{◌≡◌, ℕ, ◌==◌, if◌then◌else◌, List, length, drop, Option, Some, None, Result, Ok, Err}
 use Rattle.base_core.specs.declared.cause.Cause.{Cause}
 use Rattle.base_core.specs.declared.cause.Cause.TheVariants.{WrongSchema}
-use Rattle.adb_block.specs.Header.{header_of}
+use Rattle.adb_block.specs.Header.{schema_of_header}
 use Rattle.adb_block.specs.Reading.{Reading, done, fault, more, block_stream_from}
 use Rattle.adb_block.specs.ReaderPosition.{ReaderPosition, first_block_position}
 use Rattle.adb_block.specs.declared.block.BlockKind.TheVariants.{Adb}
@@ -31,7 +31,7 @@ front_fault_after_header schema file (Ok found) =
 
 -- the first failed test of the front of a file, which must have this schema
 unfoldable pub front_fault : ℕ → List ℕ → Option Cause
-front_fault schema file = front_fault_after_header schema file (header_of file)
+front_fault schema file = front_fault_after_header schema file (schema_of_header file)
 
 -- ---- the contents of a front
 
@@ -59,12 +59,17 @@ position_after_front front file = record {
 -- a front is that of this file: it has the file's schema, length and first block, which begins at
 -- offset 8, and no test of the front fails
 pub record IsFrontOf (schema : ℕ) (file : List ℕ) (front : Front) : Type 0 where
-  pub header : header_of file ≡ Ok schema
+  -- the file's header is valid and has the wanted schema
+  pub header : schema_of_header file ≡ Ok schema
+  -- the front has the wanted schema
   pub same_schema : front.schema ≡ schema
+  -- the front has the length of the file
   pub long : length file ≡ front.len
+  -- the first block of the file is the front's block of values, at offset 8
   pub blocks : block_stream_from (first_block_position schema file)
       ≡ more (record { kind = Adb; payload = front_payload front }) 8
       (block_stream_from (position_after_front front file))
+  -- the head of the first payload passes its tests
   pub head : payload_head_fault (front_payload front) ≡ None
 
 -- the result of reading a front, for a file or for none; an I/O error of the tree and running out of

@@ -45,11 +45,12 @@ pub record MatchesExpected (e : ExpectedFile) (contents : Contents) : Type 0 whe
 
 -- there are contents for each expected file, in order and no others, and each are those of the file's
 -- entry
-abbrev pub MatchEachExpected : List ExpectedFile → List Contents → Type 0
-MatchEachExpected [] [] = Unit {0}
-MatchEachExpected [] (contents ∷ others) = ⊥
-MatchEachExpected (e ∷ es) [] = ⊥
-MatchEachExpected (e ∷ es) (contents ∷ others) = MatchesExpected e contents × MatchEachExpected es others
+abbrev pub MatchEachExpectedSizeAndDigest : List ExpectedFile → List Contents → Type 0
+MatchEachExpectedSizeAndDigest [] [] = Unit {0}
+MatchEachExpectedSizeAndDigest [] (contents ∷ others) = ⊥
+MatchEachExpectedSizeAndDigest (e ∷ es) [] = ⊥
+MatchEachExpectedSizeAndDigest (e ∷ es) (contents ∷ others) =
+    MatchesExpected e contents × MatchEachExpectedSizeAndDigest es others
 
 -- the digest of each expected file has the length of one of the three functions
 abbrev pub HaveValidDigestLengths : List ExpectedFile → Type 0

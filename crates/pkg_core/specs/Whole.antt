@@ -4,7 +4,7 @@ use Rattle.std.specs.Prelude.{ℕ, ◌==◌, if◌then◌else◌, List, Option, 
 use Rattle.sha2.specs.Sha256.{sha256}
 use Rattle.base_core.specs.declared.cause.Cause.{Cause}
 use Rattle.base_core.specs.declared.cause.Cause.TheVariants.{WrongSchema}
-use Rattle.adb_block.specs.Header.{header_of}
+use Rattle.adb_block.specs.Header.{schema_of_header}
 use Rattle.adb_block.specs.ReaderPosition.{first_block_position}
 use Rattle.adb_block.specs.Reading.{Reading, done, fault, more, block_stream_from}
 use Rattle.adb_view.specs.Plain.{Plain}
@@ -49,7 +49,7 @@ container_fault_after_header file (Ok schema) =
 
 -- the first failed test of a file as a container of one of the four schemas
 unfoldable pub container_fault : List ℕ → Option Cause
-container_fault file = container_fault_after_header file (header_of file)
+container_fault file = container_fault_after_header file (schema_of_header file)
 
 -- ---- a package
 
@@ -77,7 +77,7 @@ files_after_header file (Err c) = refused c
 
 -- the files that are read from the file of a package, with their contents
 unfoldable pub files_read_from_package : List ℕ → FilesRead
-files_read_from_package file = files_after_header file (header_of file)
+files_read_from_package file = files_after_header file (schema_of_header file)
 
 -- the value of a package, with the contents of its files
 pub record PackageWithContents : Type 0 where

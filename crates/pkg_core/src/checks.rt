@@ -18,7 +18,7 @@ ghost use Rattle.base_core.specs.declared.cause.Cause.{Cause};
 ghost use Rattle.adb_block.specs.Reading.{Reading};
 ghost use Rattle.adb_schema.specs.Soundness.{container_fault_except_contents, schema_word};
 ghost use Rattle.pkg_core.specs.FirstContents.{IsFirstContentsFault};
-ghost use Rattle.pkg_core.specs.GoodContents.{AreContentsOf, MatchEachExpected};
+ghost use Rattle.pkg_core.specs.GoodContents.{AreContentsOf, MatchEachExpectedSizeAndDigest};
 
 use crate::pack::{Package, PackageFault};
 use adb_block::Blocks;
@@ -41,7 +41,9 @@ use std::alloc::Global;
 /// schema is none of the four.
 #[tactic(auto, unfolding(crate::specs::Whole::container_fault))]
 pub fn verify(alloc: Global, bytes: &[u8]) -> Result<(), PackageFault>
+    // The error is the first failed test, or out of memory.
     ensures bad { IfErr result (λ fault. IsFaultOf fault (container_fault bytes.now)) }
+    // On Ok, none of these tests failed.
     ensures sound { IfOk result (λ _. container_fault bytes.now ≡ None) }
 {
     let found = Blocks::new(bytes)?.schema();
@@ -55,6 +57,7 @@ pub fn verify(alloc: Global, bytes: &[u8]) -> Result<(), PackageFault>
 /// the four.
 pub fn table_of_schema(schema: u32) -> Option<Which>
     ensures root { result ≡ table_of_schema schema }
+    // A table in the result is one that has a schema.
     ensures known { IfSome result (λ which. IsTrue (is_some (schema_word which))) }
 {
     match schema {
@@ -68,8 +71,10 @@ pub fn table_of_schema(schema: u32) -> Option<Which>
 
 /// Tests a container that must have this table at its root.
 fn verify_as(alloc: Global, bytes: &[u8], which: Which) -> Result<(), PackageFault>
+    // The error is the first failed test, or out of memory.
     ensures bad { IfErr result (λ fault. IsFaultOf fault
         (container_fault_of_table which bytes.now)) }
+    // On Ok, none of these tests failed.
     ensures sound { IfOk result (λ _. container_fault_of_table which bytes.now ≡ None) }
 {
     match which {
@@ -81,7 +86,9 @@ fn verify_as(alloc: Global, bytes: &[u8], which: Which) -> Result<(), PackageFau
 /// Tests a package, with the contents of its files.
 #[tactic(auto, using(crate::proofs::Steps::files_then, crate::proofs::Steps::values_first))]
 fn verify_package(alloc: Global, bytes: &[u8]) -> Result<(), PackageFault>
+    // The error is the first failed test, or out of memory.
     ensures bad { IfErr result (λ fault. IsFaultOf fault (package_fault bytes.now)) }
+    // On Ok, none of these tests failed.
     ensures sound { IfOk result (λ _. package_fault bytes.now ≡ None) }
 {
     let mut pkg = Package::new(alloc, bytes)?;
@@ -100,9 +107,12 @@ fn check_files(pkg: &mut Package<'_>) -> Result<(), Cause>
 /// Tests a container that is no package, and so has no contents.
 #[tactic(auto, using(crate::proofs::Steps::other_fault))]
 fn verify_other(alloc: Global, bytes: &[u8], which: Which) -> Result<(), PackageFault>
+    // The table is not that of a package.
     requires { which ≢ Tables.Package }
+    // The error is the first failed test, or out of memory.
     ensures bad { IfErr result (λ fault. IsFaultOf fault
         (container_fault_of_table which bytes.now)) }
+    // On Ok, none of these tests failed.
     ensures sound { IfOk result (λ _. container_fault_of_table which bytes.now ≡ None) }
 {
     read_adb(alloc, bytes, which)?;
@@ -203,7 +213,8 @@ pub fn a_package_is_tested_by_its_values_and_then_its_files()
 /// or SHA-512 (FIPS 180-4) its digest.
 pub fn a_package_has_the_contents_of_its_files()
     ensures { (file : List ℕ) → package_fault file ≡ None
-        → MatchEachExpected (expected_files_of_package (package_with_contents file).value)
+        → MatchEachExpectedSizeAndDigest (expected_files_of_package
+        (package_with_contents file).value)
         (package_with_contents file).contents }
 {
     // A law that the proof needs; it has no effect at run time.

@@ -21,12 +21,14 @@ use std::alloc::Global;
 /// by `Values` of `specs/`, the plain value and its bytes.
 #[derive(Clone, Copy)]
 pub struct Contents<'a> {
+    /// The payload of the package's first block.
     adb: Adb<'a>,
+    // All tests of the payload were passed.
     ghost tested: { is_none (payload_fault Tables.Package (payload_of adb)) ≡ true },
 }
 
 impl<'a> Contents<'a> {
-    ghost use Rattle.adb_schema.specs.SoundValues.{KeepsRules};
+    ghost use Rattle.adb_schema.specs.SoundValues.{ObeysFieldRulesOfTable};
     ghost use Rattle.adb_schema.specs.Views.{package_value};
     ghost use Rattle.adb_schema.specs.SoundContainers.{IsSoundValue};
     ghost use Rattle.adb_view.specs.Plain.{IsNormal};
@@ -51,6 +53,7 @@ impl<'a> Contents<'a> {
         // The value and its bytes are those of the front.
         ensures value { IfOk result (λ contents. value_of_contents contents
             ≡ root_value Tables.Package (front_payload front.entry.now)) }
+        // The payload is that of the front.
         ensures payload { IfOk result (λ contents. payload_of_contents contents
             ≡ front_payload front.entry.now) }
     {
@@ -61,9 +64,11 @@ impl<'a> Contents<'a> {
     /// The values of a package in a payload that passes all tests. They are not tested again, and
     /// no memory is allocated.
     pub fn open(payload: &'a [u8]) -> Contents<'a>
+        // The payload passes all tests of a package.
         requires { payload_fault Tables.Package payload.now ≡ None }
         // The value and its bytes are those of the payload.
         ensures value { value_of_contents result ≡ root_value Tables.Package payload.entry.now }
+        // The result has the given payload.
         ensures payload { payload_of_contents result ≡ payload.entry.now }
     {
         // The payload passes all tests, that of its head among them.
@@ -76,7 +81,7 @@ impl<'a> Contents<'a> {
     /// Each text and number of a package obeys the rule of its field: a folder's name is a path,
     /// and so is a file's name after it.
     pub fn values_keep_their_rules(&self)
-        ensures { KeepsRules Tables.Package (value_of_contents self.now) }
+        ensures { ObeysFieldRulesOfTable Tables.Package (value_of_contents self.now) }
     {
         // A law that the proof needs; it has no effect at run time.
         no_text_is_bad_where_each_keeps_its_rule();
@@ -84,6 +89,7 @@ impl<'a> Contents<'a> {
 
     /// The value of a package is sound and normal.
     pub fn values_are_sound(&self)
+        // The value obeys all rules of a package.
         ensures sound { IsSoundValue Tables.Package (value_of_contents self.now) }
         ensures normal { IsNormal (value_of_contents self.now) }
     {
@@ -116,6 +122,7 @@ fn check_payload<'a>(alloc: Global, payload: &'a [u8]) -> Result<Adb<'a>, ReadFa
         (λ fault. IsReadFault fault (payload_fault Tables.Package payload.entry.now)) }
     // If no error is returned, no test of the values fails.
     ensures sound { IfOk result (λ _. payload_fault Tables.Package payload.entry.now ≡ None) }
+    // The result has the given payload.
     ensures payload { IfOk result (λ adb. payload_of adb ≡ payload.entry.now) }
 {
     let adb = Adb::new(payload)?;

@@ -57,6 +57,7 @@ impl<'a> FileCheck<'a> {
     /// `HashDiffers`, after the last piece, if all bytes together do not have the file's digest.
     #[tactic(auto, using(crate::proofs::Taken::more_left, crate::proofs::Taken::last_good, crate::proofs::Taken::last_bad))]
     pub fn take(self, bytes: &[u8]) -> Result<(Part, Option<FileCheck<'a>>), Cause>
+        // The piece has the length that the reader expects next.
         requires { length bytes.now ≡ next_piece_len self }
         // If `so_far` was taken of a file, these bytes are the next piece, and `left` remains.
         ensures taken { (so_far left : List ℕ) (further : PiecesRead) → HasTaken self.entry so_far
@@ -67,6 +68,7 @@ impl<'a> FileCheck<'a> {
             HasTakenOrPassedDigest self.entry.wanted.hash.now (so_far ++ bytes.now) taken.1) }
         // The piece is a part of this file, and its length is subtracted from the rest.
         ensures part { IfOk result (IsPartOfCheckedFile self.entry) }
+        // If the file goes on, so many bytes are left as before, less those of this piece.
         ensures left { IfOk result (λ taken. IfSome taken.1 (λ further.
             file_bytes_left further ≡ file_bytes_left self.entry - length bytes.now)) }
         // Only the last piece ends the file.
@@ -88,10 +90,12 @@ impl<'a> FileCheck<'a> {
                 done,
                 hasher,
             };
+            // This piece is not the last one of the file.
             return Ok((part_of(wanted, false), Some(further)));
         }
         match hasher.fault(wanted.hash) {
             Some(cause) => Err(cause),
+            // This piece is the last one of the file.
             None => Ok((part_of(wanted, true), None)),
         }
     }
@@ -120,8 +124,9 @@ pub fn open_file<'a>(
     len: u64,
     positions: &[u8; POSITIONS_LEN],
 ) -> Result<FileCheck<'a>, Cause>
+    // The payload has at least the two positions of contents.
     requires { POSITIONS_LEN ≤ len }
-    // For each payload of this length that begins with these positions.
+    // The result is right for each payload of this length that begins with these positions.
     ensures opened { (payload : List ℕ) (further : List ExpectedFile → PiecesRead)
         → length payload ≡ len → take POSITIONS_LEN payload ≡ positions.now
         → IsOpenResult (pieces_of_payload payload further (files_left_in_walk walk.old)) payload
@@ -148,6 +153,7 @@ pub fn open_file<'a>(
 /// Why a block of contents does not belong to a file, before its bytes are read: first the
 /// positions are compared, then the size. None if both agree.
 fn position_or_size_fault(found: (u32, u32), size: u64, wanted: Wanted<'_>) -> Option<Cause>
+    // The result is that of the definition for each payload with these positions and this size.
     ensures exact { (payload : List ℕ) → length (contents_bytes payload) ≡ size
         → contents_positions payload ≡ found
         → result ≡ position_or_size_fault payload (expected_of wanted.entry) }

@@ -70,6 +70,7 @@ pub struct Front {
     pub(crate) len: u64,
     /// The offset after the first block and its padding.
     pub(crate) at: u64,
+    // The front is within the file.
     ghost within: { at ≤ len },
 }
 

@@ -25,8 +25,10 @@ use adb_view::{values_are_normal, values_have_their_shape, values_of_few_visits_
 /// package. A failed test of the front is the first of the file. If the front is read, the first
 /// failed test of the file is that of its values.
 pub fn a_front_and_its_values_are_tested_as_a_whole_package()
+    // A failed test of the front is the first of the package.
     ensures front { (file : List ℕ) (cause : Cause) → front_fault PACKAGE_WORD file ≡ Some cause
         → container_fault_except_contents Tables.Package file ≡ Some cause }
+    // If the front is read, the first failed test of its values is the first of the package.
     ensures values { (file : List ℕ) (front : Front) → IsFrontOf PACKAGE_WORD file front
         → container_fault_except_contents Tables.Package file
         ≡ payload_fault Tables.Package (front_payload front) }
@@ -41,8 +43,10 @@ pub fn a_front_holds_the_payload_of_its_file()
 /// A file with a package's front is tested by its values and then by the blocks after them. A
 /// failed test of the front, except for its schema, is the first of the file.
 pub fn a_package_is_tested_by_its_front_and_then_by_its_contents()
+    // A failed test of the front, other than that of the schema, is the first of the file.
     ensures front { (file : List ℕ) (cause : Cause) → front_fault PACKAGE_WORD file ≡ Some cause
         → ((found : ℕ) → cause ≢ WrongSchema found) → container_fault file ≡ Some cause }
+    // If the front is read, the file is tested by its values, and then by its contents.
     ensures contents { (file : List ℕ) (front : Front) → IsFrontOf PACKAGE_WORD file front
         → container_fault file
         ≡ option_or (payload_fault Tables.Package (front_payload front))
@@ -55,8 +59,10 @@ pub fn a_package_is_tested_by_its_front_and_then_by_its_contents()
 /// text and number obeys the rule of its field and no name repeats. If it is read from bytes, it is
 /// normal.
 pub fn tested_payloads_hold_sound_values()
+    // The root of such a payload has a sound value.
     ensures value { (which : Which) (payload : List ℕ) → payload_fault which payload ≡ None
         → IsSoundValue which (root_value which payload) }
+    // If the payload consists of bytes, this value is normal.
     ensures normal { (which : Which) (payload : List ℕ) → payload_fault which payload ≡ None
         → All (λ b. b < 256) payload → IsNormal (root_value which payload) }
 {

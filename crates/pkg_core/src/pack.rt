@@ -69,11 +69,12 @@ pub struct Package<'a> {
     rest: Rest<'a>,
     /// The test that failed, if one did.
     refused: Option<Cause>,
+    // The payload's root is a package.
     ghost table: { table_of_checked checked ≡ Tables.Package },
 }
 
 impl<'a> Package<'a> {
-    ghost use Rattle.adb_schema.specs.SoundValues.{KeepsRules};
+    ghost use Rattle.adb_schema.specs.SoundValues.{ObeysFieldRulesOfTable};
     ghost use Rattle.adb_schema.specs.Views.{package_value};
     ghost use Rattle.pkg_core.specs.Opened.{opened_files, opened_payload, opened_value, IsNextFile};
     ghost use Rattle.pkg_core.specs.Whole.{package_id};
@@ -91,13 +92,17 @@ impl<'a> Package<'a> {
         ensures bad { IfErr result
             (λ fault. IsFaultOf fault
             (container_fault_except_contents Tables.Package bytes.entry.now)) }
+        // On Ok, none of these tests failed.
         ensures sound { IfOk result
             (λ _. container_fault_except_contents Tables.Package bytes.entry.now ≡ None) }
         // It has the value, the id and the contents of the file from which it was read.
         ensures value { IfOk result
             (λ pkg. opened_value pkg ≡ root_value Tables.Package (payload_in bytes.entry.now)) }
+        // The payload is that of the package's first block.
         ensures payload { IfOk result (λ pkg. opened_payload pkg ≡ payload_in bytes.entry.now) }
+        // The id of the package is the SHA-256 digest of its payload.
         ensures id { IfOk result (λ pkg. sha256 (opened_payload pkg) ≡ package_id bytes.entry.now) }
+        // The files that `next_file` will read are those of the package.
         ensures files { IfOk result (λ pkg. opened_files pkg
             ≡ files_read_from_package bytes.entry.now) }
     {
@@ -115,7 +120,7 @@ impl<'a> Package<'a> {
     /// Each text and number of a package obeys the rule of its field: a folder's name is a path,
     /// and so is a file's name after it.
     pub fn values_keep_their_rules(&self)
-        ensures { KeepsRules Tables.Package (opened_value self.now) }
+        ensures { ObeysFieldRulesOfTable Tables.Package (opened_value self.now) }
     {
         // A law that the proof needs; it has no effect at run time.
         self.checked.values_keep_their_rules();
@@ -145,8 +150,11 @@ impl<'a> Package<'a> {
     /// if a file is left (`DataOrder`); another size (`DataSize`); another digest (`HashDiffers`).
     /// After an error the next call returns the same error.
     pub fn next_file(&mut self) -> Result<Option<FileContents<'a>>, Cause>
+        // The result is the next of the files that are left, and the later ones stay left.
         ensures file { IsNextFile (opened_files self.old) result (opened_files self.new) }
+        // The package's value is unchanged.
         ensures value { opened_value self.new ≡ opened_value self.old }
+        // The package's payload is unchanged.
         ensures payload { opened_payload self.new ≡ opened_payload self.old }
     {
         if let Some(cause) = self.refused {
@@ -165,8 +173,10 @@ impl<'a> Package<'a> {
 /// The payload of the first block, and the blocks after it.
 #[tactic(auto, unfolding(adb_schema::specs::Soundness::container_fault_except_contents, adb_schema::specs::Soundness::payload_in, crate::specs::Whole::files_read_from_package))]
 fn first_block<'a>(bytes: &'a [u8]) -> (&'a [u8], Blocks<'a>)
+    // The container passes all tests, apart from those of its contents.
     requires { container_fault_except_contents Tables.Package bytes.now ≡ None }
     ensures payload { result.0.now ≡ payload_in bytes.entry.now }
+    // The files read from the blocks that are left are those of the package.
     ensures files { files_read_from_blocks (expected_files_of_package
         (root_value Tables.Package result.0.now))
         (block_stream_from result.1) ≡ files_read_from_package bytes.entry.now }

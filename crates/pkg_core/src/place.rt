@@ -57,16 +57,17 @@ impl<'a> BlockPlace<'a> {
         requires at { self.old.at ≤ self.old.len }
         // The block ends within the file.
         requires fits { IfSome framing (λ frame. raw_size frame ≤ self.old.len - self.old.at) }
-        // For each file of this length with this block there.
+        // The step is right for each file of this length with this block there.
         ensures step { (file : List ℕ) → length file ≡ self.old.len
             → IsFrameOrEndOfStep (Ok framing) (drop self.old.at file) (block_step_at self.old file)
             → HasPositions framing positions.now self.old file
             → IsStepResult framing self.old file result self.new }
-        // A reader follows the block then, unless a test failed.
+        // The length of the file is unchanged.
         ensures len { self.new.len ≡ self.old.len }
         // The new place is after the block and its padding.
         ensures behind { IfSome framing (λ frame. OnOk result (self.new.at
             ≡ self.old.at + whole_size frame (self.old.len - self.old.at))) }
+        // The place is still within the file.
         ensures within { self.new.at ≤ self.new.len }
         // All bytes of an opened file are still to be taken. Only contents open a file, which is
         // the next of the walk. `End` is returned only if no block is left.
@@ -86,9 +87,10 @@ impl<'a> BlockPlace<'a> {
     /// `step`.
     #[tactic(auto, using(crate::proofs::Placed::end_good, crate::proofs::Placed::end_bad))]
     fn end(&mut self) -> Result<Step<'a>, Cause>
-        // For each file in which no block is left at the place.
+        // The step is right for each file in which no block is left at the place.
         ensures step { (file : List ℕ) → block_step_at self.old file ≡ ended
             → IsStepResult None self.old file result self.new }
+        // The length of the file is unchanged.
         ensures len { self.new.len ≡ self.old.len }
         ensures at { self.new.at ≡ self.old.at }
         // The walk advances over an opened file; at the end no file is expected.
@@ -112,16 +114,18 @@ impl<'a> BlockPlace<'a> {
         requires at { self.old.at ≤ self.old.len }
         // The block ends within the file.
         requires fits { raw_size frame ≤ self.old.len - self.old.at }
-        // For each file of this length with this block there.
+        // The step is right for each file of this length with this block there.
         ensures step { (file : List ℕ) → length file ≡ self.old.len
             → IsFrameOrEndOfStep (Ok (Some frame)) (drop self.old.at file)
             (block_step_at self.old file)
             → HasPositions (Some frame) positions.now self.old file
             → IsStepResult (Some frame) self.old file result self.new }
+        // The length of the file is unchanged.
         ensures len { self.new.len ≡ self.old.len }
         // The new place is after the block and its padding.
         ensures behind { OnOk result (self.new.at
             ≡ self.old.at + whole_size frame (self.old.len - self.old.at)) }
+        // The place is still within the file.
         ensures within { self.new.at ≤ self.new.len }
         ensures left { IfOk result (HasWholeFileLeft frame) }
         ensures kind { IfOk result (OpensOnlyContents frame) }
@@ -143,17 +147,20 @@ impl<'a> BlockPlace<'a> {
         requires at { self.old.at ≤ self.old.len }
         // The block ends within the file.
         requires fits { raw_size frame ≤ self.old.len - self.old.at }
+        // The block is one of contents.
         requires kind { frame.kind ≡ Kinds.Contents }
-        // For each file of this length with this block there.
+        // The step is right for each file of this length with this block there.
         ensures step { (file : List ℕ) → length file ≡ self.old.len
             → IsFrameOrEndOfStep (Ok (Some frame)) (drop self.old.at file)
             (block_step_at self.old file)
             → HasPositions (Some frame) positions.now self.old file
             → IsStepResult (Some frame) self.old file result self.new }
+        // The length of the file is unchanged.
         ensures len { self.new.len ≡ self.old.len }
         // The new place is after the block and its padding.
         ensures behind { OnOk result (self.new.at
             ≡ self.old.at + whole_size frame (self.old.len - self.old.at)) }
+        // The place is still within the file.
         ensures within { self.new.at ≤ self.new.len }
         ensures left { IfOk result (HasWholeFileLeft frame) }
         ensures kind { IfOk result (OpensOnlyContents frame) }

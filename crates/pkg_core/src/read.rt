@@ -4,7 +4,7 @@
 ghost use Rattle.std.specs.Prelude.{◌≡◌, ◌≤◌, ◌+◌, ◌-◌, ℕ, List, Option, None, true, length, min, take, IfOk, IfErr, IfSome};
 ghost use Rattle.adb_block.specs.Framing.{next_step};
 ghost use Rattle.adb_block.specs.Frames.{IsHeadPrefix, IsFrameOfStep, head_len, raw_size};
-ghost use Rattle.adb_block.specs.Header.{header_of};
+ghost use Rattle.adb_block.specs.Header.{schema_of_header};
 ghost use Rattle.adb_block.specs.Piece.{may_be_next_kind, padding_of};
 ghost use Rattle.base_core.specs.Calls.{IfObservable};
 ghost use Rattle.base_core.specs.Read.{OnlyReads};
@@ -81,6 +81,7 @@ impl Header {
     /// Reads the first bytes of a file of this length.
     #[tactic(auto, using(crate::proofs::SeenBytes::seen_by_read, crate::proofs::SeenBytes::proper_where_long))]
     fn read<T: Tree>(tree: &mut T, name: &Name, len: u64) -> Result<Header, FrontFault>
+        // At most 8 bytes are read, or as many as the file has.
         ensures len { IfOk result (λ header. length header ≡ min len 8) }
         // These are the first bytes of the file.
         ensures seen { IfOk result (λ header. (file_len : ℕ)
@@ -100,7 +101,7 @@ impl Header {
 
     /// The schema in the header, or the first failed test.
     fn schema(&self) -> Result<u32, Cause>
-        ensures { result ≡ header_of self.now }
+        ensures { result ≡ schema_of_header self.now }
     {
         let blocks = Blocks::new(&self.bytes[..self.len])?;
         Ok(blocks.schema())
@@ -116,6 +117,7 @@ fn read_payload<T: Tree>(
     at: u64,
     len: u64,
 ) -> Result<Vec<u8>, FrontFault>
+    // On Ok, the result has this many bytes.
     ensures len { IfOk result (λ payload. length payload.items ≡ len) }
     // These bytes were read at this offset of the file.
     ensures seen { IfOk result (λ payload. (file_len : ℕ)
@@ -142,7 +144,7 @@ fn read_present<T: Tree>(
     schema: u32,
 ) -> Result<Front, FrontFault>
     ensures len { IfOk result (λ front. front.len ≡ len) }
-    // For each file of this length that has the bytes that were read.
+    // The result is right for each file of this length that has the bytes that were read.
     ensures front { (seen : List ℕ) × IsSeenIn (T.history tree.old) name.now len 0 seen
         × ((file : List ℕ) → length file ≡ len → HasBytesAtOffset file 0 seen
         → IsFrontReadOfFile schema result (length seen) file) }

@@ -83,6 +83,8 @@ impl<'a> Walk<'a> {
         requires { self.old.folder + 1 < 2 ^ 32 }
         ensures folders { self.new.folders ≡ self.old.folders }
         ensures folder { self.new.folder ≡ self.old.folder }
+        // The file that is returned is the first that is left in the folder, and the later ones
+        // stay left.
         ensures taken { TakesFirstExpected (expected_files_of_folder (self.old.folder + 1)
             (self.old.file + 1)
             (drop self.old.file (list_of (entries_in (list_value files.entry))))) result
@@ -215,7 +217,9 @@ impl<'a> Walk<'a> {
 
     /// Ends the walk at the end of the blocks; then no file may be left.
     pub fn end(&mut self) -> Result<(), Cause>
+        // An error says that the contents of a file are missing.
         ensures exact { result_err result ≡ missing_contents_fault (files_left_in_walk self.old) }
+        // On Ok, no file is left.
         ensures end { IfOk result (λ _. files_left_in_walk self.new ≡ []) }
     {
         match self.next() {
@@ -255,6 +259,7 @@ impl<'a> Walk<'a> {
 /// Why contents are not those of a file, if they are not: first the positions are compared, then
 /// the size, then the digest.
 fn contents_fault_for_expected_file(payload: &[u8], wanted: Wanted<'_>) -> Option<Cause>
+    // The payload has at least the two positions of contents.
     requires { POSITIONS_LEN ≤ length payload.now }
     ensures { result ≡ contents_fault_for_expected_file payload.now (expected_of wanted.entry) }
 {

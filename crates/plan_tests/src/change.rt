@@ -1,6 +1,6 @@
-//! Changes of packages, from the words of rows, and the plans of their files. How a row tells a
-//! package is in `tests/lines.md`; the rules of plans in `docs/commands.md`,
-//! "What a change does with files".
+//! Changes of packages, from the words of rows, and the plans of their files. `tests/lines.md`
+//! describes how a row writes a package; the rules of plans are in `docs/commands.md`, "What a
+//! change does with files".
 use crate::answer::{add_fault, add_files};
 use crate::package::{database_file, package_file};
 use adb_schema::ReadFault;
@@ -15,18 +15,20 @@ use std::alloc::{AllocError, Global};
 use std::marker::PhantomData;
 use tree_memory::MemoryTree;
 
-/// The packages before a change and after it, each as its row tells it.
+/// A change that rows describe: the packages before it and after it.
 #[derive(Drop)]
 pub struct ToldChange {
-    /// The packages before, a row each.
+    /// The installed packages before the change, each as the words of its row.
     pub before: Vec<Words>,
-    /// The packages after, a row each.
+    /// The packages after the change, each as the words of its row (`stays` or `comes`).
     pub after: Vec<Words>,
-    /// Whether changed configuration goes with its package.
+    /// Whether configuration files that the user changed are removed with their package
+    /// (`--purge`).
     pub purge: bool,
 }
 
-/// Adds the plan of a change. The database after it goes out; no bytes if there is none.
+/// Adds the plan of a change, or why it has none. Returns the file of the database after the
+/// change, with no bytes if there is no plan.
 pub(crate) fn add_plan(
     alloc: Global,
     tree: &mut MemoryTree,
@@ -38,7 +40,8 @@ pub(crate) fn add_plan(
     add_plan_over(alloc, tree, change, &file, &fronts, answer)
 }
 
-/// Adds the plan over the file of a database and the fronts of the added packages.
+/// Adds the plan for the installed database in `file` and the fronts (headers and first blocks) of
+/// the added packages.
 fn add_plan_over<'a>(
     alloc: Global,
     tree: &mut MemoryTree,
@@ -57,8 +60,8 @@ fn add_plan_over<'a>(
     }
 }
 
-/// Adds the plan over a database, and gives the database that is written then; an empty one, where
-/// there is no plan.
+/// Adds the plan for the installed database `db`. Returns the file of the database after the
+/// change, with no bytes if there is no plan.
 fn add_plan_of<'a>(
     alloc: Global,
     tree: &mut MemoryTree,
@@ -83,7 +86,7 @@ fn add_plan_of<'a>(
     }
 }
 
-/// The database after a change; no bytes where it would be too large.
+/// The file of the database after a change; no bytes if it cannot be written.
 fn database_after(
     alloc: Global,
     members: &Members<'_>,
@@ -97,16 +100,16 @@ fn database_after(
 
 // ---- the added packages
 
-/// Whether the package of a row stays.
-fn is_file_kept(row: &Words) -> bool {
+/// Whether the change keeps the installed package that the row names (`stays`).
+fn is_package_kept(row: &Words) -> bool {
     word_at(row, 0) == b"stays".as_slice()
 }
 
-/// The fronts of the added packages.
+/// The fronts (headers and first blocks) of the added packages; a bad package has none.
 fn fronts_of(alloc: Global, rows: &[Words]) -> Result<Vec<Front>, AllocError> {
     let mut fronts = Vec::new(alloc);
     for row in rows {
-        if !is_file_kept(row) {
+        if !is_package_kept(row) {
             let file = package_file(alloc, row)?;
             if let Some(front) = front_of(alloc, &file)? {
                 fronts.push(front)?;
@@ -118,8 +121,8 @@ fn fronts_of(alloc: Global, rows: &[Words]) -> Result<Vec<Front>, AllocError> {
 
 // ---- the packages after the change
 
-/// The packages after a change, of which those that come have these fronts. None: one is bad,
-/// absent or not in order.
+/// The packages after a change, of which the added ones have these fronts. None if a package is
+/// bad, absent or not in the order of names.
 fn members_of<'a>(
     alloc: Global,
     db: &'a Db<'a>,
@@ -127,12 +130,12 @@ fn members_of<'a>(
     fronts: &'a [Front],
 ) -> Result<Option<Members<'a>>, AllocError> {
     let mut members = Members::new(alloc, db);
-    let mut left = fronts.iter();
+    let mut fronts_left = fronts.iter();
     for row in rows {
-        let added = if is_file_kept(row) {
+        let added = if is_package_kept(row) {
             add_named(&mut members, db, word_at(row, 1))?
         } else {
-            add_next(alloc, &mut members, left.next())?
+            add_next(alloc, &mut members, fronts_left.next())?
         };
         if !added {
             return Ok(None);
@@ -141,9 +144,11 @@ fn members_of<'a>(
     Ok(Some(members))
 }
 
-/// Adds the package of the database with this name, unless there is none or it is not in order.
+/// Adds the installed package with this name to the packages after the change. False if there is
+/// none, or it is not in the order of names.
 fn add_named<'a>(members: &mut Members<'a>, db: &Db<'a>, name: &[u8]) -> Result<bool, AllocError> {
     for i in 0..db.len() {
+        // `PhantomData` serves the borrow checker alone.
         if name_at(db, i, PhantomData) == name {
             return add_installed(members, i);
         }
@@ -151,7 +156,8 @@ fn add_named<'a>(members: &mut Members<'a>, db: &Db<'a>, name: &[u8]) -> Result<
     Ok(false)
 }
 
-/// Adds the package with this front, unless there is none, or it is bad or not in order.
+/// Adds the added package with this front to the packages after the change. False if there is no
+/// front, or the package is bad or not in the order of names.
 fn add_next<'a>(
     alloc: Global,
     members: &mut Members<'a>,

@@ -19,37 +19,38 @@ use std::io;
 use std::process::ExitCode;
 use tree_memory::MemoryTree;
 
-/// What is asked; the README of this crate says what each question answers.
+/// The questions of rows; the README of this crate says what each question answers.
 #[derive(Clone, Copy)]
 enum Question {
-    /// `new`.
+    /// `new`: all packages and files of earlier rows are forgotten.
     New,
-    /// `installed NAME VERSION PRIORITY FILES REPLACES ..`.
+    /// `installed NAME VERSION PRIORITY FILES REPLACES ..`: a package before the change.
     Installed,
-    /// `stays NAME`, `comes NAME VERSION PRIORITY FILES REPLACES ..`.
-    After,
-    /// `file PATH BYTES`.
-    Tree,
-    /// `fail_at N`.
+    /// A package after the change, kept or added: `stays NAME`,
+    /// `comes NAME VERSION PRIORITY FILES REPLACES ..`.
+    PackageAfter,
+    /// `file PATH BYTES`: a file is put into the tree.
+    File,
+    /// `fail_at N`: call number N on the tree will fail.
     Fail,
-    /// `plan`.
+    /// `plan`: the plan of the change.
     Plan,
-    /// `purge`.
+    /// `purge`: the plan of the change with `--purge`.
     Purge,
-    /// `calls N`.
+    /// `calls N`: whether the last plan made at most N calls on the tree.
     Calls,
-    /// `owner PATH`.
+    /// `owner PATH`: the package that lists PATH in the database after the last plan.
     Owner,
 }
 
-// The words that questions begin with.
+// The first word of each question.
 #[rattlefmt::skip]
 const QUESTIONS: [(&[u8], Question); 10] = [
     (b"new", Question::New),
     (b"installed", Question::Installed),
-    (b"stays", Question::After),
-    (b"comes", Question::After),
-    (b"file", Question::Tree),
+    (b"stays", Question::PackageAfter),
+    (b"comes", Question::PackageAfter),
+    (b"file", Question::File),
     (b"fail_at", Question::Fail),
     (b"plan", Question::Plan),
     (b"purge", Question::Purge),
@@ -57,21 +58,21 @@ const QUESTIONS: [(&[u8], Question); 10] = [
     (b"owner", Question::Owner),
 ];
 
-/// What rows have told, and what the last plan came to.
+/// The change and the tree that earlier rows describe, and the results of the last plan.
 #[derive(Drop)]
 struct Planned {
-    /// The change that rows have told so far.
+    /// The change that earlier rows describe.
     change: ToldChange,
-    /// The tree, with the files that rows have put there.
+    /// The tree, with the files that earlier rows have put there.
     tree: MemoryTree,
-    /// How many calls of the tree the last plan made.
-    asked: u64,
-    /// The database after the change of the last plan.
+    /// How many calls on the tree the last plan made.
+    calls_of_plan: u64,
+    /// The file of the database after the change of the last plan; no bytes if it had no plan.
     database: Vec<u8>,
 }
 
 impl Planned {
-    /// No package is told, and no file is in the tree.
+    /// No packages, an empty tree, and no plan so far.
     fn new(alloc: Global) -> Planned {
         Planned {
             change: ToldChange {
@@ -80,30 +81,31 @@ impl Planned {
                 purge: false,
             },
             tree: MemoryTree::new(alloc),
-            asked: 0,
+            calls_of_plan: 0,
             database: Vec::new(alloc),
         }
     }
 
-    /// Plans the change, and adds the plan.
+    /// Adds the plan of the change, or why it has none. With `purge`, changed configuration files
+    /// are removed with their package.
     fn plan(&mut self, alloc: Global, purge: bool, answer: &mut Vec<u8>) -> Result<(), AllocError> {
         self.change.purge = purge;
-        let before = self.tree.calls();
+        let calls_before = self.tree.calls();
         self.database = add_plan(alloc, &mut self.tree, &self.change, answer)?;
-        self.asked = self.tree.calls().saturating_sub(before);
+        self.calls_of_plan = self.tree.calls().saturating_sub(calls_before);
         Ok(())
     }
 
-    /// Adds whether the last plan asked the tree at most so often.
+    /// Answers `calls N`: adds whether the last plan made at most N calls on the tree.
     fn add_calls(&self, words: &Words, answer: &mut Vec<u8>) -> Result<(), AllocError> {
         let most = number_of(word_at(words, 1)).unwrap_or(0);
-        add_yes_or_no(answer, u128::from(self.asked) <= most)
+        add_yes_or_no(answer, u128::from(self.calls_of_plan) <= most)
     }
 }
 
 impl Subject for Planned {
-    /// Answers a question by its first word. Packages and files are told in rows before the one
-    /// that asks.
+    /// Answers a question by its first word. Earlier rows describe the packages and files of a
+    /// plan.
     fn answer(
         &mut self,
         alloc: Global,
@@ -119,16 +121,20 @@ impl Subject for Planned {
                 Ok(())
             }
             Question::Installed => {
+                // All words of the row.
                 self.change.before.push(words_behind(alloc, words, 0)?)?;
                 Ok(())
             }
-            Question::After => {
+            Question::PackageAfter => {
+                // All words of the row.
                 self.change.after.push(words_behind(alloc, words, 0)?)?;
                 Ok(())
             }
-            Question::Tree => put_file(alloc, &mut self.tree, words, answer),
+            Question::File => put_file(alloc, &mut self.tree, words, answer),
             Question::Fail => fail_at(alloc, &mut self.tree, words),
+            // Without `--purge`.
             Question::Plan => self.plan(alloc, false, answer),
+            // With `--purge`.
             Question::Purge => self.plan(alloc, true, answer),
             Question::Calls => self.add_calls(words, answer),
             Question::Owner => add_owner(alloc, &self.database, word_at(words, 1), answer),
@@ -136,7 +142,7 @@ impl Subject for Planned {
     }
 }
 
-/// Puts a file into the tree, and says so if that is not allowed.
+/// Answers `file PATH BYTES`: puts a file into the tree, or adds why that is not allowed.
 fn put_file(
     alloc: Global,
     tree: &mut MemoryTree,
@@ -152,7 +158,7 @@ fn put_file(
     tree.put(&name, word_at(words, 2))
 }
 
-/// Lets one of the calls that come fail.
+/// Answers `fail_at N`: lets the call number N from now on fail.
 fn fail_at(alloc: Global, tree: &mut MemoryTree, words: &Words) -> Result<(), AllocError> {
     let number = number_of(word_at(words, 1)).unwrap_or(0);
     let call = u64::try_from(number).unwrap_or(0);
@@ -161,7 +167,8 @@ fn fail_at(alloc: Global, tree: &mut MemoryTree, words: &Words) -> Result<(), Al
     tree.fail_at(&calls)
 }
 
-/// Adds the name of the package that lists a path in the database of a file.
+/// Answers `owner PATH`: adds the name of the package that lists PATH in the database with these
+/// bytes.
 fn add_owner(
     alloc: Global,
     file: &[u8],
@@ -173,7 +180,7 @@ fn add_owner(
     };
     match Db::read(alloc, file) {
         Ok(db) => match db.owner_of(&path) {
-            Some(place) => answer.extend_from_slice(db.package(place).info().name()),
+            Some(index) => answer.extend_from_slice(db.package(index).info().name()),
             None => answer.extend_from_slice(b"none"),
         },
         Err(ReadFault::Bad(_)) => answer.extend_from_slice(b"bad"),

@@ -1,6 +1,6 @@
-//! Packages and databases, from the words of rows. How a row writes them is in
-//! `tests/lines.md`; the fields in `docs/formats.md`, "Schemas". They count from 1, the
-//! places here from 0.
+//! Containers of packages and of databases, from the words of rows. `tests/lines.md` describes how
+//! a row writes a package; the fields are in `docs/formats.md`, "Schemas". Fields count from 1
+//! there, and from 0 here.
 
 use adb_schema::{IDB_WORD, PACKAGE_WORD};
 use adb_view::Val;
@@ -21,29 +21,29 @@ const INFO_FIELDS: usize = 17;
 /// How many fields of a file are written (table 4): those up to its target.
 const FILE_FIELDS: usize = 6;
 
-/// The place of a file's size, counted from 0.
+/// The index of the size among the fields of a file, counted from 0.
 const SIZE: usize = 2;
 
-/// The place of a file's digest, counted from 0.
+/// The index of the digest among the fields of a file, counted from 0.
 const HASHES: usize = 4;
 
-/// The place of a link's target, counted from 0.
+/// The index of a link's target among the fields of a file, counted from 0.
 const TARGET: usize = 5;
 
-/// What is before the text of a link's target (`docs/formats.md`, "The texts", field 406).
+/// The bytes before the text of a link's target (`docs/formats.md`, "The texts", field 406).
 const LINK: &[u8] = b"\x00\xa0";
 
-/// What may be between a path and what is said of its file.
+/// The marks that may follow a path; after one of them the row describes the file.
 const MARKS: &[u8] = b"=#:>";
 
-/// The container of the package of a row, without contents.
+/// The container of the package that a row describes, without the contents of its files.
 pub(crate) fn package_file(alloc: Global, row: &Words) -> Result<Vec<u8>, AllocError> {
     let mut writer = Writer::new(alloc);
     let root = write_package(alloc, &mut writer, row)?;
     container(alloc, writer, root, PACKAGE_WORD)
 }
 
-/// The container of the database with the packages of these rows.
+/// The container of a database with the packages that these rows describe.
 pub(crate) fn database_file(alloc: Global, rows: &[Words]) -> Result<Vec<u8>, AllocError> {
     let mut writer = Writer::new(alloc);
     let mut packages = Vec::new(alloc);
@@ -56,7 +56,8 @@ pub(crate) fn database_file(alloc: Global, rows: &[Words]) -> Result<Vec<u8>, Al
     container(alloc, writer, root, IDB_WORD)
 }
 
-/// The container of a root; one too large for a container counts as out of memory.
+/// The container with this root value and schema. A payload that is too large counts as out of
+/// memory.
 fn container(alloc: Global, writer: Writer, root: Val, schema: u32) -> Result<Vec<u8>, AllocError> {
     let Ok(payload) = writer.finish(root) else {
         return Err(AllocError);
@@ -78,6 +79,7 @@ fn write_package(alloc: Global, writer: &mut Writer, row: &Words) -> Result<Val,
     let info = writer.obj(&info)?;
     let priority = write_number(writer, number_in(word_at(row, 3)))?;
     let folders = write_folders(alloc, writer, word_at(row, 4))?;
+    // The word 0 is null: no scripts, and no triggers.
     let fields = [info, folders, Val::of(0), Val::of(0), priority];
     writer.obj(&fields)
 }
@@ -87,7 +89,7 @@ fn number_in(word: &[u8]) -> u64 {
     u64::try_from(number_of(word).unwrap_or(0)).unwrap_or(0)
 }
 
-/// Writes a number; nothing denotes 0.
+/// Writes a number; 0 is written as null.
 fn write_number(writer: &mut Writer, number: u64) -> Result<Val, AllocError> {
     if number == 0 {
         return Ok(Val::of(0));
@@ -115,58 +117,60 @@ fn write_replaced(writer: &mut Writer, word: &[u8]) -> Result<Val, AllocError> {
     writer.obj(&fields)
 }
 
-/// Folders that are written, and the files of the one that comes next.
+/// The folders that are written so far, and the files of the folder that is written next.
 #[derive(Drop)]
 struct Folders {
-    /// The folders that are written.
+    /// The words of the folders that are written so far.
     written: Vec<Val>,
-    /// The files of the folder that comes next.
+    /// The words of the files of the folder that is written next.
     files: Vec<Val>,
 }
 
-/// Writes folders with their files. Files of one folder that stand side by side share it.
+/// Writes folders with their files. Neighbours in the list that have the same folder share it.
 fn write_folders(alloc: Global, writer: &mut Writer, files: &[u8]) -> Result<Val, AllocError> {
     let mut folders = Folders {
         written: Vec::new(alloc),
         files: Vec::new(alloc),
     };
-    let mut above: Option<&[u8]> = None;
+    // The folder of the file before in the list.
+    let mut previous: Option<&[u8]> = None;
     for file in files.split(|byte| *byte == b',') {
         let (path, _) = listed_parts(file);
         let (folder, _) = parted_last(path);
-        if above != Some(folder) {
-            folders.end(writer, above)?;
+        if previous != Some(folder) {
+            folders.end(writer, previous)?;
         }
         folders.add(alloc, writer, file)?;
-        above = Some(folder);
+        previous = Some(folder);
     }
     if files.is_empty() {
         return Ok(Val::of(0));
     }
-    folders.end(writer, above)?;
+    folders.end(writer, previous)?;
     writer.arr(&folders.written)
 }
 
 impl Folders {
     /// Adds a file. A path that ends in a slash is a folder without files.
     fn add(&mut self, alloc: Global, writer: &mut Writer, file: &[u8]) -> Result<(), AllocError> {
-        let (path, said) = listed_parts(file);
+        let (path, description) = listed_parts(file);
         let (_, name) = parted_last(path);
         if name.is_empty() {
             return Ok(());
         }
-        let file = write_file(alloc, writer, name, said)?;
+        let file = write_file(alloc, writer, name, description)?;
         self.files.push(file)?;
         Ok(())
     }
 
-    /// Ends a folder, if there is one.
+    /// Writes the folder with the files that were collected for it, if there is one.
     fn end(&mut self, writer: &mut Writer, folder: Option<&[u8]>) -> Result<(), AllocError> {
         let Some(name) = folder else {
             return Ok(());
         };
         let name = writer.blob(name)?;
         let files = writer.arr(&self.files)?;
+        // The word 0 is null: no access list.
         let fields = [name, Val::of(0), files];
         let written = writer.obj(&fields)?;
         self.written.push(written)?;
@@ -175,17 +179,17 @@ impl Folders {
     }
 }
 
-/// Writes a file with what is said of it: `=BYTES` with their SHA-256, `#BYTES` with their SHA-1,
-/// `:SIZE` without a digest, `>TEXT` as a link; an empty file where nothing is said.
+/// Writes a file as the row describes it after the path: `=BYTES` with their SHA-256, `#BYTES` with
+/// their SHA-1, `:SIZE` without a digest, `>TEXT` as a link; else an empty file.
 fn write_file(
     alloc: Global,
     writer: &mut Writer,
     name: &[u8],
-    said: &[u8],
+    description: &[u8],
 ) -> Result<Val, AllocError> {
     let mut fields = [Val::of(0); FILE_FIELDS];
     fields[0] = writer.blob(name)?;
-    match said {
+    match description {
         [b'=', bytes @ ..] => {
             fields[SIZE] = write_number(writer, bytes.len() as u64)?;
             fields[HASHES] = writer.blob(&Sha256::digest(bytes))?;
@@ -208,7 +212,7 @@ fn write_target(alloc: Global, writer: &mut Writer, text: &[u8]) -> Result<Val, 
     writer.blob(&target)
 }
 
-/// A path, and what is said of its file, from the mark on.
+/// Splits an entry of the list of files into its path, and the rest from a mark (`MARKS`) on.
 fn listed_parts(file: &[u8]) -> (&[u8], &[u8]) {
     match file.iter().position(|byte| MARKS.contains(byte)) {
         Some(i) if i < file.len() => (&file[..i], &file[i..]),
@@ -216,7 +220,7 @@ fn listed_parts(file: &[u8]) -> (&[u8], &[u8]) {
     }
 }
 
-/// What is before the first byte of this kind, and what after it.
+/// The text before the first byte `mark`, and the text after it. Without `mark`, all and nothing.
 fn parted(text: &[u8], mark: u8) -> (&[u8], &[u8]) {
     match text.iter().position(|byte| *byte == mark) {
         Some(i) if i < text.len() => (&text[..i], &text[i + 1..]),
@@ -224,7 +228,7 @@ fn parted(text: &[u8], mark: u8) -> (&[u8], &[u8]) {
     }
 }
 
-/// The folder and the name of a path.
+/// The folder of a path, and the name after its last slash.
 fn parted_last(path: &[u8]) -> (&[u8], &[u8]) {
     match path.iter().rposition(|byte| *byte == b'/') {
         Some(i) if i < path.len() => (&path[..i], &path[i + 1..]),

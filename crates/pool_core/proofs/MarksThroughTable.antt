@@ -11,7 +11,7 @@ use Rattle.std.proofs.lemmas.Bool.{cases_Bool}
 use Rattle.dep_core.specs.Dependency.{Dependency}
 use Rattle.pool_core.specs.declared.marks.Effect.{Effect}
 use Rattle.pool_core.specs.declared.marks.Effect.TheVariants.{Bar, Pin}
-use Rattle.option_ranks.specs.candidate_core.Candidates.{Candidate, is_allowed, is_barred_by, offers_name}
+use Rattle.option_ranks.specs.candidate_core.Candidates.{Candidate, is_allowed_by_tags_of_world, is_barred_by_world, offers_name}
 use Rattle.pool_core.specs.Marks.{affects, is_affected, with_mark_set_at, with_marks_set}
 use Rattle.option_ranks.specs.candidate_core.Options.{places_passing_from}
 use Rattle.option_ranks.specs.candidate_core.Rank.{is_pinned, is_name_pinned_to_tag}
@@ -146,10 +146,10 @@ opposite allowed excluded (c ∷ cs) =
     ap (λ (b : Bool). b ∷ map not (map (λ (c : Candidate). not (allowed c) || excluded c) cs)) (not_or (allowed c) (excluded c))
     ∙ ap (λ (z : List Bool). (allowed c && not (excluded c)) ∷ z) (opposite allowed excluded cs)
 
-pub eligible_by_marks : (tagged conflicts : List Dependency) (cs : List Candidate) (barred marked : List Bool) → barred ≡ map (λ (c : Candidate). not (is_allowed tagged c)) cs → marked ≡ with_marks_set (is_affected Bar conflicts) barred cs → map not marked ≡ map (λ (c : Candidate). is_allowed tagged c && not (is_barred_by conflicts c)) cs
+pub eligible_by_marks : (tagged conflicts : List Dependency) (cs : List Candidate) (barred marked : List Bool) → barred ≡ map (λ (c : Candidate). not (is_allowed_by_tags_of_world tagged c)) cs → marked ≡ with_marks_set (is_affected Bar conflicts) barred cs → map not marked ≡ map (λ (c : Candidate). is_allowed_by_tags_of_world tagged c && not (is_barred_by_world conflicts c)) cs
 eligible_by_marks tagged conflicts cs barred marked start is =
-    ap (map not) (is ∙ (ap (λ (ms : List Bool). with_marks_set (is_affected Bar conflicts) ms cs) start ∙ with_marks_set-map (is_affected Bar conflicts) (λ (c : Candidate). not (is_allowed tagged c)) cs))
-    ∙ opposite (is_allowed tagged) (is_barred_by conflicts) cs
+    ap (map not) (is ∙ (ap (λ (ms : List Bool). with_marks_set (is_affected Bar conflicts) ms cs) start ∙ with_marks_set-map (is_affected Bar conflicts) (λ (c : Candidate). not (is_allowed_by_tags_of_world tagged c)) cs))
+    ∙ opposite (is_allowed_by_tags_of_world tagged) (is_barred_by_world conflicts) cs
 
 no_pin : (ds : List Dependency) → list_any (λ (d : Dependency). false) ds ≡ false
 no_pin [] = refl

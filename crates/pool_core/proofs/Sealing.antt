@@ -8,7 +8,7 @@ use Rattle.std.proofs.lemmas.Bool.{cases_Bool}
 use Rattle.base_core.proofs.Booleans.{both_second, both_first}
 use Rattle.dep_core.specs.Dependency.{Dependency}
 use Rattle.pool_core.specs.declared.world_marks.EntryKind.TheVariants.{Conflict, Tagged}
-use Rattle.option_ranks.specs.candidate_core.Candidates.{Candidate, has_usable_install_if, is_allowed, is_eligible, is_barred_by, meets_dependency, uses_tag}
+use Rattle.option_ranks.specs.candidate_core.Candidates.{Candidate, has_usable_install_if, is_allowed_by_tags_of_world, is_eligible, is_barred_by_world, meets_dependency, is_tag_used_in_world}
 use Rattle.option_ranks.specs.candidate_core.Options.{places_passing_from}
 use Rattle.option_ranks.specs.candidate_core.Rank.{is_pinned, is_name_pinned_to_tag}
 use Rattle.option_ranks.specs.candidate_core.PositiveInstallIfs.{has_positive_install_if, places_marked_with_install_if}
@@ -28,15 +28,15 @@ tag_there : (tag : List ℕ) (o : Option (List ℕ)) → option_map_or (bytes_eq
 tag_there tag None h = absurd (cc)
 tag_there tag (Some t) h = refl
 
-uses_tag-tagged : (world : List Dependency) (tag : List ℕ) → uses_tag (entries_of_kind Tagged world) tag ≡ uses_tag world tag
-uses_tag-tagged world tag = any_filter (λ (d : Dependency). option_map_or (bytes_eq tag) d.tag false) (is_entry_of_kind Tagged) world (λ d h. tag_there tag d.tag h)
+is_tag_used_in_world-tagged : (world : List Dependency) (tag : List ℕ) → is_tag_used_in_world (entries_of_kind Tagged world) tag ≡ is_tag_used_in_world world tag
+is_tag_used_in_world-tagged world tag = any_filter (λ (d : Dependency). option_map_or (bytes_eq tag) d.tag false) (is_entry_of_kind Tagged) world (λ d h. tag_there tag d.tag h)
 
 pinned_to-tagged : (world : List Dependency) (name tag : List ℕ) → is_name_pinned_to_tag (entries_of_kind Tagged world) name tag ≡ is_name_pinned_to_tag world name tag
 pinned_to-tagged world name tag =
     any_filter (λ (d : Dependency). bytes_eq name d.name && option_map_or (bytes_eq tag) d.tag false) (is_entry_of_kind Tagged) world
     (λ d h. tag_there tag d.tag (both_second (bytes_eq name d.name) (option_map_or (bytes_eq tag) d.tag false) h))
 
-barred-conflicts : (world : List Dependency) (c : Candidate) → is_barred_by (entries_of_kind Conflict world) c ≡ is_barred_by world c
+barred-conflicts : (world : List Dependency) (c : Candidate) → is_barred_by_world (entries_of_kind Conflict world) c ≡ is_barred_by_world world c
 barred-conflicts world c =
     any_filter (λ (d : Dependency). d.conflict && meets_dependency d c) (is_entry_of_kind Conflict) world
     (λ d h. both_first d.conflict (meets_dependency d c) h)
@@ -45,11 +45,11 @@ tag_or : (o : Option (List ℕ)) (p q : List ℕ → Bool) (d : Bool) → ((t : 
 tag_or None p q d same = refl
 tag_or (Some t) p q d same = same t
 
-allowed-tagged : (world : List Dependency) (c : Candidate) → is_allowed (entries_of_kind Tagged world) c ≡ is_allowed world c
-allowed-tagged world c = ap (λ (b : Bool). c.installed || (not (is_some c.repository) || b)) (tag_or c.tag (uses_tag (entries_of_kind Tagged world)) (uses_tag world) true (uses_tag-tagged world))
+allowed-tagged : (world : List Dependency) (c : Candidate) → is_allowed_by_tags_of_world (entries_of_kind Tagged world) c ≡ is_allowed_by_tags_of_world world c
+allowed-tagged world c = ap (λ (b : Bool). c.installed || (not (is_some c.repository) || b)) (tag_or c.tag (is_tag_used_in_world (entries_of_kind Tagged world)) (is_tag_used_in_world world) true (is_tag_used_in_world-tagged world))
 
-eligible_is : (world : List Dependency) (c : Candidate) → (is_allowed (entries_of_kind Tagged world) c && not (is_barred_by (entries_of_kind Conflict world) c)) ≡ is_eligible world c
-eligible_is world c = ap (λ (a : Bool). a && not (is_barred_by (entries_of_kind Conflict world) c)) (allowed-tagged world c) ∙ ap (λ (b : Bool). is_allowed world c && not b) (barred-conflicts world c)
+eligible_is : (world : List Dependency) (c : Candidate) → (is_allowed_by_tags_of_world (entries_of_kind Tagged world) c && not (is_barred_by_world (entries_of_kind Conflict world) c)) ≡ is_eligible world c
+eligible_is world c = ap (λ (a : Bool). a && not (is_barred_by_world (entries_of_kind Conflict world) c)) (allowed-tagged world c) ∙ ap (λ (b : Bool). is_allowed_by_tags_of_world world c && not b) (barred-conflicts world c)
 
 pinned_is : (world : List Dependency) (c : Candidate) → is_pinned (entries_of_kind Tagged world) c ≡ is_pinned world c
 pinned_is world c = tag_or c.tag (is_name_pinned_to_tag (entries_of_kind Tagged world) c.name) (is_name_pinned_to_tag world c.name) false (pinned_to-tagged world c.name)
@@ -58,11 +58,11 @@ map_same : (f g : Candidate → Bool) (cs : List Candidate) → ((c : Candidate)
 map_same f g [] same = refl
 map_same f g (c ∷ cs) same = ap (λ (b : Bool). b ∷ map f cs) (same c) ∙ ap (λ (bs : List Bool). g c ∷ bs) (map_same f g cs same)
 
-pub eligible_marked : (world tagged conflicts : List Dependency) (marks : List Bool) (cs : List Candidate) → tagged ≡ entries_of_kind Tagged world → conflicts ≡ entries_of_kind Conflict world → marks ≡ map (λ (c : Candidate). is_allowed tagged c && not (is_barred_by conflicts c)) cs → marks ≡ map (is_eligible world) cs
+pub eligible_marked : (world tagged conflicts : List Dependency) (marks : List Bool) (cs : List Candidate) → tagged ≡ entries_of_kind Tagged world → conflicts ≡ entries_of_kind Conflict world → marks ≡ map (λ (c : Candidate). is_allowed_by_tags_of_world tagged c && not (is_barred_by_world conflicts c)) cs → marks ≡ map (is_eligible world) cs
 eligible_marked world tagged conflicts marks cs t k is =
-    is ∙ (ap (λ (ds : List Dependency). map (λ (c : Candidate). is_allowed ds c && not (is_barred_by conflicts c)) cs) t
-    ∙ (ap (λ (ds : List Dependency). map (λ (c : Candidate). is_allowed (entries_of_kind Tagged world) c && not (is_barred_by ds c)) cs) k
-    ∙ map_same (λ (c : Candidate). is_allowed (entries_of_kind Tagged world) c && not (is_barred_by (entries_of_kind Conflict world) c)) (is_eligible world) cs (eligible_is world)))
+    is ∙ (ap (λ (ds : List Dependency). map (λ (c : Candidate). is_allowed_by_tags_of_world ds c && not (is_barred_by_world conflicts c)) cs) t
+    ∙ (ap (λ (ds : List Dependency). map (λ (c : Candidate). is_allowed_by_tags_of_world (entries_of_kind Tagged world) c && not (is_barred_by_world ds c)) cs) k
+    ∙ map_same (λ (c : Candidate). is_allowed_by_tags_of_world (entries_of_kind Tagged world) c && not (is_barred_by_world (entries_of_kind Conflict world) c)) (is_eligible world) cs (eligible_is world)))
 
 pub pinned_marked : (world tagged : List Dependency) (marks : List Bool) (cs : List Candidate) → tagged ≡ entries_of_kind Tagged world → marks ≡ map (λ (c : Candidate). is_pinned tagged c) cs → marks ≡ map (is_pinned world) cs
 pinned_marked world tagged marks cs t is =

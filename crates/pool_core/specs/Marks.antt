@@ -1,7 +1,7 @@
 -- Marks of candidates, one for each, and the effects of entries of world on candidates. The rules are
 -- in `docs/selection.md`: "What there is to choose from" (*barred*), and "Which selection is taken",
 -- key 1 of the table (pinned). Serves the contracts of `src/marks.rt`, which sets marks by one entry of
--- world after another. *is_barred_by* and *is_pinned* are about all entries.
+-- world after another. *is_barred_by_world* and *is_pinned* are about all entries.
 use Rattle.std.specs.Prelude.{ℕ, zero, suc, Bool, false, ◌&&◌, ◌||◌, List, [], ◌∷◌}
 use Rattle.std.specs.Option.{option_map_or}
 use Rattle.std.specs.List.{list_any}

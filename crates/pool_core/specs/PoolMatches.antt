@@ -22,13 +22,18 @@ AreMatchesOfPackages packages need known = AreMatchesFor (source_text packages.s
 -- the packages are those of the pool, and the remembered results for a need are right for their versions
 pub record AreMatchesInPool (pool : SealedPool) (need : Need) (packages : Packages)
     (matches : KnownMatches) : Type 0 where
+  -- the packages are those of the pool
   pub own : candidates_of_packages packages ≡ pool.candidates
+  -- the remembered results are right
   pub known : AreMatchesOfPackages packages need matches
 
 -- the packages have this candidate at the place, and the remembered results for a dependency are right for
 -- their versions
 pub record IsCandidateWithMatches (packages : Packages) (place : ℕ) (details : Candidate) (d : Dependency)
     (matches : KnownMatches) : Type 0 where
+  -- there is a package at the place
   pub within : place < length (candidates_of_packages packages)
+  -- the candidate at the place is this one
   pub here : slice_get (candidates_of_packages packages) place ≡ Some details
+  -- the remembered results for the dependency are right
   pub known : AreRememberedMatchesOf (source_text packages.sources.items) d matches

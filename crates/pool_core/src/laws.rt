@@ -22,27 +22,33 @@ pub fn rank_is_total()
     ensures strict { (pool : SealedPool) (need : Need) (a b : ℕ) →
         rank_cmp pool need a b ≡ Equal → a ≡ b }
 {
+    // A law that the proof needs; it has no effect at run time.
     order_is_total();
 }
 
 /// The options of a need are exactly the candidates that may be selected and meet it, each better
 /// than those after it.
 pub fn options_are_the_best_first()
+    // Each option may be selected, and meets the need.
     ensures those { (pool : SealedPool) (need : Need) (c : ℕ) → IsIn c (options_for pool need) →
         (is_eligible_at pool c ≡ true) × (meets_at pool c need ≡ true) }
+    // Each candidate that may be selected and meets the need is an option.
     ensures each { (pool : SealedPool) (need : Need) (c : ℕ) → is_eligible_at pool c ≡ true →
         meets_at pool c need ≡ true → IsIn c (options_for pool need) }
     ensures best_first { (pool : SealedPool) (need : Need) →
         IsSortedBestFirst (is_better pool need) (options_for pool need) }
 {
+    // A law that the proof needs; it has no effect at run time.
     rank_is_total();
 }
 
 /// The offers of a name are exactly the places of the candidates that offer it, in rising order.
 pub fn offers_are_the_places()
+    // Each place in the list has a candidate that offers the name.
     ensures those { (pool : SealedPool) (name : List ℕ) (c : ℕ) →
         IsIn c (places_offering name pool.candidates) →
         (candidate_at_passes pool (offers_name name) c ≡ true) × (c < length pool.candidates) }
+    // The place of each candidate that offers the name is in the list.
     ensures each { (pool : SealedPool) (name : List ℕ) (c : ℕ) →
         candidate_at_passes pool (offers_name name) c ≡ true
         → IsIn c (places_offering name pool.candidates) }
@@ -95,12 +101,15 @@ pub fn an_installed_package_is_known_by_text_and_id()
 /// the length of the list is unchanged. Each place keeps its candidate, which is marked as
 /// installed if it is the installed package.
 pub fn installed_candidates_count_once()
+    // If a candidate is the installed package, none is added.
     ensures once { (candidates : List Candidate) (installed : Candidate) →
         list_any (is_same_package installed) candidates ≡ true →
         length (with_installed candidates installed) ≡ length candidates }
+    // Otherwise the installed package is appended.
     ensures apart { (candidates : List Candidate) (installed : Candidate) →
         list_any (is_same_package installed) candidates ≡ false →
         with_installed candidates installed ≡ candidates ++ installed ∷ [] }
+    // Each candidate stays at its place, and is marked if it is the installed package.
     ensures kept { (candidates : List Candidate) (installed c : Candidate) (place : ℕ) →
         slice_get candidates place ≡ Some c →
         slice_get (with_installed candidates installed) place

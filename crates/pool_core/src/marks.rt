@@ -8,7 +8,7 @@ ghost use Rattle.std.specs.Option.{option_map_or};
 ghost use Rattle.std.specs.List.{list_any};
 ghost use Rattle.std.specs.Str.{bytes_eq};
 ghost use Rattle.dep_core.specs.Meets.{dependency};
-ghost use Rattle.option_ranks.specs.candidate_core.Candidates.{is_allowed, is_barred_by, meets_dependency, uses_tag};
+ghost use Rattle.option_ranks.specs.candidate_core.Candidates.{is_allowed_by_tags_of_world, is_barred_by_world, meets_dependency, is_tag_used_in_world};
 ghost use Rattle.option_ranks.specs.candidate_core.Matches.{AreRememberedMatchesOf};
 ghost use Rattle.pool_core.specs.Marks.{affects, is_affected, with_mark_set_at, with_marks_set};
 ghost use Rattle.pool_core.specs.PoolMatches.{IsCandidateWithMatches};
@@ -41,9 +41,10 @@ pub(crate) fn eligible_marks(
     conflicts: &[Dep<'_>],
 ) -> Result<Vec<bool>, AllocError>
     requires { HasPlacesOfEachName table.now (candidates_of_packages packages.now) }
+    // A candidate's mark is true if it is allowed and not barred.
     ensures { IfOk result (λ marks. marks.items ≡ map (λ one.
-        is_allowed (map dependency tagged.now) one
-        && not (is_barred_by (map dependency conflicts.now) one))
+        is_allowed_by_tags_of_world (map dependency tagged.now) one
+        && not (is_barred_by_world (map dependency conflicts.now) one))
         (candidates_of_packages packages.now)) }
 {
     let mut ineligible = disallowed_marks(alloc, packages, tagged)?;
@@ -84,12 +85,12 @@ fn disallowed_marks(
     tagged: &[Dep<'_>],
 ) -> Result<Vec<bool>, AllocError>
     ensures { IfOk result (λ marks. marks.items
-        ≡ map (λ one. not (is_allowed (map dependency tagged.now) one))
+        ≡ map (λ one. not (is_allowed_by_tags_of_world (map dependency tagged.now) one))
         (candidates_of_packages packages.now)) }
 {
     let mut marks = Vec::with_capacity(alloc, packages.len())?;
     for place in 0..packages.len() {
-        marks.push(!is_allowed(&packages.get(place), tagged))?;
+        marks.push(!is_allowed_by_tags_of_world(&packages.get(place), tagged))?;
     }
     Ok(marks)
 }
@@ -106,15 +107,15 @@ fn no_marks(alloc: Global, packages: &Packages<'_>) -> Result<Vec<bool>, AllocEr
     Ok(marks)
 }
 
-// The opposite of each mark.
+// A list with the opposite of each mark, in the same order.
 fn opposite_marks(alloc: Global, marks: &[bool]) -> Result<Vec<bool>, AllocError>
     ensures { IfOk result (λ others. others.items ≡ map not marks.now) }
 {
     marks.iter().map(|mark| !*mark).collect(alloc)
 }
 
-// Sets the mark of each candidate on which one of some entries of world has an effect. Other marks
-// are unchanged.
+// Sets the mark of each candidate on which an entry of the list, which is of world, has the effect.
+// Other marks are unchanged.
 fn mark_affected(
     alloc: Global,
     marks: &mut Vec<bool>,
@@ -123,8 +124,11 @@ fn mark_affected(
     entries: &[Dep<'_>],
     effect: Effect,
 ) -> Result<(), AllocError>
+    // The table leads from each name to the places of the candidates that offer it.
     requires leads { HasPlacesOfEachName table.now (candidates_of_packages packages.now) }
+    // There is one mark for each candidate.
     requires each { length marks.old.items ≡ length (candidates_of_packages packages.now) }
+    // The marks that become true are those of the candidates on which an entry has the effect.
     ensures { OnOk result (marks.new.items
         ≡ with_marks_set (is_affected effect (map dependency entries.now))
         marks.old.items (candidates_of_packages packages.now)) }
@@ -148,7 +152,9 @@ fn mark_among(
 ) -> Result<(), AllocError>
     requires offers { ids.now
         ≡ places_offering (dependency entry.now).name (candidates_of_packages packages.now) }
+    // There is one mark for each candidate.
     requires each { length marks.old.items ≡ length (candidates_of_packages packages.now) }
+    // The marks that become true are those of the candidates on which the entry has the effect.
     ensures { OnOk result (marks.new.items ≡ with_marks_set (affects effect (dependency entry.now))
         marks.old.items (candidates_of_packages packages.now)) }
 {
@@ -170,12 +176,16 @@ fn mark_one(
     known: &mut KnownMatches,
 ) -> Result<(), AllocError>
     requires within { id < length (candidates_of_packages packages.now) }
+    // There is one mark for each candidate.
     requires each { length marks.old.items ≡ length (candidates_of_packages packages.now) }
+    // The remembered results are right for the entry.
     requires known { AreRememberedMatchesOf (source_text packages.now.sources.items)
         (dependency entry.now) known.old }
+    // Only the mark at the place may become true, if the entry has the effect there.
     ensures marks { OnOk result (marks.new.items
         ≡ with_mark_set_at (affects effect (dependency entry.now)) id
         marks.old.items (candidates_of_packages packages.now)) }
+    // The results that are remembered after the call are right for the entry.
     ensures known { OnOk result (AreRememberedMatchesOf (source_text packages.now.sources.items)
         (dependency entry.now) known.new) }
 {
@@ -198,9 +208,11 @@ fn affects(
     place: usize,
     known: &mut KnownMatches,
 ) -> Result<bool, AllocError>
+    // `one` is the candidate at the place, and the remembered results are right for the entry.
     requires { IsCandidateWithMatches packages.now place one.now (dependency entry.now) known.old }
     ensures affects { IfOk result (λ answer. answer
         ≡ affects effect (dependency entry.now) one.now) }
+    // The results that are remembered after the call are right for the entry.
     ensures known { OnOk result (AreRememberedMatchesOf (source_text packages.now.sources.items)
         (dependency entry.now) known.new) }
 {
@@ -219,9 +231,11 @@ fn bars(
     place: usize,
     known: &mut KnownMatches,
 ) -> Result<bool, AllocError>
+    // `one` is the candidate at the place, and the remembered results are right for the entry.
     requires { IsCandidateWithMatches packages.now place one.now (dependency entry.now) known.old }
     ensures bars { IfOk result (λ answer. answer ≡ ((dependency entry.now).conflict
         && meets_dependency (dependency entry.now) one.now)) }
+    // The results that are remembered after the call are right for the entry.
     ensures known { OnOk result (AreRememberedMatchesOf (source_text packages.now.sources.items)
         (dependency entry.now) known.new) }
 {
@@ -234,8 +248,10 @@ fn bars(
     packages.meets_need(place, &NeedRef::Entry(entry), known)
 }
 
-// Whether an entry of world pins a candidate's name to its tag: it has both. It may be a conflict.
+// Whether an entry of world pins a candidate's name to its tag: the entry has this name and this
+// tag. It may be a conflict.
 fn pins(entry: &Dep<'_>, one: &Details<'_>) -> bool
+    // The candidate has a tag, and the entry has the candidate's name and this tag.
     ensures { result ≡ option_map_or (λ tag. bytes_eq one.now.name (dependency entry.now).name
         && option_map_or (bytes_eq tag) (dependency entry.now).tag false) one.now.tag false }
 {
@@ -257,8 +273,8 @@ fn has_tag(dep: &Dep<'_>, tag: &[u8]) -> bool
 
 // Whether a candidate is allowed: installed, or from a repository without tag, or from one whose
 // tag one of the tagged entries of world has.
-fn is_allowed(one: &Details<'_>, tagged: &[Dep<'_>]) -> bool
-    ensures { result ≡ is_allowed (map dependency tagged.now) one.now }
+fn is_allowed_by_tags_of_world(one: &Details<'_>, tagged: &[Dep<'_>]) -> bool
+    ensures { result ≡ is_allowed_by_tags_of_world (map dependency tagged.now) one.now }
 {
     if one.is_installed() {
         return true;
@@ -268,19 +284,19 @@ fn is_allowed(one: &Details<'_>, tagged: &[Dep<'_>]) -> bool
     }
     match one.tag() {
         None => true,
-        Some(tag) => uses_tag(tagged, tag),
+        Some(tag) => is_tag_used_in_world(tagged, tag),
     }
 }
 
-// Whether one of some entries of world has this tag.
+// Whether an entry of the list, which is of world, has this tag.
 #[tactic(auto, using(candidate_core::proofs::Anyone::any_map))]
-fn uses_tag(tagged: &[Dep<'_>], tag: &[u8]) -> bool
-    ensures { result ≡ uses_tag (map dependency tagged.now) tag.now }
+fn is_tag_used_in_world(tagged: &[Dep<'_>], tag: &[u8]) -> bool
+    ensures { result ≡ is_tag_used_in_world (map dependency tagged.now) tag.now }
 {
     any_has_tag(tagged, tag)
 }
 
-// Whether one of some entries has this tag; the clause is about the entries as values of the
+// Whether an entry of the list has this tag. The clause is about the entries as values of the
 // program.
 fn any_has_tag(tagged: &[Dep<'_>], tag: &[u8]) -> bool
     ensures { result ≡ list_any

@@ -99,6 +99,8 @@ impl<'a> Pool<'a> {
         repo: u64,
         tag: Option<&'a [u8]>,
     ) -> Result<(), PoolFault>
+        // The packages of the index are appended as candidates, in their order. In the clause, 1 is
+        // the index of the field with the packages.
         ensures ok { OnOk result (self.new ≡ self.old
             ++ candidates_of_index repo (option_copied tag.entry)
             (entries_in (entry_in (index_value index.entry) 1))) }

@@ -62,12 +62,15 @@ impl<'a> Model for Sealed<'a> {
 
     ghost Value = { SealedPool };
 
+    // Pools with equal codes are equal (`Coded`).
     ghost coded = { Prim.hlevel (codes, plain_code) };
 
+    // The candidates, world, and the names to upgrade; all else follows from these.
     ghost view = { λ s.
         sealed_pool_from_parts (candidates_of_packages s.packages) s.world.now
         (names_upgraded_by s.upgrade) };
 
+    // The table and the marks are those of the candidates under this world.
     ghost invariant = { λ s. HasPlacesOfEachName s.table (candidates_of_packages s.packages)
         × (s.eligible.items ≡ map (is_eligible s.world.now) (candidates_of_packages s.packages))
         × (s.pinned.items ≡ map (is_pinned s.world.now) (candidates_of_packages s.packages))
@@ -162,8 +165,8 @@ impl<'a> Sealed<'a> {
         self.options_among(alloc, need, &self.packages)
     }
 
-    // The options of a need. `packages` are those of the pool: the proof needs that the texts of
-    // all versions are read from one value.
+    // The options of a need. `packages` are those of the pool. They are an argument of their own
+    // because the proof needs that the texts of all versions are read from one value.
     fn options_among(
         &self,
         alloc: Global,
@@ -175,7 +178,7 @@ impl<'a> Sealed<'a> {
     {
         let mut known = KnownMatches::new(alloc);
         let ids = self.fitting(alloc, need, packages, &mut known)?;
-        // None and one are in order already.
+        // A list of at most one option is in order already.
         if ids.len() < 2 {
             return Ok(Options::of(ids));
         }
@@ -192,10 +195,13 @@ impl<'a> Sealed<'a> {
         packages: &Packages<'a>,
         known: &KnownMatches,
     ) -> Result<Options, AllocError>
+        // The places are those of all candidates that may be selected and meet the need.
         requires those { ids.now ≡ places_fitting self.now (need_of_ref need.now) }
+        // The remembered results are right for this need and these packages.
         requires matches { AreMatchesInPool self.now (need_of_ref need.now) packages.now known.now }
         ensures { IfOk result (λ options. options ≡ options_for self.now (need_of_ref need.now)) }
     {
+        // Laws that the proof needs; they have no effect at run time.
         rank_is_total();
         order_is_total();
         let mut rankings = self.rankings(alloc, need, ids, packages, known)?;
@@ -205,7 +211,7 @@ impl<'a> Sealed<'a> {
         Ok(Options::of(ids))
     }
 
-    // The keys of some candidates.
+    // The keys by which options are ranked, of the candidates at these places.
     fn rankings(
         &self,
         alloc: Global,
@@ -214,13 +220,17 @@ impl<'a> Sealed<'a> {
         packages: &Packages<'a>,
         known: &KnownMatches,
     ) -> Result<Vec<RankedOption<'a>>, AllocError>
+        // The places are those of all candidates that may be selected and meet the need.
         requires those { ids.now ≡ places_fitting self.now (need_of_ref need.now) }
+        // The remembered results are right for this need and these packages.
         requires matches { AreMatchesInPool self.now (need_of_ref need.now) packages.now known.now }
         ensures each { IfOk result (λ rankings.
             All (IsRankingIn self.now (need_of_ref need.now)) rankings.items) }
         ensures places { IfOk result (λ rankings. map (λ r. r.place) rankings.items ≡ ids.now) }
+        // Versions that meet the need and refer to the same text are equal.
         ensures under { IfOk result
             (λ rankings. HaveVersionsFromSameTexts Kinds.Under rankings.items) }
+        // Own versions of candidates that refer to the same text are equal.
         ensures version { IfOk result
             (λ rankings. HaveVersionsFromSameTexts Kinds.Own rankings.items) }
     {
@@ -231,7 +241,8 @@ impl<'a> Sealed<'a> {
         Ok(rankings)
     }
 
-    // The keys of the candidate at a place. Its two versions have rank 0 until all are ranked.
+    // The keys by which the candidate at a place is ranked. Its two versions get rank 0 here, until
+    // all are ranked.
     fn ranking(
         &self,
         need: &NeedRef<'_>,
@@ -240,6 +251,7 @@ impl<'a> Sealed<'a> {
         known: &KnownMatches,
     ) -> RankedOption<'a>
         requires within { id < length self.now.candidates }
+        // The remembered results are right for this need and these packages.
         requires matches { AreMatchesInPool self.now (need_of_ref need.now) packages.now known.now }
         ensures place { result.place ≡ id }
         ensures ranking { IsRankingIn self.now (need_of_ref need.now) result }
@@ -273,6 +285,7 @@ impl<'a> Sealed<'a> {
         requires { AreMatchesInPool self.now (need_of_ref need.now) packages.now known.old }
         ensures places { IfOk result (λ ids. ids.items
             ≡ places_fitting self.now (need_of_ref need.now)) }
+        // The results that are remembered after the call are right for this need.
         ensures known { IfOk result (λ _.
             AreMatchesOfPackages packages.now (need_of_ref need.now) known.new) }
     {
@@ -281,7 +294,7 @@ impl<'a> Sealed<'a> {
         Ok(ids)
     }
 
-    // Those of some places whose candidates may be selected and meet a need.
+    // Of these places, those whose candidates may be selected and meet the need, in the same order.
     fn fitting_among(
         &self,
         alloc: Global,
@@ -291,9 +304,11 @@ impl<'a> Sealed<'a> {
         known: &mut KnownMatches,
     ) -> Result<Vec<CandId>, AllocError>
         requires { AreMatchesInPool self.now (need_of_ref need.now) packages.now known.old }
+        // The result has the places in `places` whose candidates may be selected and meet the need.
         ensures places { IfOk result (λ ids. ids.items
             ≡ filter (λ id. candidate_at_passes self.now (is_eligible_for_need self.now
             (need_of_ref need.now)) id) places.now) }
+        // The results that are remembered after the call are right for this need.
         ensures known { IfOk result (λ _.
             AreMatchesOfPackages packages.now (need_of_ref need.now) known.new) }
     {
@@ -318,6 +333,7 @@ impl<'a> Sealed<'a> {
         ensures fits { IfOk result (λ fits. fits
             ≡ candidate_at_passes self.now (is_eligible_for_need self.now
             (need_of_ref need.now)) id) }
+        // The results that are remembered after the call are right for this need.
         ensures known { IfOk result (λ _.
             AreMatchesOfPackages packages.now (need_of_ref need.now) known.new) }
     {
@@ -357,7 +373,7 @@ impl<'a> Sealed<'a> {
     }
 }
 
-// Adds a place if its candidate fits.
+// Adds the place `id` to the list if `fits` is true.
 fn push_if_fitting(ids: &mut Vec<CandId>, id: CandId, fits: bool) -> Result<(), AllocError>
     ensures { OnOk result
         (ids.new.items ≡ ids.old.items ++ (if fits then id ∷ [] else [])) }
@@ -368,7 +384,7 @@ fn push_if_fitting(ids: &mut Vec<CandId>, id: CandId, fits: bool) -> Result<(), 
     Ok(())
 }
 
-// The places of ranked options.
+// The places of these ranked options, in the same order.
 fn places_of(alloc: Global, rankings: &[RankedOption<'_>]) -> Result<Vec<CandId>, AllocError>
     ensures { IfOk result (λ ids. ids.items ≡ map (λ r. r.place) rankings.now) }
 {
@@ -383,6 +399,7 @@ pub(crate) fn seal_list<'a>(
     upgrade: Upgrade<'a>,
 ) -> Result<Sealed<'a>, AllocError>
     requires { IsCandidateList list }
+    // The pool has these candidates, this world and these names to upgrade.
     ensures { IfOk result (λ sealed. sealed
         ≡ sealed_pool_from_parts (candidates_of_packages list.entry.packages) world.entry.now
         (names_upgraded_by upgrade.entry)) }

@@ -17,7 +17,7 @@ use dep_core::{Dep, World};
 use option_ranks::{CandId, CandidateList, Details, Packages};
 use std::alloc::{AllocError, Global};
 
-/// The kinds of entries of world that affect candidates; an entry can be of both.
+/// The kinds of entries of world that affect candidates. An entry can be of both kinds.
 #[derive(Clone, Copy)]
 enum EntryKind {
     /// The entry is a conflict: it bars the candidates that meet it.
@@ -48,6 +48,7 @@ pub(crate) fn marks_by_world(
         ≡ map (is_eligible world.now) (candidates_of_packages list.now.packages)) }
     ensures pinned { IfOk result (λ marks. marks.pinned.items
         ≡ map (is_pinned world.now) (candidates_of_packages list.now.packages)) }
+    // The places of the candidates whose install-if can apply, in rising order.
     ensures install_ifs { IfOk result (λ marks. marks.install_ifs.items
         ≡ places_passing_from 0 (has_usable_install_if world.now)
         (candidates_of_packages list.now.packages)) }
@@ -82,6 +83,7 @@ fn entries_of_kind<'a>(
 
 // Adds an entry of world to a list if the entry is of a kind.
 fn push_if<'a>(deps: &mut Vec<Dep<'a>>, dep: Dep<'a>, kind: EntryKind) -> Result<(), AllocError>
+    // The entry is appended if it is of this kind.
     ensures { OnOk result (map dependency deps.new.items ≡ map dependency deps.old.items
         ++ (if is_entry_of_kind kind (dependency dep.entry) then dependency dep.entry ∷ []
         else [])) }

@@ -18,7 +18,7 @@ use Rattle.std.proofs.lemmas.Bool.{and_parts, cases_Bool, ltb-true, ltb-false}
 use Rattle.pool_core.proofs.SamePackage.{same_version}
 use Rattle.pool_core.specs.candidate_core.Candidates.{Candidate, is_same_version}
 use Rattle.pool_core.specs.candidate_core.Options.{IsIn, places_passing_from}
-use Rattle.pool_core.specs.candidate_core.Rank.{bytes_cmp, greater_version}
+use Rattle.pool_core.specs.candidate_core.Rank.{bytes_cmp, greater_version_first_cmp}
 use Rattle.pool_core.proofs.candidate_core.OptionLists.{in_places, places_in}
 use Rattle.pool_core.proofs.candidate_core.LoopTests.{any_at}
 use Rattle.pool_core.proofs.candidate_core.Steps.{get_at}
@@ -27,7 +27,7 @@ use Rattle.pool_core.specs.option_ranks.declared.rank.VersionKey.{VersionKey}
 use Rattle.pool_core.proofs.option_ranks.CountedRanks.{here_is}
 use Rattle.pool_core.proofs.option_ranks.MovedMembers.{member_of_all, moved_member}
 use Rattle.pool_core.proofs.option_ranks.RankedOptions.{place_of}
-use Rattle.query_core.specs.Order.{name_and_version_cmp, query_cmp, sorted_places_passing}
+use Rattle.query_core.specs.Order.{name_and_version_cmp, candidate_places_cmp, sorted_places_passing}
 use Rattle.query_core.specs.Policy.{has_name_and_version, has_own_name, is_of_repository, versions_of_name, versions_without_repeats}
 use Rattle.query_core.specs.QueryRanking.{AreInQueryOrder, IsQueryRanking, have_same_version}
 use Rattle.query_core.specs.VersionPlaces.{ListsPlacesOf, VersionPlaces}
@@ -43,7 +43,7 @@ version_of r = r.version.version
 equal_parts : (a b : Candidate) → name_and_version_cmp a b ≡ Equal → a.version ≡ b.version
 equal_parts a b h =
     texts_same a.version b.version
-    (last_decides (greater_version a.version b.version) (option_cmp bytes_cmp a.version b.version) (last_decides (bytes_cmp a.name b.name) (ordering_then (greater_version a.version b.version) (option_cmp bytes_cmp a.version b.version)) h))
+    (last_decides (greater_version_first_cmp a.version b.version) (option_cmp bytes_cmp a.version b.version) (last_decides (bytes_cmp a.name b.name) (ordering_then (greater_version_first_cmp a.version b.version) (option_cmp bytes_cmp a.version b.version)) h))
 
 less_first : (o r : Ordering) → is_lt (ordering_then o r) ≡ false → is_lt o ≡ false
 less_first Less r h = h
@@ -53,8 +53,8 @@ less_first Greater r h = refl
 module _ (versions : IsTotalOrder version_cmp) where
   equal_when : (a b : Candidate) → a.name ≡ b.name → a.version ≡ b.version → name_and_version_cmp a b ≡ Equal
   equal_when a b e f =
-      ap (λ (n : List ℕ). ordering_then (bytes_cmp a.name n) (ordering_then (greater_version a.version b.version) (option_cmp bytes_cmp a.version b.version))) (sym e)
-      ∙ (ap (λ (v : Option (List ℕ)). ordering_then (bytes_cmp a.name a.name) (ordering_then (greater_version a.version v) (option_cmp bytes_cmp a.version v))) (sym f)
+      ap (λ (n : List ℕ). ordering_then (bytes_cmp a.name n) (ordering_then (greater_version_first_cmp a.version b.version) (option_cmp bytes_cmp a.version b.version))) (sym e)
+      ∙ (ap (λ (v : Option (List ℕ)). ordering_then (bytes_cmp a.name a.name) (ordering_then (greater_version_first_cmp a.version v) (option_cmp bytes_cmp a.version v))) (sym f)
       ∙ tied_itself (candidates_total versions) a)
 
   -- of three in order, if the outer two have one name and version, the one between has the version
@@ -103,7 +103,7 @@ module _ (versions : IsTotalOrder version_cmp) (cs : List Candidate) (name : Lis
   own_name i r c h e =
       let there : IsIn r.place (sorted_places_passing (has_own_name name) cs) = subst (λ (ps : List ℕ). IsIn r.place ps) places (is_in_at (map place_of rs) i r.place (mapped_at place_of rs i r h)) in
       let unsorted : List ℕ = places_passing_from 0 (has_own_name name) cs in
-      let place = places_in 0 (has_own_name name) cs r.place (moved_member (sorted_by (query_cmp cs) unsorted) unsorted r.place (IsPermutation-sym unsorted (sorted_by (query_cmp cs) unsorted) (sorted_same (query_cmp cs) unsorted)) there) in
+      let place = places_in 0 (has_own_name name) cs r.place (moved_member (sorted_by (candidate_places_cmp cs) unsorted) unsorted r.place (IsPermutation-sym unsorted (sorted_by (candidate_places_cmp cs) unsorted) (sorted_same (candidate_places_cmp cs) unsorted)) there) in
       let z : place.0 ≡ r.place = omega (arith, place.1) in
       let passes : option_map_or (has_own_name name) (slice_get cs r.place) false ≡ true = subst (λ (k : ℕ). option_map_or (has_own_name name) (slice_get cs k) false ≡ true) z place.2 in
       ap (λ (o : Option Candidate). option_map_or (has_own_name name) o false) (sym e) ∙ passes
@@ -119,12 +119,12 @@ module _ (versions : IsTotalOrder version_cmp) (cs : List Candidate) (name : Lis
   not_before i j a b x y low h g e f =
       let ps : List ℕ = map place_of rs in
       let total = query_total versions cs in
-      let up : IsSorted (query_cmp cs) ps = subst (IsSorted (query_cmp cs)) (sym places) (sorted_up (query_cmp cs) total (places_passing_from 0 (has_own_name name) cs)) in
+      let up : IsSorted (candidate_places_cmp cs) ps = subst (IsSorted (candidate_places_cmp cs)) (sym places) (sorted_up (candidate_places_cmp cs) total (places_passing_from 0 (has_own_name name) cs)) in
       let at_i : slice_get ps i ≡ Some a.place = mapped_at place_of rs i a h in
       let at_j : slice_get ps j ≡ Some b.place = mapped_at place_of rs j b g in
       let high : j < length ps = below_length ps j b.place at_j in
-      let far : is_lt (query_cmp cs (get_or ps j 0) (get_or ps i 0)) ≡ false = sorted_far (λ m n. is_lt (query_cmp cs m n)) (ranks_by total (λ (k : ℕ). k)) ps up i j 0 low high in
-      let one : is_lt (query_cmp cs b.place a.place) ≡ false = ap (λ (n : ℕ). is_lt (query_cmp cs b.place n)) (sym (here_is ps i 0 a.place (omega (arith, low, high)) at_i)) ∙ (ap (λ (n : ℕ). is_lt (query_cmp cs n (get_or ps i 0))) (sym (here_is ps j 0 b.place high at_j)) ∙ far) in
+      let far : is_lt (candidate_places_cmp cs (get_or ps j 0) (get_or ps i 0)) ≡ false = sorted_far (λ m n. is_lt (candidate_places_cmp cs m n)) (ranks_by total (λ (k : ℕ). k)) ps up i j 0 low high in
+      let one : is_lt (candidate_places_cmp cs b.place a.place) ≡ false = ap (λ (n : ℕ). is_lt (candidate_places_cmp cs b.place n)) (sym (here_is ps i 0 a.place (omega (arith, low, high)) at_i)) ∙ (ap (λ (n : ℕ). is_lt (candidate_places_cmp cs n (get_or ps i 0))) (sym (here_is ps j 0 b.place high at_j)) ∙ far) in
       let seen : is_lt (ordering_then (name_and_version_cmp y x) (nat_cmp b.place a.place)) ≡ false =
       ap (λ (o : Option Candidate). is_lt (ordering_then (option_cmp name_and_version_cmp (Some y) o) (nat_cmp b.place a.place))) (sym e)
       ∙ (ap (λ (o : Option Candidate). is_lt (ordering_then (option_cmp name_and_version_cmp o (slice_get cs a.place)) (nat_cmp b.place a.place))) (sym f) ∙ one) in
@@ -212,7 +212,7 @@ module _ (versions : IsTotalOrder version_cmp) (cs : List Candidate) (name : Lis
           let passes : option_map_or (has_own_name name) (slice_get cs k) false ≡ true = ap (λ (o : Option Candidate). option_map_or (has_own_name name) o false) here ∙ named.0 in
           let z : 0 + k ≡ k = omega arith in
           let placed : IsIn k unsorted = subst (λ (m : ℕ). IsIn m unsorted) z (in_places 0 (has_own_name name) cs k passes) in
-          let sorted : IsIn k (map place_of rs) = subst (λ (ps : List ℕ). IsIn k ps) (sym places) (moved_member unsorted (sorted_by (query_cmp cs) unsorted) k (sorted_same (query_cmp cs) unsorted) placed) in
+          let sorted : IsIn k (map place_of rs) = subst (λ (ps : List ℕ). IsIn k ps) (sym places) (moved_member unsorted (sorted_by (candidate_places_cmp cs) unsorted) k (sorted_same (candidate_places_cmp cs) unsorted) placed) in
           let where_it_is = at_some_place (map place_of rs) k sorted in
           let i : ℕ = where_it_is.0 in
           let ranked = from_mapped place_of rs i k where_it_is.1 in

@@ -18,14 +18,14 @@ use Rattle.base_core.specs.Sorted.{sorted_by, with_element_inserted}
 use Rattle.base_core.proofs.Sorting.{Rises, ranks, rises_in_order, sorted_same}
 use Rattle.pool_core.specs.candidate_core.Candidates.{Candidate, is_same_version}
 use Rattle.pool_core.specs.candidate_core.Options.{AreDistinct, IsIn, places_passing_from}
-use Rattle.pool_core.specs.candidate_core.Rank.{bytes_cmp, greater_version}
+use Rattle.pool_core.specs.candidate_core.Rank.{bytes_cmp, greater_version_first_cmp}
 use Rattle.pool_core.proofs.candidate_core.OptionLists.{in_places, places_apart, places_in}
 use Rattle.dep_core.specs.Repositories.{Repository}
 use Rattle.pool_core.proofs.option_ranks.MovedMembers.{moved_member}
 use Rattle.pool_core.proofs.option_ranks.RankOrder.{versions_back}
 use Rattle.report_core.specs.QueryReports.{policy_heading}
-use Rattle.query_core.specs.Asked.{AreInOrderBy, IsVersionOfName}
-use Rattle.query_core.specs.Order.{query_cmp, sorted_candidates_passing, sorted_places_passing}
+use Rattle.query_core.specs.Asked.{AreStrictlyInOrderBy, IsVersionOfName}
+use Rattle.query_core.specs.Order.{candidate_places_cmp, sorted_candidates_passing, sorted_places_passing}
 use Rattle.query_core.specs.Policy.{has_own_name, name_policy, version_policy, versions_of_name, versions_without_repeats}
 use Rattle.query_core.proofs.AskedFor.{any_in}
 use Rattle.query_core.proofs.Gathered.{each_in}
@@ -35,29 +35,29 @@ use Rattle.query_core.proofs.Runs.{same_text}
 -- ---- key by key
 
 cmp_is : (cs : List Candidate) (a b : ℕ) (x y : Candidate) → slice_get cs a ≡ Some x → slice_get cs b ≡ Some y
-    → query_cmp cs a b ≡ ordering_then (ordering_then (bytes_cmp x.name y.name) (ordering_then (greater_version x.version y.version) (option_cmp bytes_cmp x.version y.version))) (nat_cmp a b)
+    → candidate_places_cmp cs a b ≡ ordering_then (ordering_then (bytes_cmp x.name y.name) (ordering_then (greater_version_first_cmp x.version y.version) (option_cmp bytes_cmp x.version y.version))) (nat_cmp a b)
 cmp_is cs a b x y h g = rw (h, g) refl
 
-pub by_name : (cs : List Candidate) (a b : ℕ) (x y : Candidate) → slice_get cs a ≡ Some x → slice_get cs b ≡ Some y → bytes_cmp x.name y.name ≡ Less → query_cmp cs a b ≡ Less
+pub by_name : (cs : List Candidate) (a b : ℕ) (x y : Candidate) → slice_get cs a ≡ Some x → slice_get cs b ≡ Some y → bytes_cmp x.name y.name ≡ Less → candidate_places_cmp cs a b ≡ Less
 by_name cs a b x y h g e = cmp_is cs a b x y h g ∙ rw e refl
 
 same_names : (x y : Candidate) → x.name ≡ y.name → bytes_cmp x.name y.name ≡ Equal
 same_names x y e = ap (bytes_cmp x.name) (sym e) ∙ tied_itself nat_list_cmp_total x.name
 
 module _ (versions : IsTotalOrder version_cmp) where
-  pub by_version : (cs : List Candidate) (a b : ℕ) (x y : Candidate) (v w : List ℕ) → slice_get cs a ≡ Some x → slice_get cs b ≡ Some y → x.name ≡ y.name → x.version ≡ Some v → y.version ≡ Some w → version_cmp v w ≡ Greater → query_cmp cs a b ≡ Less
+  pub by_version : (cs : List Candidate) (a b : ℕ) (x y : Candidate) (v w : List ℕ) → slice_get cs a ≡ Some x → slice_get cs b ≡ Some y → x.name ≡ y.name → x.version ≡ Some v → y.version ≡ Some w → version_cmp v w ≡ Greater → candidate_places_cmp cs a b ≡ Less
   by_version cs a b x y v w h g n p q e =
       let less : version_cmp w v ≡ Less = versions.antisymm w v ∙ ap ordering_reverse e in
       cmp_is cs a b x y h g ∙ rw (same_names x y n, p, q, less) refl
 
-  pub by_text : (cs : List Candidate) (a b : ℕ) (x y : Candidate) (v w : List ℕ) → slice_get cs a ≡ Some x → slice_get cs b ≡ Some y → x.name ≡ y.name → x.version ≡ Some v → y.version ≡ Some w → version_cmp v w ≡ Equal → bytes_cmp v w ≡ Less → query_cmp cs a b ≡ Less
+  pub by_text : (cs : List Candidate) (a b : ℕ) (x y : Candidate) (v w : List ℕ) → slice_get cs a ≡ Some x → slice_get cs b ≡ Some y → x.name ≡ y.name → x.version ≡ Some v → y.version ≡ Some w → version_cmp v w ≡ Equal → bytes_cmp v w ≡ Less → candidate_places_cmp cs a b ≡ Less
   by_text cs a b x y v w h g n p q e f =
       let equal : version_cmp w v ≡ Equal = versions.antisymm w v ∙ ap ordering_reverse e in
       cmp_is cs a b x y h g ∙ rw (same_names x y n, p, q, equal, f) refl
 
-  pub by_place : (cs : List Candidate) (a b : ℕ) (x y : Candidate) → slice_get cs a ≡ Some x → slice_get cs b ≡ Some y → x.name ≡ y.name → x.version ≡ y.version → a < b → query_cmp cs a b ≡ Less
+  pub by_place : (cs : List Candidate) (a b : ℕ) (x y : Candidate) → slice_get cs a ≡ Some x → slice_get cs b ≡ Some y → x.name ≡ y.name → x.version ≡ y.version → a < b → candidate_places_cmp cs a b ≡ Less
   by_place cs a b x y h g n v low =
-      let one : greater_version x.version y.version ≡ Equal = ap (greater_version x.version) (sym v) ∙ tied_itself (versions_back versions) x.version in
+      let one : greater_version_first_cmp x.version y.version ≡ Equal = ap (greater_version_first_cmp x.version) (sym v) ∙ tied_itself (versions_back versions) x.version in
       let two : option_cmp bytes_cmp x.version y.version ≡ Equal = ap (option_cmp bytes_cmp x.version) (sym v) ∙ tied_itself (options_total nat_list_cmp_total) x.version in
       let less : nat_cmp a b ≡ Less = less_of a b low in
       cmp_is cs a b x y h g ∙ rw (same_names x y n, one, two, less) refl
@@ -70,7 +70,7 @@ module _ (versions : IsTotalOrder version_cmp) where
 pub passes : (test : Candidate → Bool) (cs : List Candidate) (place : ℕ) → IsIn place (sorted_places_passing test cs) → option_map_or test (slice_get cs place) false ≡ true
 passes test cs place h =
     let unsorted : List ℕ = places_passing_from 0 test cs in
-    let found = places_in 0 test cs place (moved_member (sorted_by (query_cmp cs) unsorted) unsorted place (IsPermutation-sym unsorted (sorted_by (query_cmp cs) unsorted) (sorted_same (query_cmp cs) unsorted)) h) in
+    let found = places_in 0 test cs place (moved_member (sorted_by (candidate_places_cmp cs) unsorted) unsorted place (IsPermutation-sym unsorted (sorted_by (candidate_places_cmp cs) unsorted) (sorted_same (candidate_places_cmp cs) unsorted)) h) in
     let z : found.0 ≡ place = omega (arith, found.1) in
     subst (λ (k : ℕ). option_map_or test (slice_get cs k) false ≡ true) z found.2
 
@@ -78,7 +78,7 @@ pub selects : (test : Candidate → Bool) (cs : List Candidate) (place : ℕ) �
 selects test cs place h =
     let unsorted : List ℕ = places_passing_from 0 test cs in
     let z : 0 + place ≡ place = omega arith in
-    moved_member unsorted (sorted_by (query_cmp cs) unsorted) place (sorted_same (query_cmp cs) unsorted) (subst (λ (k : ℕ). IsIn k unsorted) z (in_places 0 test cs place h))
+    moved_member unsorted (sorted_by (candidate_places_cmp cs) unsorted) place (sorted_same (candidate_places_cmp cs) unsorted) (subst (λ (k : ℕ). IsIn k unsorted) z (in_places 0 test cs place h))
 
 in_placed : (cmp : ℕ → ℕ → Ordering) (x z : ℕ) (ys : List ℕ) → IsIn z (with_element_inserted cmp x ys) → (z ≡ x) ⊎ IsIn z ys
 in_placed cmp x z [] (inl e) = inl e
@@ -115,17 +115,17 @@ module _ (cmp : ℕ → ℕ → Ordering) (total : IsTotalOrder cmp) (one : (a b
       let bad : true ≡ false = sym (ap is_lt back) ∙ h in
       absurd (cc)
 
-  in_order : (xs : List ℕ) → Rises (λ a b. is_lt (cmp a b)) (ranks cmp total) xs → AreDistinct xs → AreInOrderBy cmp xs
+  in_order : (xs : List ℕ) → Rises (λ a b. is_lt (cmp a b)) (ranks cmp total) xs → AreDistinct xs → AreStrictlyInOrderBy cmp xs
   in_order [] up d = tt
   in_order (x ∷ xs) up d = (
     (λ y h. first_of x y (cmp x y) refl (each_in (λ (z : ℕ). is_lt (cmp z x) ≡ false) xs y up.0 h) (λ e. d.0 (subst (λ (z : ℕ). IsIn z xs) (sym e) h))),
     in_order xs up.1 d.1,
   )
 
-pub selected_in_order : IsTotalOrder version_cmp → (test : Candidate → Bool) (cs : List Candidate) → AreInOrderBy (query_cmp cs) (sorted_places_passing test cs)
+pub selected_in_order : IsTotalOrder version_cmp → (test : Candidate → Bool) (cs : List Candidate) → AreStrictlyInOrderBy (candidate_places_cmp cs) (sorted_places_passing test cs)
 selected_in_order versions test cs =
     let total = query_total versions cs in
-    in_order (query_cmp cs) total (one_place cs) (sorted_places_passing test cs) (rises_in_order (query_cmp cs) total (places_passing_from 0 test cs)) (sorted_distinct (query_cmp cs) (places_passing_from 0 test cs) (places_apart 0 test cs))
+    in_order (candidate_places_cmp cs) total (one_place cs) (sorted_places_passing test cs) (rises_in_order (candidate_places_cmp cs) total (places_passing_from 0 test cs)) (sorted_distinct (candidate_places_cmp cs) (places_passing_from 0 test cs) (places_apart 0 test cs))
 
 -- ---- versions
 
@@ -195,14 +195,14 @@ versions_each cs name version is =
     subst (λ (v : Option (List ℕ)). IsIn v (versions_of_name cs name)) is.version_is (in_once is.candidate.version (map (λ (c : Candidate). c.version) (sorted_candidates_passing (has_own_name name) cs)) there)
 
 abbrev version_text_cmp : Option (List ℕ) → Option (List ℕ) → Ordering
-version_text_cmp = then_cmp greater_version (option_cmp bytes_cmp)
+version_text_cmp = then_cmp greater_version_first_cmp (option_cmp bytes_cmp)
 
 -- no version comes before one that it is listed after, but where both are one
 abbrev NeverBefore : List (Option (List ℕ)) → Type 0
 NeverBefore [] = Unit {0}
 NeverBefore (v ∷ vs) = ((w : Option (List ℕ)) → IsIn w vs → (version_text_cmp v w ≡ Less) ⊎ (v ≡ w)) × NeverBefore vs
 
-once_in_order : (vs : List (Option (List ℕ))) → NeverBefore vs → AreInOrderBy version_text_cmp (versions_without_repeats vs)
+once_in_order : (vs : List (Option (List ℕ))) → NeverBefore vs → AreStrictlyInOrderBy version_text_cmp (versions_without_repeats vs)
 once_in_order [] h = tt
 once_in_order (v ∷ vs) h = elim (cases_Bool (list_any (is_same_version v) vs)) [
   | inl e ↦ rw e (once_in_order vs h.1)
@@ -224,10 +224,10 @@ module _ (versions : IsTotalOrder version_cmp) (cs : List Candidate) (name : Lis
     where
       by : (o : Ordering) → o ≡ version_text_cmp v w → (version_text_cmp v w ≡ Less) ⊎ (v ≡ w)
       by Less f = inl (sym f)
-      by Equal f = inr (texts_same v w (last_decides (greater_version v w) (option_cmp bytes_cmp v w) (sym f)))
+      by Equal f = inr (texts_same v w (last_decides (greater_version_first_cmp v w) (option_cmp bytes_cmp v w) (sym f)))
       by Greater f = let bad : Greater ≡ Less = rw (e, sym f) at h in absurd (cc)
 
-  never_before : (places : List ℕ) → AreInOrderBy (query_cmp cs) places → ((p : ℕ) (c : Candidate) → IsIn p places → slice_get cs p ≡ Some c → c.name ≡ name) → NeverBefore (map (λ (c : Candidate). c.version) (filter_map (slice_get cs) places))
+  never_before : (places : List ℕ) → AreStrictlyInOrderBy (candidate_places_cmp cs) places → ((p : ℕ) (c : Candidate) → IsIn p places → slice_get cs p ≡ Some c → c.name ≡ name) → NeverBefore (map (λ (c : Candidate). c.version) (filter_map (slice_get cs) places))
   never_before [] up own = tt
   never_before (p ∷ places) up own = next (slice_get cs p) refl (never_before places up.1 (λ q c m e. own q c (inr m) e))
     where
@@ -246,7 +246,7 @@ module _ (versions : IsTotalOrder version_cmp) (cs : List Candidate) (name : Lis
         rest,
       )
 
-  pub versions_in_order : AreInOrderBy version_text_cmp (versions_of_name cs name)
+  pub versions_in_order : AreStrictlyInOrderBy version_text_cmp (versions_of_name cs name)
   versions_in_order =
       let places : List ℕ = sorted_places_passing (has_own_name name) cs in
       once_in_order (map (λ (c : Candidate). c.version) (sorted_candidates_passing (has_own_name name) cs))

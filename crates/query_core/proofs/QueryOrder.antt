@@ -17,7 +17,7 @@ use Rattle.pool_core.proofs.SamePackage.{same_version}
 use Rattle.version_core.specs.Order.{version_cmp}
 use Rattle.version_core.proofs.Fits.{nat_cmp-Equal}
 use Rattle.pool_core.specs.candidate_core.Candidates.{Candidate, is_same_version}
-use Rattle.pool_core.specs.candidate_core.Rank.{bytes_cmp, greater_version}
+use Rattle.pool_core.specs.candidate_core.Rank.{bytes_cmp, greater_version_first_cmp}
 use Rattle.pool_core.specs.candidate_core.declared.versions.VersionKind.{VersionKind}
 use Rattle.pool_core.specs.candidate_core.declared.versions.VersionKind.TheVariants.{Under, Own}
 use Rattle.pool_core.specs.option_ranks.Ranking.{Ranking, ranking_from_parts, ranking_cmp, version_order}
@@ -29,7 +29,7 @@ use Rattle.pool_core.proofs.option_ranks.MovedMembers.{member_of_all}
 use Rattle.pool_core.proofs.option_ranks.RankOrder.{versions_back}
 use Rattle.pool_core.proofs.option_ranks.RankedOptions.{comes_before, place_of, same_by_rank}
 use Rattle.pool_core.proofs.option_ranks.RankedVersions.{HasRank, all_kept, all_ranked, places_kept}
-use Rattle.query_core.specs.Order.{name_and_version_cmp, query_cmp}
+use Rattle.query_core.specs.Order.{name_and_version_cmp, candidate_places_cmp}
 use Rattle.query_core.specs.QueryRanking.{AreInQueryOrder, IsQueryRanking, query_ranking}
 
 -- ---- the order is total, and parts all places
@@ -40,7 +40,7 @@ module _ (versions : IsTotalOrder version_cmp) where
       then_total (on_total (λ (c : Candidate). c.name) nat_list_cmp_total)
       (then_total (on_total (λ (c : Candidate). c.version) (versions_back versions)) (on_total (λ (c : Candidate). c.version) (options_total nat_list_cmp_total)))
 
-  pub query_total : (cs : List Candidate) → IsTotalOrder (query_cmp cs)
+  pub query_total : (cs : List Candidate) → IsTotalOrder (candidate_places_cmp cs)
   query_total cs = then_total (on_total (slice_get cs) (options_total candidates_total)) nat_cmp_total
 
 pub last_decides : (o r : Ordering) → ordering_then o r ≡ Equal → r ≡ Equal
@@ -48,7 +48,7 @@ last_decides Less r h = absurd (cc)
 last_decides Equal r h = h
 last_decides Greater r h = absurd (cc)
 
-pub one_place : (cs : List Candidate) (a b : ℕ) → query_cmp cs a b ≡ Equal → a ≡ b
+pub one_place : (cs : List Candidate) (a b : ℕ) → candidate_places_cmp cs a b ≡ Equal → a ≡ b
 one_place cs a b h = nat_cmp-Equal a b (last_decides (option_cmp name_and_version_cmp (slice_get cs a) (slice_get cs b)) (nat_cmp a b) h)
 
 -- ---- the order of rankings
@@ -59,12 +59,12 @@ last_equal Equal r = refl
 last_equal Greater r = refl
 
 module _ (cs : List Candidate) where
-  read_by_text : (a b : Ranking) (x y : Candidate) → slice_get cs a.place ≡ Some x → slice_get cs b.place ≡ Some y → ranking_cmp ByText (query_ranking x a) (query_ranking y b) ≡ query_cmp cs a.place b.place
+  read_by_text : (a b : Ranking) (x y : Candidate) → slice_get cs a.place ≡ Some x → slice_get cs b.place ≡ Some y → ranking_cmp ByText (query_ranking x a) (query_ranking y b) ≡ candidate_places_cmp cs a.place b.place
   unfolding ranking_cmp
   read_by_text a b x y h g =
-      rw (h, g) (last_equal (ordering_then (bytes_cmp x.name y.name) (ordering_then (greater_version x.version y.version) (option_cmp bytes_cmp x.version y.version))) (nat_cmp a.place b.place))
+      rw (h, g) (last_equal (ordering_then (bytes_cmp x.name y.name) (ordering_then (greater_version_first_cmp x.version y.version) (option_cmp bytes_cmp x.version y.version))) (nat_cmp a.place b.place))
 
-  same_by_text : (a b : Ranking) → IsQueryRanking cs a → IsQueryRanking cs b → ranking_cmp ByText a b ≡ query_cmp cs a.place b.place
+  same_by_text : (a b : Ranking) → IsQueryRanking cs a → IsQueryRanking cs b → ranking_cmp ByText a b ≡ candidate_places_cmp cs a.place b.place
   same_by_text a b p q =
       ap (λ (r : Ranking). ranking_cmp ByText r b) p.1.1
       ∙ (ap (λ (r : Ranking). ranking_cmp ByText (query_ranking p.0 a) r) q.1.1 ∙ read_by_text a b p.0 q.0 p.1.0 q.1.0)
@@ -75,18 +75,18 @@ module _ (cs : List Candidate) where
       pub under : HasRank Under unders r
       pub own : HasRank Own owns r
 
-    as_read : (a b : Ranking) (x y : Candidate) → slice_get cs a.place ≡ Some x → slice_get cs b.place ≡ Some y → nat_cmp a.under.rank b.under.rank ≡ Equal → nat_cmp a.version.rank b.version.rank ≡ ordering_then (greater_version x.version y.version) (option_cmp bytes_cmp x.version y.version) → ranking_cmp ByRank (query_ranking x a) (query_ranking y b) ≡ query_cmp cs a.place b.place
+    as_read : (a b : Ranking) (x y : Candidate) → slice_get cs a.place ≡ Some x → slice_get cs b.place ≡ Some y → nat_cmp a.under.rank b.under.rank ≡ Equal → nat_cmp a.version.rank b.version.rank ≡ ordering_then (greater_version_first_cmp x.version y.version) (option_cmp bytes_cmp x.version y.version) → ranking_cmp ByRank (query_ranking x a) (query_ranking y b) ≡ candidate_places_cmp cs a.place b.place
     unfolding ranking_cmp
     as_read a b x y h g under own =
-        rw (h, g, under, own) (last_equal (ordering_then (bytes_cmp x.name y.name) (ordering_then (greater_version x.version y.version) (option_cmp bytes_cmp x.version y.version))) (nat_cmp a.place b.place))
+        rw (h, g, under, own) (last_equal (ordering_then (bytes_cmp x.name y.name) (ordering_then (greater_version_first_cmp x.version y.version) (option_cmp bytes_cmp x.version y.version))) (nat_cmp a.place b.place))
 
-    same_order : (a b : Ranking) → IsRanked a → IsRanked b → ranking_cmp ByRank a b ≡ query_cmp cs a.place b.place
+    same_order : (a b : Ranking) → IsRanked a → IsRanked b → ranking_cmp ByRank a b ≡ candidate_places_cmp cs a.place b.place
     same_order a b p q =
         let x : Candidate = p.read.0 in
         let y : Candidate = q.read.0 in
         let under : nat_cmp a.under.rank b.under.rank ≡ Equal =
         same_by_rank versions Under unders a b p.under q.under
-        ∙ (ap (λ (r : Ranking). greater_version r.under.version b.under.version) p.read.1.1 ∙ ap (λ (r : Ranking). greater_version None r.under.version) q.read.1.1) in
+        ∙ (ap (λ (r : Ranking). greater_version_first_cmp r.under.version b.under.version) p.read.1.1 ∙ ap (λ (r : Ranking). greater_version_first_cmp None r.under.version) q.read.1.1) in
         let own : nat_cmp a.version.rank b.version.rank ≡ version_order Own x.version y.version =
         same_by_rank versions Own owns a b p.own q.own
         ∙ (ap (λ (r : Ranking). version_order Own r.version.version b.version.version) p.read.1.1 ∙ ap (λ (r : Ranking). version_order Own x.version r.version.version) q.read.1.1) in
@@ -109,7 +109,7 @@ module _ (versions : IsTotalOrder version_cmp) (owns : List (Option (List ℕ)))
   alike_by_rank : (a.version.rank == b.version.rank) ≡ true → a.version.version ≡ b.version.version
   alike_by_rank h =
       texts_same a.version.version b.version.version
-      (last_decides (greater_version a.version.version b.version.version) (option_cmp bytes_cmp a.version.version b.version.version)
+      (last_decides (greater_version_first_cmp a.version.version b.version.version) (option_cmp bytes_cmp a.version.version b.version.version)
       (sym (same_by_rank versions Own owns a b p q) ∙ nat_same a.version.rank b.version.rank ((Decides-eqb a.version.rank b.version.rank).0 h)))
 
   same_by_version : a.version.version ≡ b.version.version → (a.version.rank == b.version.rank) ≡ true
@@ -120,8 +120,8 @@ module _ (versions : IsTotalOrder version_cmp) (owns : List (Option (List ℕ)))
 pub none_read : Ranking
 none_read = ranking_from_parts false false false false (record { version = None; source = 0; word = 0; rank = 0 }) 0 [] (record { version = None; source = 0; word = 0; rank = 0 }) None 0
 
-sorted_places : (cs : List Candidate) (key : VersionKey) (P : Ranking → Type 0) → ((a b : Ranking) → P a → P b → ranking_cmp key a b ≡ query_cmp cs a.place b.place)
-    → (rs : List Ranking) → All P rs → IsSortedBy (comes_before key) rs → IsSortedBy (λ a b. is_lt (query_cmp cs a b)) (map place_of rs)
+sorted_places : (cs : List Candidate) (key : VersionKey) (P : Ranking → Type 0) → ((a b : Ranking) → P a → P b → ranking_cmp key a b ≡ candidate_places_cmp cs a.place b.place)
+    → (rs : List Ranking) → All P rs → IsSortedBy (comes_before key) rs → IsSortedBy (λ a b. is_lt (candidate_places_cmp cs a b)) (map place_of rs)
 sorted_places cs key P same rs all up = λ k d low high.
     let len : length (map place_of rs) ≡ length rs = length-map rs place_of in
     let here : k < length rs = omega (arith, high, len) in
@@ -130,8 +130,8 @@ sorted_places cs key P same rs all up = λ k d low high.
     let b : Ranking = get_or rs k none_read in
     let is_a : get_or (map place_of rs) (k + 1) d ≡ a.place = get_or-map place_of rs (k + 1) none_read d next in
     let is_b : get_or (map place_of rs) k d ≡ b.place = get_or-map place_of rs k none_read d here in
-    ap (λ (n : ℕ). is_lt (query_cmp cs n (get_or (map place_of rs) k d))) is_a
-    ∙ (ap (λ (n : ℕ). is_lt (query_cmp cs a.place n)) is_b
+    ap (λ (n : ℕ). is_lt (candidate_places_cmp cs n (get_or (map place_of rs) k d))) is_a
+    ∙ (ap (λ (n : ℕ). is_lt (candidate_places_cmp cs a.place n)) is_b
     ∙ (ap is_lt (sym (same a b (all (k + 1) none_read next) (all k none_read here))) ∙ up k none_read low (omega (arith, high, len))))
 
 ranking_kept : (cs : List Candidate) (kind : VersionKind) (n : ℕ) (r : Ranking) → IsQueryRanking cs r → IsQueryRanking cs (with_version_rank kind n r)
@@ -150,7 +150,7 @@ module _ (versions : IsTotalOrder version_cmp) (cs : List Candidate) (read : Lis
       λ i d h. record { read = each_second i d h; under = under i d h; own = own i d h }
 
   -- what is ready for a key and sorted by it is in the order of queries
-  pub sorted_by_key : (key : VersionKey) (ready sorted : List Ranking) → AreComparableByKey key read ready → IsPermutation ready sorted → IsSortedBy (comes_before key) sorted → IsSortedBy (λ a b. is_lt (query_cmp cs a b)) (map place_of sorted)
+  pub sorted_by_key : (key : VersionKey) (ready sorted : List Ranking) → AreComparableByKey key read ready → IsPermutation ready sorted → IsSortedBy (comes_before key) sorted → IsSortedBy (λ a b. is_lt (candidate_places_cmp cs a b)) (map place_of sorted)
   sorted_by_key ByRank ready sorted twice moved up =
       let P : Ranking → Type 0 = IsRanked cs versions twice.under.versions twice.own.versions in
       sorted_places cs ByRank P (same_order cs versions twice.under.versions twice.own.versions) sorted (All-permutation P ready sorted moved (ranked_twice ready twice)) up

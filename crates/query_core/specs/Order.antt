@@ -6,7 +6,7 @@ use Rattle.std.specs.Ordering.{nat_cmp, on, then_cmp}
 use Rattle.std.specs.declared.cmp.Ordering.{Ordering}
 use Rattle.pool_core.specs.candidate_core.Candidates.{Candidate}
 use Rattle.pool_core.specs.candidate_core.Options.{places_passing_from}
-use Rattle.pool_core.specs.candidate_core.Rank.{bytes_cmp, greater_version}
+use Rattle.pool_core.specs.candidate_core.Rank.{bytes_cmp, greater_version_first_cmp}
 use Rattle.base_core.specs.Sorted.{sorted_by}
 
 -- the text of a version, as it is printed; empty if there is none, and no candidate of a tested
@@ -19,19 +19,19 @@ printed_version version = unwrap_or version []
 abbrev pub name_and_version_cmp : Candidate → Candidate → Ordering
 name_and_version_cmp =
     then_cmp (on (λ (c : Candidate). c.name) bytes_cmp)
-    (then_cmp (on (λ (c : Candidate). c.version) greater_version)
+    (then_cmp (on (λ (c : Candidate). c.version) greater_version_first_cmp)
     (on (λ (c : Candidate). c.version) (option_cmp bytes_cmp)))
 
 -- the order of two places in a list of candidates: by the candidates there, and else the earlier
 -- place comes first
-abbrev pub query_cmp : List Candidate → ℕ → ℕ → Ordering
-query_cmp candidates =
+abbrev pub candidate_places_cmp : List Candidate → ℕ → ℕ → Ordering
+candidate_places_cmp candidates =
     then_cmp (on (slice_get candidates) (option_cmp name_and_version_cmp)) nat_cmp
 
 -- the places, counted from 0, of the candidates that pass a test, in the order of queries
 abbrev pub sorted_places_passing : (Candidate → Bool) → List Candidate → List ℕ
 sorted_places_passing test candidates =
-    sorted_by (query_cmp candidates) (places_passing_from 0 test candidates)
+    sorted_by (candidate_places_cmp candidates) (places_passing_from 0 test candidates)
 
 -- the candidates that pass a test, in the order of queries
 abbrev pub sorted_candidates_passing : (Candidate → Bool) → List Candidate → List Candidate

@@ -40,17 +40,17 @@ abbrev pub is_of_repository : ℕ → Candidate → Bool
 is_of_repository number c = option_map_or (λ repository. repository == number) c.repository false
 
 -- the lines of repositories, the first of which has a number, that have one of these candidates
-abbrev pub repository_lines : List Candidate → ℕ → List Repository → List ℕ
-repository_lines candidates number [] = []
-repository_lines candidates number (r ∷ repositories) =
+abbrev pub lines_of_repositories_of_candidates : List Candidate → ℕ → List Repository → List ℕ
+lines_of_repositories_of_candidates candidates number [] = []
+lines_of_repositories_of_candidates candidates number (r ∷ repositories) =
     (if list_any (is_of_repository number) candidates then repository_line r.tag r.path else [])
-    ++ repository_lines candidates (number + 1) repositories
+    ++ lines_of_repositories_of_candidates candidates (number + 1) repositories
 
 -- the lines on where these candidates are, which have one name and version
 abbrev pub policy_origin_lines : List Repository → List Candidate → List ℕ
 policy_origin_lines repositories candidates =
     (if list_any (λ (c : Candidate). c.installed) candidates then policy_database_line else [])
-    ++ repository_lines candidates 1 repositories
+    ++ lines_of_repositories_of_candidates candidates 1 repositories
 
 -- ---- the report
 

@@ -28,8 +28,11 @@ have_same_version ByText a b = is_same_version a.version.version b.version.versi
 -- of their versions are the same.
 pub record AreInQueryOrder (candidates : List Candidate) (key : VersionKey) (rs : List Ranking)
     : Type 0 where
+  -- the rankings were read of these candidates
   pub read : All (IsQueryRanking candidates) rs
+  -- if the key finds the same version in two rankings, the texts of their versions are the same
   pub alike : (a b : Ranking) → IsIn a rs → IsIn b rs → have_same_version key a b ≡ true
       → a.version.version ≡ b.version.version
+  -- if the texts of the versions of two rankings are the same, the key finds the same version
   pub same : (a b : Ranking) → IsIn a rs → IsIn b rs → a.version.version ≡ b.version.version
       → have_same_version key a b ≡ true

@@ -14,8 +14,8 @@ provided_names provides =
     map (λ (p : Dependency). p.name) (filter (λ (p : Dependency). not p.conflict) provides)
 
 -- the names of a candidate: its own, and those that it provides
-abbrev pub candidate_names : Candidate → List (List ℕ)
-candidate_names c = c.name ∷ provided_names c.provides
+abbrev pub own_and_provided_names : Candidate → List (List ℕ)
+own_and_provided_names c = c.name ∷ provided_names c.provides
 
 -- whether one of the patterns matches some part of a name
 abbrev pub is_part_of_name_matched : List Operand → List ℕ → Bool
@@ -24,7 +24,7 @@ is_part_of_name_matched patterns name = list_any (λ (o : Operand). matches_some
 -- whether `search` prints a candidate: it is of a repository, and one of its names is found
 abbrev pub is_search_candidate : List Operand → Candidate → Bool
 is_search_candidate patterns c =
-    is_some c.repository && list_any (is_part_of_name_matched patterns) (candidate_names c)
+    is_some c.repository && list_any (is_part_of_name_matched patterns) (own_and_provided_names c)
 
 -- what `search` prints of candidates, by its patterns
 abbrev pub search_report : List Candidate → List Operand → List ℕ

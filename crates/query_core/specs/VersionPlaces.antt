@@ -13,8 +13,11 @@ use Rattle.query_core.specs.Policy.{has_name_and_version, is_of_repository}
 -- A version of a name: whether a candidate with it is installed, and the numbers of the repositories that
 -- have such a candidate. No number is less than one before it.
 pub record VersionPlaces : Type 0 where
+  -- the text of the version, if it is one
   pub version : Option (List ℕ)
+  -- whether a candidate with this version is installed
   pub is_installed : Bool
+  -- the numbers of the repositories that have it, counted from 1, in rising order
   pub repositories : List ℕ
 
 -- the places of a version by its parts
@@ -51,10 +54,14 @@ version_lines repositories places =
 
 -- what is gathered of a version says where these candidates are
 pub record ListsPlacesOf (candidates : List Candidate) (places : VersionPlaces) : Type 0 where
+  -- the mark says whether one of the candidates is installed
   pub installed : list_any (λ (c : Candidate). c.installed) candidates ≡ places.is_installed
+  -- no number of a repository is less than one before it
   pub order : AreNonDecreasing places.repositories
+  -- each number is that of the repository of a candidate
   pub each : (number : ℕ) → IsIn number places.repositories
       → list_any (is_of_repository number) candidates ≡ true
+  -- the number of each candidate's repository is in the list
   pub all : (number : ℕ) → list_any (is_of_repository number) candidates ≡ true
       → IsIn number places.repositories
 

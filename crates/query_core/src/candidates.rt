@@ -2,7 +2,7 @@
 //! The rules are in `docs/commands.md`, "`list`" and "`search`".
 ghost use Rattle.query_core.specs.Appends.{Appends};
 ghost use Rattle.query_core.specs.Lines.{description_part, line_in_form};
-ghost use Rattle.query_core.specs.Order.{printed_version, query_cmp};
+ghost use Rattle.query_core.specs.Order.{printed_version, candidate_places_cmp};
 ghost use Rattle.report_core.specs.QueryReports.{installed_mark, text_between_unless_empty};
 ghost use Rattle.report_core.specs.Reports.{name_dash_version};
 ghost use Rattle.base_core.specs.Sorted.{sorted_by};
@@ -51,8 +51,8 @@ pub(crate) fn push_if(
     Ok(())
 }
 
-/// The lines of the candidates at some places, in the order of queries. The length of the report is
-/// counted before memory for it is asked for.
+/// The lines of the candidates at these places, in the order in which queries print candidates. The
+/// length of the report is counted before memory for it is asked for.
 pub(crate) fn report(
     alloc: Global,
     pool: &Sealed<'_>,
@@ -60,9 +60,10 @@ pub(crate) fn report(
     form: LineForm,
 ) -> Result<Text, AllocError>
     requires { All (λ place. place < length pool.now.candidates) places.now }
+    // The lines of the candidates at these places, in the order of queries.
     ensures { IfOk result (λ report. report ≡ flat_map (line_in_form form)
         (filter_map (slice_get pool.now.candidates)
-        (sorted_by (query_cmp pool.now.candidates) places.now))) }
+        (sorted_by (candidate_places_cmp pool.now.candidates) places.now))) }
 {
     let ordered = in_order(alloc, pool, places)?;
     let mut length = ReportLength { bytes: 0 };
@@ -84,6 +85,7 @@ fn put_lines<O: ReportOut>(
     form: LineForm,
 ) -> Result<(), AllocError>
     requires { All (λ r. r.place < length pool.now.candidates) rankings.now }
+    // The lines of the ranked candidates are appended to the output, in this order.
     ensures { OnOk result (Appends O.holds out.old out.new (flat_map (line_in_form form)
         (filter_map (slice_get pool.now.candidates) (map (λ r. r.place) rankings.now)))) }
 {
@@ -94,7 +96,7 @@ fn put_lines<O: ReportOut>(
     Ok(())
 }
 
-// Puts the line of a candidate.
+// Writes the line of a candidate to the output.
 fn put_line<O: ReportOut>(
     out: &mut O,
     details: &Details<'_>,
@@ -109,7 +111,7 @@ fn put_line<O: ReportOut>(
     out.put(b"\n")
 }
 
-// Puts name and version of a candidate.
+// Writes name and version of a candidate to the output.
 fn put_name_version<O: ReportOut>(out: &mut O, details: &Details<'_>) -> Result<(), AllocError>
     ensures { OnOk result (Appends O.holds out.old out.new
         (name_dash_version details.now.name (printed_version details.now.version))) }

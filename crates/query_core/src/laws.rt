@@ -2,14 +2,14 @@
 //! The rules are in `docs/commands.md`, "`list`", "`search`" and "`policy`".
 ghost use Rattle.pool_core.specs.candidate_core.Candidates.{Candidate};
 ghost use Rattle.pool_core.specs.candidate_core.Options.{IsIn};
-ghost use Rattle.pool_core.specs.candidate_core.Rank.{UpgradedNames, bytes_cmp, greater_version, sealed_pool_from_parts};
+ghost use Rattle.pool_core.specs.candidate_core.Rank.{UpgradedNames, bytes_cmp, greater_version_first_cmp, sealed_pool_from_parts};
 ghost use Rattle.command_core.specs.Command.{CommandLine};
 ghost use Rattle.command_core.specs.declared.operands.Operand.{Operand};
 ghost use Rattle.dep_core.specs.Dependency.{Dependency};
 ghost use Rattle.dep_core.specs.Repositories.{Repository};
-ghost use Rattle.query_core.specs.Asked.{AreInOrderBy, IsOwnOrProvidedName, MatchesNamePattern, MatchesPartOfName, IsVersionOfName};
+ghost use Rattle.query_core.specs.Asked.{AreStrictlyInOrderBy, IsOwnOrProvidedName, IsNameMatchedBySomePattern, HasPartMatchedBySomePattern, IsVersionOfName};
 ghost use Rattle.query_core.specs.List.{is_list_candidate};
-ghost use Rattle.query_core.specs.Order.{query_cmp, sorted_places_passing};
+ghost use Rattle.query_core.specs.Order.{candidate_places_cmp, sorted_places_passing};
 ghost use Rattle.query_core.specs.Policy.{name_policy, versions_of_name};
 ghost use Rattle.query_core.specs.Queries.{text_of_query};
 ghost use Rattle.query_core.specs.Search.{is_search_candidate};
@@ -27,41 +27,45 @@ use version_core::order_is_total;
 /// The order of queries is a strict total order on the places of a list of candidates: by the name,
 /// then the greater version, then the text of the version, then the place.
 pub fn the_order_of_queries_is_total()
-    ensures total { (cs : List Candidate) → IsTotalOrder (query_cmp cs) }
-    ensures strict { (cs : List Candidate) (a b : ℕ) → query_cmp cs a b ≡ Equal → a ≡ b }
+    ensures total { (cs : List Candidate) → IsTotalOrder (candidate_places_cmp cs) }
+    ensures strict { (cs : List Candidate) (a b : ℕ) → candidate_places_cmp cs a b ≡ Equal → a ≡ b }
     // The byte-lesser name comes first.
     ensures name { (cs : List Candidate) (a b : ℕ) (x y : Candidate)
         → slice_get cs a ≡ Some x → slice_get cs b ≡ Some y
-        → bytes_cmp x.name y.name ≡ Less → query_cmp cs a b ≡ Less }
+        → bytes_cmp x.name y.name ≡ Less → candidate_places_cmp cs a b ≡ Less }
     // Of one name the greater version comes first.
     ensures version { (cs : List Candidate) (a b : ℕ) (x y : Candidate) (v w : List ℕ)
         → slice_get cs a ≡ Some x → slice_get cs b ≡ Some y → x.name ≡ y.name
         → x.version ≡ Some v → y.version ≡ Some w → version_cmp v w ≡ Greater
-        → query_cmp cs a b ≡ Less }
+        → candidate_places_cmp cs a b ≡ Less }
     // Of versions that are equal in order the byte-lesser text comes first.
     ensures text { (cs : List Candidate) (a b : ℕ) (x y : Candidate) (v w : List ℕ)
         → slice_get cs a ≡ Some x → slice_get cs b ≡ Some y → x.name ≡ y.name
         → x.version ≡ Some v → y.version ≡ Some w → version_cmp v w ≡ Equal
-        → bytes_cmp v w ≡ Less → query_cmp cs a b ≡ Less }
+        → bytes_cmp v w ≡ Less → candidate_places_cmp cs a b ≡ Less }
     // Of one name and version the earlier place comes first.
     ensures place { (cs : List Candidate) (a b : ℕ) (x y : Candidate)
         → slice_get cs a ≡ Some x → slice_get cs b ≡ Some y → x.name ≡ y.name
-        → x.version ≡ y.version → a < b → query_cmp cs a b ≡ Less }
+        → x.version ≡ y.version → a < b → candidate_places_cmp cs a b ≡ Less }
 {
+    // A law that the proof needs; it has no effect at run time.
     order_is_total();
 }
 
 /// A query selects just the candidates that pass its test, each once and in the order of queries.
 pub fn a_query_selects_what_passes_its_test()
+    // Each candidate that is printed passes the test.
     ensures those { (test : Candidate → Bool) (cs : List Candidate) (place : ℕ)
         → IsIn place (sorted_places_passing test cs) →
         option_map_or test (slice_get cs place) false ≡ true }
+    // Each candidate that passes the test is printed.
     ensures each { (test : Candidate → Bool) (cs : List Candidate) (place : ℕ)
         → option_map_or test (slice_get cs place) false ≡ true →
         IsIn place (sorted_places_passing test cs) }
     ensures order { (test : Candidate → Bool) (cs : List Candidate)
-        → AreInOrderBy (query_cmp cs) (sorted_places_passing test cs) }
+        → AreStrictlyInOrderBy (candidate_places_cmp cs) (sorted_places_passing test cs) }
 {
+    // A law that the proof needs; it has no effect at run time.
     order_is_total();
 }
 
@@ -70,9 +74,10 @@ pub fn a_query_selects_what_passes_its_test()
 pub fn list_prints_what_is_asked_for()
     ensures { (patterns : List Operand) (installed_only : Bool) (c : Candidate)
         → (is_list_candidate patterns installed_only c ≡ true)
-        ↔ (((patterns ≡ []) ⊎ MatchesNamePattern patterns c.name)
+        ↔ (((patterns ≡ []) ⊎ IsNameMatchedBySomePattern patterns c.name)
         × (installed_only ≡ true → c.installed ≡ true)) }
 {
+    // A law that the proof needs; it has no effect at run time.
     a_pattern_matches_what_its_stars_are_filled_to();
 }
 
@@ -82,26 +87,32 @@ pub fn search_prints_what_is_asked_for()
     ensures { (patterns : List Operand) (c : Candidate)
         → (is_search_candidate patterns c ≡ true)
         ↔ ((is_some c.repository ≡ true)
-        × ((name : List ℕ) × (IsOwnOrProvidedName c name × MatchesPartOfName patterns name))) }
+        × ((name : List ℕ) × (IsOwnOrProvidedName c name
+        × HasPartMatchedBySomePattern patterns name))) }
 {
+    // A law that the proof needs; it has no effect at run time.
     a_pattern_matches_what_its_stars_are_filled_to();
 }
 
 /// `policy` prints just the versions of the candidates that have the name for their own, each once
 /// and in order, and of a name that none has its first line alone.
 pub fn policy_prints_each_version_once()
+    // Each version that is printed is that of a candidate of this name.
     ensures those { (cs : List Candidate) (name : List ℕ) (version : Option (List ℕ))
         → IsIn version (versions_of_name cs name) → IsVersionOfName cs name version }
+    // The version of each candidate of this name is printed.
     ensures each { (cs : List Candidate) (name : List ℕ) (version : Option (List ℕ))
         → IsVersionOfName cs name version → IsIn version (versions_of_name cs name) }
     // The greater version comes first, and of equal ones the byte-lesser text.
     ensures order { (cs : List Candidate) (name : List ℕ)
-        → AreInOrderBy (then_cmp greater_version (option_cmp bytes_cmp))
+        → AreStrictlyInOrderBy (then_cmp greater_version_first_cmp (option_cmp bytes_cmp))
         (versions_of_name cs name) }
+    // For a name without a candidate only the heading is printed.
     ensures unknown { (cs : List Candidate) (repositories : List Repository) (name : List ℕ)
         → ((version : Option (List ℕ)) → IsVersionOfName cs name version → ⊥)
         → name_policy cs repositories name ≡ policy_heading name }
 {
+    // A law that the proof needs; it has no effect at run time.
     order_is_total();
 }
 

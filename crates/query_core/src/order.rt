@@ -5,7 +5,7 @@ ghost use Rattle.pool_core.specs.candidate_core.declared.versions.VersionKind.Th
 ghost use Rattle.pool_core.specs.candidate_core.Packages.{candidates_of_packages};
 ghost use Rattle.base_core.specs.Sorted.{sorted_by};
 ghost use Rattle.pool_core.specs.option_ranks.VersionRanks.{HaveVersionsFromSameTexts, HasVersionTextsOfSources};
-ghost use Rattle.query_core.specs.Order.{query_cmp};
+ghost use Rattle.query_core.specs.Order.{candidate_places_cmp};
 ghost use Rattle.query_core.specs.QueryRanking.{AreInQueryOrder, IsQueryRanking};
 ghost use Rattle.std.specs.Prelude.{◌≡◌, ◌<◌, All, IfOk, length, map};
 
@@ -33,10 +33,11 @@ pub(crate) fn in_order<'a>(
 ) -> Result<Ordered<'a>, AllocError>
     requires { All (λ place. place < length pool.now.candidates) places.now }
     ensures places { IfOk result (λ ordered. map (λ r. r.place) ordered.rankings.items
-        ≡ sorted_by (query_cmp pool.now.candidates) places.now) }
+        ≡ sorted_by (candidate_places_cmp pool.now.candidates) places.now) }
     ensures versions { IfOk result (λ ordered.
         AreInQueryOrder pool.now.candidates ordered.key ordered.rankings.items) }
 {
+    // A law that the proof needs; it has no effect at run time.
     order_is_total();
     let packages = pool.packages();
     let mut rankings = rankings(alloc, pool, packages, places)?;

@@ -2,7 +2,7 @@
 ghost use Rattle.query_core.specs.Appends.{Appends};
 ghost use Rattle.query_core.specs.Policy.{name_policy, policy_report};
 ghost use Rattle.query_core.specs.VersionPlaces.{repository_line_numbered, distinct_repository_lines, version_lines};
-ghost use Rattle.report_core.specs.QueryReports.{policy_database_line, policy_line_with_origin_text, policy_heading, repository_line, version_heading};
+ghost use Rattle.report_core.specs.QueryReports.{policy_database_line, indented_policy_line, policy_heading, repository_line, version_heading};
 ghost use Rattle.std.specs.List.{flat_map};
 ghost use Rattle.std.specs.Prelude.{◌≡◌, ◌<◌, ◌++◌, [], IfOk, OnOk, codes, if◌then◌else◌, nat_lt, option_copied};
 
@@ -56,7 +56,7 @@ fn add_name(
     put_name(report, repositories, name, &versions)
 }
 
-// Puts what is printed of a name with these versions.
+// Writes the heading of a name, and what is printed of each of these versions.
 fn put_name<O: ReportOut>(
     out: &mut O,
     repositories: &Repos,
@@ -74,7 +74,7 @@ fn put_name<O: ReportOut>(
     Ok(())
 }
 
-// Puts what is printed of a version.
+// Writes what is printed of a version: its line, and a line for each place that has it.
 fn put_version<O: ReportOut>(
     out: &mut O,
     repositories: &Repos,
@@ -88,7 +88,7 @@ fn put_version<O: ReportOut>(
     put_repositories(out, repositories, &version.repositories)
 }
 
-// Puts the line of the database of installed packages if a version is installed.
+// Writes the line of the database of installed packages, if the version is installed.
 fn put_database<O: ReportOut>(out: &mut O, is_installed: bool) -> Result<(), AllocError>
     ensures { OnOk result (Appends O.holds out.old out.new
         (if is_installed then policy_database_line else [])) }
@@ -99,7 +99,7 @@ fn put_database<O: ReportOut>(out: &mut O, is_installed: bool) -> Result<(), All
     put_place(out, b"lib/apk/db/installed")
 }
 
-// Puts the line of a version, below the name.
+// Writes the line of a version, which is below the heading of the name.
 fn put_version_heading<O: ReportOut>(out: &mut O, version: &[u8]) -> Result<(), AllocError>
     ensures { OnOk result (Appends O.holds out.old out.new (version_heading version.now)) }
 {
@@ -108,8 +108,8 @@ fn put_version_heading<O: ReportOut>(out: &mut O, version: &[u8]) -> Result<(), 
     out.put(b":\n")
 }
 
-// Puts a line for each of some repositories, by their numbers, and none twice: of equal numbers,
-// which are side by side, the first one alone.
+// Writes a line for each of these repositories, by their numbers, and none twice. Equal numbers are
+// side by side, and only the first of them has a line.
 fn put_repositories<O: ReportOut>(
     out: &mut O,
     repositories: &Repos,
@@ -125,8 +125,8 @@ fn put_repositories<O: ReportOut>(
     Ok(())
 }
 
-// Puts the line of the repository with a number if the number is greater than the last one, and
-// returns the greater of the two.
+// Writes the line of the repository with a number, if the number is greater than the last one that
+// was written. Returns the greater of the two.
 fn put_greater<O: ReportOut>(
     out: &mut O,
     repositories: &Repos,
@@ -144,7 +144,7 @@ fn put_greater<O: ReportOut>(
     Ok(last)
 }
 
-// Puts the line of the repository with a number, counted from 1, if there is one.
+// Writes the line of the repository with a number, counted from 1, if the list has it.
 fn put_numbered<O: ReportOut>(
     out: &mut O,
     repositories: &Repos,
@@ -180,10 +180,10 @@ fn put_repository<O: ReportOut>(
     }
 }
 
-// Puts the line of a repository with a tag.
+// Writes the line of a repository that has a tag.
 fn put_tagged<O: ReportOut>(out: &mut O, tag: &[u8], path: &[u8]) -> Result<(), AllocError>
     ensures { OnOk result (Appends O.holds out.old out.new
-        (policy_line_with_origin_text (codes "@" ++ tag.now ++ codes " " ++ path.now))) }
+        (indented_policy_line (codes "@" ++ tag.now ++ codes " " ++ path.now))) }
 {
     out.put(b"    @")?;
     out.put(tag)?;
@@ -192,10 +192,10 @@ fn put_tagged<O: ReportOut>(out: &mut O, tag: &[u8], path: &[u8]) -> Result<(), 
     out.put(b"\n")
 }
 
-// Puts a line on where a version is.
+// Writes a line that says where a version is.
 fn put_place<O: ReportOut>(out: &mut O, text: &[u8]) -> Result<(), AllocError>
     ensures { OnOk result (Appends O.holds out.old out.new
-        (policy_line_with_origin_text text.now)) }
+        (indented_policy_line text.now)) }
 {
     out.put(b"    ")?;
     out.put(text)?;

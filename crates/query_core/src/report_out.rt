@@ -34,6 +34,7 @@ impl ReportOut for Vec<u8> {
 /// How many bytes were put in.
 #[derive(Drop)]
 pub(crate) struct ReportLength {
+    /// The number of the bytes so far.
     pub(crate) bytes: usize,
 }
 

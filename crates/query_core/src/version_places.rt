@@ -26,8 +26,8 @@ pub(crate) struct PlacedVersion<'a> {
     pub(crate) version: Option<Version<'a>>,
     /// Whether a candidate with this version is installed.
     pub(crate) is_installed: bool,
-    /// The numbers of the repositories that have one, counted from 1; none is less than those
-    /// before it.
+    /// The numbers of the repositories with such a candidate, counted from 1. No number is less
+    /// than one before it.
     pub(crate) repositories: Vec<u64>,
 }
 
@@ -39,8 +39,9 @@ impl<'a> Model for PlacedVersion<'a> {
     ghost view = { λ v. version_places_from_parts v.version v.is_installed v.repositories.items };
 }
 
-/// The versions of the candidates with a name, each once and in the order of queries, and where
-/// each of them is.
+/// The versions of the candidates with a name, the greatest first and each text once; and for each
+/// whether it is installed, and which repositories have it. The order is that of
+/// `docs/commands.md`, "Queries".
 pub(crate) fn placed_versions<'a>(
     alloc: Global,
     pool: &Sealed<'a>,
@@ -66,7 +67,7 @@ fn named_places(alloc: Global, pool: &Sealed<'_>, name: &[u8]) -> Result<Vec<Can
     Ok(places)
 }
 
-// Those of some places whose candidates have a name of their own.
+// Of these places, those whose candidates have the name as their own.
 fn named_among(
     alloc: Global,
     pool: &Sealed<'_>,
@@ -84,7 +85,7 @@ fn named_among(
     Ok(places)
 }
 
-// Whether there is a candidate at a place that has a name of its own.
+// Whether there is a candidate at the place whose own name is this one.
 fn is_named_at(pool: &Sealed<'_>, place: CandId, name: &[u8]) -> bool
     ensures { result ≡ candidate_at_passes pool.now (has_own_name name.now) place }
 {
@@ -111,6 +112,7 @@ fn grouped<'a>(
     ensures places { IfOk result (λ versions.
         All (ListsPlacesOfVersion pool.now.candidates name.now) versions.items) }
 {
+    // A law that the proof needs; it has no effect at run time.
     order_is_total();
     let rankings = ordered.rankings.as_slice();
     let mut versions = Vec::new(alloc);
@@ -123,11 +125,13 @@ fn grouped<'a>(
     Ok(versions)
 }
 
-// The first index after `start` at which the version is another one than at `start`, or the length.
+// The first index after `start` at which the version is not that at `start`; the length of the list
+// if there is none.
 fn end_of_version(rankings: &[RankedOption<'_>], key: VersionKey, start: usize) -> usize
     requires { start < length rankings.now }
     ensures after { start < result }
     ensures within { result ≤ length rankings.now }
+    // The rankings from `start` to the result have the same version.
     ensures one { (i : ℕ) (a b : Ranking) → start ≤ i → i < result
         → slice_get rankings.now start ≡ Some a → slice_get rankings.now i ≡ Some b
         → have_same_version key a b ≡ true }
@@ -142,7 +146,7 @@ fn end_of_version(rankings: &[RankedOption<'_>], key: VersionKey, start: usize) 
     rankings.len()
 }
 
-// Whether two candidates have one version.
+// Whether two candidates have the same version.
 fn have_same_version(one: &RankedOption<'_>, other: &RankedOption<'_>, key: VersionKey) -> bool
     ensures { result ≡ have_same_version key one.now other.now }
 {
@@ -152,7 +156,7 @@ fn have_same_version(one: &RankedOption<'_>, other: &RankedOption<'_>, key: Vers
     }
 }
 
-// Whether two versions have one text, or neither is one.
+// Whether two versions have the same text, or both are absent.
 fn is_same_version(one: &Option<Version<'_>>, other: &Option<Version<'_>>) -> bool
     ensures { result ≡ is_same_version one.now other.now }
 {
@@ -164,7 +168,8 @@ fn is_same_version(one: &Option<Version<'_>>, other: &Option<Version<'_>>) -> bo
     }
 }
 
-// A version, of which these are the candidates, and where they are.
+// The version that all these candidates have, and the places at which they are: the database and
+// repositories.
 fn placed_version<'a>(
     alloc: Global,
     pool: &Sealed<'a>,
@@ -172,6 +177,7 @@ fn placed_version<'a>(
 ) -> Result<PlacedVersion<'a>, AllocError>
     requires some { 0 < length rankings.now }
     requires within { All (λ r. r.place < length pool.now.candidates) rankings.now }
+    // The version is that of the first of these candidates.
     ensures version { IfOk result (λ placed. (c : Candidate)
         → slice_get (filter_map (λ r. slice_get pool.now.candidates r.place) rankings.now) 0
         ≡ Some c → placed.version ≡ c.version) }

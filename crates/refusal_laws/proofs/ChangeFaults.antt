@@ -11,11 +11,11 @@ use Rattle.outcome.specs.change_files.PlanLists.{first_reserved_path}
 use Rattle.outcome.proofs.change_files.InOrder.{from_order}
 use Rattle.outcome.specs.change_inputs.Chains.{and_then}
 use Rattle.outcome.specs.change_inputs.Inputs.{Inputs}
-use Rattle.outcome.specs.change_outcome.ChangeOutcome.{ChangeDone, ChangeWishes, IsClashFound, IsClashOfChange, intent_of_change, change_done, members_after_change, change_or_refusal, change_with_members, file_change, member_name_at_place, new_records, touched_paths, unless_clash, unless_contested, or_result_too_large, unless_overflow, unless_reserved_path, unless_too_large}
+use Rattle.outcome.specs.change_outcome.ChangeOutcome.{ChangeDone, ChangeWishes, IsClashFound, IsClashOfChange, intent_of_change, change_done, members_after_change, change_or_refusal, change_with_members, file_change, member_name_at_place, database_and_world_after_change, touched_paths, unless_clash, unless_contested, or_result_too_large, unless_overflow, unless_reserved_path, change_done_unless_too_large}
 use Rattle.outcome.specs.change_outcome.MembersAfter.{MemberFound}
 use Rattle.outcome.specs.change_outcome.PackageFiles.{has_script_of}
 use Rattle.report_core.specs.Numbers.{TRIGGER_SCRIPT}
-use Rattle.outcome.specs.change_outcome.Triggers.{folders_of_paths, has_due_trigger, is_trigger_due, is_folder_matched, watches_folder, patterns_of, unless_trigger_due}
+use Rattle.outcome.specs.change_outcome.Triggers.{folders_of_paths, has_due_trigger, is_trigger_due, is_folder_matched_by_pattern, watches_folder, trigger_patterns_of_package, unless_trigger_due}
 use Rattle.outcome.specs.db_core.Members.{Member, member_name}
 use Rattle.outcome.specs.db_write.NewDatabase.{database_container, database_of, database_value}
 use Rattle.outcome.specs.file_owners.Owners.{first_contested_path_of_members, owned_flags_of}
@@ -78,7 +78,7 @@ watches : (change : FileChange) (files : Files) (pkg : Plain) → has_due_trigge
 watches change files pkg due =
     let folder = any_in (is_trigger_due pkg) (folders_of_paths (touched_paths change files)) due in
     let both = and_parts (has_script_of pkg TRIGGER_SCRIPT) (watches_folder pkg folder.0) folder.2 in
-    let pattern = any_in (is_folder_matched folder.0) (patterns_of pkg) both.1 in
+    let pattern = any_in (is_folder_matched_by_pattern folder.0) (trigger_patterns_of_package pkg) both.1 in
     let path = mapped_in folder_of (touched_paths change files) folder.0 (from_order folder.0 (map folder_of (touched_paths change files)) (in_names folder.0 (folders_of_paths (touched_paths change files)) folder.1)) in (
       both.0,
       record {
@@ -86,7 +86,7 @@ watches change files pkg due =
         touched = path.1;
         pattern = pattern.0;
         is_pattern = pattern.1;
-        matched = ap (λ f. is_folder_matched f pattern.0) (sym path.2) ∙ pattern.2;
+        matched = ap (λ f. is_folder_matched_by_pattern f pattern.0) (sym path.2) ∙ pattern.2;
       },
     )
 
@@ -112,44 +112,44 @@ module _ (inputs : Inputs) (r : Replacement) (wishes : ChangeWishes) (files : Fi
   change = file_change inputs wishes found
 
   -- it tells of counts
-  pub large_told : (refusal : Refusal) → unless_too_large inputs r wishes found files ≡ Err refusal → (bytes : ℕ) × (values : ℕ) × (ResultTooLarge bytes values ≡ refusal)
+  pub large_told : (refusal : Refusal) → change_done_unless_too_large inputs r wishes found files ≡ Err refusal → (bytes : ℕ) × (values : ℕ) × (ResultTooLarge bytes values ≡ refusal)
   large_told refusal e =
       elim (and_then_err (or_result_too_large (database_of change.members (owned_flags_of change.members))) (λ database.
-      unless_overflow (overflow_of (value_of_intent (intent_of_lists (intent_of_change inputs change files (new_records inputs database)).removals (intent_of_change inputs change files (new_records inputs database)).writes)))
-      (change_done inputs r wishes found files (new_records inputs database))) refusal e) [
+      unless_overflow (overflow_of (value_of_intent (intent_of_lists (intent_of_change inputs change files (database_and_world_after_change inputs database)).removals (intent_of_change inputs change files (database_and_world_after_change inputs database)).writes)))
+      (change_done inputs r wishes found files (database_and_world_after_change inputs database))) refusal e) [
         | inl first ↦ (let large = large_err (database_of change.members (owned_flags_of change.members)) refusal first in (large.0.0, large.0.1, large.2))
-        | inr next ↦ (let intent : Plain = value_of_intent (intent_of_lists (intent_of_change inputs change files (new_records inputs next.0)).removals (intent_of_change inputs change files (new_records inputs next.0)).writes) in
-            let over = overflow_err (overflow_of intent) (change_done inputs r wishes found files (new_records inputs next.0)) refusal next.2 in
+        | inr next ↦ (let intent : Plain = value_of_intent (intent_of_lists (intent_of_change inputs change files (database_and_world_after_change inputs next.0)).removals (intent_of_change inputs change files (database_and_world_after_change inputs next.0)).writes) in
+            let over = overflow_err (overflow_of intent) (change_done inputs r wishes found files (database_and_world_after_change inputs next.0)) refusal next.2 in
             (over.0.0, over.0.1, over.2))
       ]
 
   result_fault : (bytes values : ℕ) (refusal : Refusal) → IsResultTooLarge inputs change files bytes values → ResultTooLarge bytes values ≡ refusal → IsSo refusal
   result_fault bytes values refusal is same = subst IsSo same is
 
-  large_fault : (refusal : Refusal) → unless_too_large inputs r wishes found files ≡ Err refusal → IsSo refusal
+  large_fault : (refusal : Refusal) → change_done_unless_too_large inputs r wishes found files ≡ Err refusal → IsSo refusal
   large_fault refusal e =
       elim (and_then_err (or_result_too_large (database_of change.members (owned_flags_of change.members))) (λ database.
-      unless_overflow (overflow_of (value_of_intent (intent_of_lists (intent_of_change inputs change files (new_records inputs database)).removals (intent_of_change inputs change files (new_records inputs database)).writes)))
-      (change_done inputs r wishes found files (new_records inputs database))) refusal e) [
+      unless_overflow (overflow_of (value_of_intent (intent_of_lists (intent_of_change inputs change files (database_and_world_after_change inputs database)).removals (intent_of_change inputs change files (database_and_world_after_change inputs database)).writes)))
+      (change_done inputs r wishes found files (database_and_world_after_change inputs database))) refusal e) [
         | inl first ↦ (let large = large_err (database_of change.members (owned_flags_of change.members)) refusal first in
             result_fault large.0.0 large.0.1 refusal
             (inl (too_large (database_value change.members (owned_flags_of change.members)) large.0
             (payload_large (database_value change.members (owned_flags_of change.members)) large.0 (database_err change.members (owned_flags_of change.members) large.0 large.1)))) large.2)
-        | inr next ↦ (let intent : Plain = value_of_intent (intent_of_lists (intent_of_change inputs change files (new_records inputs next.0)).removals (intent_of_change inputs change files (new_records inputs next.0)).writes) in
-            let over = overflow_err (overflow_of intent) (change_done inputs r wishes found files (new_records inputs next.0)) refusal next.2 in
+        | inr next ↦ (let intent : Plain = value_of_intent (intent_of_lists (intent_of_change inputs change files (database_and_world_after_change inputs next.0)).removals (intent_of_change inputs change files (database_and_world_after_change inputs next.0)).writes) in
+            let over = overflow_err (overflow_of intent) (change_done inputs r wishes found files (database_and_world_after_change inputs next.0)) refusal next.2 in
             result_fault over.0.0 over.0.1 refusal
             (inr (record { database = next.0; fits = large_ok (database_of change.members (owned_flags_of change.members)) next.0 next.1; passes = too_large intent over.0 over.1 })) over.2)
       ]
 
-  trigger_fault : (refusal : Refusal) → and_then (unless_trigger_due wishes.no_scripts (touched_paths change files) change.members) (λ is_allowed. unless_too_large inputs r wishes found files) ≡ Err refusal → IsSo refusal
+  trigger_fault : (refusal : Refusal) → and_then (unless_trigger_due wishes.no_scripts (touched_paths change files) change.members) (λ is_allowed. change_done_unless_too_large inputs r wishes found files) ≡ Err refusal → IsSo refusal
   trigger_fault refusal e =
-      elim (and_then_err (unless_trigger_due wishes.no_scripts (touched_paths change files) change.members) (λ is_allowed. unless_too_large inputs r wishes found files) refusal e) [
+      elim (and_then_err (unless_trigger_due wishes.no_scripts (touched_paths change files) change.members) (λ is_allowed. change_done_unless_too_large inputs r wishes found files) refusal e) [
         | inl first ↦ (let needed = trigger_err wishes change files wishes.no_scripts refusal refl first in subst IsSo needed.2 needed.1)
         | inr next ↦ large_fault refusal next.2
       ]
 
   abbrev after_owners : Result ChangeDone Refusal
-  after_owners = and_then (unless_trigger_due wishes.no_scripts (touched_paths change files) change.members) (λ is_allowed. unless_too_large inputs r wishes found files)
+  after_owners = and_then (unless_trigger_due wishes.no_scripts (touched_paths change files) change.members) (λ is_allowed. change_done_unless_too_large inputs r wishes found files)
 
   owned_fault : (o : Option ContestedPath) (refusal : Refusal) → first_contested_path_of_members change.members ≡ o → unless_contested change.members o after_owners ≡ Err refusal → IsSo refusal
   owned_fault None refusal is e = trigger_fault refusal e

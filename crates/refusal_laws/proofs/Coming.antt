@@ -9,7 +9,7 @@ use Rattle.base_core.specs.declared.cause.Cause.{Cause}
 use Rattle.outcome.specs.change_inputs.Inputs.{Inputs, first_index_read_number}
 use Rattle.outcome.specs.change_outcome.ChangeOutcome.{ChangeWishes}
 use Rattle.outcome.specs.change_outcome.MembersAfter.{added_package_by_path}
-use Rattle.outcome.specs.change_outcome.PackageFiles.{AddedPackage, first_script_of, has_script_of, package_file_of, added_package_or_refusal, package_in_file, scripts_of_change, unless_different, unless_script_number, unless_package_bad, unless_script_needed}
+use Rattle.outcome.specs.change_outcome.PackageFiles.{AddedPackage, first_script_of, has_script_of, package_file_path_of_candidate, added_package_or_refusal, package_in_file, scripts_of_change, package_unless_other_than_candidate, unless_script_number, unless_package_bad, unless_script_needed}
 use Rattle.outcome.specs.file_owners.Replaces.{package_version_text}
 use Rattle.outcome.specs.make_info.Reads.{Reads}
 use Rattle.outcome.specs.package_changes.Changes.{Replacement, change_of_name, is_candidate_named, names_before_and_selected, candidate_version_text}
@@ -19,8 +19,8 @@ use Rattle.report_core.specs.Numbers.{HASHES_FIELD, NAME_FIELD, VERSION_FIELD}
 use Rattle.report_core.specs.Reports.{Change}
 use Rattle.report_core.specs.declared.refusal.Refusal.{Refusal}
 use Rattle.report_core.specs.declared.refusal.Refusal.TheVariants.{PackageBad, PackageDiffers, PackageMissing, ScriptNeeded}
-use Rattle.refusal_laws.specs.AddedPackages.{IsFileOfCandidate, IsAddedAsSelected, IsFileReadForAddedPackage, package_file_found_by_read, selected_of_name}
-use Rattle.refusal_laws.specs.PackageFaults.{IsAddedOrRemoved, IsOtherPackage}
+use Rattle.refusal_laws.specs.AddedPackages.{IsSoundFileOfCandidate, IsAddedAsSelected, IsFileReadForAddedPackage, package_file_found_by_read, selected_candidate_of_name}
+use Rattle.refusal_laws.specs.PackageFaults.{IsAddedOrRemoved, IsFirstFieldThatDiffers}
 use Rattle.refusal_laws.specs.ChangeFaults.{IsFaultOfPackage}
 use Rattle.refusal_laws.proofs.Lists.{found_in}
 
@@ -30,7 +30,7 @@ abbrev pub differs : Candidate → ℕ → List ℕ → List ℕ → Refusal
 differs c field wanted found = PackageDiffers c.name (candidate_version_text c) field wanted found
 
 abbrev pub IsTold : Candidate → AddedPackage → Refusal → Type 0
-IsTold c pkg refusal = (field : ℕ) × (wanted : List ℕ) × (found : List ℕ) × IsOtherPackage c pkg field wanted found × (differs c field wanted found ≡ refusal)
+IsTold c pkg refusal = (field : ℕ) × (wanted : List ℕ) × (found : List ℕ) × IsFirstFieldThatDiffers c pkg field wanted found × (differs c field wanted found ≡ refusal)
 
 abbrev kept_package : Result AddedPackage Refusal → Result AddedPackage Refusal
 kept_package r = r
@@ -44,7 +44,7 @@ module _ (c : Candidate) (pkg : AddedPackage) where
       if not a then Err (differs c HASHES_FIELD c.id pkg.id) else if not b then Err (differs c NAME_FIELD c.name (package_name pkg.value))
       else if not v then Err (differs c VERSION_FIELD (candidate_version_text c) (package_version_text pkg.value)) else Ok pkg
 
-  pub different_err : (refusal : Refusal) → unless_different c pkg ≡ Err refusal → IsTold c pkg refusal
+  pub different_err : (refusal : Refusal) → package_unless_other_than_candidate c pkg ≡ Err refusal → IsTold c pkg refusal
   different_err refusal e = by_tests (is_same_id c.id pkg.id) refl (bytes_eq c.name (package_name pkg.value)) refl (bytes_eq (candidate_version_text c) (package_version_text pkg.value)) refl e
     where
       by_tests : (a : Bool) → is_same_id c.id pkg.id ≡ a → (b : Bool) → bytes_eq c.name (package_name pkg.value) ≡ b → (v : Bool) → bytes_eq (candidate_version_text c) (package_version_text pkg.value) ≡ v
@@ -66,7 +66,7 @@ module _ (c : Candidate) (pkg : AddedPackage) where
       )
       by_tests true i true n true w e = absurd (cc (e))
 
-  different_ok : (p : AddedPackage) → unless_different c pkg ≡ Ok p → (p ≡ pkg) × (is_same_id c.id pkg.id ≡ true) × (package_name pkg.value ≡ c.name) × (package_version_text pkg.value ≡ candidate_version_text c)
+  different_ok : (p : AddedPackage) → package_unless_other_than_candidate c pkg ≡ Ok p → (p ≡ pkg) × (is_same_id c.id pkg.id ≡ true) × (package_name pkg.value ≡ c.name) × (package_version_text pkg.value ≡ candidate_version_text c)
   different_ok p e = by_tests (is_same_id c.id pkg.id) refl (bytes_eq c.name (package_name pkg.value)) refl (bytes_eq (candidate_version_text c) (package_version_text pkg.value)) refl e
     where
       by_tests : (a : Bool) → is_same_id c.id pkg.id ≡ a → (b : Bool) → bytes_eq c.name (package_name pkg.value) ≡ b → (v : Bool) → bytes_eq (candidate_version_text c) (package_version_text pkg.value) ≡ v
@@ -81,10 +81,10 @@ module _ (c : Candidate) (pkg : AddedPackage) where
         sym ((bytes_eq-Decides (candidate_version_text c) (package_version_text pkg.value)).0 w),
       )
 
-pub found_ok : (c : Candidate) (file : List ℕ) (pkg : AddedPackage) → added_package_or_refusal c (Some file) ≡ Ok pkg → IsFileOfCandidate c file × (pkg ≡ package_in_file file)
+pub found_ok : (c : Candidate) (file : List ℕ) (pkg : AddedPackage) → added_package_or_refusal c (Some file) ≡ Ok pkg → IsSoundFileOfCandidate c file × (pkg ≡ package_in_file file)
 found_ok c file pkg e = by_fault (package_fault file) refl e
   where
-    by_fault : (fault : Option Cause) → package_fault file ≡ fault → unless_package_bad c fault (package_in_file file) ≡ Ok pkg → IsFileOfCandidate c file × (pkg ≡ package_in_file file)
+    by_fault : (fault : Option Cause) → package_fault file ≡ fault → unless_package_bad c fault (package_in_file file) ≡ Ok pkg → IsSoundFileOfCandidate c file × (pkg ≡ package_in_file file)
     by_fault None sound e =
         let ok = different_ok c (package_in_file file) pkg e in
         (record { sound = sound; id = ok.1; name = ok.2; version = ok.3 }, ok.0)
@@ -144,7 +144,7 @@ module _ (inputs : Inputs) (r : Replacement) (wishes : ChangeWishes) (read : Rea
       let has = first_has pkg (scripts_of_change change) told.0 told.2 in
       subst IsTrue told.3 (record { asked = told.1; pkg = pkg; is_package = is; change = change; becomes = becomes; runs = has.0; has = has.1; first = told.2 })
 
-  module _ (n : ℕ) (name : List ℕ) (at : IsNameAt inputs r n name) (change : Change) (becomes : change_of_name r name ≡ Some change) (c : Candidate) (selected : selected_of_name r name ≡ Some c) where
+  module _ (n : ℕ) (name : List ℕ) (at : IsNameAt inputs r n name) (change : Change) (becomes : change_of_name r name ≡ Some change) (c : Candidate) (selected : selected_candidate_of_name r name ≡ Some c) where
     named : c.name ≡ name
     named = (bytes_eq-Decides c.name name).0 (found_in (is_candidate_named name) r.selected c selected).1
 
@@ -160,7 +160,7 @@ module _ (inputs : Inputs) (r : Replacement) (wishes : ChangeWishes) (read : Rea
       is_file = ap (λ k. package_file_found_by_read read k inputs.root.repositories c) at.is_number ∙ is;
     }
 
-    different_fault : (file : List ℕ) (refusal : Refusal) → package_file_found_by_read read n inputs.root.repositories c ≡ Some file → package_fault file ≡ None → unless_different c (package_in_file file) ≡ Err refusal → IsTrue refusal
+    different_fault : (file : List ℕ) (refusal : Refusal) → package_file_found_by_read read n inputs.root.repositories c ≡ Some file → package_fault file ≡ None → package_unless_other_than_candidate c (package_in_file file) ≡ Err refusal → IsTrue refusal
     different_fault file refusal is sound e =
         let why = different_err c (package_in_file file) refusal e in
         let same : PackageDiffers name (candidate_version_text c) why.0 why.1 why.2 ≡ refusal = ap (λ q. PackageDiffers q (candidate_version_text c) why.0 why.1 why.2) (sym named) ∙ why.4 in
@@ -180,12 +180,12 @@ module _ (inputs : Inputs) (r : Replacement) (wishes : ChangeWishes) (read : Rea
             let same : PackageBad name (candidate_version_text c) cause ≡ refusal = ap (λ q. PackageBad q (candidate_version_text c) cause) (sym named) ∙ told in
             subst IsTrue same (record { file = file; is_read = read_for (Some file) is; fault = fault })
 
-    pub coming_fault : (refusal : Refusal) → added_package_by_path read n c (package_file_of inputs.root.repositories c) ≡ Err refusal → IsTrue refusal
+    pub coming_fault : (refusal : Refusal) → added_package_by_path read n c (package_file_path_of_candidate inputs.root.repositories c) ≡ Err refusal → IsTrue refusal
     coming_fault refusal e =
-        file_fault (package_file_found_by_read read n inputs.root.repositories c) refusal refl (sym (path_is read n c (package_file_of inputs.root.repositories c)) ∙ e)
+        file_fault (package_file_found_by_read read n inputs.root.repositories c) refusal refl (sym (path_is read n c (package_file_path_of_candidate inputs.root.repositories c)) ∙ e)
 
-    pub brought : (pkg : AddedPackage) → added_package_by_path read n c (package_file_of inputs.root.repositories c) ≡ Ok pkg → IsAddedAsSelected inputs r read name pkg
-    brought pkg e = by_file (package_file_found_by_read read n inputs.root.repositories c) refl (sym (path_is read n c (package_file_of inputs.root.repositories c)) ∙ e)
+    pub brought : (pkg : AddedPackage) → added_package_by_path read n c (package_file_path_of_candidate inputs.root.repositories c) ≡ Ok pkg → IsAddedAsSelected inputs r read name pkg
+    brought pkg e = by_file (package_file_found_by_read read n inputs.root.repositories c) refl (sym (path_is read n c (package_file_path_of_candidate inputs.root.repositories c)) ∙ e)
       where
         by_file : (file : Option (List ℕ)) → package_file_found_by_read read n inputs.root.repositories c ≡ file → added_package_or_refusal c file ≡ Ok pkg → IsAddedAsSelected inputs r read name pkg
         by_file None is e = absurd (cc (e))

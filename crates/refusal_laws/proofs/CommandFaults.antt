@@ -12,8 +12,8 @@ use Rattle.command_core.specs.Command.{CommandLine}
 use Rattle.command_core.specs.declared.command.Applet.{Applet}
 use Rattle.command_core.specs.declared.command.Applet.TheVariants.{Del, Fix, Upgrade}
 use Rattle.command_core.specs.declared.operands.Operand.{Operand}
-use Rattle.dep_core.specs.World.{has_name}
-use Rattle.outcome.specs.engine_core.Changed.{IsClashOfCommand, IsClashOfSelected, IsClashUnlessSimulated, InputsAndReplacement, change_of_selected, change_of_command, selected_by, selected_for, selected_of_inputs, simulated_change}
+use Rattle.dep_core.specs.World.{has_dependency_named}
+use Rattle.outcome.specs.engine_core.Changed.{IsClashOfCommand, IsClashOfSelected, IsClashUnlessSimulated, InputsAndReplacement, change_of_selected, change_of_command, selected_from_pool_by_choice, selected_from_reads_by_choice, selected_from_inputs_by_choice, simulated_change}
 use Rattle.outcome.specs.engine_core.Choice.{IsChoiceFrom}
 use Rattle.outcome.specs.engine_core.Selecting.{pool_of_inputs, pool_of_command}
 use Rattle.outcome.specs.engine_core.Wishes.{place_of_first_unknown_operand, is_installed_name, is_known_name, names_to_upgrade, unknown_operand_place, unless_unknown_operand, wishes_of}
@@ -23,7 +23,7 @@ use Rattle.outcome.specs.candidate_core.Rank.{SealedPool, UpgradedNames, sealed_
 use Rattle.outcome.specs.candidate_core.declared.candidate_list.TheConstants.{MOST_CANDIDATES}
 use Rattle.report_core.specs.declared.refusal.Refusal.{Refusal}
 use Rattle.report_core.specs.declared.refusal.Refusal.TheVariants.{NotInstalled, TooMany, Unsatisfied}
-use Rattle.refusal_laws.specs.CommandFaults.{IsChangeRefused, IsFaultOfCommand, IsFaultOfSelection, IsUnknownTo}
+use Rattle.refusal_laws.specs.CommandFaults.{IsChangeRefused, IsFaultOfCommand, IsFaultOfSelection, IsNameUnknownToApplet}
 use Rattle.refusal_laws.specs.InputFaults.{IsCountReportedAsTooMany}
 use Rattle.refusal_laws.proofs.ChangeFaults.{change_fault}
 use Rattle.refusal_laws.proofs.InputFaults.{input_fault}
@@ -59,10 +59,10 @@ unknown_in is_known (o ∷ operands) place e = by_test (is_known o.text) refl e 
     by_test false k e more = (o, inl refl, (let same : o.place ≡ place = cc in same), k)
 
 unknown_fault : (applet : Applet) (inputs : Inputs) (operands : List Operand) (place : ℕ) → unknown_operand_place applet inputs operands ≡ Some place
-    → (o : Operand) × IsIn o operands × (o.place ≡ place) × IsUnknownTo applet inputs o.text
+    → (o : Operand) × IsIn o operands × (o.place ≡ place) × IsNameUnknownToApplet applet inputs o.text
 unknown_fault Del inputs operands place e =
     let found = unknown_in (is_known_name inputs) operands place e in
-    (found.0, found.1, found.2, or_parts (has_name found.0.text inputs.root.world) (is_installed_name inputs found.0.text) found.3)
+    (found.0, found.1, found.2, or_parts (has_dependency_named found.0.text inputs.root.world) (is_installed_name inputs found.0.text) found.3)
 unknown_fault Upgrade inputs operands place e = unknown_in (is_installed_name inputs) operands place e
 unknown_fault Fix inputs operands place e = unknown_in (is_installed_name inputs) operands place e
 unknown_fault applet inputs operands place e = absurd (cc (e))
@@ -73,14 +73,14 @@ module _ (command : CommandLine) (read : Reads) (chosen : Option (List ℕ)) (ch
   abbrev IsSo : Inputs → Refusal → Type 0
   IsSo inputs refusal = IsFaultOfSelection command inputs refusal
 
-  none_chosen : (inputs : Inputs) (pool : SealedPool) (o : Option (List ℕ)) (refusal : Refusal) → pool_of_inputs command inputs ≡ Ok pool → IsChoiceFrom (Ok pool) o → selected_by command inputs pool o ≡ Err refusal → IsSo inputs refusal
+  none_chosen : (inputs : Inputs) (pool : SealedPool) (o : Option (List ℕ)) (refusal : Refusal) → pool_of_inputs command inputs ≡ Ok pool → IsChoiceFrom (Ok pool) o → selected_from_pool_by_choice command inputs pool o ≡ Err refusal → IsSo inputs refusal
   none_chosen inputs pool None refusal is none e =
       let same : Unsatisfied ≡ refusal = cc in
       subst (IsSo inputs) same (record { pool = pool; is_pool = is; none = none })
   none_chosen inputs pool (Some trace) refusal is none e = absurd (cc (e))
 
   place_fault : (inputs : Inputs) (pool : SealedPool) (o : Option ℕ) (refusal : Refusal) → pool_of_inputs command inputs ≡ Ok pool → IsChoiceFrom (Ok pool) chosen → unknown_operand_place command.applet inputs command.operands ≡ o
-      → unless_unknown_operand o (selected_by command inputs pool chosen) ≡ Err refusal → IsSo inputs refusal
+      → unless_unknown_operand o (selected_from_pool_by_choice command inputs pool chosen) ≡ Err refusal → IsSo inputs refusal
   place_fault inputs pool None refusal is from known e = none_chosen inputs pool chosen refusal is from e
   place_fault inputs pool (Some place) refusal is from unknown e =
       let found = unknown_fault command.applet inputs command.operands place unknown in
@@ -92,16 +92,16 @@ module _ (command : CommandLine) (read : Reads) (chosen : Option (List ℕ)) (ch
       let same : pool_of_command command read ≡ Ok pool = ap (λ (x : Result Inputs Refusal). and_then x (pool_of_inputs command)) is ∙ has in
       subst (λ (x : Result SealedPool Refusal). IsChoiceFrom x chosen) same choice
 
-  selection_fault : (inputs : Inputs) (refusal : Refusal) → inputs_of command read ≡ Ok inputs → selected_of_inputs command chosen inputs ≡ Err refusal → IsSo inputs refusal
+  selection_fault : (inputs : Inputs) (refusal : Refusal) → inputs_of command read ≡ Ok inputs → selected_from_inputs_by_choice command chosen inputs ≡ Err refusal → IsSo inputs refusal
   selection_fault inputs refusal is e =
-      elim (and_then_err (pool_of_inputs command inputs) (λ pool. unless_unknown_operand (unknown_operand_place command.applet inputs command.operands) (selected_by command inputs pool chosen)) refusal e) [
+      elim (and_then_err (pool_of_inputs command inputs) (λ pool. unless_unknown_operand (unknown_operand_place command.applet inputs command.operands) (selected_from_pool_by_choice command inputs pool chosen)) refusal e) [
         | inl first ↦ (let many = pool_fault inputs (names_to_upgrade command.applet command.operands) refusal first in subst (IsSo inputs) many.2 many.1)
         | inr next ↦ place_fault inputs next.0 (unknown_operand_place command.applet inputs command.operands) refusal next.1 (choice_of inputs next.0 is next.1) refl next.2
       ]
 
   -- ---- the change
 
-  done_or_refused : (files : Files) (clash : Option NamePair) (s : InputsAndReplacement) (refusal : Refusal) → selected_for command read chosen ≡ Ok s → IsClashOfSelected command read files (Ok s) clash
+  done_or_refused : (files : Files) (clash : Option NamePair) (s : InputsAndReplacement) (refusal : Refusal) → selected_from_reads_by_choice command read chosen ≡ Ok s → IsClashOfSelected command read files (Ok s) clash
       → change_of_selected command read files clash s ≡ Err refusal → IsChangeRefused command read files chosen refusal
   done_or_refused files clash s refusal is clashes e = by_flag command.flags.simulate refl e
     where
@@ -114,8 +114,8 @@ module _ (command : CommandLine) (read : Reads) (chosen : Option (List ℕ)) (ch
   pub command_fault : (files : Files) (clash : Option NamePair) (refusal : Refusal) → IsClashOfCommand command read files chosen clash → change_of_command command read files chosen clash ≡ Err refusal → IsFaultOfCommand command read files chosen refusal
   unfolding change_of_command
   command_fault files clash refusal clashes e =
-      elim (and_then_err (selected_for command read chosen) (change_of_selected command read files clash) refusal e) [
-        | inl first ↦ elim (and_then_err (inputs_of command read) (selected_of_inputs command chosen) refusal first) [
+      elim (and_then_err (selected_from_reads_by_choice command read chosen) (change_of_selected command read files clash) refusal e) [
+        | inl first ↦ elim (and_then_err (inputs_of command read) (selected_from_inputs_by_choice command chosen) refusal first) [
           | inl input ↦ inl (input_fault command read refusal input)
           | inr next ↦ inr (inl (next.0, next.1, selection_fault next.0 refusal next.1 next.2))
         ]

@@ -14,8 +14,8 @@ use Rattle.outcome.proofs.change_files.InOrder.{in_left, in_order, order_rises}
 use Rattle.outcome.specs.change_inputs.Chains.{and_then}
 use Rattle.outcome.specs.change_inputs.Inputs.{Inputs, first_index_read_number}
 use Rattle.outcome.specs.change_outcome.ChangeOutcome.{ChangeWishes, members_after_change}
-use Rattle.outcome.specs.change_outcome.MembersAfter.{MemberFound, added_package_by_path, added_member_found, members_after, member_of_name_after, member_of_name_by_change, member_of_name_by_selected, member_of_added_name, member_of_removed_name, names_after}
-use Rattle.outcome.specs.change_outcome.PackageFiles.{AddedPackage, first_script_of, package_file_of, added_package_or_refusal, package_in_file, scripts_of_change, unless_script_number, unless_package_bad, unless_script_needed}
+use Rattle.outcome.specs.change_outcome.MembersAfter.{MemberFound, added_package_by_path, added_member_found, members_after, member_of_name_after, member_of_name_by_change, member_of_name_by_selected, member_of_added_name, member_of_removed_name, members_of_names_after}
+use Rattle.outcome.specs.change_outcome.PackageFiles.{AddedPackage, first_script_of, package_file_path_of_candidate, added_package_or_refusal, package_in_file, scripts_of_change, unless_script_number, unless_package_bad, unless_script_needed}
 use Rattle.outcome.specs.db_core.Packages.{is_package_named}
 use Rattle.outcome.specs.file_owners.Replaces.{package_version_text}
 use Rattle.base_core.specs.ByteOrder.{precedes}
@@ -29,9 +29,9 @@ use Rattle.report_core.specs.Reports.{Change}
 use Rattle.report_core.specs.declared.refusal.Refusal.{Refusal}
 use Rattle.report_core.specs.declared.refusal.Refusal.TheVariants.{PackageBad, PackageDiffers, PackageMissing, ScriptNeeded}
 use Rattle.refusal_laws.specs.ChangeFaults.{IsFaultOfPackage}
-use Rattle.refusal_laws.specs.AddedPackages.{IsFileOfCandidate, IsFileReadForAddedPackage, selected_of_name}
-use Rattle.refusal_laws.specs.FirstPackage.{IsFirstRefused, refused_name}
-use Rattle.refusal_laws.specs.PackageFaults.{IsAddedOrRemoved, IsOtherPackage}
+use Rattle.refusal_laws.specs.AddedPackages.{IsSoundFileOfCandidate, IsFileReadForAddedPackage, selected_candidate_of_name}
+use Rattle.refusal_laws.specs.FirstPackage.{IsRefusalOfFirstFaultyPackage, refused_name}
+use Rattle.refusal_laws.specs.PackageFaults.{IsAddedOrRemoved, IsFirstFieldThatDiffers}
 use Rattle.refusal_laws.proofs.Coming.{by_fields, different_err, path_is, script_err}
 use Rattle.refusal_laws.proofs.FoundPackages.{member_name_at_place}
 use Rattle.refusal_laws.proofs.Lists.{and_then_err, found_in, in_mapped}
@@ -57,7 +57,7 @@ script_is : {A : Type 0} (no_scripts : Bool) (name : List ℕ) (pkg : Plain) (nu
 script_is no_scripts name pkg numbers a script asked first = ap (λ b. unless_script_needed b name pkg numbers a) asked ∙ ap (λ o. unless_script_number name o a) first
 
 -- what passes all tests is found
-found_so : (c : Candidate) (file : List ℕ) → IsFileOfCandidate c file → added_package_or_refusal c (Some file) ≡ Ok (package_in_file file)
+found_so : (c : Candidate) (file : List ℕ) → IsSoundFileOfCandidate c file → added_package_or_refusal c (Some file) ≡ Ok (package_in_file file)
 found_so c file is =
     ap (λ o. unless_package_bad c o (package_in_file file)) is.sound
     ∙ (λ i. by_fields c (package_in_file file) (is.id i) ((bytes_eq-Decides c.name (package_name (package_in_file file).value)).1 (sym is.name) i)
@@ -84,8 +84,8 @@ module _ (inputs : Inputs) (r : Replacement) (wishes : ChangeWishes) (read : Rea
     where
       comes : (change : Change) (c : Candidate) → c.name ≡ name → member_of_added_name read inputs.root.repositories wishes.no_scripts n name change c ≡ Err refusal → refused_name refusal ≡ name
       comes change c named e =
-          elim (and_then_err (added_package_by_path read n c (package_file_of inputs.root.repositories c)) (with_scripts name change) refusal e) [
-            | inl first ↦ found_name c _ refusal (sym (path_is read n c (package_file_of inputs.root.repositories c)) ∙ first) ∙ named
+          elim (and_then_err (added_package_by_path read n c (package_file_path_of_candidate inputs.root.repositories c)) (with_scripts name change) refusal e) [
+            | inl first ↦ found_name c _ refusal (sym (path_is read n c (package_file_path_of_candidate inputs.root.repositories c)) ∙ first) ∙ named
             | inr next ↦ script_name wishes.no_scripts name next.0.value (scripts_of_change change) (Some (added_member_found next.0)) refusal next.2
           ]
 
@@ -108,10 +108,10 @@ module _ (inputs : Inputs) (r : Replacement) (wishes : ChangeWishes) (read : Rea
     pub refused : of_name (n + place) name ≡ Err refusal
     pub before : (i : ℕ) (q : List ℕ) → i < place → slice_get names i ≡ Some q → (o : Option MemberFound) × (of_name (n + i) q ≡ Ok o)
 
-  refused_in : (n : ℕ) (names : List (List ℕ)) (refusal : Refusal) → names_after r read inputs.root.repositories wishes.no_scripts n names ≡ Err refusal → IsRefusedAt n names refusal
+  refused_in : (n : ℕ) (names : List (List ℕ)) (refusal : Refusal) → members_of_names_after r read inputs.root.repositories wishes.no_scripts n names ≡ Err refusal → IsRefusedAt n names refusal
   refused_in n [] refusal e = absurd (cc (e))
   refused_in n (name ∷ names) refusal e =
-      elim (and_then_err (of_name n name) (λ first. and_then (names_after r read inputs.root.repositories wishes.no_scripts (suc n) names) (λ others. Ok (cons_option first others))) refusal e) [
+      elim (and_then_err (of_name n name) (λ first. and_then (members_of_names_after r read inputs.root.repositories wishes.no_scripts (suc n) names) (λ others. Ok (cons_option first others))) refusal e) [
         | inl first ↦ record { place = 0; name = name; at = refl; refused = (let k : n + 0 ≡ n = omega arith in ap (λ m. of_name m name) k ∙ first); before = λ i q less. absurd (omega arith) }
         | inr next ↦ by_others next.0 next.1 next.2 (λ others. refused_in (suc n) names refusal others)
       ]
@@ -129,10 +129,10 @@ module _ (inputs : Inputs) (r : Replacement) (wishes : ChangeWishes) (read : Rea
           before zero q less at = (first, (let k : n + zero ≡ n = omega arith in let same : q ≡ name = cc in (λ j. of_name (k j) (same j)) ∙ ok))
           before (suc i) q less at = let o = more.before i q (omega arith) at in (o.0, (let k : n + suc i ≡ suc n + i = omega arith in ap (λ m. of_name m q) k ∙ o.1))
 
-      by_others : (first : Option MemberFound) → of_name n name ≡ Ok first → and_then (names_after r read inputs.root.repositories wishes.no_scripts (suc n) names) (λ others. Ok (cons_option first others)) ≡ Err refusal
-          → (names_after r read inputs.root.repositories wishes.no_scripts (suc n) names ≡ Err refusal → IsRefusedAt (suc n) names refusal) → IsRefusedAt n (name ∷ names) refusal
+      by_others : (first : Option MemberFound) → of_name n name ≡ Ok first → and_then (members_of_names_after r read inputs.root.repositories wishes.no_scripts (suc n) names) (λ others. Ok (cons_option first others)) ≡ Err refusal
+          → (members_of_names_after r read inputs.root.repositories wishes.no_scripts (suc n) names ≡ Err refusal → IsRefusedAt (suc n) names refusal) → IsRefusedAt n (name ∷ names) refusal
       by_others first ok e more =
-          elim (and_then_err (names_after r read inputs.root.repositories wishes.no_scripts (suc n) names) (λ others. Ok (cons_option first others)) refusal e) [
+          elim (and_then_err (members_of_names_after r read inputs.root.repositories wishes.no_scripts (suc n) names) (λ others. Ok (cons_option first others)) refusal e) [
             | inl others ↦ behind first ok (more others)
             | inr last ↦ absurd (no_refusal (cons_option first last.0) last.2)
           ]
@@ -147,7 +147,7 @@ module _ (inputs : Inputs) (r : Replacement) (wishes : ChangeWishes) (read : Rea
     pub at : slice_get (names_before_and_selected r) place ≡ Some (refused_name refusal)
     pub told : of_name (first_read + place) (refused_name refusal) ≡ Err refusal
 
-  comes_is : (n : ℕ) (name : List ℕ) (change : Change) (c : Candidate) → change_of_name r name ≡ Some change → selected_of_name r name ≡ Some c
+  comes_is : (n : ℕ) (name : List ℕ) (change : Change) (c : Candidate) → change_of_name r name ≡ Some change → selected_candidate_of_name r name ≡ Some c
       → of_name n name ≡ member_of_added_name read inputs.root.repositories wishes.no_scripts n name change c
   comes_is n name change c becomes selected =
       ap (λ ch. member_of_name_by_change read inputs.root.repositories wishes.no_scripts n name ch (find (is_package_named name) r.before) (find (is_candidate_named name) r.selected)) becomes
@@ -156,16 +156,16 @@ module _ (inputs : Inputs) (r : Replacement) (wishes : ChangeWishes) (read : Rea
   file_is : (name version : List ℕ) (file : Option (List ℕ)) (is : IsFileReadForAddedPackage inputs r read name version file) → of_name (first_read + is.place) name ≡ and_then (added_package_or_refusal is.candidate file) (with_scripts name is.change)
   file_is name version file is =
       comes_is (first_read + is.place) name is.change is.candidate is.becomes is.selected
-      ∙ ap (λ p. and_then p (with_scripts name is.change)) (path_is read (first_read + is.place) is.candidate (package_file_of inputs.root.repositories is.candidate) ∙ ap (added_package_or_refusal is.candidate) is.is_file)
+      ∙ ap (λ p. and_then p (with_scripts name is.change)) (path_is read (first_read + is.place) is.candidate (package_file_path_of_candidate inputs.root.repositories is.candidate) ∙ ap (added_package_or_refusal is.candidate) is.is_file)
 
   named : (name version : List ℕ) (file : Option (List ℕ)) (is : IsFileReadForAddedPackage inputs r read name version file) → is.candidate.name ≡ name
   named name version file is = candidate_named name r.selected is.candidate is.selected
 
   different_told : (name version file : List ℕ) (is : IsFileReadForAddedPackage inputs r read name version (Some file)) (field : ℕ) (wanted found : List ℕ) → package_fault file ≡ None
-      → IsOtherPackage is.candidate (package_in_file file) field wanted found → added_package_or_refusal is.candidate (Some file) ≡ Err (PackageDiffers name version field wanted found)
+      → IsFirstFieldThatDiffers is.candidate (package_in_file file) field wanted found → added_package_or_refusal is.candidate (Some file) ≡ Err (PackageDiffers name version field wanted found)
   different_told name version file is field wanted found sound other = ap (λ o. unless_package_bad is.candidate o (package_in_file file)) sound ∙ by other
     where
-      by : IsOtherPackage is.candidate (package_in_file file) field wanted found
+      by : IsFirstFieldThatDiffers is.candidate (package_in_file file) field wanted found
           → by_fields is.candidate (package_in_file file) (is_same_id is.candidate.id (package_in_file file).id) (bytes_eq is.candidate.name (package_name (package_in_file file).value)) (bytes_eq (candidate_version_text is.candidate) (package_version_text (package_in_file file).value)) ≡ Err (PackageDiffers name version field wanted found)
       by (inl (field_is, (wanted_is, found_is, off))) =
           ap (λ a. by_fields is.candidate (package_in_file file) a (bytes_eq is.candidate.name (package_name (package_in_file file).value)) (bytes_eq (candidate_version_text is.candidate) (package_version_text (package_in_file file).value))) ((λ i. is_same_id (sym wanted_is i) (sym found_is i)) ∙ off)
@@ -280,7 +280,7 @@ module _ (inputs : Inputs) (r : Replacement) (wishes : ChangeWishes) (read : Rea
             ∙ (ap (precedes at.name) (name ∙ told_here) ∙ precedes_itself at.name))))
             (λ more. (same_place other told (omega arith)).1) (cases_lt at.place told.place)) (cases_lt told.place at.place)
 
-  pub first_refused : (refusal : Refusal) → members_after_change inputs r wishes read ≡ Err refusal → IsFirstRefused inputs r wishes read refusal
+  pub first_refused : (refusal : Refusal) → members_after_change inputs r wishes read ≡ Err refusal → IsRefusalOfFirstFaultyPackage inputs r wishes read refusal
   unfolding members_after
   first_refused refusal e =
       let at = refused_in first_read (names_before_and_selected r) refusal e in

@@ -11,8 +11,8 @@ use Rattle.outcome.proofs.change_files.InOrder.{in_left, in_order}
 use Rattle.outcome.specs.change_inputs.Chains.{and_then}
 use Rattle.outcome.specs.change_inputs.Inputs.{Inputs, first_index_read_number}
 use Rattle.outcome.specs.change_outcome.ChangeOutcome.{ChangeWishes, members_after_change}
-use Rattle.outcome.specs.change_outcome.MembersAfter.{MemberFound, added_package_by_path, added_member_found, members_after, member_of_name_after, member_of_name_by_change, member_of_name_by_selected, member_of_added_name, member_of_removed_name, names_after}
-use Rattle.outcome.specs.change_outcome.PackageFiles.{AddedPackage, first_script_of, package_file_of, added_package_or_refusal, package_in_file, scripts_of_change, unless_script_number, unless_package_bad, unless_script_needed}
+use Rattle.outcome.specs.change_outcome.MembersAfter.{MemberFound, added_package_by_path, added_member_found, members_after, member_of_name_after, member_of_name_by_change, member_of_name_by_selected, member_of_added_name, member_of_removed_name, members_of_names_after}
+use Rattle.outcome.specs.change_outcome.PackageFiles.{AddedPackage, first_script_of, package_file_path_of_candidate, added_package_or_refusal, package_in_file, scripts_of_change, unless_script_number, unless_package_bad, unless_script_needed}
 use Rattle.outcome.specs.db_core.Packages.{is_package_named}
 use Rattle.outcome.specs.make_info.Reads.{Reads}
 use Rattle.outcome.specs.package_changes.Changes.{Replacement, change_of_name, is_candidate_named, names_before_and_selected}
@@ -22,8 +22,8 @@ use Rattle.report_core.specs.Reports.{Change}
 use Rattle.report_core.specs.declared.refusal.Refusal.{Refusal}
 use Rattle.report_core.specs.declared.refusal.Refusal.TheVariants.{PackageBad, PackageDiffers, PackageMissing, ScriptNeeded}
 use Rattle.refusal_laws.specs.ChangeFaults.{IsFaultOfPackage}
-use Rattle.refusal_laws.specs.AddedPackages.{IsFileOfCandidate, IsFileReadForAddedPackage, selected_of_name}
-use Rattle.refusal_laws.specs.PackageFaults.{IsAddedOrRemoved, IsOtherPackage}
+use Rattle.refusal_laws.specs.AddedPackages.{IsSoundFileOfCandidate, IsFileReadForAddedPackage, selected_candidate_of_name}
+use Rattle.refusal_laws.specs.PackageFaults.{IsAddedOrRemoved, IsFirstFieldThatDiffers}
 use Rattle.refusal_laws.proofs.Coming.{found_ok, path_is}
 use Rattle.refusal_laws.proofs.Lists.{and_then_ok, found_in, in_mapped}
 
@@ -36,7 +36,7 @@ member_name_at_place (x ∷ xs) q (inr more) = let other = member_name_at_place 
 
 -- ---- files
 
-not_other : (c : Candidate) (file : List ℕ) (field : ℕ) (wanted found : List ℕ) → IsFileOfCandidate c file → IsOtherPackage c (package_in_file file) field wanted found → ⊥
+not_other : (c : Candidate) (file : List ℕ) (field : ℕ) (wanted found : List ℕ) → IsSoundFileOfCandidate c file → IsFirstFieldThatDiffers c (package_in_file file) field wanted found → ⊥
 not_other c file field wanted found agrees (inl other) =
     true≢false (sym agrees.id ∙ (ap (λ w. is_same_id w (package_in_file file).id) (sym other.1.0) ∙ (ap (is_same_id wanted) (sym other.1.1) ∙ other.1.2)))
 not_other c file field wanted found agrees (inr (inl other)) = other.2.2 (other.2.0 ∙ (sym agrees.name ∙ sym other.2.1))
@@ -62,12 +62,12 @@ module _ (inputs : Inputs) (r : Replacement) (wishes : ChangeWishes) (read : Rea
 
   -- ---- each name is found
 
-  name_found_at : (n : ℕ) (names : List (List ℕ)) (fs : List MemberFound) (i : ℕ) (name : List ℕ) → names_after r read inputs.root.repositories wishes.no_scripts n names ≡ Ok fs → slice_get names i ≡ Some name
+  name_found_at : (n : ℕ) (names : List (List ℕ)) (fs : List MemberFound) (i : ℕ) (name : List ℕ) → members_of_names_after r read inputs.root.repositories wishes.no_scripts n names ≡ Ok fs → slice_get names i ≡ Some name
       → (o : Option MemberFound) × (member_of_name_after r read inputs.root.repositories wishes.no_scripts (n + i) name ≡ Ok o)
   name_found_at n [] fs i name e at = absurd (cc (at))
   name_found_at n (x ∷ names) fs zero name e at =
       let first = and_then_ok (member_of_name_after r read inputs.root.repositories wishes.no_scripts n x) (λ first.
-      and_then (names_after r read inputs.root.repositories wishes.no_scripts (suc n) names) (λ others.
+      and_then (members_of_names_after r read inputs.root.repositories wishes.no_scripts (suc n) names) (λ others.
       Ok (cons_option first others))) fs e in
       let same : x ≡ name = cc in
       let k : n ≡ n + zero = omega arith in (
@@ -77,9 +77,9 @@ module _ (inputs : Inputs) (r : Replacement) (wishes : ChangeWishes) (read : Rea
       )
   name_found_at n (x ∷ names) fs (suc i) name e at =
       let first = and_then_ok (member_of_name_after r read inputs.root.repositories wishes.no_scripts n x) (λ first.
-      and_then (names_after r read inputs.root.repositories wishes.no_scripts (suc n) names) (λ others.
+      and_then (members_of_names_after r read inputs.root.repositories wishes.no_scripts (suc n) names) (λ others.
       Ok (cons_option first others))) fs e in
-      let others = and_then_ok (names_after r read inputs.root.repositories wishes.no_scripts (suc n) names) (λ others. Ok (cons_option first.0 others)) fs first.2 in
+      let others = and_then_ok (members_of_names_after r read inputs.root.repositories wishes.no_scripts (suc n) names) (λ others. Ok (cons_option first.0 others)) fs first.2 in
       let behind = name_found_at (suc n) names others.0 i name others.1 at in
       let k : suc n + i ≡ n + suc i = omega arith in
       (behind.0, subst (λ m. member_of_name_after r read inputs.root.repositories wishes.no_scripts m name ≡ Ok behind.0) k behind.1)
@@ -90,7 +90,7 @@ module _ (inputs : Inputs) (r : Replacement) (wishes : ChangeWishes) (read : Rea
 
   -- ---- one that comes
 
-  comes_so : (place : ℕ) (name : List ℕ) (change : Change) (c : Candidate) → slice_get (names_before_and_selected r) place ≡ Some name → change_of_name r name ≡ Some change → selected_of_name r name ≡ Some c
+  comes_so : (place : ℕ) (name : List ℕ) (change : Change) (c : Candidate) → slice_get (names_before_and_selected r) place ≡ Some name → change_of_name r name ≡ Some change → selected_candidate_of_name r name ≡ Some c
       → (o : Option MemberFound) × (member_of_added_name read inputs.root.repositories wishes.no_scripts (first_read + place) name change c ≡ Ok o)
   comes_so place name change c at becomes selected =
       let o = found_at place name at in (
@@ -109,11 +109,11 @@ module _ (inputs : Inputs) (r : Replacement) (wishes : ChangeWishes) (read : Rea
   fine : (name version : List ℕ) (file : Option (List ℕ)) (is : IsFileReadForAddedPackage inputs r read name version file) → IsFine name is.change is.candidate file
   fine name version file is =
       let comes = comes_so is.place name is.change is.candidate is.is_place is.becomes is.selected in
-      let pkg = and_then_ok (added_package_by_path read (first_read + is.place) is.candidate (package_file_of inputs.root.repositories is.candidate)) (λ pkg.
+      let pkg = and_then_ok (added_package_by_path read (first_read + is.place) is.candidate (package_file_path_of_candidate inputs.root.repositories is.candidate)) (λ pkg.
       unless_script_needed wishes.no_scripts name pkg.value (scripts_of_change is.change) (Some (added_member_found pkg))) comes.0 comes.1 in
       record {
         pkg = pkg.0;
-        is = ap (added_package_or_refusal is.candidate) (sym is.is_file) ∙ (sym (path_is read (first_read + is.place) is.candidate (package_file_of inputs.root.repositories is.candidate)) ∙ pkg.1);
+        is = ap (added_package_or_refusal is.candidate) (sym is.is_file) ∙ (sym (path_is read (first_read + is.place) is.candidate (package_file_path_of_candidate inputs.root.repositories is.candidate)) ∙ pkg.1);
         after = comes.0;
         scripts = pkg.2;
       }

@@ -12,9 +12,9 @@ use Rattle.outcome.specs.db_core.Packages.{is_package_named, lists_path}
 use Rattle.dep_core.specs.LeadingSlash.{without_slash}
 use Rattle.report_core.specs.declared.refusal.Refusal.{Refusal}
 use Rattle.report_core.specs.declared.refusal.Refusal.TheVariants.{NotInstalled}
-use Rattle.outcome.specs.installed_info.Form.{form_of}
+use Rattle.outcome.specs.installed_info.Form.{info_form_of_flags}
 use Rattle.outcome.specs.installed_info.Info.{form_info, info_of, info_refusal, info_unless_refused, operands_info}
-use Rattle.outcome.specs.installed_info.Packages.{package_meant_by, package_named, path_owner}
+use Rattle.outcome.specs.installed_info.Packages.{package_meant_by_operand_text, package_named, path_owner}
 use Rattle.outcome.specs.installed_info.declared.telling.ReportAndRefusal.{ReportAndRefusal}
 use Rattle.outcome.proofs.installed_info.Refusing.{unless_err}
 use Rattle.refusal_laws.specs.InfoFaults.{AreFoundInstalled, IsPackageAskedFor, IsFirstNotInstalled, IsFoundInstalled}
@@ -70,7 +70,7 @@ flags_by flags owner installed contents depends =
     record flags { who_owns = owner; installed = installed; contents = contents; depends = depends }
 
 there : (flags : Flags) (owner installed contents depends : Bool) (packages : List Plain) (text : List ℕ)
-    → is_some (package_meant_by (form_of (flags_by flags owner installed contents depends)) packages text) ≡ true → IsThere owner packages text
+    → is_some (package_meant_by_operand_text (info_form_of_flags (flags_by flags owner installed contents depends)) packages text) ≡ true → IsThere owner packages text
 there flags true installed contents depends packages text e = owner_there packages text e
 there flags false true contents depends packages text e = named_there packages text e
 there flags false false true depends packages text e = named_there packages text e
@@ -78,7 +78,7 @@ there flags false false false true packages text e = named_there packages text e
 there flags false false false false packages text e = named_there packages text e
 
 not_there : (flags : Flags) (owner installed contents depends : Bool) (packages : List Plain) (text : List ℕ)
-    → is_some (package_meant_by (form_of (flags_by flags owner installed contents depends)) packages text) ≡ false → ¬ IsThere owner packages text
+    → is_some (package_meant_by_operand_text (info_form_of_flags (flags_by flags owner installed contents depends)) packages text) ≡ false → ¬ IsThere owner packages text
 not_there flags true installed contents depends packages text e = no_owner_there packages text e
 not_there flags false true contents depends packages text e = none_named_there packages text e
 not_there flags false false true depends packages text e = none_named_there packages text e
@@ -93,17 +93,17 @@ unless_ok (Some r) report done e = absurd (cc (e))
 
 module _ (flags : Flags) (packages : List Plain) where
   form_err : (owner installed contents depends : Bool) (operands : List Operand) (refusal : Refusal)
-      → form_info (form_of (flags_by flags owner installed contents depends)) packages operands ≡ Err refusal → info_refusal (form_of (flags_by flags owner installed contents depends)) packages operands ≡ Some refusal
+      → form_info (info_form_of_flags (flags_by flags owner installed contents depends)) packages operands ≡ Err refusal → info_refusal (info_form_of_flags (flags_by flags owner installed contents depends)) packages operands ≡ Some refusal
   form_err true installed contents depends operands refusal e =
-      unless_err (info_refusal (form_of (flags_by flags true installed contents depends)) packages operands) (operands_info (form_of (flags_by flags true installed contents depends)) packages operands) refusal e
+      unless_err (info_refusal (info_form_of_flags (flags_by flags true installed contents depends)) packages operands) (operands_info (info_form_of_flags (flags_by flags true installed contents depends)) packages operands) refusal e
   form_err false true contents depends operands refusal e = absurd (cc (e))
   form_err false false true depends operands refusal e =
-      unless_err (info_refusal (form_of (flags_by flags false false true depends)) packages operands) (operands_info (form_of (flags_by flags false false true depends)) packages operands) refusal e
+      unless_err (info_refusal (info_form_of_flags (flags_by flags false false true depends)) packages operands) (operands_info (info_form_of_flags (flags_by flags false false true depends)) packages operands) refusal e
   form_err false false false true operands refusal e =
-      unless_err (info_refusal (form_of (flags_by flags false false false true)) packages operands) (operands_info (form_of (flags_by flags false false false true)) packages operands) refusal e
+      unless_err (info_refusal (info_form_of_flags (flags_by flags false false false true)) packages operands) (operands_info (info_form_of_flags (flags_by flags false false false true)) packages operands) refusal e
   form_err false false false false [] refusal e = absurd (cc (e))
   form_err false false false false (o ∷ operands) refusal e =
-      unless_err (info_refusal (form_of (flags_by flags false false false false)) packages (o ∷ operands)) (operands_info (form_of (flags_by flags false false false false)) packages (o ∷ operands)) refusal e
+      unless_err (info_refusal (info_form_of_flags (flags_by flags false false false false)) packages (o ∷ operands)) (operands_info (info_form_of_flags (flags_by flags false false false false)) packages (o ∷ operands)) refusal e
 
   -- a report has the refusal of `-e` behind it, or there is none
   abbrev IsLate : Bool → Option Refusal → List Operand → Option Refusal → Type 0
@@ -112,25 +112,25 @@ module _ (flags : Flags) (packages : List Plain) where
   not_late : (installed : Bool) (refused : Option Refusal) (report : List ℕ) (operands : List Operand) (done : ReportAndRefusal) → info_unless_refused refused report ≡ Ok done → IsLate installed refused operands done.following_refusal
   not_late installed refused report operands done e = let none = unless_ok refused report done e in inr (none.1, inl none.0)
 
-  form_ok : (owner installed contents depends : Bool) (operands : List Operand) (done : ReportAndRefusal) → form_info (form_of (flags_by flags owner installed contents depends)) packages operands ≡ Ok done
-      → IsLate installed (info_refusal (form_of (flags_by flags owner installed contents depends)) packages operands) operands done.following_refusal
+  form_ok : (owner installed contents depends : Bool) (operands : List Operand) (done : ReportAndRefusal) → form_info (info_form_of_flags (flags_by flags owner installed contents depends)) packages operands ≡ Ok done
+      → IsLate installed (info_refusal (info_form_of_flags (flags_by flags owner installed contents depends)) packages operands) operands done.following_refusal
   form_ok true installed contents depends operands done e =
-      not_late installed (info_refusal (form_of (flags_by flags true installed contents depends)) packages operands) (operands_info (form_of (flags_by flags true installed contents depends)) packages operands) operands done e
+      not_late installed (info_refusal (info_form_of_flags (flags_by flags true installed contents depends)) packages operands) (operands_info (info_form_of_flags (flags_by flags true installed contents depends)) packages operands) operands done e
   form_ok false true contents depends operands done e =
-      let same : info_refusal (form_of (flags_by flags false true contents depends)) packages operands ≡ done.following_refusal = cc in inl (refl, same)
+      let same : info_refusal (info_form_of_flags (flags_by flags false true contents depends)) packages operands ≡ done.following_refusal = cc in inl (refl, same)
   form_ok false false true depends operands done e =
-      not_late false (info_refusal (form_of (flags_by flags false false true depends)) packages operands) (operands_info (form_of (flags_by flags false false true depends)) packages operands) operands done e
+      not_late false (info_refusal (info_form_of_flags (flags_by flags false false true depends)) packages operands) (operands_info (info_form_of_flags (flags_by flags false false true depends)) packages operands) operands done e
   form_ok false false false true operands done e =
-      not_late false (info_refusal (form_of (flags_by flags false false false true)) packages operands) (operands_info (form_of (flags_by flags false false false true)) packages operands) operands done e
+      not_late false (info_refusal (info_form_of_flags (flags_by flags false false false true)) packages operands) (operands_info (info_form_of_flags (flags_by flags false false false true)) packages operands) operands done e
   form_ok false false false false [] done e = let none : done.following_refusal ≡ None = cc in inr (none, inr refl)
   form_ok false false false false (o ∷ operands) done e =
-      not_late false (info_refusal (form_of (flags_by flags false false false false)) packages (o ∷ operands)) (operands_info (form_of (flags_by flags false false false false)) packages (o ∷ operands)) (o ∷ operands) done e
+      not_late false (info_refusal (info_form_of_flags (flags_by flags false false false false)) packages (o ∷ operands)) (operands_info (info_form_of_flags (flags_by flags false false false false)) packages (o ∷ operands)) (o ∷ operands) done e
 
 module _ (command : CommandLine) (packages : List Plain) where
-  is_there : (text : List ℕ) → is_some (package_meant_by (form_of command.flags) packages text) ≡ true → IsFoundInstalled command packages text
+  is_there : (text : List ℕ) → is_some (package_meant_by_operand_text (info_form_of_flags command.flags) packages text) ≡ true → IsFoundInstalled command packages text
   is_there text e = there command.flags command.flags.who_owns command.flags.installed command.flags.contents command.flags.depends packages text e
 
-  is_not_there : (text : List ℕ) → is_some (package_meant_by (form_of command.flags) packages text) ≡ false → ¬ IsFoundInstalled command packages text
+  is_not_there : (text : List ℕ) → is_some (package_meant_by_operand_text (info_form_of_flags command.flags) packages text) ≡ false → ¬ IsFoundInstalled command packages text
   is_not_there text e = not_there command.flags command.flags.who_owns command.flags.installed command.flags.contents command.flags.depends packages text e
 
   -- ---- operands
@@ -148,9 +148,9 @@ module _ (command : CommandLine) (packages : List Plain) where
   one_more o operands is more p (inl same) = subst (λ (x : Operand). IsFoundInstalled command packages x.text) (sym same) is
   one_more o operands is more p (inr inside) = more p inside
 
-  first : (operands : List Operand) (refusal : Refusal) → info_refusal (form_of command.flags) packages operands ≡ Some refusal → IsFirst operands refusal
+  first : (operands : List Operand) (refusal : Refusal) → info_refusal (info_form_of_flags command.flags) packages operands ≡ Some refusal → IsFirst operands refusal
   first [] refusal e = absurd (cc (e))
-  first (o ∷ operands) refusal e = by_test (is_some (package_meant_by (form_of command.flags) packages o.text)) refl e (first operands refusal)
+  first (o ∷ operands) refusal e = by_test (is_some (package_meant_by_operand_text (info_form_of_flags command.flags) packages o.text)) refl e (first operands refusal)
     where
       behind : IsFoundInstalled command packages o.text → IsFirst operands refusal → IsFirst (o ∷ operands) refusal
       behind is f = record {
@@ -163,8 +163,8 @@ module _ (command : CommandLine) (packages : List Plain) where
         told = f.told;
       }
 
-      by_test : (t : Bool) → is_some (package_meant_by (form_of command.flags) packages o.text) ≡ t → (if t then info_refusal (form_of command.flags) packages operands else Some (NotInstalled o.place)) ≡ Some refusal
-          → (info_refusal (form_of command.flags) packages operands ≡ Some refusal → IsFirst operands refusal) → IsFirst (o ∷ operands) refusal
+      by_test : (t : Bool) → is_some (package_meant_by_operand_text (info_form_of_flags command.flags) packages o.text) ≡ t → (if t then info_refusal (info_form_of_flags command.flags) packages operands else Some (NotInstalled o.place)) ≡ Some refusal
+          → (info_refusal (info_form_of_flags command.flags) packages operands ≡ Some refusal → IsFirst operands refusal) → IsFirst (o ∷ operands) refusal
       by_test true t e more = behind (is_there o.text t) (more e)
       by_test false t e more = record {
         before = [];
@@ -176,12 +176,12 @@ module _ (command : CommandLine) (packages : List Plain) where
         told = (let same : refusal ≡ NotInstalled o.place = cc in same);
       }
 
-  all : (operands : List Operand) → info_refusal (form_of command.flags) packages operands ≡ None → AreFoundInstalled command packages operands
+  all : (operands : List Operand) → info_refusal (info_form_of_flags command.flags) packages operands ≡ None → AreFoundInstalled command packages operands
   all [] e = λ p inside. absurd inside
-  all (o ∷ operands) e = by_test (is_some (package_meant_by (form_of command.flags) packages o.text)) refl e (all operands)
+  all (o ∷ operands) e = by_test (is_some (package_meant_by_operand_text (info_form_of_flags command.flags) packages o.text)) refl e (all operands)
     where
-      by_test : (t : Bool) → is_some (package_meant_by (form_of command.flags) packages o.text) ≡ t → (if t then info_refusal (form_of command.flags) packages operands else Some (NotInstalled o.place)) ≡ None
-          → (info_refusal (form_of command.flags) packages operands ≡ None → AreFoundInstalled command packages operands) → AreFoundInstalled command packages (o ∷ operands)
+      by_test : (t : Bool) → is_some (package_meant_by_operand_text (info_form_of_flags command.flags) packages o.text) ≡ t → (if t then info_refusal (info_form_of_flags command.flags) packages operands else Some (NotInstalled o.place)) ≡ None
+          → (info_refusal (info_form_of_flags command.flags) packages operands ≡ None → AreFoundInstalled command packages operands) → AreFoundInstalled command packages (o ∷ operands)
       by_test true t e more = one_more o operands (is_there o.text t) (more e)
       by_test false t e more = absurd (cc (e))
 
@@ -196,13 +196,13 @@ module _ (command : CommandLine) (packages : List Plain) where
     told = f.told;
   }
 
-  first_in : (refusal : Refusal) → info_refusal (form_of command.flags) packages command.operands ≡ Some refusal → IsFirstNotInstalled command packages refusal
+  first_in : (refusal : Refusal) → info_refusal (info_form_of_flags command.flags) packages command.operands ≡ Some refusal → IsFirstNotInstalled command packages refusal
   first_in refusal e = first_of refusal (first command.operands refusal e)
 
   -- ---- what is told
 
   abbrev refused : Option Refusal
-  refused = info_refusal (form_of command.flags) packages command.operands
+  refused = info_refusal (info_form_of_flags command.flags) packages command.operands
 
   pub operand_refused : (refusal : Refusal) → info_of command packages ≡ Err refusal → IsFirstNotInstalled command packages refusal
   unfolding info_of

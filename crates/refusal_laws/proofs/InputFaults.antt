@@ -5,11 +5,11 @@ use Rattle.outcome.proofs.Lacking.{text_remembers}
 use Rattle.outcome.specs.adb_schema.Soundness.{container_fault_except_contents}
 use Rattle.adb_view.specs.declared.tables.Which.TheVariants.{Idb, Index}
 use Rattle.base_core.specs.declared.cause.Cause.{Cause}
-use Rattle.outcome.specs.change_inputs.Chains.{and_then, refused_as, unless_cause}
+use Rattle.outcome.specs.change_inputs.Chains.{and_then, with_error_as_refusal, unless_cause}
 use Rattle.outcome.specs.change_inputs.Database.{Database, payload_database, root_database}
-use Rattle.outcome.specs.change_inputs.Indexes.{index_file, index_files_from, index_in_file, indexes_in_files}
+use Rattle.outcome.specs.change_inputs.Indexes.{file_or_index_missing, index_files_from, index_in_file, indexes_in_files}
 use Rattle.outcome.specs.change_inputs.Inputs.{Root, database_read_number, first_index_read_number, index_reads_from, indexes_of, inputs_from_parts, inputs_of, root_from_parts, root_for, text_database_read_number, world_read_number}
-use Rattle.outcome.specs.change_inputs.Repositories.{if_untrusted_allowed, root_repositories}
+use Rattle.outcome.specs.change_inputs.Repositories.{repositories_if_untrusted_allowed, root_repositories}
 use Rattle.outcome.specs.change_inputs.World.{root_world, found_text_or_empty}
 use Rattle.command_core.specs.Command.{CommandLine}
 use Rattle.dep_core.specs.Dependency.{Dependency}
@@ -31,11 +31,11 @@ pub cause_err : {A : Type 0} (refused : Cause → Refusal) (o : Option Cause) (a
 cause_err refused None a refusal e = absurd (cc (e))
 cause_err refused (Some cause) a refusal e = (cause, refl, (let same : refused cause ≡ refusal = cc in same))
 
-pub as_err : {A : Type 0} (refused : ℕ → Refusal) (w : Result A ℕ) (refusal : Refusal) → refused_as refused w ≡ Err refusal → (n : ℕ) × (w ≡ Err n) × (refused n ≡ refusal)
+pub as_err : {A : Type 0} (refused : ℕ → Refusal) (w : Result A ℕ) (refusal : Refusal) → with_error_as_refusal refused w ≡ Err refusal → (n : ℕ) × (w ≡ Err n) × (refused n ≡ refusal)
 as_err refused (Ok a) refusal e = absurd (cc (e))
 as_err refused (Err n) refusal e = (n, refl, (let same : refused n ≡ refusal = cc in same))
 
-as_ok : {A : Type 0} (refused : ℕ → Refusal) (w : Result A ℕ) (a : A) → refused_as refused w ≡ Ok a → w ≡ Ok a
+as_ok : {A : Type 0} (refused : ℕ → Refusal) (w : Result A ℕ) (a : A) → with_error_as_refusal refused w ≡ Ok a → w ≡ Ok a
 as_ok refused (Ok x) a e = let same : x ≡ a = cc in ap (λ y. Ok y) same
 as_ok refused (Err n) a e = absurd (cc (e))
 
@@ -82,7 +82,7 @@ module _ (command : CommandLine) (read : Reads) where
       subst IsSo why.2 why.1
 
   trusted_fault : (is_allowed : Bool) (repositories : List Repository) (refusal : Refusal) → command.flags.allow_untrusted ≡ is_allowed → repositories_of (repositories_file_text read) ≡ Ok repositories
-      → if_untrusted_allowed is_allowed repositories ≡ Err refusal → IsSo refusal
+      → repositories_if_untrusted_allowed is_allowed repositories ≡ Err refusal → IsSo refusal
   trusted_fault is_allowed [] refusal leave listed e = absurd (cc (e))
   trusted_fault true (repository ∷ others) refusal leave listed e = absurd (cc (e))
   trusted_fault false (repository ∷ others) refusal leave listed e =
@@ -91,19 +91,19 @@ module _ (command : CommandLine) (read : Reads) where
 
   repositories_fault : (refusal : Refusal) → root_repositories command.flags.allow_untrusted (repositories_file_text read) ≡ Err refusal → IsSo refusal
   repositories_fault refusal e =
-      elim (and_then_err (refused_as RepositoriesBad (repositories_of (repositories_file_text read))) (if_untrusted_allowed command.flags.allow_untrusted) refusal e) [
+      elim (and_then_err (with_error_as_refusal RepositoriesBad (repositories_of (repositories_file_text read))) (repositories_if_untrusted_allowed command.flags.allow_untrusted) refusal e) [
         | inl first ↦ (let why = as_err RepositoriesBad (repositories_of (repositories_file_text read)) refusal first in subst IsSo why.2 why.1)
         | inr next ↦ trusted_fault command.flags.allow_untrusted next.0 refusal refl (as_ok RepositoriesBad (repositories_of (repositories_file_text read)) next.0 next.1) next.2
       ]
 
-  trusted_ok : (is_allowed : Bool) (repositories kept : List Repository) → if_untrusted_allowed is_allowed repositories ≡ Ok kept → repositories ≡ kept
+  trusted_ok : (is_allowed : Bool) (repositories kept : List Repository) → repositories_if_untrusted_allowed is_allowed repositories ≡ Ok kept → repositories ≡ kept
   trusted_ok is_allowed [] kept e = cc (e)
   trusted_ok true (repository ∷ others) kept e = cc (e)
   trusted_ok false (repository ∷ others) kept e = absurd (cc (e))
 
   repositories_ok : (repositories : List Repository) → root_repositories command.flags.allow_untrusted (repositories_file_text read) ≡ Ok repositories → repositories_of (repositories_file_text read) ≡ Ok repositories
   repositories_ok repositories e =
-      let all = and_then_ok (refused_as RepositoriesBad (repositories_of (repositories_file_text read))) (if_untrusted_allowed command.flags.allow_untrusted) repositories e in
+      let all = and_then_ok (with_error_as_refusal RepositoriesBad (repositories_of (repositories_file_text read))) (repositories_if_untrusted_allowed command.flags.allow_untrusted) repositories e in
       as_ok RepositoriesBad (repositories_of (repositories_file_text read)) all.0 all.1 ∙ ap (λ (rs : List Repository). Ok rs) (trusted_ok command.flags.allow_untrusted all.0 repositories all.2)
 
   -- ---- the root
@@ -173,7 +173,7 @@ module _ (command : CommandLine) (read : Reads) where
             ]
 
         by_read : (file : Option (List ℕ)) → read n x.path ≡ file → (index_files_from (number + 1) (index_reads_from read (suc n) rs) ≡ Err refusal → IsSo refusal)
-            → and_then (index_file number file) (λ file. and_then (index_files_from (number + 1) (index_reads_from read (suc n) rs)) (λ files. Ok (file ∷ files))) ≡ Err refusal → IsSo refusal
+            → and_then (file_or_index_missing number file) (λ file. and_then (index_files_from (number + 1) (index_reads_from read (suc n) rs)) (λ files. Ok (file ∷ files))) ≡ Err refusal → IsSo refusal
         by_read None found more e =
             let same : IndexMissing number ≡ refusal = cc in
             subst IsSo (ap IndexMissing (sym told) ∙ same) (read_at place n x rs None are is found)
@@ -203,7 +203,7 @@ module _ (command : CommandLine) (read : Reads) where
 
         by_read : (file : Option (List ℕ)) → read n x.path ≡ file
             → ((others : List (List ℕ)) → index_files_from (number + 1) (index_reads_from read (suc n) rs) ≡ Ok others → indexes_in_files (number + 1) others ≡ Err refusal → IsSo refusal)
-            → and_then (index_file number file) (λ file. and_then (index_files_from (number + 1) (index_reads_from read (suc n) rs)) (λ files. Ok (file ∷ files))) ≡ Ok files → IsSo refusal
+            → and_then (file_or_index_missing number file) (λ file. and_then (index_files_from (number + 1) (index_reads_from read (suc n) rs)) (λ files. Ok (file ∷ files))) ≡ Ok files → IsSo refusal
         by_read None here more k = absurd (cc (k))
         by_read (Some file) here more k =
             let others = and_then_ok (index_files_from (number + 1) (index_reads_from read (suc n) rs)) (λ files. Ok (file ∷ files)) files k in

@@ -1,7 +1,7 @@
 -- A package that is too large is refused with its counts.
 use Rattle.command_core.specs.declared.values.TheConstants.{FILES, SCRIPT, TRIGGER}
 use Rattle.std.proofs.Common.{◌≡◌, ◌⊎◌, inl, inr, ◌∙◌, ℕ, ◌+◌, List, [], ◌∷◌, length, Option, Some, None, Result, Ok, Err, refl, ap}
-use Rattle.outcome.specs.adb_sound.Container.{packed_from_parts}
+use Rattle.outcome.specs.adb_sound.Container.{package_with_contents_from_parts}
 use Rattle.adb_view.specs.Plain.{Plain}
 use Rattle.outcome.specs.adb_write.Canonical.{PayloadCounts, overflow_of}
 use Rattle.command_core.specs.Command.{CommandLine}
@@ -14,9 +14,9 @@ use Rattle.outcome.specs.make_info.Reads.{Reads}
 use Rattle.outcome.specs.make_info.declared.fault.MakeFault.{MakeFault}
 use Rattle.outcome.specs.make_info.declared.fault.MakeFault.TheVariants.{TooLarge}
 use Rattle.outcome.specs.package_files.Folders.{FolderListing, folder_listings_of}
-use Rattle.outcome.specs.make_package.Making.{container_unless, made_package, or_info_bad, package_container, package_of_parts}
+use Rattle.outcome.specs.make_package.Making.{container_unless_too_large, made_package, or_info_bad, package_container, package_of_parts}
 use Rattle.outcome.specs.package_files.Package.{Script, Source, SourceFolder, contents_of_folders, installed_size, value_of_package}
-use Rattle.outcome.specs.package_files.Sources.{results_from_read, source_file_read_at, source_folder_read_at, folders_below, found_bytes_or_missing, and_then, script_at, script_with, scripts_from, source_of_read, sources_from, texts_of, values_of_letter}
+use Rattle.outcome.specs.package_files.Sources.{results_from_read, source_file_read_at, source_folder_read_at, source_folders_of_first_option, found_bytes_or_missing, and_then, script_at, script_with, scripts_from_read, source_of_read, sources_at_place_from_read, texts_of, values_of_letter}
 use Rattle.outcome.specs.pkg_core.Contents.{Contents}
 use Rattle.refusal_laws.specs.MadeTooLarge.{IsPackageTooLarge}
 use Rattle.refusal_laws.proofs.ChangeFaults.{too_large}
@@ -54,7 +54,7 @@ module _ (bytes values : ℕ) where
 
   folder_never : (place : ℕ) (read : Reads) (n : ℕ) (folder : FolderListing) → IsNever (source_folder_read_at place read n folder)
   folder_never place read n folder e =
-      elim (success_err (sources_from place read n folder.files) (λ files. with_files files) (TooLarge bytes values) e) [
+      elim (success_err (sources_at_place_from_read place read n folder.files) (λ files. with_files files) (TooLarge bytes values) e) [
         | inl first ↦ each_never (λ name. 1) (source_file_read_at place read) (λ m name f. found_never place (read m name) (λ b. source_of_read name b) f) n folder.files first
         | inr last ↦ no_fault (source_folder last.0) (TooLarge bytes values) last.2
       ]
@@ -65,7 +65,7 @@ module _ (bytes values : ℕ) where
       with_files : List Source → Result SourceFolder MakeFault
       with_files files = Ok (source_folder files)
 
-  folders_never : (read : Reads) (n : ℕ) (vs : List OptionValue) (names : List (List ℕ)) → IsNever (folders_below read n vs names)
+  folders_never : (read : Reads) (n : ℕ) (vs : List OptionValue) (names : List (List ℕ)) → IsNever (source_folders_of_first_option read n vs names)
   folders_never read n [] names e = cc (e)
   folders_never read n (v ∷ vs) names e =
       each_never (λ (folder : FolderListing). length folder.files) (source_folder_read_at v.place read) (folder_never v.place read) n (folder_listings_of (without_dot_slash v.text) names) e
@@ -76,7 +76,7 @@ module _ (bytes values : ℕ) where
 
   -- ---- what is written
 
-  counts_of : (o : Option PayloadCounts) (v : Plain) (contents : List Contents) → container_unless o v contents ≡ Err (TooLarge bytes values) → o ≡ Some (bytes, values)
+  counts_of : (o : Option PayloadCounts) (v : Plain) (contents : List Contents) → container_unless_too_large o v contents ≡ Err (TooLarge bytes values) → o ≡ Some (bytes, values)
   counts_of None v contents e = absurd (cc (e))
   counts_of (Some counts) v contents e =
       let same : TooLarge counts.0 counts.1 ≡ TooLarge bytes values = cc in
@@ -95,10 +95,10 @@ module _ (bytes values : ℕ) where
         | inl first ↦ absurd (each_never (λ v. 1) (script_at read) (script_never read) 0 (values_of_letter SCRIPT command.values) first)
         | inr one ↦ elim (success_err (or_info_bad (information command)) (then_about one.0) (TooLarge bytes values) one.2) [
           | inl second ↦ absurd (info_never (information command) second)
-          | inr two ↦ elim (success_err (folders_below read (length one.0) (values_of_letter FILES command.values) names) (package_of_parts command one.0 two.0) (TooLarge bytes values) two.2) [
+          | inr two ↦ elim (success_err (source_folders_of_first_option read (length one.0) (values_of_letter FILES command.values) names) (package_of_parts command one.0 two.0) (TooLarge bytes values) two.2) [
             | inl third ↦ absurd (folders_never read (length one.0) (values_of_letter FILES command.values) names third)
             | inr three ↦ record {
-              packed = packed_from_parts (value_of one.0 two.0 three.0) (contents_of_folders 1 three.0);
+              packed = package_with_contents_from_parts (value_of one.0 two.0 three.0) (contents_of_folders 1 three.0);
               is_packed = packed_is one.0 two.0 three.0 one.1 two.1 three.1;
               passes = too_large (value_of one.0 two.0 three.0) (bytes, values) (container_counts (value_of one.0 two.0 three.0) (contents_of_folders 1 three.0) three.2);
             }
@@ -107,10 +107,10 @@ module _ (bytes values : ℕ) where
       ]
     where
       scripts : Result (List Script) MakeFault
-      scripts = scripts_from read 0 (values_of_letter SCRIPT command.values)
+      scripts = scripts_from_read read 0 (values_of_letter SCRIPT command.values)
 
       then_about : List Script → List FieldWithValue → Result (List ℕ) MakeFault
-      then_about found about = and_then (folders_below read (length found) (values_of_letter FILES command.values) names) (package_of_parts command found about)
+      then_about found about = and_then (source_folders_of_first_option read (length found) (values_of_letter FILES command.values) names) (package_of_parts command found about)
 
       then_scripts : List Script → Result (List ℕ) MakeFault
       then_scripts found = and_then (or_info_bad (information command)) (then_about found)
@@ -120,11 +120,11 @@ module _ (bytes values : ℕ) where
           value_of_package (information_value about (installed_size folders)) folders found (texts_of (values_of_letter TRIGGER command.values)) (replaces_priority about)
 
       packed_is : (found : List Script) (about : List FieldWithValue) (folders : List SourceFolder) → scripts ≡ Ok found → or_info_bad (information command) ≡ Ok about
-          → folders_below read (length found) (values_of_letter FILES command.values) names ≡ Ok folders → packed_package command names read ≡ Ok (packed_from_parts (value_of found about folders) (contents_of_folders 1 folders))
+          → source_folders_of_first_option read (length found) (values_of_letter FILES command.values) names ≡ Ok folders → packed_package command names read ≡ Ok (package_with_contents_from_parts (value_of found about folders) (contents_of_folders 1 folders))
       packed_is found about folders s a f =
           ap (λ (x : Result (List Script) MakeFault). and_then x (λ scripts.
           and_then (or_info_bad (information command)) (λ about.
-          and_then (folders_below read (length scripts) (values_of_letter FILES command.values) names) (packed_of_parts command scripts about)))) s
+          and_then (source_folders_of_first_option read (length scripts) (values_of_letter FILES command.values) names) (packed_of_parts command scripts about)))) s
           ∙ (ap (λ (x : Result (List FieldWithValue) MakeFault). and_then x (λ about.
-          and_then (folders_below read (length found) (values_of_letter FILES command.values) names) (packed_of_parts command found about))) a
+          and_then (source_folders_of_first_option read (length found) (values_of_letter FILES command.values) names) (packed_of_parts command found about))) a
           ∙ ap (λ (x : Result (List SourceFolder) MakeFault). and_then x (packed_of_parts command found about)) f)

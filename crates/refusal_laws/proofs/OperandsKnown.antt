@@ -7,14 +7,14 @@ use Rattle.command_core.specs.Command.{CommandLine}
 use Rattle.command_core.specs.declared.command.Applet.{Applet}
 use Rattle.command_core.specs.declared.command.Applet.TheVariants.{Del, Fix, Upgrade}
 use Rattle.command_core.specs.declared.operands.Operand.{Operand}
-use Rattle.outcome.specs.engine_core.Changed.{selected_by, selected_of_inputs}
+use Rattle.outcome.specs.engine_core.Changed.{selected_from_pool_by_choice, selected_from_inputs_by_choice}
 use Rattle.outcome.specs.engine_core.Selecting.{pool_of_inputs}
 use Rattle.outcome.specs.engine_core.Wishes.{place_of_first_unknown_operand, is_installed_name, is_known_name, names_to_upgrade, unknown_operand_place, unless_unknown_operand}
 use Rattle.outcome.specs.candidate_core.Rank.{SealedPool}
 use Rattle.report_core.specs.declared.refusal.Refusal.{Refusal}
 use Rattle.report_core.specs.declared.refusal.Refusal.TheVariants.{NotInstalled, Unsatisfied}
-use Rattle.refusal_laws.specs.CommandFaults.{IsUnknownTo}
-use Rattle.refusal_laws.specs.OperandsKnown.{AreKnownOperands, HasPassedBeforeSelection, IsFirstUnknown}
+use Rattle.refusal_laws.specs.CommandFaults.{IsNameUnknownToApplet}
+use Rattle.refusal_laws.specs.OperandsKnown.{AreKnownOperands, HasPassedBeforeSelectionRefusal, IsFirstUnknown}
 use Rattle.refusal_laws.proofs.CommandFaults.{pool_fault}
 use Rattle.refusal_laws.proofs.Lists.{and_then_err}
 
@@ -64,16 +64,16 @@ first_failing is_known (o ∷ operands) place e = by_test (is_known o.text) refl
 
 -- ---- by the command
 
-known_to : (command : CommandLine) (inputs : Inputs) (applet : Applet) (is_known : List ℕ → Bool) → ((name : List ℕ) → is_known name ≡ true → IsUnknownTo applet inputs name → ⊥) → applet ≡ command.applet
+known_to : (command : CommandLine) (inputs : Inputs) (applet : Applet) (is_known : List ℕ → Bool) → ((name : List ℕ) → is_known name ≡ true → IsNameUnknownToApplet applet inputs name → ⊥) → applet ≡ command.applet
     → (operands : List Operand) → ArePassing is_known operands → AreKnownOperands command inputs operands
 known_to command inputs applet is_known known same operands pass o inside unknown =
-    known o.text (pass o inside) (subst (λ (a : Applet). IsUnknownTo a inputs o.text) (sym same) unknown)
+    known o.text (pass o inside) (subst (λ (a : Applet). IsNameUnknownToApplet a inputs o.text) (sym same) unknown)
 
-del_knows : (inputs : Inputs) (name : List ℕ) → is_known_name inputs name ≡ true → IsUnknownTo Del inputs name → ⊥
+del_knows : (inputs : Inputs) (name : List ℕ) → is_known_name inputs name ≡ true → IsNameUnknownToApplet Del inputs name → ⊥
 del_knows inputs name known (world, installed) = true≢false (sym known ∙ (λ i. world i || installed i))
 
 module _ (command : CommandLine) (inputs : Inputs) where
-  first_by : (applet : Applet) (is_known : List ℕ → Bool) (place : ℕ) → ((name : List ℕ) → is_known name ≡ true → IsUnknownTo applet inputs name → ⊥) → applet ≡ command.applet
+  first_by : (applet : Applet) (is_known : List ℕ → Bool) (place : ℕ) → ((name : List ℕ) → is_known name ≡ true → IsNameUnknownToApplet applet inputs name → ⊥) → applet ≡ command.applet
       → place_of_first_unknown_operand is_known command.operands ≡ Some place → IsFirstUnknown command inputs place
   first_by applet is_known place known same e =
       let f = first_failing is_known command.operands place e in
@@ -90,21 +90,21 @@ module _ (command : CommandLine) (inputs : Inputs) where
   no_place Upgrade same e =
       known_to command inputs Upgrade (is_installed_name inputs) (λ name known off. true≢false (sym known ∙ off)) same command.operands (all_passing (is_installed_name inputs) command.operands e)
   no_place Fix same e = known_to command inputs Fix (is_installed_name inputs) (λ name known off. true≢false (sym known ∙ off)) same command.operands (all_passing (is_installed_name inputs) command.operands e)
-  no_place applet same e = λ o inside unknown. subst (λ (a : Applet). IsUnknownTo a inputs o.text) (sym same) unknown
+  no_place applet same e = λ o inside unknown. subst (λ (a : Applet). IsNameUnknownToApplet a inputs o.text) (sym same) unknown
 
   passed : (pool : SealedPool) → pool_of_inputs command inputs ≡ Ok pool → (place : Option ℕ) → unknown_operand_place command.applet inputs command.operands ≡ place → (chosen : Option (List ℕ)) (refusal : Refusal)
-      → unless_unknown_operand place (selected_by command inputs pool chosen) ≡ Err refusal → HasPassedBeforeSelection command inputs refusal
+      → unless_unknown_operand place (selected_from_pool_by_choice command inputs pool chosen) ≡ Err refusal → HasPassedBeforeSelectionRefusal command inputs refusal
   passed pool is (Some place) at chosen refusal e =
       let same : NotInstalled place ≡ refusal = cc in
-      subst (HasPassedBeforeSelection command inputs) same ((pool, is), first_place command.applet place refl at)
+      subst (HasPassedBeforeSelectionRefusal command inputs) same ((pool, is), first_place command.applet place refl at)
   passed pool is None at None refusal e =
       let same : Unsatisfied ≡ refusal = cc in
-      subst (HasPassedBeforeSelection command inputs) same ((pool, is), no_place command.applet refl at)
+      subst (HasPassedBeforeSelectionRefusal command inputs) same ((pool, is), no_place command.applet refl at)
   passed pool is None at (Some trace) refusal e = absurd (cc (e))
 
-  pub selection_passed : (chosen : Option (List ℕ)) (refusal : Refusal) → selected_of_inputs command chosen inputs ≡ Err refusal → HasPassedBeforeSelection command inputs refusal
+  pub selection_passed : (chosen : Option (List ℕ)) (refusal : Refusal) → selected_from_inputs_by_choice command chosen inputs ≡ Err refusal → HasPassedBeforeSelectionRefusal command inputs refusal
   selection_passed chosen refusal e =
-      elim (and_then_err (pool_of_inputs command inputs) (λ pool. unless_unknown_operand (unknown_operand_place command.applet inputs command.operands) (selected_by command inputs pool chosen)) refusal e) [
-        | inl first ↦ (let many = pool_fault inputs (names_to_upgrade command.applet command.operands) refusal first in subst (HasPassedBeforeSelection command inputs) many.2 tt)
+      elim (and_then_err (pool_of_inputs command inputs) (λ pool. unless_unknown_operand (unknown_operand_place command.applet inputs command.operands) (selected_from_pool_by_choice command inputs pool chosen)) refusal e) [
+        | inl first ↦ (let many = pool_fault inputs (names_to_upgrade command.applet command.operands) refusal first in subst (HasPassedBeforeSelectionRefusal command inputs) many.2 tt)
         | inr next ↦ passed next.0 next.1 (unknown_operand_place command.applet inputs command.operands) refl chosen refusal next.2
       ]

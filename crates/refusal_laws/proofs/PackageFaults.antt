@@ -6,15 +6,15 @@ use Rattle.adb_view.specs.Plain.{Plain}
 use Rattle.outcome.specs.change_inputs.Chains.{and_then}
 use Rattle.outcome.specs.change_inputs.Inputs.{Inputs, first_index_read_number}
 use Rattle.outcome.specs.change_outcome.ChangeOutcome.{ChangeWishes, members_after_change}
-use Rattle.outcome.specs.change_outcome.MembersAfter.{MemberFound, added_package_by_path, added_member_found, members_after, member_of_name_after, member_of_name_by_change, member_of_name_by_selected, member_of_added_name, member_of_removed_name, names_after}
-use Rattle.outcome.specs.change_outcome.PackageFiles.{package_file_of, scripts_of_change, unless_script_needed}
+use Rattle.outcome.specs.change_outcome.MembersAfter.{MemberFound, added_package_by_path, added_member_found, members_after, member_of_name_after, member_of_name_by_change, member_of_name_by_selected, member_of_added_name, member_of_removed_name, members_of_names_after}
+use Rattle.outcome.specs.change_outcome.PackageFiles.{package_file_path_of_candidate, scripts_of_change, unless_script_needed}
 use Rattle.outcome.specs.db_core.Packages.{is_package_named}
 use Rattle.outcome.specs.make_info.Reads.{Reads}
 use Rattle.outcome.specs.package_changes.Changes.{Replacement, change_of_name, is_candidate_named, names_before_and_selected}
 use Rattle.outcome.specs.candidate_core.Candidates.{Candidate}
 use Rattle.report_core.specs.Reports.{Change}
 use Rattle.report_core.specs.declared.refusal.Refusal.{Refusal}
-use Rattle.refusal_laws.specs.AddedPackages.{selected_of_name}
+use Rattle.refusal_laws.specs.AddedPackages.{selected_candidate_of_name}
 use Rattle.refusal_laws.specs.ChangeFaults.{IsFaultOfPackage}
 use Rattle.refusal_laws.proofs.Coming.{IsNameAt, brought, coming_fault, script_fault}
 use Rattle.refusal_laws.proofs.Lists.{and_then_err}
@@ -40,23 +40,23 @@ module _ (inputs : Inputs) (r : Replacement) (wishes : ChangeWishes) (read : Rea
 
   -- ---- one name
 
-  goes_fault : (name : List ℕ) (change : Change) (before : Option Plain) (refusal : Refusal) → find (is_package_named name) r.before ≡ before → selected_of_name r name ≡ None → change_of_name r name ≡ Some change
+  goes_fault : (name : List ℕ) (change : Change) (before : Option Plain) (refusal : Refusal) → find (is_package_named name) r.before ≡ before → selected_candidate_of_name r name ≡ None → change_of_name r name ≡ Some change
       → member_of_removed_name wishes.no_scripts name change before ≡ Err refusal → IsSo refusal
   goes_fault name change None refusal is unselected becomes e = absurd (cc (e))
   goes_fault name change (Some pkg) refusal is unselected becomes e =
       script_fault inputs r wishes read name pkg change None refusal (inr (record { before = is; unselected = unselected })) becomes e
 
-  comes_fault : (n : ℕ) (name : List ℕ) (change : Change) (c : Candidate) (refusal : Refusal) → IsNameAt inputs r n name → selected_of_name r name ≡ Some c → change_of_name r name ≡ Some change
+  comes_fault : (n : ℕ) (name : List ℕ) (change : Change) (c : Candidate) (refusal : Refusal) → IsNameAt inputs r n name → selected_candidate_of_name r name ≡ Some c → change_of_name r name ≡ Some change
       → member_of_added_name read inputs.root.repositories wishes.no_scripts n name change c ≡ Err refusal → IsSo refusal
   comes_fault n name change c refusal at selected becomes e =
-      elim (and_then_err (added_package_by_path read n c (package_file_of inputs.root.repositories c)) (λ pkg.
+      elim (and_then_err (added_package_by_path read n c (package_file_path_of_candidate inputs.root.repositories c)) (λ pkg.
       unless_script_needed wishes.no_scripts name pkg.value (scripts_of_change change) (Some (added_member_found pkg))) refusal e) [
         | inl first ↦ coming_fault inputs r wishes read n name at change becomes c selected refusal first
         | inr next ↦ script_fault inputs r wishes read name next.0.value change (Some (added_member_found next.0)) refusal
             (inl (next.0, brought inputs r wishes read n name at change becomes c selected next.0 next.1, refl)) becomes next.2
       ]
 
-  selected_fault : (n : ℕ) (name : List ℕ) (change : Change) (selected : Option Candidate) (refusal : Refusal) → IsNameAt inputs r n name → selected_of_name r name ≡ selected → change_of_name r name ≡ Some change
+  selected_fault : (n : ℕ) (name : List ℕ) (change : Change) (selected : Option Candidate) (refusal : Refusal) → IsNameAt inputs r n name → selected_candidate_of_name r name ≡ selected → change_of_name r name ≡ Some change
       → member_of_name_by_selected read inputs.root.repositories wishes.no_scripts n name change (find (is_package_named name) r.before) selected ≡ Err refusal → IsSo refusal
   selected_fault n name change None refusal at is becomes e = goes_fault name change (find (is_package_named name) r.before) refusal refl is becomes e
   selected_fault n name change (Some c) refusal at is becomes e = comes_fault n name change c refusal at is becomes e
@@ -72,20 +72,20 @@ module _ (inputs : Inputs) (r : Replacement) (wishes : ChangeWishes) (read : Rea
   -- ---- all of them
 
   names_fault : (n place : ℕ) (names : List (List ℕ)) (refusal : Refusal) → first_index_read_number + length inputs.root.repositories + place ≡ n → AreNamesFrom r place names
-      → names_after r read inputs.root.repositories wishes.no_scripts n names ≡ Err refusal → IsSo refusal
+      → members_of_names_after r read inputs.root.repositories wishes.no_scripts n names ≡ Err refusal → IsSo refusal
   names_fault n place [] refusal number are e = absurd (cc (e))
   names_fault n place (name ∷ names) refusal number are e =
       elim (and_then_err (member_of_name_after r read inputs.root.repositories wishes.no_scripts n name) (λ first.
-      and_then (names_after r read inputs.root.repositories wishes.no_scripts (suc n) names) (λ others.
+      and_then (members_of_names_after r read inputs.root.repositories wishes.no_scripts (suc n) names) (λ others.
       Ok (cons_option first others))) refusal e) [
         | inl first ↦ name_fault n name refusal (record { place = place; is_place = first_name r place name names are; is_number = number }) first
         | inr next ↦ by_others next.0 next.2 (names_fault (suc n) (suc place) names refusal (omega (arith, number)) (other_names r place name names are))
       ]
     where
-      by_others : (first : Option MemberFound) → and_then (names_after r read inputs.root.repositories wishes.no_scripts (suc n) names) (λ others. Ok (cons_option first others)) ≡ Err refusal
-          → (names_after r read inputs.root.repositories wishes.no_scripts (suc n) names ≡ Err refusal → IsSo refusal) → IsSo refusal
+      by_others : (first : Option MemberFound) → and_then (members_of_names_after r read inputs.root.repositories wishes.no_scripts (suc n) names) (λ others. Ok (cons_option first others)) ≡ Err refusal
+          → (members_of_names_after r read inputs.root.repositories wishes.no_scripts (suc n) names ≡ Err refusal → IsSo refusal) → IsSo refusal
       by_others first e more =
-          elim (and_then_err (names_after r read inputs.root.repositories wishes.no_scripts (suc n) names) (λ others. Ok (cons_option first others)) refusal e) [
+          elim (and_then_err (members_of_names_after r read inputs.root.repositories wishes.no_scripts (suc n) names) (λ others. Ok (cons_option first others)) refusal e) [
             | inl others ↦ more others
             | inr last ↦ absurd (no_refusal (cons_option first last.0) last.2)
           ]

@@ -11,8 +11,8 @@ use Rattle.outcome.proofs.change_files.InOrder.{in_order, in_right, order_rises}
 use Rattle.outcome.specs.change_inputs.Chains.{and_then}
 use Rattle.outcome.specs.change_inputs.Inputs.{Inputs, first_index_read_number}
 use Rattle.outcome.specs.change_outcome.ChangeOutcome.{ChangeWishes, members_after_change}
-use Rattle.outcome.specs.change_outcome.MembersAfter.{MemberFound, added_package_by_path, added_member_found, members_after, found_members, member_of_name_after, member_of_name_by_change, member_of_name_by_selected, member_of_added_name, member_of_removed_name, names_after, kept_member_found}
-use Rattle.outcome.specs.change_outcome.PackageFiles.{AddedPackage, package_file_of, scripts_of_change, unless_script_needed}
+use Rattle.outcome.specs.change_outcome.MembersAfter.{MemberFound, added_package_by_path, added_member_found, members_after, found_members, member_of_name_after, member_of_name_by_change, member_of_name_by_selected, member_of_added_name, member_of_removed_name, members_of_names_after, kept_member_found}
+use Rattle.outcome.specs.change_outcome.PackageFiles.{AddedPackage, package_file_path_of_candidate, scripts_of_change, unless_script_needed}
 use Rattle.outcome.specs.db_core.Members.{member_name}
 use Rattle.outcome.specs.db_core.Packages.{is_package_named}
 use Rattle.outcome.specs.make_info.Reads.{Reads}
@@ -20,7 +20,7 @@ use Rattle.outcome.specs.package_changes.Changes.{Replacement, change_between, c
 use Rattle.outcome.specs.candidate_core.Candidates.{Candidate}
 use Rattle.report_core.specs.Reports.{Change}
 use Rattle.report_core.specs.declared.refusal.Refusal.{Refusal}
-use Rattle.refusal_laws.specs.AddedPackages.{selected_of_name}
+use Rattle.refusal_laws.specs.AddedPackages.{selected_candidate_of_name}
 use Rattle.refusal_laws.specs.PackagesAfter.{AreSelectedMembers, IsAddedMember, IsSelectedMember, IsUnchangedMember}
 use Rattle.refusal_laws.proofs.Coming.{IsNameAt, brought, script_ok}
 use Rattle.refusal_laws.proofs.Lists.{and_then_ok, found_in, in_found, in_mapped}
@@ -55,17 +55,17 @@ module _ (inputs : Inputs) (r : Replacement) (wishes : ChangeWishes) (read : Rea
   pub record IsFoundFor (name : List ℕ) (f : MemberFound) : Type 0 where
     pub named : member_name f.member ≡ name
     pub candidate : Candidate
-    pub selected : selected_of_name r name ≡ Some candidate
+    pub selected : selected_candidate_of_name r name ≡ Some candidate
     pub is : IsUnchangedMember r name candidate f ⊎ IsAddedMember inputs r read name f
 
   abbrev IfFound : List ℕ → Option MemberFound → Type 0
-  IfFound name None = selected_of_name r name ≡ None
+  IfFound name None = selected_candidate_of_name r name ≡ None
   IfFound name (Some f) = IsFoundFor name f
 
   abbrev kept_found : Option MemberFound → Result (Option MemberFound) Refusal
   kept_found o = Ok o
 
-  stays : (name : List ℕ) (before : Option Plain) (selected : Option Candidate) (o : Option MemberFound) → find (is_package_named name) r.before ≡ before → selected_of_name r name ≡ selected
+  stays : (name : List ℕ) (before : Option Plain) (selected : Option Candidate) (o : Option MemberFound) → find (is_package_named name) r.before ≡ before → selected_candidate_of_name r name ≡ selected
       → change_of_name r name ≡ None → AreSame before selected → kept_found (option_map kept_member_found before) ≡ kept_found o → IfFound name o
   stays name None None o is chosen none same e = let nothing : None ≡ o = cc in subst (IfFound name) nothing chosen
   stays name None (Some c) o is chosen none same e = absurd same
@@ -79,10 +79,10 @@ module _ (inputs : Inputs) (r : Replacement) (wishes : ChangeWishes) (read : Rea
         is = inl (record { pkg = pkg; before = is; same = same; becomes = none; is = refl });
       })
 
-  comes : (n : ℕ) (name : List ℕ) (change : Change) (c : Candidate) (o : Option MemberFound) → IsNameAt inputs r n name → selected_of_name r name ≡ Some c → change_of_name r name ≡ Some change
+  comes : (n : ℕ) (name : List ℕ) (change : Change) (c : Candidate) (o : Option MemberFound) → IsNameAt inputs r n name → selected_candidate_of_name r name ≡ Some c → change_of_name r name ≡ Some change
       → member_of_added_name read inputs.root.repositories wishes.no_scripts n name change c ≡ Ok o → IfFound name o
   comes n name change c o at selected becomes e =
-      let pkg = and_then_ok (added_package_by_path read n c (package_file_of inputs.root.repositories c)) (λ pkg.
+      let pkg = and_then_ok (added_package_by_path read n c (package_file_path_of_candidate inputs.root.repositories c)) (λ pkg.
       unless_script_needed wishes.no_scripts name pkg.value (scripts_of_change change) (Some (added_member_found pkg))) o e in
       let is = brought inputs r wishes read n name at change becomes c selected pkg.0 pkg.1 in
       let named : c.name ≡ name = (bytes_eq-Decides c.name name).0 (found_in (is_candidate_named name) r.selected c selected).1 in
@@ -95,11 +95,11 @@ module _ (inputs : Inputs) (r : Replacement) (wishes : ChangeWishes) (read : Rea
         is = inr (record { pkg = pkg.0; brought = is; is = refl });
       })
 
-  goes : (name : List ℕ) (change : Change) (before : Option Plain) (o : Option MemberFound) → selected_of_name r name ≡ None → member_of_removed_name wishes.no_scripts name change before ≡ Ok o → IfFound name o
+  goes : (name : List ℕ) (change : Change) (before : Option Plain) (o : Option MemberFound) → selected_candidate_of_name r name ≡ None → member_of_removed_name wishes.no_scripts name change before ≡ Ok o → IfFound name o
   goes name change None o none e = let same : None ≡ o = cc in subst (IfFound name) same none
   goes name change (Some pkg) o none e = subst (IfFound name) (script_ok wishes.no_scripts name pkg (scripts_of_change change) None o e) none
 
-  selected_found : (n : ℕ) (name : List ℕ) (change : Change) (selected : Option Candidate) (o : Option MemberFound) → IsNameAt inputs r n name → selected_of_name r name ≡ selected → change_of_name r name ≡ Some change
+  selected_found : (n : ℕ) (name : List ℕ) (change : Change) (selected : Option Candidate) (o : Option MemberFound) → IsNameAt inputs r n name → selected_candidate_of_name r name ≡ selected → change_of_name r name ≡ Some change
       → member_of_name_by_selected read inputs.root.repositories wishes.no_scripts n name change (find (is_package_named name) r.before) selected ≡ Ok o → IfFound name o
   selected_found n name change None o at is becomes e = goes name change (find (is_package_named name) r.before) o is e
   selected_found n name change (Some c) o at is becomes e = comes n name change c o at is becomes e
@@ -119,14 +119,14 @@ module _ (inputs : Inputs) (r : Replacement) (wishes : ChangeWishes) (read : Rea
     pub rises : Names.Rises (map member_name (found_members fs))
     pub within : (q : List ℕ) → Names.IsIn q (map member_name (found_members fs)) → Names.IsIn q names
     pub each : (f : MemberFound) → IsIn f fs → IsSelectedMember inputs r read f
-    pub all : (q : List ℕ) (c : Candidate) → Names.IsIn q names → selected_of_name r q ≡ Some c → (f : MemberFound) × IsIn f fs × (member_name f.member ≡ q)
+    pub all : (q : List ℕ) (c : Candidate) → Names.IsIn q names → selected_candidate_of_name r q ≡ Some c → (f : MemberFound) × IsIn f fs × (member_name f.member ≡ q)
 
-  none_selected : (q name : List ℕ) (c : Candidate) → q ≡ name → selected_of_name r name ≡ None → selected_of_name r q ≡ Some c → ⊥
-  none_selected q name c is none some = let same : selected_of_name r q ≡ None = ap (selected_of_name r) is ∙ none in cc
+  none_selected : (q name : List ℕ) (c : Candidate) → q ≡ name → selected_candidate_of_name r name ≡ None → selected_candidate_of_name r q ≡ Some c → ⊥
+  none_selected q name c is none some = let same : selected_candidate_of_name r q ≡ None = ap (selected_candidate_of_name r) is ∙ none in cc
 
   member_of : (name : List ℕ) (f : MemberFound) → IsFoundFor name f → IsSelectedMember inputs r read f
   member_of name f found =
-      let P : List ℕ → Type 0 = λ q. (c : Candidate) × (selected_of_name r q ≡ Some c) × (IsUnchangedMember r q c f ⊎ IsAddedMember inputs r read q f) in
+      let P : List ℕ → Type 0 = λ q. (c : Candidate) × (selected_candidate_of_name r q ≡ Some c) × (IsUnchangedMember r q c f ⊎ IsAddedMember inputs r read q f) in
       let is = subst P (sym found.named) (found.candidate, found.selected, found.is) in
       record { candidate = is.0; selected = is.1; is = is.2 }
 
@@ -149,15 +149,15 @@ module _ (inputs : Inputs) (r : Replacement) (wishes : ChangeWishes) (read : Rea
   }
 
   names_found : (n place : ℕ) (names : List (List ℕ)) (fs : List MemberFound) → first_index_read_number + length inputs.root.repositories + place ≡ n → AreNamesFrom r place names → Names.Rises names
-      → names_after r read inputs.root.repositories wishes.no_scripts n names ≡ Ok fs → AreFoundFor names fs
+      → members_of_names_after r read inputs.root.repositories wishes.no_scripts n names ≡ Ok fs → AreFoundFor names fs
   names_found n place [] fs number are rises e =
       let same : [] ≡ fs = cc in
       subst (AreFoundFor []) same (record { rises = tt; within = λ q here. absurd here; each = λ f here. absurd here; all = λ q c here some. absurd here })
   names_found n place (name ∷ names) fs number are rises e =
       let first = and_then_ok (member_of_name_after r read inputs.root.repositories wishes.no_scripts n name) (λ first.
-      and_then (names_after r read inputs.root.repositories wishes.no_scripts (suc n) names) (λ others.
+      and_then (members_of_names_after r read inputs.root.repositories wishes.no_scripts (suc n) names) (λ others.
       Ok (cons_option first others))) fs e in
-      let others = and_then_ok (names_after r read inputs.root.repositories wishes.no_scripts (suc n) names) (λ others. Ok (cons_option first.0 others)) fs first.2 in
+      let others = and_then_ok (members_of_names_after r read inputs.root.repositories wishes.no_scripts (suc n) names) (λ others. Ok (cons_option first.0 others)) fs first.2 in
       let same : cons_option first.0 others.0 ≡ fs = (let last = others.2 in cc) in
       subst (AreFoundFor (name ∷ names)) same
       (one_more name names first.0 others.0 rises

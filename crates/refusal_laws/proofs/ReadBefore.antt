@@ -4,11 +4,11 @@ use Rattle.std.specs.Prelude.{slice_get}
 use Rattle.outcome.specs.adb_schema.Soundness.{container_fault_except_contents}
 use Rattle.adb_view.specs.declared.tables.Which.TheVariants.{Idb, Index}
 use Rattle.base_core.specs.declared.cause.Cause.{Cause}
-use Rattle.outcome.specs.change_inputs.Chains.{and_then, refused_as, unless_cause}
+use Rattle.outcome.specs.change_inputs.Chains.{and_then, with_error_as_refusal, unless_cause}
 use Rattle.outcome.specs.change_inputs.Database.{payload_database, root_database}
-use Rattle.outcome.specs.change_inputs.Indexes.{index_file, index_files_from, index_in_file, indexes_in_files}
+use Rattle.outcome.specs.change_inputs.Indexes.{file_or_index_missing, index_files_from, index_in_file, indexes_in_files}
 use Rattle.outcome.specs.change_inputs.Inputs.{Root, database_read_number, first_index_read_number, index_reads_from, indexes_of, inputs_from_parts, inputs_of, root_from_parts, root_for, text_database_read_number, world_read_number}
-use Rattle.outcome.specs.change_inputs.Repositories.{if_untrusted_allowed, root_repositories}
+use Rattle.outcome.specs.change_inputs.Repositories.{repositories_if_untrusted_allowed, root_repositories}
 use Rattle.outcome.specs.change_inputs.World.{root_world, found_text_or_empty}
 use Rattle.command_core.specs.Command.{CommandLine}
 use Rattle.dep_core.specs.Repositories.{Repository, repositories_of}
@@ -21,13 +21,13 @@ use Rattle.outcome.specs.v2_core.Payload.{payload_of_text}
 use Rattle.outcome.specs.v2_core.declared.read.V2Fault.{V2Fault}
 use Rattle.outcome.specs.v2_core.declared.read.V2Fault.TheVariants.{Bad, Memory, TooLarge}
 use Rattle.refusal_laws.specs.InputFaults.{IsIndexRead, repositories_file_text}
-use Rattle.refusal_laws.specs.ReadBefore.{AreEarlierIndexesSound, HasDatabaseAndWorld, HasDatabase, HasIndexes, HasIndexesBefore, AllowsUntrusted, HasReadBefore}
+use Rattle.refusal_laws.specs.ReadBefore.{AreEarlierIndexesSound, HasDatabaseAndWorld, HasDatabase, HasIndexes, HasIndexesBefore, AllowsUntrusted, HasPassedInputsBeforeRefusal}
 use Rattle.refusal_laws.proofs.InputFaults.{as_err, cause_err, no_refusal, root_listed, world_then}
 use Rattle.refusal_laws.proofs.Lists.{and_then_err, and_then_ok}
 
 module _ (command : CommandLine) (read : Reads) where
   abbrev IsSo : Refusal → Type 0
-  IsSo refusal = HasReadBefore command read refusal
+  IsSo refusal = HasPassedInputsBeforeRefusal command read refusal
 
   payload_told : (payload : Result (List ℕ) V2Fault) (refusal : Refusal) → payload_database payload ≡ Err refusal → IsSo refusal
   payload_told (Ok payload) refusal e = absurd (cc (e))
@@ -44,14 +44,14 @@ module _ (command : CommandLine) (read : Reads) where
   world_told : (refusal : Refusal) → HasDatabase command read → root_world (found_text_or_empty (read world_read_number world_name)) ≡ Err refusal → IsSo refusal
   world_told refusal has e = let why = as_err WorldBad (world_of (found_text_or_empty (read world_read_number world_name))) refusal e in subst IsSo why.2 has
 
-  trusted_told : (is_allowed : Bool) (repositories : List Repository) (refusal : Refusal) → HasDatabaseAndWorld command read → if_untrusted_allowed is_allowed repositories ≡ Err refusal → IsSo refusal
+  trusted_told : (is_allowed : Bool) (repositories : List Repository) (refusal : Refusal) → HasDatabaseAndWorld command read → repositories_if_untrusted_allowed is_allowed repositories ≡ Err refusal → IsSo refusal
   trusted_told is_allowed [] refusal has e = absurd (cc (e))
   trusted_told true (repository ∷ others) refusal has e = absurd (cc (e))
   trusted_told false (repository ∷ others) refusal has e = let same : Untrusted ≡ refusal = cc in subst IsSo same has
 
   repositories_told : (refusal : Refusal) → HasDatabaseAndWorld command read → root_repositories command.flags.allow_untrusted (repositories_file_text read) ≡ Err refusal → IsSo refusal
   repositories_told refusal has e =
-      elim (and_then_err (refused_as RepositoriesBad (repositories_of (repositories_file_text read))) (if_untrusted_allowed command.flags.allow_untrusted) refusal e) [
+      elim (and_then_err (with_error_as_refusal RepositoriesBad (repositories_of (repositories_file_text read))) (repositories_if_untrusted_allowed command.flags.allow_untrusted) refusal e) [
         | inl first ↦ (let why = as_err RepositoriesBad (repositories_of (repositories_file_text read)) refusal first in subst IsSo why.2 has)
         | inr next ↦ trusted_told command.flags.allow_untrusted next.0 refusal has next.2
       ]
@@ -80,18 +80,18 @@ module _ (command : CommandLine) (read : Reads) where
 
   -- ---- leave
 
-  trusted : (is_allowed : Bool) (repository : Repository) (others kept : List Repository) → if_untrusted_allowed is_allowed (repository ∷ others) ≡ Ok kept → is_allowed ≡ true
+  trusted : (is_allowed : Bool) (repository : Repository) (others kept : List Repository) → repositories_if_untrusted_allowed is_allowed (repository ∷ others) ≡ Ok kept → is_allowed ≡ true
   trusted true repository others kept e = refl
   trusted false repository others kept e = absurd (cc (e))
 
-  some_trusted : (is_allowed : Bool) (repositories : List Repository) (repository : Repository) (others : List Repository) → if_untrusted_allowed is_allowed repositories ≡ Ok (repository ∷ others) → is_allowed ≡ true
+  some_trusted : (is_allowed : Bool) (repositories : List Repository) (repository : Repository) (others : List Repository) → repositories_if_untrusted_allowed is_allowed repositories ≡ Ok (repository ∷ others) → is_allowed ≡ true
   some_trusted is_allowed [] repository others e = absurd (cc (e))
   some_trusted is_allowed (x ∷ xs) repository others e = trusted is_allowed x xs (repository ∷ others) e
 
   leave_then : (kept : List Repository) → root_repositories command.flags.allow_untrusted (repositories_file_text read) ≡ Ok kept → (repository : Repository) (others : List Repository) → kept ≡ repository ∷ others
       → command.flags.allow_untrusted ≡ true
   leave_then kept e repository others is =
-      let all = and_then_ok (refused_as RepositoriesBad (repositories_of (repositories_file_text read))) (if_untrusted_allowed command.flags.allow_untrusted) kept e in
+      let all = and_then_ok (with_error_as_refusal RepositoriesBad (repositories_of (repositories_file_text read))) (repositories_if_untrusted_allowed command.flags.allow_untrusted) kept e in
       some_trusted command.flags.allow_untrusted all.0 repository others (all.2 ∙ ap Ok is)
 
   leave : (root : Root) → root_for command read ≡ Ok root → (repository : Repository) (others : List Repository) → root.repositories ≡ repository ∷ others → command.flags.allow_untrusted ≡ true
@@ -130,7 +130,7 @@ module _ (command : CommandLine) (read : Reads) where
 
       by_read : (file : Option (List ℕ)) → read n x.path ≡ file
           → ((others : List (List ℕ)) → index_files_from (number + 1) (index_reads_from read (suc n) rs) ≡ Ok others → (j : ℕ) → IsFoundAt (suc n) rs j None → ⊥)
-          → and_then (index_file number file) (λ file. and_then (index_files_from (number + 1) (index_reads_from read (suc n) rs)) (λ files. Ok (file ∷ files))) ≡ Ok files → (j : ℕ) → IsFoundAt n (x ∷ rs) j None → ⊥
+          → and_then (file_or_index_missing number file) (λ file. and_then (index_files_from (number + 1) (index_reads_from read (suc n) rs)) (λ files. Ok (file ∷ files))) ≡ Ok files → (j : ℕ) → IsFoundAt n (x ∷ rs) j None → ⊥
       by_read None here more e j none = absurd (cc (e))
       by_read (Some file) here more e j none =
           let others = and_then_ok (index_files_from (number + 1) (index_reads_from read (suc n) rs)) (λ files. Ok (file ∷ files)) files e in
@@ -158,7 +158,7 @@ module _ (command : CommandLine) (read : Reads) where
           record { place = suc f.place; told = f.told ∙ ap IndexMissing k; first = f.first; located = f.located; before = behind file here f.place f.before }
 
       by_read : (file : Option (List ℕ)) → read n x.path ≡ file → (index_files_from (number + 1) (index_reads_from read (suc n) rs) ≡ Err refusal → IsFirstMissing (suc n) (number + 1) rs refusal)
-          → and_then (index_file number file) (λ file. and_then (index_files_from (number + 1) (index_reads_from read (suc n) rs)) (λ files. Ok (file ∷ files))) ≡ Err refusal → IsFirstMissing n number (x ∷ rs) refusal
+          → and_then (file_or_index_missing number file) (λ file. and_then (index_files_from (number + 1) (index_reads_from read (suc n) rs)) (λ files. Ok (file ∷ files))) ≡ Err refusal → IsFirstMissing n number (x ∷ rs) refusal
       by_read None here more e =
           let same : IndexMissing number ≡ refusal = cc in
           let k : number ≡ number + 0 = omega arith in
@@ -220,7 +220,7 @@ module _ (command : CommandLine) (read : Reads) where
 
       by_read : (file : Option (List ℕ)) → read n x.path ≡ file
           → ((others : List (List ℕ)) → index_files_from (number + 1) (index_reads_from read (suc n) rs) ≡ Ok others → indexes_in_files (number + 1) others ≡ Err refusal → IsFirstBad (suc n) (number + 1) rs refusal)
-          → and_then (index_file number file) (λ file. and_then (index_files_from (number + 1) (index_reads_from read (suc n) rs)) (λ files. Ok (file ∷ files))) ≡ Ok files → IsFirstBad n number (x ∷ rs) refusal
+          → and_then (file_or_index_missing number file) (λ file. and_then (index_files_from (number + 1) (index_reads_from read (suc n) rs)) (λ files. Ok (file ∷ files))) ≡ Ok files → IsFirstBad n number (x ∷ rs) refusal
       by_read None here more k = absurd (cc (k))
       by_read (Some file) here more k =
           let others = and_then_ok (index_files_from (number + 1) (index_reads_from read (suc n) rs)) (λ files. Ok (file ∷ files)) files k in
@@ -270,7 +270,7 @@ module _ (command : CommandLine) (read : Reads) where
           | inr next ↦ bad_told next.0 refusal next.1 (first_bad first_index_read_number 1 root.repositories next.0 refusal next.1 next.2)
         ]
 
-  pub read_before : (refusal : Refusal) → inputs_of command read ≡ Err refusal → HasReadBefore command read refusal
+  pub read_before : (refusal : Refusal) → inputs_of command read ≡ Err refusal → HasPassedInputsBeforeRefusal command read refusal
   unfolding inputs_of
   read_before refusal e =
       elim (and_then_err (root_for command read) (λ root. and_then (indexes_of read root.repositories) (λ indexes. Ok (inputs_from_parts root indexes))) refusal e) [

@@ -4,7 +4,7 @@ use Rattle.std.specs.Prelude.{is_some}
 use Rattle.outcome.specs.adb_fields.FirstPair.{IsIn}
 use Rattle.outcome.specs.adb_fields.Repeated.{package_name}
 use Rattle.adb_view.specs.Plain.{Plain}
-use Rattle.outcome.specs.audit_core.Manifest.{manifest_of, manifest_with, operand_package, package_manifest, manifest_with_lines_before}
+use Rattle.outcome.specs.audit_core.Manifest.{manifest_of, manifest_with_package_of_operand, package_named_by_operand, package_manifest, manifest_with_lines_before}
 use Rattle.outcome.specs.candidate_core.Rank.{SealedPool, no_names}
 use Rattle.outcome.specs.change_inputs.Candidates.{root_pool}
 use Rattle.outcome.specs.change_inputs.Database.{Database}
@@ -59,9 +59,9 @@ further_err lines further refusal e =
 
 first_of_operands : (packages : List Plain) (operands : List Operand) (refusal : Refusal) → manifest_of packages operands ≡ Err refusal → IsFirstOf packages operands refusal
 first_of_operands packages [] refusal e = absurd (no_refusal [] refusal e)
-first_of_operands packages (o ∷ operands) refusal e = by_package (operand_package packages o) refl e (first_of_operands packages operands refusal)
+first_of_operands packages (o ∷ operands) refusal e = by_package (package_named_by_operand packages o) refl e (first_of_operands packages operands refusal)
   where
-    by_package : (found : Option Plain) → operand_package packages o ≡ found → manifest_with o found (manifest_of packages operands) ≡ Err refusal
+    by_package : (found : Option Plain) → package_named_by_operand packages o ≡ found → manifest_with_package_of_operand o found (manifest_of packages operands) ≡ Err refusal
         → (manifest_of packages operands ≡ Err refusal → IsFirstOf packages operands refusal) → IsFirstOf packages (o ∷ operands) refusal
     by_package None is e more = record {
       before = [];

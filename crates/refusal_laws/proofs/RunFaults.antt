@@ -12,14 +12,14 @@ use Rattle.outcome.specs.journal_core.Staged.{unstaged_files}
 use Rattle.outcome.specs.Changing.{change_outcome}
 use Rattle.outcome.specs.Commands.{IsOutcomeOverRecoveredFiles, reads_in}
 use Rattle.outcome.specs.Effect.{Changes, Effect, effect_of}
-use Rattle.outcome.specs.Given.{IsChosenFor, IsFirstClashForEffect}
+use Rattle.outcome.specs.Given.{IsChoiceForCommand, IsFirstClashForEffect}
 use Rattle.outcome.specs.Outcome.{Outcome, just_refusal}
 use Rattle.outcome.specs.Work.{fault_of_intent}
 use Rattle.outcome.proofs.Applets.{change_is}
 use Rattle.outcome.proofs.IntentRefusals.{some_same}
 use Rattle.report_core.specs.declared.refusal.Refusal.{Refusal}
 use Rattle.report_core.specs.declared.refusal.Refusal.TheVariants.{IntentBad}
-use Rattle.refusal_laws.specs.RunFaults.{IsFaultOfRun, IsFaultOfCommandOver}
+use Rattle.refusal_laws.specs.RunFaults.{IsFaultOfRun, IsFaultOfCommandOverFiles}
 use Rattle.refusal_laws.proofs.CommandFaults.{command_fault}
 
 -- a refused outcome of a change is that of a refusal
@@ -27,9 +27,9 @@ refused_is : (files : Files) (c : Result ChangeDone Refusal) (refusal : Refusal)
 refused_is files (Ok done) refusal e = absurd (cc (e))
 refused_is files (Err first) refusal e = ap (λ (r : Refusal). Err r) (some_same first refusal e)
 
-pub over_fault : (command : CommandLine) (files : Files) (o : Outcome) (refusal : Refusal) → effect_of command.applet ≡ Changes → IsOutcomeOverRecoveredFiles command files o → o.refusal ≡ Some refusal → IsFaultOfCommandOver command files refusal
+pub over_fault : (command : CommandLine) (files : Files) (o : Outcome) (refusal : Refusal) → effect_of command.applet ≡ Changes → IsOutcomeOverRecoveredFiles command files o → o.refusal ≡ Some refusal → IsFaultOfCommandOverFiles command files refusal
 over_fault command files o refusal changes (given, is, outcome) e =
-    let choice : IsChoiceFrom (pool_of_command command (reads_in files)) given.chosen = subst (λ (x : Effect). IsChosenFor x command (reads_in files) given.chosen) changes is.chosen in
+    let choice : IsChoiceFrom (pool_of_command command (reads_in files)) given.chosen = subst (λ (x : Effect). IsChoiceForCommand x command (reads_in files) given.chosen) changes is.chosen in
     let clash : IsClashOfCommand command (reads_in files) files given.chosen given.clash = subst (λ (x : Effect). IsFirstClashForEffect x command (reads_in files) files given.chosen given.clash) changes is.clash in
     let same : change_outcome files (change_of_command command (reads_in files) files given.chosen given.clash) ≡ o = change_is command.applet command given (reads_in files) files changes ∙ sym outcome in
     record {

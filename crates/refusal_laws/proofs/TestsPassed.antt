@@ -10,11 +10,11 @@ use Rattle.outcome.specs.change_files.PlanLists.{first_reserved_path}
 use Rattle.outcome.proofs.change_files.InOrder.{in_order}
 use Rattle.outcome.specs.change_inputs.Chains.{and_then}
 use Rattle.outcome.specs.change_inputs.Inputs.{Inputs}
-use Rattle.outcome.specs.change_outcome.ChangeOutcome.{ChangeDone, ChangeWishes, IsClashFound, IsClashOfChange, members_after_change, change_or_refusal, change_with_members, file_change, member_name_at_place, touched_paths, unless_clash, unless_contested, unless_reserved_path, unless_too_large}
+use Rattle.outcome.specs.change_outcome.ChangeOutcome.{ChangeDone, ChangeWishes, IsClashFound, IsClashOfChange, members_after_change, change_or_refusal, change_with_members, file_change, member_name_at_place, touched_paths, unless_clash, unless_contested, unless_reserved_path, change_done_unless_too_large}
 use Rattle.outcome.specs.change_outcome.MembersAfter.{MemberFound}
 use Rattle.outcome.specs.change_outcome.PackageFiles.{has_script_of}
 use Rattle.report_core.specs.Numbers.{TRIGGER_SCRIPT}
-use Rattle.outcome.specs.change_outcome.Triggers.{folders_of_paths, has_due_trigger, is_trigger_due, is_folder_matched, watches_folder, patterns_of, unless_trigger_due}
+use Rattle.outcome.specs.change_outcome.Triggers.{folders_of_paths, has_due_trigger, is_trigger_due, is_folder_matched_by_pattern, watches_folder, trigger_patterns_of_package, unless_trigger_due}
 use Rattle.outcome.specs.db_core.Members.{Member, member_name}
 use Rattle.outcome.specs.file_owners.Owners.{first_contested_path_of_members}
 use Rattle.outcome.specs.make_info.Reads.{Reads}
@@ -25,7 +25,7 @@ use Rattle.outcome.specs.path_clashes.Clash.{NamePair}
 use Rattle.report_core.specs.declared.refusal.Refusal.{Refusal}
 use Rattle.report_core.specs.declared.refusal.Refusal.TheVariants.{Owned, PathClash, Reserved, TriggerNeeded}
 use Rattle.refusal_laws.specs.ChangeFaults.{HasPatternOfTouchedFolder}
-use Rattle.refusal_laws.specs.TestsPassed.{AreAddedPathsUnreserved, PassesChangeTestsExceptLimits, HasNoDueTrigger, PassesNameTests, PassesFileTests, HasPassedBefore}
+use Rattle.refusal_laws.specs.TestsPassed.{AreAddedPathsUnreserved, PassesChangeTestsExceptLimits, HasNoDueTrigger, HasNoReservedOrClashingPath, HasNoReservedClashingOrUnownedPath, HasPassedTestsBeforeRefusal}
 use Rattle.refusal_laws.proofs.ChangeFaults.{kept_test, large_told, trigger_of}
 use Rattle.refusal_laws.proofs.Lists.{and_then_err, and_then_ok, in_any, in_mapped, name_in}
 use Rattle.refusal_laws.proofs.Paths.{are_unreserved, have_owners}
@@ -38,7 +38,7 @@ is_due_where change files pkg has watched =
     let folder : List ℕ = folder_of watched.path in
     in_any (is_trigger_due pkg) (folders_of_paths (touched_paths change files)) folder
     (name_in folder (folders_of_paths (touched_paths change files)) (in_order folder folders (in_mapped folder_of (touched_paths change files) watched.path watched.touched)))
-    (and_from (has_script_of pkg TRIGGER_SCRIPT) (watches_folder pkg folder) has (in_any (is_folder_matched folder) (patterns_of pkg) watched.pattern watched.is_pattern watched.matched))
+    (and_from (has_script_of pkg TRIGGER_SCRIPT) (watches_folder pkg folder) has (in_any (is_folder_matched_by_pattern folder) (trigger_patterns_of_package pkg) watched.pattern watched.is_pattern watched.matched))
 
 none_due : (paths : List (List ℕ)) (members : List Member) (is_allowed : Bool) → unless_trigger_due false paths members ≡ Ok is_allowed → (m : Member) → IsIn m members → has_due_trigger (folders_of_paths paths) m.pkg ≡ true → ⊥
 none_due paths [] is_allowed e m here due = here
@@ -62,14 +62,14 @@ module _ (inputs : Inputs) (r : Replacement) (wishes : ChangeWishes) (files : Fi
   change = file_change inputs wishes found
 
   abbrev IsSo : Refusal → Type 0
-  IsSo refusal = HasPassedBefore wishes change files refusal
+  IsSo refusal = HasPassedTestsBeforeRefusal wishes change files refusal
 
   abbrev with_triggers : Result ChangeDone Refusal
-  with_triggers = and_then (unless_trigger_due wishes.no_scripts (touched_paths change files) change.members) (λ is_allowed. unless_too_large inputs r wishes found files)
+  with_triggers = and_then (unless_trigger_due wishes.no_scripts (touched_paths change files) change.members) (λ is_allowed. change_done_unless_too_large inputs r wishes found files)
 
   -- ---- refused
 
-  trigger_passed : (no_scripts : Bool) (refusal : Refusal) → PassesFileTests change files → unless_trigger_due no_scripts (touched_paths change files) change.members ≡ Err refusal → IsSo refusal
+  trigger_passed : (no_scripts : Bool) (refusal : Refusal) → HasNoReservedClashingOrUnownedPath change files → unless_trigger_due no_scripts (touched_paths change files) change.members ≡ Err refusal → IsSo refusal
   trigger_passed true refusal owners e = absurd (none change.members e)
     where
       none : (members : List Member) → unless_trigger_due true (touched_paths change files) members ≡ Err refusal → ⊥
@@ -77,15 +77,15 @@ module _ (inputs : Inputs) (r : Replacement) (wishes : ChangeWishes) (files : Fi
       none (m ∷ members) e = cc (e)
   trigger_passed false refusal owners e = let due = trigger_of (touched_paths change files) change.members refusal e in subst IsSo due.3 owners
 
-  triggers_passed : (refusal : Refusal) → PassesFileTests change files → with_triggers ≡ Err refusal → IsSo refusal
+  triggers_passed : (refusal : Refusal) → HasNoReservedClashingOrUnownedPath change files → with_triggers ≡ Err refusal → IsSo refusal
   triggers_passed refusal owners e =
-      elim (and_then_err (unless_trigger_due wishes.no_scripts (touched_paths change files) change.members) (λ is_allowed. unless_too_large inputs r wishes found files) refusal e) [
+      elim (and_then_err (unless_trigger_due wishes.no_scripts (touched_paths change files) change.members) (λ is_allowed. change_done_unless_too_large inputs r wishes found files) refusal e) [
         | inl first ↦ trigger_passed wishes.no_scripts refusal owners first
         | inr next ↦ (let told = large_told inputs r wishes files found refusal next.2 in
             subst IsSo told.2 (owners, no_trigger wishes change files next.0 next.1))
       ]
 
-  owners_passed : (o : Option ContestedPath) (refusal : Refusal) → first_contested_path_of_members change.members ≡ o → PassesNameTests change files → unless_contested change.members o with_triggers ≡ Err refusal → IsSo refusal
+  owners_passed : (o : Option ContestedPath) (refusal : Refusal) → first_contested_path_of_members change.members ≡ o → HasNoReservedOrClashingPath change files → unless_contested change.members o with_triggers ≡ Err refusal → IsSo refusal
   owners_passed None refusal is names e = triggers_passed refusal (names, have_owners change.members is) e
   owners_passed (Some c) refusal is names e =
       let same : Owned c.path (member_name_at_place change.members c.rivals.first) (member_name_at_place change.members c.rivals.second) ≡ refusal = cc in
@@ -96,7 +96,7 @@ module _ (inputs : Inputs) (r : Replacement) (wishes : ChangeWishes) (files : Fi
   clash_passed None refusal is free e = owners_passed (first_contested_path_of_members change.members) refusal refl (free, is) e
   clash_passed (Some pair) refusal is free e = let same : PathClash pair.path pair.other ≡ refusal = cc in subst IsSo same free
 
-  pub files_passed : (clash : Option NamePair) (refusal : Refusal) → IsClashFound inputs wishes files (Ok found) clash → change_with_members inputs r wishes clash files found ≡ Err refusal → HasPassedBefore wishes (file_change inputs wishes found) files refusal
+  pub files_passed : (clash : Option NamePair) (refusal : Refusal) → IsClashFound inputs wishes files (Ok found) clash → change_with_members inputs r wishes clash files found ≡ Err refusal → HasPassedTestsBeforeRefusal wishes (file_change inputs wishes found) files refusal
   files_passed clash refusal is e = by_path (first_reserved_path change.members) refl e
     where
       by_path : (o : Option (List ℕ)) → first_reserved_path change.members ≡ o → unless_reserved_path o (unless_clash clash (unless_contested change.members (first_contested_path_of_members change.members) with_triggers)) ≡ Err refusal → IsSo refusal
@@ -105,9 +105,9 @@ module _ (inputs : Inputs) (r : Replacement) (wishes : ChangeWishes) (files : Fi
 
   -- ---- made
 
-  owners_made : (o : Option ContestedPath) (done : ChangeDone) → first_contested_path_of_members change.members ≡ o → PassesNameTests change files → unless_contested change.members o with_triggers ≡ Ok done → PassesChangeTestsExceptLimits wishes change files
+  owners_made : (o : Option ContestedPath) (done : ChangeDone) → first_contested_path_of_members change.members ≡ o → HasNoReservedOrClashingPath change files → unless_contested change.members o with_triggers ≡ Ok done → PassesChangeTestsExceptLimits wishes change files
   owners_made None done is names e =
-      let triggers = and_then_ok (unless_trigger_due wishes.no_scripts (touched_paths change files) change.members) (λ is_allowed. unless_too_large inputs r wishes found files) done e in
+      let triggers = and_then_ok (unless_trigger_due wishes.no_scripts (touched_paths change files) change.members) (λ is_allowed. change_done_unless_too_large inputs r wishes found files) done e in
       ((names, have_owners change.members is), no_trigger wishes change files triggers.0 triggers.1)
   owners_made (Some c) done is names e = absurd (cc (e))
 
@@ -124,7 +124,7 @@ module _ (inputs : Inputs) (r : Replacement) (wishes : ChangeWishes) (files : Fi
       by_path (Some path) first e = absurd (cc (e))
 
 pub change_passed : (inputs : Inputs) (r : Replacement) (wishes : ChangeWishes) (read : Reads) (clash : Option NamePair) (files : Files) (found : List MemberFound) (refusal : Refusal)
-    → members_after_change inputs r wishes read ≡ Ok found → change_or_refusal inputs r wishes read clash files ≡ Err refusal → IsClashOfChange inputs r wishes read files clash → HasPassedBefore wishes (file_change inputs wishes found) files refusal
+    → members_after_change inputs r wishes read ≡ Ok found → change_or_refusal inputs r wishes read clash files ≡ Err refusal → IsClashOfChange inputs r wishes read files clash → HasPassedTestsBeforeRefusal wishes (file_change inputs wishes found) files refusal
 unfolding change_or_refusal
 change_passed inputs r wishes read clash files found refusal are e is =
     files_passed inputs r wishes files found clash refusal (subst (λ (m : Result (List MemberFound) Refusal). IsClashFound inputs wishes files m clash) are is)

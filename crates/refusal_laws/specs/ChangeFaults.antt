@@ -10,11 +10,11 @@ use Rattle.base_core.specs.Files.{Files}
 use Rattle.outcome.specs.change_files.FileChange.{FileChange}
 use Rattle.outcome.specs.change_files.NamesAfter.{added_paths, name_change}
 use Rattle.outcome.specs.change_inputs.Inputs.{Inputs}
-use Rattle.outcome.specs.change_outcome.ChangeOutcome.{ChangeWishes, intent_of_change, members_after_change, file_change, new_records, touched_paths}
+use Rattle.outcome.specs.change_outcome.ChangeOutcome.{ChangeWishes, intent_of_change, members_after_change, file_change, database_and_world_after_change, touched_paths}
 use Rattle.outcome.specs.change_outcome.MembersAfter.{MemberFound, found_members}
 use Rattle.outcome.specs.change_outcome.PackageFiles.{has_script_of}
 use Rattle.report_core.specs.Numbers.{TRIGGER_SCRIPT}
-use Rattle.outcome.specs.change_outcome.Triggers.{is_folder_matched, patterns_of}
+use Rattle.outcome.specs.change_outcome.Triggers.{is_folder_matched_by_pattern, trigger_patterns_of_package}
 use Rattle.outcome.specs.db_core.Members.{Listing, Member, member_listings, member_name}
 use Rattle.outcome.specs.db_write.NewDatabase.{database_of, database_value}
 use Rattle.outcome.specs.file_owners.Owners.{owned_flags_of, owner_of_path}
@@ -27,36 +27,49 @@ use Rattle.outcome.specs.package_changes.Changes.{Replacement}
 use Rattle.outcome.specs.path_clashes.Clash.{IsFirstClash}
 use Rattle.report_core.specs.declared.refusal.Refusal.{Refusal}
 use Rattle.report_core.specs.declared.refusal.Refusal.TheVariants.{Owned, PackageBad, PackageDiffers, PackageMissing, PathClash, Reserved, ResultTooLarge, ScriptNeeded, TriggerNeeded}
-use Rattle.refusal_laws.specs.PackageFaults.{IsFileBad, IsPackageMissing, IsFileOfOtherPackage, IsFirstScriptRunAndNotSkipped}
+use Rattle.refusal_laws.specs.PackageFaults.{IsAddedPackageFileBad, IsAddedPackageFileMissing, IsFileOfOtherPackage, IsFirstScriptRunAndNotSkipped}
 
 -- ---- paths
 
 -- a path is the first that an added package lists and that apk keeps for itself
 pub record IsFirstReservedAddedPath (members : List Member) (path : List ℕ) : Type 0 where
+  -- an added package lists the path
   pub comes : IsIn path (added_paths members)
+  -- the path is reserved for apk itself
   pub reserved : is_reserved path ≡ true
+  -- no reserved path that an added package lists precedes it in byte order
   pub first : (other : List ℕ) → IsIn other (added_paths members) → is_reserved other ≡ true
       → precedes other path ≡ false
 
 -- a package of this name lists the path, by this listing
-pub record IsListedBy (members : List Member) (path name : List ℕ) (l : Listing) : Type 0 where
+pub record IsListingOfPathByName (members : List Member) (path name : List ℕ) (l : Listing) : Type 0 where
+  -- the listing is one of the packages after the change
   pub listed : IsIn l (member_listings members)
+  -- the listing is for this path
   pub of_path : l.path ≡ path
+  -- its package has this name
   pub by : member_name l.member ≡ name
 
 -- A path is contested: no package takes it over from all others that list it, and it is the first such
 -- path. The packages `one` and `other` list it, and `one` does not take over files of `other`. If no
 -- third package lists it, `other` does not take over files of `one` either.
 pub record IsFirstContestedPath (members : List Member) (path one other : List ℕ) : Type 0 where
+  -- no package owns the path
   pub unowned : owner_of_path members path ≡ None
+  -- each path that is listed and precedes it in byte order has an owner
   pub first : (l : Listing) → IsIn l (member_listings members) → precedes l.path path ≡ true
       → is_some (owner_of_path members l.path) ≡ true
+  -- the listing of the first of the two packages
   pub by_one : Listing
-  pub lists_one : IsListedBy members path one by_one
+  pub lists_one : IsListingOfPathByName members path one by_one
+  -- the listing of the second of the two packages
   pub by_other : Listing
-  pub lists_other : IsListedBy members path other by_other
+  pub lists_other : IsListingOfPathByName members path other by_other
+  -- the listings are of two different packages
   pub apart : by_one.place ≡ by_other.place → ⊥
+  -- the first package does not take over files of the second
   pub located : takes_over by_one.member.pkg by_other.member.pkg ≡ false
+  -- if no third package lists the path, the second does not take over files of the first
   pub neither : ((l : Listing) → IsIn l (member_listings members) → l.path ≡ path
       → (l.place ≡ by_one.place) ⊎ (l.place ≡ by_other.place))
       → takes_over by_other.member.pkg by_one.member.pkg ≡ false
@@ -65,21 +78,28 @@ pub record IsFirstContestedPath (members : List Member) (path one other : List �
 
 -- a pattern of the package matches the folder of a file that the change writes or removes
 pub record HasPatternOfTouchedFolder (change : FileChange) (files : Files) (pkg : Plain) : Type 0 where
+  -- a path that the change writes or removes
   pub path : List ℕ
   pub touched : IsIn path (touched_paths change files)
+  -- a pattern of the package's trigger
   pub pattern : List ℕ
-  pub is_pattern : IsIn pattern (patterns_of pkg)
-  pub matched : is_folder_matched (folder_of path) pattern ≡ true
+  pub is_pattern : IsIn pattern (trigger_patterns_of_package pkg)
+  -- the pattern matches the folder of the path
+  pub matched : is_folder_matched_by_pattern (folder_of path) pattern ≡ true
 
 -- a package of this name has a trigger script and watches the folder of a file that the change touches,
 -- and scripts are not skipped
 pub record IsTriggerDueAndNotSkipped (wishes : ChangeWishes) (change : FileChange) (files : Files)
     (name : List ℕ) : Type 0 where
+  -- `--no-scripts` is not given
   pub asked : wishes.no_scripts ≡ false
+  -- a package after the change, of this name
   pub member : Member
   pub located : IsIn member change.members
   pub named : member_name member ≡ name
+  -- the package has a trigger script
   pub has : has_script_of member.pkg TRIGGER_SCRIPT ≡ true
+  -- its trigger watches the folder of a touched file
   pub watches : HasPatternOfTouchedFolder change files member.pkg
 
 -- ---- limits
@@ -97,9 +117,12 @@ IsDatabaseTooLarge members bytes values =
 -- what is written of the database fits the limits, and what is written of the change's intent does not
 pub record IsIntentTooLarge (inputs : Inputs) (change : FileChange) (files : Files)
     (bytes values : ℕ) : Type 0 where
+  -- the bytes of the new database, which fits
   pub database : List ℕ
   pub fits : database_of change.members (owned_flags_of change.members) ≡ Ok database
-  pub passes : (let actions = intent_of_change inputs change files (new_records inputs database) in
+  -- the value of the intent exceeds a limit, at these numbers of bytes and values
+  pub passes : (let actions =
+      intent_of_change inputs change files (database_and_world_after_change inputs database) in
       IsTooLarge (value_of_intent actions) bytes values)
 
 -- what a change writes exceeds a limit: of the database or, if that fits, of the intent
@@ -128,9 +151,9 @@ IsFaultOfFiles inputs wishes files found other = ⊥
 -- a refusal is true of the added and removed packages
 abbrev pub IsFaultOfPackage : Inputs → Replacement → ChangeWishes → Reads → Refusal → Type 0
 IsFaultOfPackage inputs r wishes read (PackageMissing name version) =
-    IsPackageMissing inputs r read name version
+    IsAddedPackageFileMissing inputs r read name version
 IsFaultOfPackage inputs r wishes read (PackageBad name version cause) =
-    IsFileBad inputs r read name version cause
+    IsAddedPackageFileBad inputs r read name version cause
 IsFaultOfPackage inputs r wishes read (PackageDiffers name version field wanted found) =
     IsFileOfOtherPackage inputs r read name version field wanted found
 IsFaultOfPackage inputs r wishes read (ScriptNeeded name script) =

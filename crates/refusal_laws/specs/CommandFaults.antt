@@ -8,8 +8,8 @@ use Rattle.command_core.specs.Command.{CommandLine}
 use Rattle.command_core.specs.declared.command.Applet.{Applet}
 use Rattle.command_core.specs.declared.command.Applet.TheVariants.{Del, Fix, Upgrade}
 use Rattle.command_core.specs.declared.operands.Operand.{Operand}
-use Rattle.dep_core.specs.World.{has_name}
-use Rattle.outcome.specs.engine_core.Changed.{InputsAndReplacement, selected_for}
+use Rattle.dep_core.specs.World.{has_dependency_named}
+use Rattle.outcome.specs.engine_core.Changed.{InputsAndReplacement, selected_from_reads_by_choice}
 use Rattle.outcome.specs.engine_core.Selecting.{pool_of_inputs}
 use Rattle.outcome.specs.engine_core.Wishes.{is_installed_name, wishes_of}
 use Rattle.outcome.specs.make_info.Reads.{Reads}
@@ -24,31 +24,36 @@ use Rattle.refusal_laws.specs.InputFaults.{IsCountReportedAsTooMany, IsFaultOfIn
 
 -- a name is unknown to the command: `del` needs one that is in world or installed, `upgrade` and `fix`
 -- one that is installed
-abbrev pub IsUnknownTo : Applet → Inputs → List ℕ → Type 0
-IsUnknownTo Del inputs name =
-    (has_name name inputs.root.world ≡ false) × (is_installed_name inputs name ≡ false)
-IsUnknownTo Upgrade inputs name = is_installed_name inputs name ≡ false
-IsUnknownTo Fix inputs name = is_installed_name inputs name ≡ false
-IsUnknownTo applet inputs name = ⊥
+abbrev pub IsNameUnknownToApplet : Applet → Inputs → List ℕ → Type 0
+IsNameUnknownToApplet Del inputs name =
+    (has_dependency_named name inputs.root.world ≡ false) × (is_installed_name inputs name ≡ false)
+IsNameUnknownToApplet Upgrade inputs name = is_installed_name inputs name ≡ false
+IsNameUnknownToApplet Fix inputs name = is_installed_name inputs name ≡ false
+IsNameUnknownToApplet applet inputs name = ⊥
 
 -- the operand at this place of the command line is a name that the command does not know
 pub record IsUnknownOperand (command : CommandLine) (inputs : Inputs) (place : ℕ) : Type 0 where
+  -- an operand of the command
   pub operand : Operand
   pub given : IsIn operand command.operands
+  -- the operand has this place in the command line
   pub at : operand.place ≡ place
-  pub unknown : IsUnknownTo command.applet inputs operand.text
+  -- the command does not know its text
+  pub unknown : IsNameUnknownToApplet command.applet inputs operand.text
 
 -- no selection of the candidates satisfies the new world
-pub record IsUnsatisfied (command : CommandLine) (inputs : Inputs) : Type 0 where
+pub record IsNewWorldUnsatisfiable (command : CommandLine) (inputs : Inputs) : Type 0 where
+  -- the candidates of the command, under its new world
   pub pool : SealedPool
   pub is_pool : pool_of_inputs command inputs ≡ Ok pool
+  -- no selection of them satisfies the new world
   pub none : (selection : List ℕ) → IsSatisfying pool selection → ⊥
 
 -- a refusal is true that is tested after the root is read and before the packages' files are
 abbrev pub IsFaultOfSelection : CommandLine → Inputs → Refusal → Type 0
 IsFaultOfSelection command inputs (TooMany count) = IsCountReportedAsTooMany inputs count
 IsFaultOfSelection command inputs (NotInstalled place) = IsUnknownOperand command inputs place
-IsFaultOfSelection command inputs Unsatisfied = IsUnsatisfied command inputs
+IsFaultOfSelection command inputs Unsatisfied = IsNewWorldUnsatisfiable command inputs
 IsFaultOfSelection command inputs other = ⊥
 
 -- ---- a command
@@ -63,7 +68,7 @@ IsSelectionRefused command read refusal =
 abbrev pub IsChangeRefused :
     CommandLine → Reads → Files → Option (List ℕ) → Refusal → Type 0
 IsChangeRefused command read files chosen refusal =
-    (s : InputsAndReplacement) × (selected_for command read chosen ≡ Ok s)
+    (s : InputsAndReplacement) × (selected_from_reads_by_choice command read chosen ≡ Ok s)
     × (command.flags.simulate ≡ false)
     × IsFaultOfChange s.inputs s.replacement (wishes_of command) read files refusal
 

@@ -20,9 +20,11 @@ refused_name other = []
 
 -- the package of a refusal is the first with a fault: none with a fault precedes it by name, and it has
 -- no other fault
-pub record IsFirstRefused (inputs : Inputs) (r : Replacement) (wishes : ChangeWishes)
+pub record IsRefusalOfFirstFaultyPackage (inputs : Inputs) (r : Replacement) (wishes : ChangeWishes)
     (read : Reads) (refusal : Refusal) : Type 0 where
+  -- no package with a fault has a name that precedes this one
   pub first : (other : Refusal) → IsFaultOfPackage inputs r wishes read other
       → precedes (refused_name other) (refused_name refusal) ≡ false
+  -- each fault of this package is this refusal
   pub only : (other : Refusal) → IsFaultOfPackage inputs r wishes read other
       → refused_name other ≡ refused_name refusal → other ≡ refusal

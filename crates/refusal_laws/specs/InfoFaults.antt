@@ -38,7 +38,7 @@ abbrev pub IsFoundInstalled : CommandLine → List Plain → List ℕ → Type 0
 IsFoundInstalled command packages text =
     (pkg : Plain) × IsIn pkg packages × IsPackageAskedFor command.flags.who_owns text pkg
 
--- what each of some operands asks for is installed
+-- what each of these operands asks for is installed
 abbrev pub AreFoundInstalled : CommandLine → List Plain → List Operand → Type 0
 AreFoundInstalled command packages operands =
     (o : Operand) → IsIn o operands → IsFoundInstalled command packages o.text
@@ -46,29 +46,38 @@ AreFoundInstalled command packages operands =
 -- a refusal has the place of the first operand that asks for what is not installed
 pub record IsFirstNotInstalled (command : CommandLine) (packages : List Plain)
     (refusal : Refusal) : Type 0 where
+  -- the operands before this one, this operand, and those after it
   pub before : List Operand
   pub operand : Operand
   pub after : List Operand
   pub are : command.operands ≡ before ++ operand ∷ after
+  -- what each operand before it asks for is installed
   pub installed : AreFoundInstalled command packages before
+  -- what it asks for is not installed
   pub missing : ¬ IsFoundInstalled command packages operand.text
+  -- the refusal reports its place
   pub told : refusal ≡ NotInstalled operand.place
 
 -- ---- a refusal
 
 -- the database is found, and a refusal is that of an operand, by its packages
-pub record IsFaultOfOperand (command : CommandLine) (read : Reads) (refusal : Refusal) : Type 0 where
+pub record IsFaultOfOperandNotInstalled (command : CommandLine) (read : Reads)
+    (refusal : Refusal) : Type 0 where
+  -- the database that the command reads
   pub database : Database
   pub is_database : database_for command read ≡ Ok database
+  -- the refusal is that of the first operand that asks for what is not installed
   pub first : IsFirstNotInstalled command database.packages refusal
 
 -- a refusal of `info` is true: of the database; or, if that is found, of an operand
 abbrev pub IsFaultOfInfo : CommandLine → Reads → Refusal → Type 0
 IsFaultOfInfo command read refusal =
-    IsFaultOfDatabase command read refusal ⊎ IsFaultOfOperand command read refusal
+    IsFaultOfDatabase command read refusal ⊎ IsFaultOfOperandNotInstalled command read refusal
 
 -- what each operand asks for is installed, by the packages of the database
-pub record AreOperandsFound (command : CommandLine) (read : Reads) : Type 0 where
+pub record AreOperandsFoundInstalled (command : CommandLine) (read : Reads) : Type 0 where
+  -- the database that the command reads
   pub database : Database
   pub is_database : database_for command read ≡ Ok database
+  -- what each operand asks for is in its packages
   pub installed : AreFoundInstalled command database.packages command.operands

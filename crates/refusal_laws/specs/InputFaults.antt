@@ -23,21 +23,29 @@ use Rattle.outcome.specs.v2_core.declared.read.V2Fault.TheVariants.{Bad, TooLarg
 
 -- neither file of a database is there, and the command may not begin one
 pub record HasNoDatabase (command : CommandLine) (read : Reads) : Type 0 where
+  -- no database file is found
   pub container : read database_read_number database_name ≡ None
+  -- no text database is found
   pub text : read text_database_read_number text_database_name ≡ None
+  -- `--initdb` is not given
   pub not_begun : command.flags.initdb ≡ false
 
 -- the container of the database is there, and this is the first test that it fails
 pub record IsDatabaseContainerBad (read : Reads) (cause : Cause) : Type 0 where
+  -- the bytes of the database file
   pub file : List ℕ
   pub is_file : read database_read_number database_name ≡ Some file
+  -- the first test that it fails as a container
   pub fault : container_fault_except_contents Idb file ≡ Some cause
 
 -- there is no container, and the text database has this fault
 pub record IsTextDatabaseRefused (read : Reads) (fault : V2Fault) : Type 0 where
+  -- no database file is found
   pub container : read database_read_number database_name ≡ None
+  -- the bytes of the text database
   pub text : List ℕ
   pub is_text : read text_database_read_number text_database_name ≡ Some text
+  -- the fault for which it cannot be taken over
   pub refused : payload_of_text text ≡ Err fault
 
 -- ---- repositories
@@ -48,25 +56,33 @@ repositories_file_text read = found_text_or_empty (read repositories_read_number
 
 -- the list names a repository, and `--allow-untrusted` is not given
 pub record IsUntrustedRepositoryListed (command : CommandLine) (read : Reads) : Type 0 where
+  -- `--allow-untrusted` is not given
   pub no_leave : command.flags.allow_untrusted ≡ false
+  -- the first repository of the list, and those after it
   pub repository : Repository
   pub others : List Repository
   pub listed : repositories_of (repositories_file_text read) ≡ Ok (repository ∷ others)
 
 -- the repository with this number, counted from 1, is listed, and this is found under its path
 pub record IsIndexRead (read : Reads) (number : ℕ) (file : Option (List ℕ)) : Type 0 where
+  -- the repositories in the order of the list
   pub repositories : List Repository
   pub listed : repositories_of (repositories_file_text read) ≡ Ok repositories
+  -- the index of the repository in the list, counted from 0
   pub place : ℕ
   pub is_number : number ≡ suc place
+  -- the repository
   pub repository : Repository
   pub is_repository : slice_get repositories place ≡ Some repository
+  -- the read of its index finds this file, or none
   pub is_file : read (first_index_read_number + place) repository.path ≡ file
 
 -- the index of the repository with this number is there, and this is the first test that it fails
 pub record IsIndexBad (read : Reads) (number : ℕ) (cause : Cause) : Type 0 where
+  -- the bytes of the index
   pub file : List ℕ
   pub is_read : IsIndexRead read number (Some file)
+  -- the first test that it fails as a container
   pub fault : container_fault_except_contents Index file ≡ Some cause
 
 -- ---- each refusal
@@ -92,5 +108,7 @@ IsFaultOfInput command read other = ⊥
 
 -- there are more candidates than are allowed, and the refusal reports one more than that limit
 pub record IsCountReportedAsTooMany (inputs : Inputs) (count : ℕ) : Type 0 where
+  -- there are more candidates than the limit
   pub more : MOST_CANDIDATES < length (candidates_of inputs)
+  -- the refusal reports the limit and 1
   pub told : count ≡ MOST_CANDIDATES + 1

@@ -11,6 +11,8 @@ use Rattle.refusal_laws.specs.ChangeFaults.{IsTooLarge}
 -- number of bytes and values
 pub record IsPackageTooLarge (command : CommandLine) (names : List (List ℕ)) (read : Reads)
     (bytes values : ℕ) : Type 0 where
+  -- the value of the package, with the contents of its files
   pub packed : PackageWithContents
   pub is_packed : packed_package command names read ≡ Ok packed
+  -- the value exceeds a limit, at these numbers of bytes and values
   pub passes : IsTooLarge packed.value bytes values

@@ -9,20 +9,23 @@ use Rattle.outcome.specs.engine_core.Selecting.{pool_of_inputs}
 use Rattle.outcome.specs.candidate_core.Rank.{SealedPool}
 use Rattle.report_core.specs.declared.refusal.Refusal.{Refusal}
 use Rattle.report_core.specs.declared.refusal.Refusal.TheVariants.{NotInstalled, Unsatisfied}
-use Rattle.refusal_laws.specs.CommandFaults.{IsUnknownTo}
+use Rattle.refusal_laws.specs.CommandFaults.{IsNameUnknownToApplet}
 
 -- none of these operands is a name that the command does not know
 abbrev pub AreKnownOperands : CommandLine → Inputs → List Operand → Type 0
 AreKnownOperands command inputs operands =
-    (o : Operand) → IsIn o operands → IsUnknownTo command.applet inputs o.text → ⊥
+    (o : Operand) → IsIn o operands → IsNameUnknownToApplet command.applet inputs o.text → ⊥
 
 -- the operand at this place is the first that the command does not know: each before it is known
 pub record IsFirstUnknown (command : CommandLine) (inputs : Inputs) (place : ℕ) : Type 0 where
+  -- the operands before this one, this operand, and those after it
   pub before : List Operand
   pub operand : Operand
   pub after : List Operand
   pub are : command.operands ≡ before ++ operand ∷ after
+  -- the operand has this place in the command line
   pub at : operand.place ≡ place
+  -- the command knows each operand before it
   pub known : AreKnownOperands command inputs before
 
 -- the candidates of a command are not too many
@@ -31,9 +34,9 @@ HasPool command inputs = (pool : SealedPool) × (pool_of_inputs command inputs �
 
 -- what is tested before this refusal of a selection: first the candidates are counted, then the
 -- operands are tested in their order, and last a selection is searched for
-abbrev pub HasPassedBeforeSelection : CommandLine → Inputs → Refusal → Type 0
-HasPassedBeforeSelection command inputs (NotInstalled place) =
+abbrev pub HasPassedBeforeSelectionRefusal : CommandLine → Inputs → Refusal → Type 0
+HasPassedBeforeSelectionRefusal command inputs (NotInstalled place) =
     HasPool command inputs × IsFirstUnknown command inputs place
-HasPassedBeforeSelection command inputs Unsatisfied =
+HasPassedBeforeSelectionRefusal command inputs Unsatisfied =
     HasPool command inputs × AreKnownOperands command inputs command.operands
-HasPassedBeforeSelection command inputs other = Unit {0}
+HasPassedBeforeSelectionRefusal command inputs other = Unit {0}

@@ -17,42 +17,45 @@ use Rattle.outcome.specs.pkg_core.Whole.{package_fault}
 use Rattle.outcome.specs.candidate_core.Candidates.{Candidate, is_same_id}
 use Rattle.report_core.specs.Numbers.{HASHES_FIELD, NAME_FIELD, VERSION_FIELD}
 use Rattle.report_core.specs.Reports.{Change}
-use Rattle.refusal_laws.specs.AddedPackages.{IsAddedAsSelected, IsFileReadForAddedPackage, selected_of_name}
+use Rattle.refusal_laws.specs.AddedPackages.{IsAddedAsSelected, IsFileReadForAddedPackage, selected_candidate_of_name}
 
 -- ---- its file
 
 -- a candidate of this name and version is added, and no file of it is found
-abbrev pub IsPackageMissing : Inputs → Replacement → Reads → List ℕ → List ℕ → Type 0
-IsPackageMissing inputs r read name version = IsFileReadForAddedPackage inputs r read name version None
+abbrev pub IsAddedPackageFileMissing : Inputs → Replacement → Reads → List ℕ → List ℕ → Type 0
+IsAddedPackageFileMissing inputs r read name version =
+    IsFileReadForAddedPackage inputs r read name version None
 
 -- the file of an added package is there, and this is the first test that it fails
-pub record IsFileBad (inputs : Inputs) (r : Replacement) (read : Reads) (name version : List ℕ)
+pub record IsAddedPackageFileBad (inputs : Inputs) (r : Replacement) (read : Reads) (name version : List ℕ)
     (cause : Cause) : Type 0 where
+  -- the bytes of the package's file
   pub file : List ℕ
   pub is_read : IsFileReadForAddedPackage inputs r read name version (Some file)
+  -- the first test that the file fails
   pub fault : package_fault file ≡ Some cause
 
 -- ---- another package
 
--- the wanted id is the index's, the other that of the package's file, and they differ
+-- the first id is that in the index, the second is that in the package's file, and they differ
 abbrev pub HasOtherId : Candidate → AddedPackage → List ℕ → List ℕ → Type 0
 HasOtherId c pkg wanted found =
     (wanted ≡ c.id) × (found ≡ pkg.id) × (is_same_id wanted found ≡ false)
 
--- the wanted name is the index's, the other that of the package's file
+-- the first name is that in the index, and the second is that in the package's file
 abbrev pub HasOtherName : Candidate → AddedPackage → List ℕ → List ℕ → Type 0
 HasOtherName c pkg wanted found =
     (wanted ≡ c.name) × (found ≡ package_name pkg.value) × (wanted ≡ found → ⊥)
 
--- the wanted version is the index's, the other that of the package's file
+-- the first version is that in the index, and the second is that in the package's file
 abbrev pub HasOtherVersion : Candidate → AddedPackage → List ℕ → List ℕ → Type 0
 HasOtherVersion c pkg wanted found =
     (wanted ≡ candidate_version_text c) × (found ≡ package_version_text pkg.value) × (wanted ≡ found → ⊥)
 
 -- the package in a file is not the candidate's: the id is another; or it is the same, and the name is
 -- another; or both are the same, and the version is another
-abbrev pub IsOtherPackage : Candidate → AddedPackage → ℕ → List ℕ → List ℕ → Type 0
-IsOtherPackage c pkg field wanted found =
+abbrev pub IsFirstFieldThatDiffers : Candidate → AddedPackage → ℕ → List ℕ → List ℕ → Type 0
+IsFirstFieldThatDiffers c pkg field wanted found =
     ((field ≡ HASHES_FIELD) × HasOtherId c pkg wanted found)
     ⊎ (((field ≡ NAME_FIELD) × (is_same_id c.id pkg.id ≡ true) × HasOtherName c pkg wanted found)
     ⊎ ((field ≡ VERSION_FIELD) × (is_same_id c.id pkg.id ≡ true) × (c.name ≡ package_name pkg.value)
@@ -62,17 +65,22 @@ IsOtherPackage c pkg field wanted found =
 -- lists
 pub record IsFileOfOtherPackage (inputs : Inputs) (r : Replacement) (read : Reads)
     (name version : List ℕ) (field : ℕ) (wanted found : List ℕ) : Type 0 where
+  -- the bytes of the package's file
   pub file : List ℕ
   pub is_read : IsFileReadForAddedPackage inputs r read name version (Some file)
+  -- the file passes all tests
   pub sound : package_fault file ≡ None
-  pub other : IsOtherPackage is_read.candidate (package_in_file file) field wanted found
+  -- the id, the name or the version in it differs from the candidate's
+  pub other : IsFirstFieldThatDiffers is_read.candidate (package_in_file file) field wanted found
 
 -- ---- scripts
 
 -- a package before is removed: none of its name is selected
 pub record IsRemovedPackage (r : Replacement) (name : List ℕ) (pkg : Plain) : Type 0 where
+  -- the package of this name before the change
   pub before : find (is_package_named name) r.before ≡ Some pkg
-  pub unselected : selected_of_name r name ≡ None
+  -- no selected candidate has the name
+  pub unselected : selected_candidate_of_name r name ≡ None
 
 -- a package of this name is added or removed
 abbrev pub IsAddedOrRemoved : Inputs → Replacement → Reads → List ℕ → Plain → Type 0
@@ -85,11 +93,17 @@ IsAddedOrRemoved inputs r read name pkg =
 -- "Schemas".
 pub record IsFirstScriptRunAndNotSkipped (inputs : Inputs) (r : Replacement) (wishes : ChangeWishes)
     (read : Reads) (name : List ℕ) (script : ℕ) : Type 0 where
+  -- `--no-scripts` is not given
   pub asked : wishes.no_scripts ≡ false
+  -- the package, which the change adds or removes
   pub pkg : Plain
   pub is_package : IsAddedOrRemoved inputs r read name pkg
+  -- the change of the package with this name
   pub change : Change
   pub becomes : change_of_name r name ≡ Some change
+  -- the change would run the script with this number
   pub runs : IsIn script (scripts_of_change change)
+  -- the package has this script
   pub has : has_script_of pkg script ≡ true
+  -- it is the first script of the package that would run
   pub first : first_script_of pkg (scripts_of_change change) ≡ Some script

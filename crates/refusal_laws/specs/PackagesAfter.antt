@@ -7,35 +7,44 @@ use Rattle.adb_view.specs.Plain.{Plain}
 use Rattle.outcome.specs.change_inputs.Inputs.{Inputs}
 use Rattle.outcome.specs.change_outcome.MembersAfter.{MemberFound, added_member_found, found_members, kept_member_found}
 use Rattle.outcome.specs.change_outcome.PackageFiles.{AddedPackage}
-use Rattle.outcome.specs.db_core.Members.{AreInOrder, member_name}
+use Rattle.outcome.specs.db_core.Members.{AreMembersInNameOrder, member_name}
 use Rattle.outcome.specs.db_core.Packages.{is_package_named}
 use Rattle.outcome.specs.make_info.Reads.{Reads}
 use Rattle.outcome.specs.package_changes.Changes.{Replacement, change_of_name, is_candidate_this_package}
 use Rattle.outcome.specs.candidate_core.Candidates.{Candidate}
-use Rattle.refusal_laws.specs.AddedPackages.{IsAddedAsSelected, selected_of_name}
+use Rattle.refusal_laws.specs.AddedPackages.{IsAddedAsSelected, selected_candidate_of_name}
 
 -- a member is the package of its name before, to the letter, which is the selected candidate and does
 -- not change
 pub record IsUnchangedMember (r : Replacement) (name : List ℕ) (c : Candidate) (f : MemberFound) :
     Type 0 where
+  -- the package of this name before the change
   pub pkg : Plain
   pub before : find (is_package_named name) r.before ≡ Some pkg
+  -- the candidate is this package
   pub same : is_candidate_this_package pkg c ≡ true
+  -- the change does not change the package of this name
   pub becomes : change_of_name r name ≡ None
+  -- the member is the package as it was before
   pub is : f ≡ kept_member_found pkg
 
 -- a member is added, as the selected candidate says, with the contents of its files
 pub record IsAddedMember (inputs : Inputs) (r : Replacement) (read : Reads) (name : List ℕ)
     (f : MemberFound) : Type 0 where
+  -- the package in the file of the candidate
   pub pkg : AddedPackage
+  -- it is added, as the selected candidate says
   pub brought : IsAddedAsSelected inputs r read name pkg
+  -- the member is this package, with the contents of its files
   pub is : f ≡ added_member_found pkg
 
 -- the selected candidate of a member's name is the package before, or is added
 pub record IsSelectedMember (inputs : Inputs) (r : Replacement) (read : Reads) (f : MemberFound) :
     Type 0 where
+  -- the selected candidate of the member's name
   pub candidate : Candidate
-  pub selected : selected_of_name r (member_name f.member) ≡ Some candidate
+  pub selected : selected_candidate_of_name r (member_name f.member) ≡ Some candidate
+  -- the member is the package before, or it is added
   pub is : IsUnchangedMember r (member_name f.member) candidate f
       ⊎ IsAddedMember inputs r read (member_name f.member) f
 
@@ -43,7 +52,10 @@ pub record IsSelectedMember (inputs : Inputs) (r : Replacement) (read : Reads) (
 -- each selected candidate.
 pub record AreSelectedMembers (inputs : Inputs) (r : Replacement) (read : Reads)
     (found : List MemberFound) : Type 0 where
-  pub in_order : AreInOrder (found_members found)
+  -- the packages are in byte order of names, each name once
+  pub in_order : AreMembersInNameOrder (found_members found)
+  -- each package is one of a selected candidate
   pub each : (f : MemberFound) → IsIn f found → IsSelectedMember inputs r read f
+  -- each selected candidate has a package
   pub all : (c : Candidate) → IsIn c r.selected
       → (f : MemberFound) × IsIn f found × (member_name f.member ≡ c.name)

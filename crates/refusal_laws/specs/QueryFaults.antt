@@ -11,10 +11,13 @@ use Rattle.refusal_laws.specs.InputFaults.{IsCountReportedAsTooMany, IsFaultOfIn
 -- the inputs are read, and a refusal reports that they have more candidates than a pool holds
 pub record HasTooManyCandidates (command : CommandLine) (read : Reads) (refusal : Refusal)
     : Type 0 where
+  -- what the command reads of the root
   pub inputs : Inputs
   pub are_inputs : inputs_of command read ≡ Ok inputs
+  -- the number that the refusal reports
   pub count : ℕ
   pub too_many : IsCountReportedAsTooMany inputs count
+  -- the refusal is *TooMany* with this number
   pub is : refusal ≡ TooMany count
 
 -- a refusal of a query is true: of the input; or, if that is read, of its candidates

@@ -57,12 +57,12 @@ AreEarlierIndexesSound read number =
 -- What is read before this refusal of the input: first the database, then world, then the repositories,
 -- which must be allowed, and last their indexes. All indexes are looked up, in the order of their
 -- numbers, before the first of them is tested.
-abbrev pub HasReadBefore : CommandLine → Reads → Refusal → Type 0
-HasReadBefore command read (WorldBad line) = HasDatabase command read
-HasReadBefore command read (RepositoriesBad line) = HasDatabaseAndWorld command read
-HasReadBefore command read Untrusted = HasDatabaseAndWorld command read
-HasReadBefore command read (IndexMissing number) =
+abbrev pub HasPassedInputsBeforeRefusal : CommandLine → Reads → Refusal → Type 0
+HasPassedInputsBeforeRefusal command read (WorldBad line) = HasDatabase command read
+HasPassedInputsBeforeRefusal command read (RepositoriesBad line) = HasDatabaseAndWorld command read
+HasPassedInputsBeforeRefusal command read Untrusted = HasDatabaseAndWorld command read
+HasPassedInputsBeforeRefusal command read (IndexMissing number) =
     AllowsUntrusted command read × HasIndexesBefore read number
-HasReadBefore command read (IndexBad number cause) =
+HasPassedInputsBeforeRefusal command read (IndexBad number cause) =
     AllowsUntrusted command read × HasIndexes read × AreEarlierIndexesSound read number
-HasReadBefore command read other = Unit {0}
+HasPassedInputsBeforeRefusal command read other = Unit {0}

@@ -16,15 +16,20 @@ use Rattle.refusal_laws.specs.CommandFaults.{IsFaultOfCommand}
 
 -- a refusal is true of the command over the files on which it works, with the candidates that are to be
 -- chosen
-pub record IsFaultOfCommandOver (command : CommandLine) (files : Files) (refusal : Refusal) : Type 0 where
+pub record IsFaultOfCommandOverFiles (command : CommandLine) (files : Files)
+    (refusal : Refusal) : Type 0 where
+  -- the places of the preferred selection, if there is one
   pub chosen : Option (List ℕ)
   pub choice : IsChoiceFrom (pool_of_command command (reads_in files)) chosen
+  -- the refusal is true for this choice
   pub fault : IsFaultOfCommand command (reads_in files) files chosen refusal
 
 -- the intent of an interrupted change fails this test first, and that is reported
 pub record IsIntentRefusal (files : Files) (refusal : Refusal) : Type 0 where
+  -- the first test that the intent fails
   pub cause : Cause
   pub bad : fault_of_intent (files intent_name) ≡ Some cause
+  -- the refusal reports this cause
   pub told : refusal ≡ IntentBad cause
 
 -- a refusal of a run is true: a bad intent is refused before all else; otherwise a run works on the
@@ -33,4 +38,4 @@ abbrev pub IsFaultOfRun : CommandLine → Files → Refusal → Type 0
 IsFaultOfRun command files refusal =
     IsIntentRefusal files refusal
     ⊎ ((fault_of_intent (files intent_name) ≡ None)
-    × IsFaultOfCommandOver command (unstaged_files files) refusal)
+    × IsFaultOfCommandOverFiles command (unstaged_files files) refusal)

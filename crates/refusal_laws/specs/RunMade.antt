@@ -5,7 +5,7 @@ use Rattle.base_core.specs.Files.{Files}
 use Rattle.outcome.specs.change_outcome.ChangeOutcome.{members_after_change, file_change}
 use Rattle.outcome.specs.change_outcome.MembersAfter.{MemberFound}
 use Rattle.command_core.specs.Command.{CommandLine}
-use Rattle.outcome.specs.engine_core.Changed.{InputsAndReplacement, selected_for}
+use Rattle.outcome.specs.engine_core.Changed.{InputsAndReplacement, selected_from_reads_by_choice}
 use Rattle.outcome.specs.engine_core.Selecting.{pool_of_command}
 use Rattle.outcome.specs.engine_core.Wishes.{wishes_of}
 use Rattle.outcome.specs.Commands.{reads_in}
@@ -18,19 +18,26 @@ use Rattle.refusal_laws.specs.TestsPassed.{PassesChangeTestsExceptLimits}
 -- a run has taken the first preferred selection: it is found, the packages after the change are exactly
 -- those, and the files that they leave have no fault
 pub record HasFaultlessFirstPreferredSelection (command : CommandLine) (files : Files) : Type 0 where
+  -- the candidates of the command, under its new world
   pub pool : SealedPool
   pub is_pool : pool_of_command command (reads_in files) ≡ Ok pool
+  -- the places of the preferred selection
   pub trace : List ℕ
   pub first : IsFirstPreferredSelection pool trace
+  -- what is read, and the packages before with the candidates that replace them
   pub selected : InputsAndReplacement
-  pub selects : selected_for command (reads_in files) (Some trace) ≡ Ok selected
+  pub selects : selected_from_reads_by_choice command (reads_in files) (Some trace) ≡ Ok selected
+  -- the selected candidates are those of the trace
   pub candidates : selected.replacement.selected ≡ candidates_at pool trace
+  -- the packages after the change
   pub found : List MemberFound
   pub members :
       members_after_change selected.inputs selected.replacement (wishes_of command) (reads_in files)
       ≡ Ok found
+  -- these are the selected packages
   pub are_selected :
       AreSelectedMembers selected.inputs selected.replacement (reads_in files) found
+  -- the files that they leave pass all tests, except those of the writer's limits
   pub no_fault :
       PassesChangeTestsExceptLimits (wishes_of command)
       (file_change selected.inputs (wishes_of command) found)

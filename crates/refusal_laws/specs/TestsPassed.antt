@@ -34,25 +34,29 @@ HasNoDueTrigger wishes change files =
     → has_script_of m.pkg TRIGGER_SCRIPT ≡ true → HasPatternOfTouchedFolder change files m.pkg → ⊥
 
 -- the first two tests of files passed: no path is reserved and no name clashes
-abbrev pub PassesNameTests : FileChange → Files → Type 0
-PassesNameTests change files =
+abbrev pub HasNoReservedOrClashingPath : FileChange → Files → Type 0
+HasNoReservedOrClashingPath change files =
     AreAddedPathsUnreserved change.members × HasNoClash (name_change change files) files
 
--- all three tests of files passed: those of *PassesNameTests*, and that each listed path has an owner
-abbrev pub PassesFileTests : FileChange → Files → Type 0
-PassesFileTests change files = PassesNameTests change files × EachListedPathHasOwner change.members
+-- all three tests of files passed: those of *HasNoReservedOrClashingPath*, and that each listed path has an owner
+abbrev pub HasNoReservedClashingOrUnownedPath : FileChange → Files → Type 0
+HasNoReservedClashingOrUnownedPath change files =
+    HasNoReservedOrClashingPath change files × EachListedPathHasOwner change.members
 
 -- a change has none of the faults for which its files would be refused, except for the limits of what
 -- is written
 abbrev pub PassesChangeTestsExceptLimits : ChangeWishes → FileChange → Files → Type 0
 PassesChangeTestsExceptLimits wishes change files =
-    PassesFileTests change files × HasNoDueTrigger wishes change files
+    HasNoReservedClashingOrUnownedPath change files × HasNoDueTrigger wishes change files
 
 -- what is tested before this refusal of a change's files
-abbrev pub HasPassedBefore : ChangeWishes → FileChange → Files → Refusal → Type 0
-HasPassedBefore wishes change files (PathClash path other) = AreAddedPathsUnreserved change.members
-HasPassedBefore wishes change files (Owned path first second) = PassesNameTests change files
-HasPassedBefore wishes change files (TriggerNeeded name) = PassesFileTests change files
-HasPassedBefore wishes change files (ResultTooLarge bytes values) =
+abbrev pub HasPassedTestsBeforeRefusal : ChangeWishes → FileChange → Files → Refusal → Type 0
+HasPassedTestsBeforeRefusal wishes change files (PathClash path other) =
+    AreAddedPathsUnreserved change.members
+HasPassedTestsBeforeRefusal wishes change files (Owned path first second) =
+    HasNoReservedOrClashingPath change files
+HasPassedTestsBeforeRefusal wishes change files (TriggerNeeded name) =
+    HasNoReservedClashingOrUnownedPath change files
+HasPassedTestsBeforeRefusal wishes change files (ResultTooLarge bytes values) =
     PassesChangeTestsExceptLimits wishes change files
-HasPassedBefore wishes change files other = Unit {0}
+HasPassedTestsBeforeRefusal wishes change files other = Unit {0}

@@ -8,7 +8,7 @@ ghost use Rattle.outcome.specs.change_inputs.Inputs.{Inputs, inputs_of};
 ghost use Rattle.outcome.specs.change_outcome.ChangeOutcome.{ChangeDone, ChangeWishes, IsClashOfChange, members_after_change, change_or_refusal, file_change};
 ghost use Rattle.outcome.specs.change_outcome.MembersAfter.{MemberFound};
 ghost use Rattle.command_core.specs.Command.{CommandLine};
-ghost use Rattle.outcome.specs.engine_core.Changed.{IsClashOfCommand, change_of_command, selected_of_inputs};
+ghost use Rattle.outcome.specs.engine_core.Changed.{IsClashOfCommand, change_of_command, selected_from_inputs_by_choice};
 ghost use Rattle.outcome.specs.engine_core.Choice.{IsChoiceFrom};
 ghost use Rattle.outcome.specs.engine_core.Selecting.{pool_of_command};
 ghost use Rattle.outcome.specs.installed_info.declared.telling.ReportAndRefusal.{ReportAndRefusal};
@@ -24,17 +24,17 @@ ghost use Rattle.outcome.specs.path_clashes.Clash.{NamePair};
 ghost use Rattle.report_core.specs.declared.refusal.Refusal.{Refusal};
 ghost use Rattle.refusal_laws.specs.ChangeFaults.{IsFaultOfChange, IsFaultOfPackage};
 ghost use Rattle.refusal_laws.specs.CommandFaults.{IsFaultOfCommand};
-ghost use Rattle.refusal_laws.specs.FirstPackage.{IsFirstRefused};
-ghost use Rattle.refusal_laws.specs.InfoFaults.{AreOperandsFound, IsFaultOfDatabase, IsFaultOfInfo, IsFaultOfOperand};
+ghost use Rattle.refusal_laws.specs.FirstPackage.{IsRefusalOfFirstFaultyPackage};
+ghost use Rattle.refusal_laws.specs.InfoFaults.{AreOperandsFoundInstalled, IsFaultOfDatabase, IsFaultOfInfo, IsFaultOfOperandNotInstalled};
 ghost use Rattle.refusal_laws.specs.InputFaults.{IsFaultOfInput};
 ghost use Rattle.refusal_laws.specs.MadeTooLarge.{IsPackageTooLarge};
-ghost use Rattle.refusal_laws.specs.OperandsKnown.{HasPassedBeforeSelection};
+ghost use Rattle.refusal_laws.specs.OperandsKnown.{HasPassedBeforeSelectionRefusal};
 ghost use Rattle.refusal_laws.specs.PackagesAfter.{AreSelectedMembers};
 ghost use Rattle.refusal_laws.specs.QueryFaults.{IsFaultOfQuery};
-ghost use Rattle.refusal_laws.specs.ReadBefore.{HasReadBefore};
-ghost use Rattle.refusal_laws.specs.RunFaults.{IsFaultOfRun, IsFaultOfCommandOver};
+ghost use Rattle.refusal_laws.specs.ReadBefore.{HasPassedInputsBeforeRefusal};
+ghost use Rattle.refusal_laws.specs.RunFaults.{IsFaultOfRun, IsFaultOfCommandOverFiles};
 ghost use Rattle.refusal_laws.specs.RunMade.{HasFaultlessFirstPreferredSelection};
-ghost use Rattle.refusal_laws.specs.TestsPassed.{HasPassedBefore, PassesChangeTestsExceptLimits};
+ghost use Rattle.refusal_laws.specs.TestsPassed.{HasPassedTestsBeforeRefusal, PassesChangeTestsExceptLimits};
 ghost use Rattle.outcome.specs.tell_core.AuditResult.{audit_result, manifest_result};
 ghost use Rattle.outcome.specs.tell_core.InfoResult.{info_result};
 ghost use Rattle.outcome.specs.tell_core.QueryResult.{query_result};
@@ -48,9 +48,9 @@ pub fn a_refused_input_has_its_fault()
     // The refusal is true.
     ensures fault { (command : CommandLine) (read : Reads) (refusal : Refusal)
         → inputs_of command read ≡ Err refusal → IsFaultOfInput command read refusal }
-    // What precedes it in this order was read.
+    // The inputs that precede the refused one in this order were read, and have no fault.
     ensures order { (command : CommandLine) (read : Reads) (refusal : Refusal)
-        → inputs_of command read ≡ Err refusal → HasReadBefore command read refusal }
+        → inputs_of command read ≡ Err refusal → HasPassedInputsBeforeRefusal command read refusal }
 {}
 
 /// If `info` is refused, it is for a fault of the database, or for the first operand that asks for
@@ -64,11 +64,11 @@ pub fn a_refused_info_has_its_fault()
     ensures following_refusal { (command : CommandLine) (read : Reads) (done : ReportAndRefusal)
         (refusal : Refusal)
         → info_result command read ≡ Ok done → done.following_refusal ≡ Some refusal
-        → (command.flags.installed ≡ true) × IsFaultOfOperand command read refusal }
+        → (command.flags.installed ≡ true) × IsFaultOfOperandNotInstalled command read refusal }
     // No refusal.
     ensures told { (command : CommandLine) (read : Reads) (done : ReportAndRefusal)
         → info_result command read ≡ Ok done → done.following_refusal ≡ None
-        → AreOperandsFound command read }
+        → AreOperandsFoundInstalled command read }
 {}
 
 /// If an `audit` is refused, it is for a fault of the database. A difference is no refusal.
@@ -105,16 +105,17 @@ pub fn a_refused_change_has_its_fault()
 /// If a run that changes the installed packages is refused, the refusal is true: of the intent that
 /// an earlier change left, or of the recovered files.
 pub fn a_refused_run_has_its_fault()
-    // Of a command over the files on which it works.
+    // For a command, and the files on which it works after recovery.
     ensures over { (command : CommandLine) (files : Files) (o : Outcome) (refusal : Refusal)
         → effect_of command.applet ≡ Changes → IsOutcomeOverRecoveredFiles command files o
-        → o.refusal ≡ Some refusal → IsFaultOfCommandOver command files refusal }
-    // Of a run, over the files in which it begins.
+        → o.refusal ≡ Some refusal → IsFaultOfCommandOverFiles command files refusal }
+    // For a command line, and the files with which its run begins.
     ensures words { (words : List (List ℕ)) (command : CommandLine) (files : Files) (o : Outcome)
         (refusal : Refusal) → command_of words ≡ Ok command
         → effect_of command.applet ≡ Changes → IsOutcome (command_of words) files o
         → o.refusal ≡ Some refusal → IsFaultOfRun command files refusal }
 {
+    // A law that the proof needs; it has no effect at run time.
     a_command_recovers();
 }
 
@@ -134,8 +135,8 @@ pub fn a_refused_command_has_its_fault()
 /// is refused only if there is no such operand either.
 pub fn a_refused_selection_has_passed_the_tests_before()
     ensures { (command : CommandLine) (inputs : Inputs) (chosen : Option (List ℕ))
-        (refusal : Refusal) → selected_of_inputs command chosen inputs ≡ Err refusal
-        → HasPassedBeforeSelection command inputs refusal }
+        (refusal : Refusal) → selected_from_inputs_by_choice command chosen inputs ≡ Err refusal
+        → HasPassedBeforeSelectionRefusal command inputs refusal }
 {}
 
 /// A refusal for the files of a change follows the tests before it. A clash of names is refused
@@ -147,19 +148,19 @@ pub fn a_refused_change_has_passed_the_tests_before()
         → members_after_change inputs r wishes read ≡ Ok found
         → change_or_refusal inputs r wishes read clash files ≡ Err refusal
         → IsClashOfChange inputs r wishes read files clash
-        → HasPassedBefore wishes (file_change inputs wishes found) files refusal }
+        → HasPassedTestsBeforeRefusal wishes (file_change inputs wishes found) files refusal }
 {}
 
 /// If the packages after a change are found, no added or removed package has a fault. A change that
 /// is made has none of the other faults either: no added path is reserved, no name is a folder of
 /// another, each path has an owner, and no trigger is due.
 pub fn a_change_that_is_made_has_no_fault()
-    // Of the added and removed packages.
+    // No added or removed package has a fault.
     ensures packages { (inputs : Inputs) (r : Replacement) (wishes : ChangeWishes) (read : Reads)
         (found : List MemberFound) (refusal : Refusal)
         → members_after_change inputs r wishes read ≡ Ok found
         → IsFaultOfPackage inputs r wishes read refusal → ⊥ }
-    // Of the files that they leave.
+    // The files that the change leaves pass all tests, except those of the writer's limits.
     ensures files { (inputs : Inputs) (r : Replacement) (wishes : ChangeWishes) (read : Reads)
         (clash : Option NamePair) (files : Files) (done : ChangeDone)
         → change_or_refusal inputs r wishes read clash files ≡ Ok done
@@ -173,7 +174,7 @@ pub fn a_change_that_is_made_has_no_fault()
 pub fn a_refused_package_is_the_first_with_a_fault()
     ensures { (inputs : Inputs) (r : Replacement) (wishes : ChangeWishes) (read : Reads)
         (refusal : Refusal) → members_after_change inputs r wishes read ≡ Err refusal
-        → IsFirstRefused inputs r wishes read refusal }
+        → IsRefusalOfFirstFaultyPackage inputs r wishes read refusal }
 {}
 
 /// The packages after a change are the selected ones. An added one is as in its file, with the
@@ -193,6 +194,7 @@ pub fn the_packages_after_a_run_are_those_of_the_first_selection()
         → o.refusal ≡ None
         → command.flags.simulate ≡ false → HasFaultlessFirstPreferredSelection command files }
 {
+    // A law that the proof needs; it has no effect at run time.
     a_change_takes_the_first_selection_or_is_refused();
 }
 

@@ -1,10 +1,10 @@
 -- A text behind another on a sink.
 use Rattle.std.proofs.Common.{◌≡◌, ◌∙◌, ℕ, List, ◌++◌, Option, Result, Ok, Err, subst, refl, sym, codes, append_assoc}
 use Rattle.base_core.specs.Faults.{Counts, CountsOnlyRise, CountsNoNewFault}
-use Rattle.base_core.specs.Sink.{Adds, SinkBeforeAndAfter}
+use Rattle.base_core.specs.Sink.{AddsBytesToSink, SinkBeforeAndAfter}
 use Rattle.base_core.specs.Write.{Writes}
 use Rattle.base_core.proofs.Counting.{goes_on_twice, no_fault_twice}
-use Rattle.base_core.proofs.Added.{Adds-more}
+use Rattle.base_core.proofs.Added.{AddsBytesToSink-more}
 use Rattle.report_core.specs.Texts.{package_refusal_text}
 use Rattle.report_core.proofs.Counting.{fails_after}
 use Rattle.report_core.proofs.Fronts.{AddsPrefixToSink-grows, AddsPrefixToSink-after}
@@ -15,7 +15,7 @@ Between told before told_then after = record { bytes_before = told; bytes_after 
 
 -- the first text was written, and nothing failed
 pub record IsDone (text : List ℕ) (sink : SinkBeforeAndAfter) : Type 0 where
-  pub added : Adds sink.bytes_before sink.bytes_after text
+  pub added : AddsBytesToSink sink.bytes_before sink.bytes_after text
   pub goes_on : CountsOnlyRise sink.before sink.after
   pub kept : CountsNoNewFault sink.before sink.after
   pub proper : sink.after.misuses ≡ sink.before.misuses
@@ -24,12 +24,12 @@ pub done_by : {T E : Type 0} (text : List ℕ) (sink : SinkBeforeAndAfter) (x : 
 done_by text sink x w = record { added = w.ok; goes_on = w.cause.goes_on; kept = w.cause.kept; proper = w.cause.proper }
 
 pub done_then : (a b : List ℕ) (t0 t1 t2 : Option (List ℕ)) (c0 c1 c2 : Counts) → IsDone a (Between t0 c0 t1 c1) → IsDone b (Between t1 c1 t2 c2) → IsDone (a ++ b) (Between t0 c0 t2 c2)
-done_then a b t0 t1 t2 c0 c1 c2 h k = record { added = Adds-more t0 t1 t2 a b h.added k.added; goes_on = goes_on_twice c0 c1 c2 h.goes_on k.goes_on; kept = no_fault_twice c0 c1 c2 h.kept k.kept; proper = k.proper ∙ h.proper }
+done_then a b t0 t1 t2 c0 c1 c2 h k = record { added = AddsBytesToSink-more t0 t1 t2 a b h.added k.added; goes_on = goes_on_twice c0 c1 c2 h.goes_on k.goes_on; kept = no_fault_twice c0 c1 c2 h.kept k.kept; proper = k.proper ∙ h.proper }
 
 pub written_behind : {T E : Type 0} (a b : List ℕ) (t0 t1 t2 : Option (List ℕ)) (c0 c1 c2 : Counts) (result : Result T E)
     → IsDone a (Between t0 c0 t1 c1) → Writes b (Between t1 c1 t2 c2) result → Writes (a ++ b) (Between t0 c0 t2 c2) result
 written_behind a b t0 t1 t2 c0 c1 c2 (Ok x) h k = record {
-  ok = Adds-more t0 t1 t2 a b h.added k.ok;
+  ok = AddsBytesToSink-more t0 t1 t2 a b h.added k.ok;
   err = tt;
   cause = record { goes_on = goes_on_twice c0 c1 c2 h.goes_on k.cause.goes_on; cause = tt; kept = no_fault_twice c0 c1 c2 h.kept k.cause.kept; proper = k.cause.proper ∙ h.proper };
 }

@@ -1,9 +1,9 @@
 -- A front of several texts.
 use Rattle.std.proofs.Common.{◌≡◌, ◌<◌, ◌+◌, ◌/◌, ◌%◌, ℕ, List, [], ◌∷◌, ◌++◌, length, take, drop, get_or, slice_index, Option, Some, None, refl, sym, ap, ◌∙◌, append_assoc, append-nil, take-append-drop, subst}
 use Rattle.std.proofs.lemmas.List.{take_more}
-use Rattle.base_core.specs.Sink.{Adds, AddsPrefixToSink}
+use Rattle.base_core.specs.Sink.{AddsBytesToSink, AddsPrefixToSink}
 use Rattle.hex.specs.Hex.{encode_with, encode_lower, lower_digits}
-use Rattle.base_core.proofs.Added.{Adds-more}
+use Rattle.base_core.proofs.Added.{AddsBytesToSink-more}
 use Rattle.report_core.specs.Pieces.{piece_text, pieces_text}
 use Rattle.report_core.specs.declared.lines.Piece.{Piece}
 
@@ -12,8 +12,8 @@ pub AddsPrefixToSink-grows : (old new : Option (List ℕ)) (bytes more : List �
 AddsPrefixToSink-grows old new bytes more h = record { front = h.front; rest = h.rest ++ more; whole = ap (λ b. b ++ more) h.whole ∙ append_assoc h.front h.rest more; added = h.added }
 
 -- something came before
-pub AddsPrefixToSink-after : (old mid new : Option (List ℕ)) (a b : List ℕ) → Adds old mid a → AddsPrefixToSink mid new b → AddsPrefixToSink old new (a ++ b)
-AddsPrefixToSink-after old mid new a b h k = record { front = a ++ k.front; rest = k.rest; whole = ap (λ x. a ++ x) k.whole ∙ sym (append_assoc a k.front k.rest); added = Adds-more old mid new a k.front h k.added }
+pub AddsPrefixToSink-after : (old mid new : Option (List ℕ)) (a b : List ℕ) → AddsBytesToSink old mid a → AddsPrefixToSink mid new b → AddsPrefixToSink old new (a ++ b)
+AddsPrefixToSink-after old mid new a b h k = record { front = a ++ k.front; rest = k.rest; whole = ap (λ x. a ++ x) k.whole ∙ sym (append_assoc a k.front k.rest); added = AddsBytesToSink-more old mid new a k.front h k.added }
 
 -- ---- a text of a list, which has the texts of its entries one behind another
 
@@ -27,12 +27,12 @@ text-split : {A : Type 0} (text : List A → List ℕ) → Chains text → (xs :
 text-split text chains xs i = ap text (sym (take-append-drop i xs)) ∙ chains (take i xs) (drop i xs)
 
 pub added-more : {A : Type 0} (text : List A → List ℕ) → Chains text → (old mid new : Option (List ℕ)) (xs : List A) (i : ℕ) (d : A) (bytes : List ℕ) → bytes ≡ text (get_or xs i d ∷ [])
-    → i < length xs → Adds old mid (text (take i xs)) → Adds mid new bytes → Adds old new (text (take (i + 1) xs))
+    → i < length xs → AddsBytesToSink old mid (text (take i xs)) → AddsBytesToSink mid new bytes → AddsBytesToSink old new (text (take (i + 1) xs))
 added-more text chains old mid new xs i d bytes is lt h k =
-    subst (Adds old new) (ap (λ b. text (take i xs) ++ b) is ∙ sym (text-more text chains xs i d lt)) (Adds-more old mid new (text (take i xs)) bytes h k)
+    subst (AddsBytesToSink old new) (ap (λ b. text (take i xs) ++ b) is ∙ sym (text-more text chains xs i d lt)) (AddsBytesToSink-more old mid new (text (take i xs)) bytes h k)
 
 pub front-more : {A : Type 0} (text : List A → List ℕ) → Chains text → (old mid new : Option (List ℕ)) (xs : List A) (i : ℕ) (d : A) (bytes : List ℕ) → bytes ≡ text (get_or xs i d ∷ [])
-    → i < length xs → Adds old mid (text (take i xs)) → AddsPrefixToSink mid new bytes → AddsPrefixToSink old new (text xs)
+    → i < length xs → AddsBytesToSink old mid (text (take i xs)) → AddsPrefixToSink mid new bytes → AddsPrefixToSink old new (text xs)
 front-more text chains old mid new xs i d bytes is lt h k =
     let e : (text (take i xs) ++ bytes) ++ text (drop (i + 1) xs) ≡ text xs =
     ap (λ (b : List ℕ). (text (take i xs) ++ b) ++ text (drop (i + 1) xs)) is
@@ -54,7 +54,7 @@ unfolding encode_with
 digits_chain [] b = refl
 digits_chain (x ∷ a) b = ap (λ l. slice_index lower_digits (x / 16) ∷ slice_index lower_digits (x % 16) ∷ l) (digits_chain a b)
 
-pub no_digits : (old : Option (List ℕ)) → Adds old old (encode_lower [])
+pub no_digits : (old : Option (List ℕ)) → AddsBytesToSink old old (encode_lower [])
 unfolding encode_with
 no_digits None = refl
 no_digits (Some x) = ap Some (sym (append-nil x))

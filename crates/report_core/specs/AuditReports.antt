@@ -17,8 +17,8 @@ modified_file_text path = codes "U " ++ path
 
 -- a digest with the name of its function, as `sha256:DIGITS`; its length determines the function (FIPS
 -- 180-4). `none` if there is no digest
-abbrev pub named_digest : List ℕ → List ℕ
-named_digest digest =
+abbrev pub digest_with_algorithm_name : List ℕ → List ℕ
+digest_with_algorithm_name digest =
     if length digest == 20 then codes "sha1:" ++ encode_lower digest
     else if length digest == 32 then codes "sha256:" ++ encode_lower digest
     else if length digest == 64 then codes "sha512:" ++ encode_lower digest
@@ -26,4 +26,4 @@ named_digest digest =
 
 -- the line of a listed file: its digest, two spaces and its path
 abbrev pub digest_and_path_text : List ℕ → List ℕ → List ℕ
-digest_and_path_text digest path = named_digest digest ++ codes "  " ++ path
+digest_and_path_text digest path = digest_with_algorithm_name digest ++ codes "  " ++ path

@@ -38,14 +38,14 @@ abbrev pub version_heading : List ℕ → List ℕ
 version_heading version = report_line (codes "  " ++ version ++ codes ":")
 
 -- a line below a version: where the package with this version is
-abbrev pub policy_line_with_origin_text : List ℕ → List ℕ
-policy_line_with_origin_text text = report_line (codes "    " ++ text)
+abbrev pub indented_policy_line : List ℕ → List ℕ
+indented_policy_line text = report_line (codes "    " ++ text)
 
 -- the line of the database of installed packages
 abbrev pub policy_database_line : List ℕ
-policy_database_line = policy_line_with_origin_text (codes "lib/apk/db/installed")
+policy_database_line = indented_policy_line (codes "lib/apk/db/installed")
 
 -- the line of a repository, by its tag, if it has one, and the path of its index
 abbrev pub repository_line : Option (List ℕ) → List ℕ → List ℕ
-repository_line None path = policy_line_with_origin_text path
-repository_line (Some tag) path = policy_line_with_origin_text (codes "@" ++ tag ++ codes " " ++ path)
+repository_line None path = indented_policy_line path
+repository_line (Some tag) path = indented_policy_line (codes "@" ++ tag ++ codes " " ++ path)

@@ -123,7 +123,8 @@ fn write_hex<S: Sink>(bytes: &[u8], sink: &mut S) -> Result<(), SinkFault>
 {
     for byte in bytes {
         let mut digits = [0; 2];
-        // A byte has two hexadecimal digits, as many as `digits` has room for.
+        // A byte gives two hexadecimal digits, which is the length of `digits`: the call cannot
+        // fail.
         let _ = hex::encode_to_slice([*byte], &mut digits);
         write_all(sink, &digits)?;
     }
@@ -144,6 +145,7 @@ fn digest_bytes(digest: &Digest) -> &[u8]
 /// What a command prints on standard output.
 #[derive(Drop)]
 pub struct Report {
+    /// The bytes so far.
     bytes: Vec<u8>,
 }
 

@@ -16,32 +16,34 @@ use base_core::Cause;
 /// The text of a refusal: some pieces, and then the text of its cause, if it has one.
 #[derive(Clone, Copy)]
 pub(crate) struct Sentence<'a> {
+    /// The pieces before the cause.
     pub(crate) pieces: Pieces<'a>,
+    /// The cause whose text follows; None if the refusal has no cause.
     pub(crate) cause: Option<Cause>,
 }
 
-// Pieces, only one of which is not empty.
+// A text of one piece: the other six of the list are empty.
 fn one<'a>(a: Piece<'a>) -> Pieces<'a>
     ensures { pieces_text result ≡ piece_text a.entry }
 {
     [a, Nothing, Nothing, Nothing, Nothing, Nothing, Nothing]
 }
 
-// Pieces, only the first two of which are not empty.
+// A text of two pieces: the other five of the list are empty.
 fn two<'a>(a: Piece<'a>, b: Piece<'a>) -> Pieces<'a>
     ensures { pieces_text result ≡ piece_text a.entry ++ piece_text b.entry }
 {
     [a, b, Nothing, Nothing, Nothing, Nothing, Nothing]
 }
 
-// Pieces, only the first three of which are not empty.
+// A text of three pieces: the other four of the list are empty.
 fn three<'a>(a: Piece<'a>, b: Piece<'a>, c: Piece<'a>) -> Pieces<'a>
     ensures { pieces_text result ≡ piece_text a.entry ++ piece_text b.entry ++ piece_text c.entry }
 {
     [a, b, c, Nothing, Nothing, Nothing, Nothing]
 }
 
-// Pieces, only the first four of which are not empty.
+// A text of four pieces: the other three of the list are empty.
 fn four<'a>(a: Piece<'a>, b: Piece<'a>, c: Piece<'a>, d: Piece<'a>) -> Pieces<'a>
     ensures { pieces_text result ≡ piece_text a.entry ++ piece_text b.entry
         ++ piece_text c.entry ++ piece_text d.entry }
@@ -49,7 +51,7 @@ fn four<'a>(a: Piece<'a>, b: Piece<'a>, c: Piece<'a>, d: Piece<'a>) -> Pieces<'a
     [a, b, c, d, Nothing, Nothing, Nothing]
 }
 
-// Pieces, only the first five of which are not empty.
+// A text of five pieces: the other two of the list are empty.
 fn five<'a>(a: Piece<'a>, b: Piece<'a>, c: Piece<'a>, d: Piece<'a>, e: Piece<'a>) -> Pieces<'a>
     ensures { pieces_text result ≡ piece_text a.entry ++ piece_text b.entry
         ++ piece_text c.entry ++ piece_text d.entry ++ piece_text e.entry }
@@ -57,7 +59,7 @@ fn five<'a>(a: Piece<'a>, b: Piece<'a>, c: Piece<'a>, d: Piece<'a>, e: Piece<'a>
     [a, b, c, d, e, Nothing, Nothing]
 }
 
-// Pieces, only the first six of which are not empty.
+// A text of six pieces: the last one of the list is empty.
 fn six<'a>(
     a: Piece<'a>,
     b: Piece<'a>,
@@ -72,7 +74,7 @@ fn six<'a>(
     [a, b, c, d, e, f, Nothing]
 }
 
-// Seven pieces, the most that a refusal has.
+// A text of seven pieces, the most that a refusal has.
 fn seven<'a>(
     a: Piece<'a>,
     b: Piece<'a>,
@@ -109,7 +111,7 @@ fn caused<'a>(pieces: Pieces<'a>, cause: Cause) -> Sentence<'a>
     }
 }
 
-// The refusal of the word at a place, with the reason.
+// The text `word PLACE: TEXT`, which refuses the argument at this place of the command line.
 fn at_word(place: u32, text: &'static [u8]) -> Sentence<'static>
     ensures { sentence_text result ≡ word_refusal_text place text.now }
 {
@@ -301,8 +303,8 @@ pub(crate) fn cause_pieces(cause: Cause) -> Pieces<'static>
     }
 }
 
-// The value of a package's field: its id in hexadecimal digits, and its name or its version as
-// text.
+// The value of a field of a package, as a piece of text: the id in hexadecimal digits, the name or
+// the version as it is.
 fn field_piece(field: u16, bytes: &[u8]) -> Piece<'_>
     ensures { piece_text result ≡ package_field_text field bytes.now }
 {

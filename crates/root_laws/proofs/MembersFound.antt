@@ -19,11 +19,11 @@ use Rattle.engine_core.proofs.change_files.InOrder.{order_rises}
 use Rattle.engine_core.specs.change_inputs.Chains.{and_then}
 use Rattle.engine_core.specs.change_inputs.Inputs.{first_index_read_number}
 use Rattle.engine_core.proofs.change_outcome.Made.{and_then_ok}
-use Rattle.engine_core.specs.change_outcome.MembersAfter.{MemberFound, added_package_by_path, added_member_found, members_after, found_members, member_of_name_after, member_of_name_by_change, member_of_name_by_selected, member_of_added_name, member_of_removed_name, names_after, kept_member_found}
-use Rattle.engine_core.specs.change_outcome.PackageFiles.{AddedPackage, package_file_of, added_package_or_refusal, package_in_file, scripts_of_change, unless_different, unless_script_number, unless_package_bad, unless_script_needed, first_script_of}
-use Rattle.engine_core.specs.db_core.Members.{AreInOrder, Member, member_name}
+use Rattle.engine_core.specs.change_outcome.MembersAfter.{MemberFound, added_package_by_path, added_member_found, members_after, found_members, member_of_name_after, member_of_name_by_change, member_of_name_by_selected, member_of_added_name, member_of_removed_name, members_of_names_after, kept_member_found}
+use Rattle.engine_core.specs.change_outcome.PackageFiles.{AddedPackage, package_file_path_of_candidate, added_package_or_refusal, package_in_file, scripts_of_change, package_unless_other_than_candidate, unless_script_number, unless_package_bad, unless_script_needed, first_script_of}
+use Rattle.engine_core.specs.db_core.Members.{AreMembersInNameOrder, Member, member_name}
 use Rattle.engine_core.specs.db_core.Packages.{is_package_named}
-use Rattle.engine_core.specs.db_core.SoundMembers.{AreOfSoundContainers, IsOfSoundContainer}
+use Rattle.engine_core.specs.db_core.SoundMembers.{AreMembersOfSoundContainers, IsPackageOfSoundContainer}
 use Rattle.dep_core.specs.Repositories.{Repository}
 use Rattle.engine_core.specs.file_owners.Replaces.{package_version_text}
 use Rattle.make_index.proofs.IndexSound.{payload_all}
@@ -34,12 +34,12 @@ use Rattle.make_index.specs.pkg_core.Whole.{files_read_from_package, package_fau
 use Rattle.engine_core.specs.candidate_core.Candidates.{Candidate, is_same_id}
 use Rattle.report_core.specs.Reports.{Change}
 use Rattle.report_core.specs.declared.refusal.Refusal.{Refusal}
-use Rattle.root_laws.specs.RootLeft.{FindBytes}
+use Rattle.root_laws.specs.RootLeft.{AreAllReadFilesBytes}
 use Rattle.root_laws.proofs.SoundBefore.{AllSound}
 
 -- what the laws of the crates below say
 abbrev pub FilesMayCome : Type 0
-FilesMayCome = (file id : List ℕ) → IsSoundContainer Package file → All (λ b. b < 256) (payload_in file) → is_digest_length (length id) ≡ true → IsOfSoundContainer (root_value Package (payload_in file)) (Some id)
+FilesMayCome = (file id : List ℕ) → IsSoundContainer Package file → All (λ b. b < 256) (payload_in file) → is_digest_length (length id) ≡ true → IsPackageOfSoundContainer (root_value Package (payload_in file)) (Some id)
 
 abbrev pub PackagesAreTested : Type 0
 PackagesAreTested = (file : List ℕ) → package_fault file ≡ option_or (container_fault_except_contents Package file) (fault_of_files_read (files_read_from_package file))
@@ -47,7 +47,7 @@ PackagesAreTested = (file : List ℕ) → package_fault file ≡ option_or (cont
 -- ---- one package
 
 pub record IsFoundAs (name : List ℕ) (m : Member) : Type 0 where
-  pub sound : IsOfSoundContainer m.pkg m.id
+  pub sound : IsPackageOfSoundContainer m.pkg m.id
   pub named : member_name m ≡ name
 
 abbrev IfFound : List ℕ → Option MemberFound → Type 0
@@ -71,9 +71,9 @@ kept_package r = r
 abbrev kept_found : Option MemberFound → Result (Option MemberFound) Refusal
 kept_found o = Ok o
 
-module _ (come : FilesMayCome) (tested : PackagesAreTested) (read : Reads) (bytes : FindBytes read) where
+module _ (come : FilesMayCome) (tested : PackagesAreTested) (read : Reads) (bytes : AreAllReadFilesBytes read) where
   -- its name and its version are the candidate's
-  different_ok : (c : Candidate) (pkg p : AddedPackage) → unless_different c pkg ≡ Ok p → (p ≡ pkg) × (package_name pkg.value ≡ c.name)
+  different_ok : (c : Candidate) (pkg p : AddedPackage) → package_unless_other_than_candidate c pkg ≡ Ok p → (p ≡ pkg) × (package_name pkg.value ≡ c.name)
   different_ok c pkg p e = by_tests _ _ _ (is_same_id c.id pkg.id) (bytes_eq c.name (package_name pkg.value)) (bytes_eq (candidate_version_text c) (package_version_text pkg.value)) refl e
     where
       by_tests : (x y z : Refusal) (a b v : Bool) → bytes_eq c.name (package_name pkg.value) ≡ b
@@ -116,10 +116,10 @@ module _ (come : FilesMayCome) (tested : PackagesAreTested) (read : Reads) (byte
   comes_ok : (repositories : List Repository) (no_scripts : Bool) (n : ℕ) (name : List ℕ) (change : Change) (c : Candidate) (o : Option MemberFound) → c.name ≡ name
       → member_of_added_name read repositories no_scripts n name change c ≡ Ok o → IfFound name o
   comes_ok repositories no_scripts n name change c o named e =
-      let pkg = and_then_ok (added_package_by_path read n c (package_file_of repositories c)) (λ pkg.
+      let pkg = and_then_ok (added_package_by_path read n c (package_file_path_of_candidate repositories c)) (λ pkg.
       unless_script_needed no_scripts name pkg.value (scripts_of_change change) (Some (added_member_found pkg))) o e in
       subst (IfFound name) (script_ok no_scripts name pkg.0.value (scripts_of_change change) (Some (added_member_found pkg.0)) o pkg.2)
-      (subst (λ (q : List ℕ). IsFoundAs q (added_member_found pkg.0).member) named (path_ok n c (package_file_of repositories c) pkg.0 pkg.1))
+      (subst (λ (q : List ℕ). IsFoundAs q (added_member_found pkg.0).member) named (path_ok n c (package_file_path_of_candidate repositories c) pkg.0 pkg.1))
 
   goes_ok : (no_scripts : Bool) (name : List ℕ) (change : Change) (before : Option Plain) (o : Option MemberFound) → member_of_removed_name no_scripts name change before ≡ Ok o → IfFound name o
   goes_ok no_scripts name change None o e = let same : None ≡ o = cc in subst (IfFound name) same tt
@@ -152,7 +152,7 @@ module _ (come : FilesMayCome) (tested : PackagesAreTested) (read : Reads) (byte
     -- of these names, in their order
     abbrev AreFoundOf : List (List ℕ) → List MemberFound → Type 0
     AreFoundOf names fs =
-        AreOfSoundContainers (found_members fs)
+        AreMembersOfSoundContainers (found_members fs)
         × ((q : List ℕ) → Names.IsIn q (map member_name (found_members fs)) → Names.IsIn q names)
         × Names.Rises (map member_name (found_members fs))
 
@@ -165,18 +165,18 @@ module _ (come : FilesMayCome) (tested : PackagesAreTested) (read : Reads) (byte
       ((λ q here. subst (λ (x : List ℕ). Names.order x q ≡ Less) (sym found.named) (rises.0 q (are.1 q here))), are.2),
     )
 
-    names_ok : (n : ℕ) (names : List (List ℕ)) (fs : List MemberFound) → Names.Rises names → names_after r read repositories no_scripts n names ≡ Ok fs → AreFoundOf names fs
+    names_ok : (n : ℕ) (names : List (List ℕ)) (fs : List MemberFound) → Names.Rises names → members_of_names_after r read repositories no_scripts n names ≡ Ok fs → AreFoundOf names fs
     names_ok n [] fs rises e = let same : [] ≡ fs = cc in subst (AreFoundOf []) same (tt, (λ q here. absurd here), tt)
     names_ok n (name ∷ names) fs rises e =
         let first = and_then_ok (member_of_name_after r read repositories no_scripts n name) (λ first.
-        and_then (names_after r read repositories no_scripts (suc n) names) (λ others.
+        and_then (members_of_names_after r read repositories no_scripts (suc n) names) (λ others.
         Ok (cons_option first others))) fs e in
-        let others = and_then_ok (names_after r read repositories no_scripts (suc n) names) (λ others. Ok (cons_option first.0 others)) fs first.2 in
+        let others = and_then_ok (members_of_names_after r read repositories no_scripts (suc n) names) (λ others. Ok (cons_option first.0 others)) fs first.2 in
         let same : cons_option first.0 others.0 ≡ fs = (let last = others.2 in cc) in
         subst (AreFoundOf (name ∷ names)) same
         (one_more name names first.0 others.0 rises (name_ok n name first.0 first.1) (names_ok (suc n) names others.0 rises.1 others.1))
 
-    pub members_ok : (fs : List MemberFound) → members_after r read repositories no_scripts ≡ Ok fs → AreOfSoundContainers (found_members fs) × AreInOrder (found_members fs)
+    pub members_ok : (fs : List MemberFound) → members_after r read repositories no_scripts ≡ Ok fs → AreMembersOfSoundContainers (found_members fs) × AreMembersInNameOrder (found_members fs)
     unfolding members_after
     members_ok fs e =
         let are = names_ok (first_index_read_number + length repositories) (names_before_and_selected r) fs (order_rises _) e in

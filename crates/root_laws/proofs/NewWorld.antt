@@ -3,7 +3,7 @@ use Rattle.std.proofs.Common.{◌≡◌, ℕ, List, [], ◌∷◌, Option, Some,
 use Rattle.base_core.specs.Files.{Files}
 use Rattle.engine_core.specs.change_files.FileChange.{FileChange}
 use Rattle.engine_core.specs.change_files.FilesAfter.{DatabaseAndWorldAfter, files_after_change, world_bytes_after, world_name}
-use Rattle.engine_core.specs.change_inputs.Chains.{refused_as}
+use Rattle.engine_core.specs.change_inputs.Chains.{with_error_as_refusal}
 use Rattle.engine_core.specs.change_inputs.World.{new_world, root_world, found_text_or_empty, world_with_operand, world_with_operands, world_without_operands}
 use Rattle.command_core.specs.declared.command.Applet.{Applet}
 use Rattle.command_core.specs.declared.command.Applet.TheVariants.{Add, Del}
@@ -11,9 +11,9 @@ use Rattle.command_core.specs.declared.operands.Operand.{Operand}
 use Rattle.engine_core.specs.db_core.Members.{Listing}
 use Rattle.dep_core.specs.Dependency.{Dependency}
 use Rattle.dep_core.specs.Reading.{dependency_of}
-use Rattle.dep_core.specs.World.{IsWorld, with_entry, without_name, world_of, world_text}
+use Rattle.dep_core.specs.World.{IsWorld, world_with_dependency_set, world_without_name, world_of, world_text}
 use Rattle.dep_core.proofs.ReadOut.{read-out}
-use Rattle.dep_core.proofs.Worlds.{IsWorld-with_entry, IsWorld-without}
+use Rattle.dep_core.proofs.Worlds.{IsWorld-world_with_dependency_set, IsWorld-without}
 use Rattle.dep_core.proofs.WorldWords.{world-words}
 use Rattle.std.specs.Option.{option_map_or}
 use Rattle.report_core.specs.declared.refusal.Refusal.TheVariants.{WorldBad}
@@ -23,9 +23,9 @@ use Rattle.report_core.specs.declared.refusal.Refusal.TheVariants.{WorldBad}
 with_operand : (o : Operand) (world : List Dependency) → IsWorld world → IsWorld (world_with_operand o world)
 with_operand o world is = by_text (dependency_of o.text) refl
   where
-    by_text : (d : Option Dependency) → dependency_of o.text ≡ d → IsWorld (option_map_or (λ d. with_entry d world) d world)
+    by_text : (d : Option Dependency) → dependency_of o.text ≡ d → IsWorld (option_map_or (λ d. world_with_dependency_set d world) d world)
     by_text None e = is
-    by_text (Some d) e = IsWorld-with_entry d world (read-out o.text d e).0 is
+    by_text (Some d) e = IsWorld-world_with_dependency_set d world (read-out o.text d e).0 is
 
 with_operands : (operands : List Operand) (world : List Dependency) → IsWorld world → IsWorld (world_with_operands operands world)
 with_operands [] world is = is
@@ -33,7 +33,7 @@ with_operands (o ∷ operands) world is = with_operands operands (world_with_ope
 
 without_operands : (operands : List Operand) (world : List Dependency) → IsWorld world → IsWorld (world_without_operands operands world)
 without_operands [] world is = is
-without_operands (o ∷ operands) world is = without_operands operands (without_name o.text world) (IsWorld-without o.text world is)
+without_operands (o ∷ operands) world is = without_operands operands (world_without_name o.text world) (IsWorld-without o.text world is)
 
 pub new_world_is : (applet : Applet) (operands : List Operand) (world : List Dependency) → IsWorld world → IsWorld (new_world applet operands world)
 new_world_is Add operands world is = with_operands operands world is
@@ -42,7 +42,7 @@ new_world_is other operands world is = is
 
 -- ---- what is read
 
-world_kept : (r : Result (List Dependency) ℕ) (world : List Dependency) → refused_as WorldBad r ≡ Ok world → r ≡ Ok world
+world_kept : (r : Result (List Dependency) ℕ) (world : List Dependency) → with_error_as_refusal WorldBad r ≡ Ok world → r ≡ Ok world
 world_kept (Ok w) world e = let same : w ≡ world = cc in ap (λ (x : List Dependency). Ok x) same
 world_kept (Err line) world e = absurd (cc (e))
 
@@ -55,7 +55,7 @@ abbrev pub WorldsAreReadBack : Type 0
 WorldsAreReadBack = (world : List Dependency) → IsWorld world → world_of (world_text world) ≡ Ok world
 
 pub root_world_left : WorldsAreReadBack → (world : List Dependency) → IsWorld world → root_world (world_text world) ≡ Ok world
-root_world_left back world is = ap (refused_as WorldBad) (back world is)
+root_world_left back world is = ap (with_error_as_refusal WorldBad) (back world is)
 
 text_of_world : (world : List ℕ) (old : Option (List ℕ)) → found_text_or_empty (world_bytes_after world old) ≡ world
 text_of_world [] None = refl

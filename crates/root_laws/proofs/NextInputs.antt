@@ -4,11 +4,11 @@ use Rattle.make_index.specs.adb_schema.Soundness.{container_fault_except_content
 use Rattle.adb_view.specs.declared.tables.Which.TheVariants.{Index}
 use Rattle.adb_view.specs.Plain.{Plain}
 use Rattle.base_core.specs.declared.cause.Cause.{Cause}
-use Rattle.engine_core.specs.change_inputs.Chains.{and_then, refused_as, unless_cause}
+use Rattle.engine_core.specs.change_inputs.Chains.{and_then, with_error_as_refusal, unless_cause}
 use Rattle.engine_core.specs.change_inputs.Database.{Database}
-use Rattle.engine_core.specs.change_inputs.Indexes.{index_file, index_files_from, index_in_file, indexes_in_files, root_indexes}
+use Rattle.engine_core.specs.change_inputs.Indexes.{file_or_index_missing, index_files_from, index_in_file, indexes_in_files, root_indexes}
 use Rattle.engine_core.specs.change_inputs.Inputs.{Inputs, Root, database_for, index_reads_from, first_index_read_number, indexes_of, inputs_from_parts, inputs_of, repositories_read_number, root_from_parts, root_for, world_read_number}
-use Rattle.engine_core.specs.change_inputs.Repositories.{if_untrusted_allowed, root_repositories}
+use Rattle.engine_core.specs.change_inputs.Repositories.{repositories_if_untrusted_allowed, root_repositories}
 use Rattle.engine_core.specs.change_inputs.World.{root_world, found_text_or_empty}
 use Rattle.engine_core.specs.change_outcome.ChangeOutcome.{ChangeDone}
 use Rattle.engine_core.specs.change_outcome.MembersAfter.{found_members}
@@ -19,8 +19,8 @@ use Rattle.make_index.specs.make_info.Reads.{Reads}
 use Rattle.report_core.specs.declared.refusal.Refusal.{Refusal}
 use Rattle.report_core.specs.declared.refusal.Refusal.TheVariants.{IndexBad, RepositoriesBad}
 use Rattle.root_names.specs.RootNames.{repositories_name, world_name}
-use Rattle.root_laws.specs.NextInputs.{AreInputsFrom, IsOfRepositories}
-use Rattle.root_laws.specs.RootLeft.{IsRootLeft, ReadsRoot, database_of_members}
+use Rattle.root_laws.specs.NextInputs.{AreInputsOfRootLeft, IsRefusalOfRepositories}
+use Rattle.root_laws.specs.RootLeft.{IsRootLeftByChange, ReadsDatabaseAndWorldOfFiles, database_of_members}
 use Rattle.root_laws.proofs.SoundBefore.{inputs_parts}
 
 -- ---- inputs
@@ -29,8 +29,8 @@ one_answer : {A : Type 0} (r : Result A Refusal) (x y : A) → r ≡ Ok x → r 
 one_answer (Ok a) x y e h = (cc (e, h))
 one_answer (Err refusal) x y e h = absurd (cc (e))
 
-pub begins : (command later : CommandLine) (read next : Reads) (chosen : Option (List ℕ)) (done : ChangeDone) (left : IsRootLeft command read chosen done) (inputs : Inputs)
-    → ReadsRoot done.files next → inputs_of later next ≡ Ok inputs → AreInputsFrom left inputs
+pub begins : (command later : CommandLine) (read next : Reads) (chosen : Option (List ℕ)) (done : ChangeDone) (left : IsRootLeftByChange command read chosen done) (inputs : Inputs)
+    → ReadsDatabaseAndWorldOfFiles done.files next → inputs_of later next ≡ Ok inputs → AreInputsOfRootLeft left inputs
 begins command later read next chosen done left inputs reads e =
     let is = inputs_parts later next inputs e in
     record {
@@ -43,7 +43,7 @@ begins command later read next chosen done left inputs reads e =
 -- where it is refused, it is for the repositories or an index
 abbrev FailsOfRepositories : {A : Type 0} → Result A Refusal → Type 0
 FailsOfRepositories (Ok a) = Unit {0}
-FailsOfRepositories (Err refusal) = IsOfRepositories refusal
+FailsOfRepositories (Err refusal) = IsRefusalOfRepositories refusal
 
 then_fails : {A B : Type 0} (r : Result A Refusal) (next : A → Result B Refusal) → FailsOfRepositories r → ((a : A) → FailsOfRepositories (next a)) → FailsOfRepositories (and_then r next)
 then_fails (Ok a) next h f = f a
@@ -52,26 +52,26 @@ then_fails (Err refusal) next h f = h
 known_fails : {A B : Type 0} (r : Result A Refusal) (next : A → Result B Refusal) (a : A) → r ≡ Ok a → FailsOfRepositories (next a) → FailsOfRepositories (and_then r next)
 known_fails r next a e h = subst (λ (x : Result _ Refusal). FailsOfRepositories (and_then x next)) (sym e) h
 
-text_fails : (r : Result (List Repository) ℕ) → FailsOfRepositories (refused_as RepositoriesBad r)
+text_fails : (r : Result (List Repository) ℕ) → FailsOfRepositories (with_error_as_refusal RepositoriesBad r)
 text_fails (Ok repositories) = tt
 text_fails (Err line) = tt
 
-trusted_fails : (is_allowed : Bool) (repositories : List Repository) → FailsOfRepositories (if_untrusted_allowed is_allowed repositories)
+trusted_fails : (is_allowed : Bool) (repositories : List Repository) → FailsOfRepositories (repositories_if_untrusted_allowed is_allowed repositories)
 trusted_fails is_allowed [] = tt
 trusted_fails true (repository ∷ repositories) = tt
 trusted_fails false (repository ∷ repositories) = tt
 
 repositories_fail : (is_allowed : Bool) (text : List ℕ) → FailsOfRepositories (root_repositories is_allowed text)
-repositories_fail is_allowed text = then_fails (refused_as RepositoriesBad (repositories_of text)) (if_untrusted_allowed is_allowed) (text_fails (repositories_of text)) (trusted_fails is_allowed)
+repositories_fail is_allowed text = then_fails (with_error_as_refusal RepositoriesBad (repositories_of text)) (repositories_if_untrusted_allowed is_allowed) (text_fails (repositories_of text)) (trusted_fails is_allowed)
 
-file_fails : (n : ℕ) (f : Option (List ℕ)) → FailsOfRepositories (index_file n f)
+file_fails : (n : ℕ) (f : Option (List ℕ)) → FailsOfRepositories (file_or_index_missing n f)
 file_fails n None = tt
 file_fails n (Some file) = tt
 
 files_fail : (n : ℕ) (found : List (Option (List ℕ))) → FailsOfRepositories (index_files_from n found)
 files_fail n [] = tt
 files_fail n (f ∷ found) =
-    then_fails (index_file n f) (λ file. and_then (index_files_from (n + 1) found) (λ files. Ok (file ∷ files))) (file_fails n f)
+    then_fails (file_or_index_missing n f) (λ file. and_then (index_files_from (n + 1) found) (λ files. Ok (file ∷ files))) (file_fails n f)
     (λ file. then_fails (index_files_from (n + 1) found) (λ files. Ok (file ∷ files)) (files_fail (n + 1) found) (λ files. tt))
 
 index_fails : (n : ℕ) (fault : Option Cause) (index : Plain) → FailsOfRepositories (unless_cause (IndexBad n) fault index)
@@ -106,8 +106,8 @@ module _ (later : CommandLine) (next : Reads) (database : Database) (world : Lis
       then_fails (root_for later next) (λ root. and_then (indexes_of next root.repositories) (λ indexes. Ok (inputs_from_parts root indexes))) root_fails
       (λ root. then_fails (indexes_of next root.repositories) (λ indexes. Ok (inputs_from_parts root indexes)) (found_fail (index_reads_from next first_index_read_number root.repositories)) (λ indexes. tt))
 
-pub refused : (command later : CommandLine) (read next : Reads) (chosen : Option (List ℕ)) (done : ChangeDone) → IsRootLeft command read chosen done → (refusal : Refusal)
-    → ReadsRoot done.files next → inputs_of later next ≡ Err refusal → IsOfRepositories refusal
+pub refused : (command later : CommandLine) (read next : Reads) (chosen : Option (List ℕ)) (done : ChangeDone) → IsRootLeftByChange command read chosen done → (refusal : Refusal)
+    → ReadsDatabaseAndWorldOfFiles done.files next → inputs_of later next ≡ Err refusal → IsRefusalOfRepositories refusal
 refused command later read next chosen done left refusal reads e =
     subst (λ (r : Result Inputs Refusal). FailsOfRepositories r) e
     (inputs_fail later next (database_of_members (found_members left.found) left.bytes) left.selected.inputs.root.new_world (left.database later next reads) (left.world next reads))

@@ -10,10 +10,10 @@ use Rattle.engine_core.specs.change_inputs.Inputs.{Inputs, inputs_of, text_datab
 use Rattle.engine_core.specs.change_inputs.World.{root_world, found_text_or_empty}
 use Rattle.engine_core.specs.change_outcome.Made.{IsChangeMade}
 use Rattle.engine_core.proofs.change_outcome.Made.{and_then_ok, made}
-use Rattle.engine_core.specs.change_outcome.ChangeOutcome.{ChangeDone, change_or_refusal, file_change, new_records}
+use Rattle.engine_core.specs.change_outcome.ChangeOutcome.{ChangeDone, change_or_refusal, file_change, database_and_world_after_change}
 use Rattle.engine_core.specs.change_outcome.MembersAfter.{found_package_contents, found_members}
 use Rattle.command_core.specs.Command.{CommandLine}
-use Rattle.engine_core.specs.Changed.{InputsAndReplacement, change_of_selected, change_of_command, selected_by, selected_for, selected_of_inputs, simulated_change}
+use Rattle.engine_core.specs.Changed.{InputsAndReplacement, change_of_selected, change_of_command, selected_from_pool_by_choice, selected_from_reads_by_choice, selected_from_inputs_by_choice, simulated_change}
 use Rattle.engine_core.specs.Selecting.{pool_of_inputs}
 use Rattle.engine_core.specs.Wishes.{unknown_operand_place, unless_unknown_operand, wishes_of}
 use Rattle.make_index.specs.make_info.Reads.{Reads}
@@ -21,7 +21,7 @@ use Rattle.engine_core.specs.path_clashes.Clash.{NamePair}
 use Rattle.engine_core.specs.candidate_core.Rank.{SealedPool}
 use Rattle.report_core.specs.declared.refusal.Refusal.{Refusal}
 use Rattle.root_names.specs.RootNames.{database_name, text_database_name, world_name}
-use Rattle.root_laws.specs.RootLeft.{FindBytes, IsRootLeft}
+use Rattle.root_laws.specs.RootLeft.{AreAllReadFilesBytes, IsRootLeftByChange}
 use Rattle.root_laws.proofs.DatabaseLeft.{WrittenLaws, database_left}
 use Rattle.root_laws.proofs.MembersFound.{FilesMayCome, PackagesAreTested, members_ok}
 use Rattle.root_laws.proofs.NewWorld.{WorldsAreReadBack, root_world_left, world_text_left}
@@ -45,7 +45,7 @@ record IsSelectedOf (command : CommandLine) (read : Reads) (s : InputsAndReplace
 abbrev kept : InputsAndReplacement → Result InputsAndReplacement Refusal
 kept s = Ok s
 
-chosen_ok : (command : CommandLine) (inputs : Inputs) (pool : SealedPool) (chosen : Option (List ℕ)) (s : InputsAndReplacement) → selected_by command inputs pool chosen ≡ Ok s
+chosen_ok : (command : CommandLine) (inputs : Inputs) (pool : SealedPool) (chosen : Option (List ℕ)) (s : InputsAndReplacement) → selected_from_pool_by_choice command inputs pool chosen ≡ Ok s
     → (s.inputs ≡ inputs) × (s.replacement.before ≡ inputs.root.database.packages)
 chosen_ok command inputs pool None s e = absurd (cc (e))
 chosen_ok command inputs pool (Some trace) s e = by_same _ refl refl e
@@ -57,11 +57,11 @@ place_ok : {A : Type 0} (o : Option ℕ) (next : Result A Refusal) (a : A) → u
 place_ok None next a e = e
 place_ok (Some place) next a e = absurd (cc (e))
 
-selected_ok : (command : CommandLine) (read : Reads) (chosen : Option (List ℕ)) (s : InputsAndReplacement) → selected_for command read chosen ≡ Ok s → IsSelectedOf command read s
+selected_ok : (command : CommandLine) (read : Reads) (chosen : Option (List ℕ)) (s : InputsAndReplacement) → selected_from_reads_by_choice command read chosen ≡ Ok s → IsSelectedOf command read s
 selected_ok command read chosen s e =
-    let inputs = and_then_ok (inputs_of command read) (selected_of_inputs command chosen) s e in
-    let pool = and_then_ok (pool_of_inputs command inputs.0) (λ pool. unless_unknown_operand (unknown_operand_place command.applet inputs.0 command.operands) (selected_by command inputs.0 pool chosen)) s inputs.2 in
-    let is = chosen_ok command inputs.0 pool.0 chosen s (place_ok (unknown_operand_place command.applet inputs.0 command.operands) (selected_by command inputs.0 pool.0 chosen) s pool.2) in
+    let inputs = and_then_ok (inputs_of command read) (selected_from_inputs_by_choice command chosen) s e in
+    let pool = and_then_ok (pool_of_inputs command inputs.0) (λ pool. unless_unknown_operand (unknown_operand_place command.applet inputs.0 command.operands) (selected_from_pool_by_choice command inputs.0 pool chosen)) s inputs.2 in
+    let is = chosen_ok command inputs.0 pool.0 chosen s (place_ok (unknown_operand_place command.applet inputs.0 command.operands) (selected_from_pool_by_choice command inputs.0 pool.0 chosen) s pool.2) in
     record {
       inputs = inputs.1 ∙ ap (λ (x : Inputs). Ok x) (sym is.0);
       before = is.1 ∙ ap (λ (x : Inputs). x.root.database.packages) (sym is.0);
@@ -69,15 +69,15 @@ selected_ok command read chosen s e =
 
 -- ---- what is left
 
-module _ (laws : Laws) (command : CommandLine) (read : Reads) (files : Files) (chosen : Option (List ℕ)) (clash : Option NamePair) (done : ChangeDone) (bytes : FindBytes read) where
-  with_made : (s : InputsAndReplacement) → selected_for command read chosen ≡ Ok s → IsChangeMade s.inputs s.replacement (wishes_of command) read clash files done → IsRootLeft command read chosen done
+module _ (laws : Laws) (command : CommandLine) (read : Reads) (files : Files) (chosen : Option (List ℕ)) (clash : Option NamePair) (done : ChangeDone) (bytes : AreAllReadFilesBytes read) where
+  with_made : (s : InputsAndReplacement) → selected_from_reads_by_choice command read chosen ≡ Ok s → IsChangeMade s.inputs s.replacement (wishes_of command) read clash files done → IsRootLeftByChange command read chosen done
   with_made s is m =
       let of = selected_ok command read chosen s is in
       let root = inputs_parts command read s.inputs of.inputs in
       let sound : AllSound s.replacement.before = subst AllSound (sym of.before) (before_sound laws.stay laws.texts command read s.inputs.root bytes root) in
       let members = members_ok laws.come laws.tested read bytes s.replacement sound s.inputs.root.repositories (wishes_of command).no_scripts m.found m.members in
       let change : FileChange = file_change s.inputs (wishes_of command) m.found in
-      let records : DatabaseAndWorldAfter = new_records s.inputs m.database in
+      let records : DatabaseAndWorldAfter = database_and_world_after_change s.inputs m.database in
       let database_there : done.files database_name ≡ Some m.database =
       ap (λ (d : ChangeDone). d.files database_name) m.is ∙ database_after change (listing_bytes (found_package_contents m.found)) records files in
       let world_there : found_text_or_empty (done.files world_name) ≡ records.world =
@@ -102,8 +102,8 @@ module _ (laws : Laws) (command : CommandLine) (read : Reads) (files : Files) (c
   not_simulated s true off e = absurd (cc (off))
   not_simulated s false off e = e
 
-  pub root_left : change_of_command command read files chosen clash ≡ Ok done → command.flags.simulate ≡ false → IsRootLeft command read chosen done
+  pub root_left : change_of_command command read files chosen clash ≡ Ok done → command.flags.simulate ≡ false → IsRootLeftByChange command read chosen done
   unfolding change_of_command
   root_left e off =
-      let s = and_then_ok (selected_for command read chosen) (change_of_selected command read files clash) done e in
+      let s = and_then_ok (selected_from_reads_by_choice command read chosen) (change_of_selected command read files clash) done e in
       with_made s.0 s.1 (made s.0.inputs s.0.replacement (wishes_of command) read clash files done (not_simulated s.0 command.flags.simulate off s.2))

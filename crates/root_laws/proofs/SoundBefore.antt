@@ -16,7 +16,7 @@ use Rattle.engine_core.specs.change_inputs.Repositories.{root_repositories}
 use Rattle.engine_core.specs.change_inputs.World.{new_world, root_world, found_text_or_empty}
 use Rattle.engine_core.proofs.change_outcome.Made.{and_then_ok}
 use Rattle.command_core.specs.Command.{CommandLine}
-use Rattle.engine_core.specs.db_core.SoundMembers.{IsOfSoundContainer, IsOfSoundDatabase}
+use Rattle.engine_core.specs.db_core.SoundMembers.{IsPackageOfSoundContainer, IsOfSoundDatabase}
 use Rattle.dep_core.specs.Dependency.{Dependency}
 use Rattle.dep_core.specs.Repositories.{Repository}
 use Rattle.dep_core.specs.World.{IsWorld}
@@ -29,7 +29,7 @@ use Rattle.engine_core.proofs.change_inputs.Texts.{text_passes}
 use Rattle.engine_core.specs.v2_core.Payload.{payload_of_text}
 use Rattle.engine_core.specs.v2_core.declared.read.V2Fault.{V2Fault}
 use Rattle.engine_core.specs.v2_core.declared.read.V2Fault.TheVariants.{Bad, Memory, TooLarge}
-use Rattle.root_laws.specs.RootLeft.{FindBytes}
+use Rattle.root_laws.specs.RootLeft.{AreAllReadFilesBytes}
 use Rattle.root_laws.proofs.TextNormal.{Exact, ReadBack, text_normal}
 use Rattle.root_laws.proofs.NewWorld.{new_world_is, read_world_is}
 
@@ -38,7 +38,7 @@ AllSound pkgs = (pkg : Plain) → IsIn pkg pkgs → IsOfSoundDatabase pkg
 
 -- what is said of a file and of a text
 abbrev pub FilesMayStay : Type 0
-FilesMayStay = (file : List ℕ) (pkg : Plain) → IsSoundContainer Idb file → All (λ b. b < 256) (payload_in file) → IsIn pkg (entries_at 0 (root_value Idb (payload_in file))) → IsOfSoundContainer pkg None
+FilesMayStay = (file : List ℕ) (pkg : Plain) → IsSoundContainer Idb file → All (λ b. b < 256) (payload_in file) → IsIn pkg (entries_at 0 (root_value Idb (payload_in file))) → IsPackageOfSoundContainer pkg None
 
 abbrev pub TextsAreSound : Type 0
 TextsAreSound = (text payload : List ℕ) → payload_of_text text ≡ Ok payload → AllSound (entries_at 0 (root_value Idb payload))
@@ -123,7 +123,7 @@ inputs_parts command read inputs e =
     let same : inputs_from_parts root.0 indexes.0 ≡ inputs = (let last = indexes.2 in cc) in
     subst (λ (x : Inputs). IsRootFor command read x.root) same (root_parts command read root.0 root.1)
 
-pub before_sound : FilesMayStay → TextsAreSound → (command : CommandLine) (read : Reads) (root : Root) → FindBytes read → IsRootFor command read root → AllSound root.database.packages
+pub before_sound : FilesMayStay → TextsAreSound → (command : CommandLine) (read : Reads) (root : Root) → AreAllReadFilesBytes read → IsRootFor command read root → AllSound root.database.packages
 before_sound stay texts command read root bytes is =
     database_sound stay texts command.flags.initdb (read database_read_number database_name) (read text_database_read_number text_database_name) root.database
     (bytes database_read_number database_name) is.database

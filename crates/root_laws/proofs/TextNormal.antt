@@ -8,10 +8,10 @@ use Rattle.adb_view.specs.Values.{value_at}
 use Rattle.adb_view.specs.declared.tables.Kind.TheVariants.{Obj}
 use Rattle.adb_view.specs.declared.tables.Which.TheVariants as Tables
 use Rattle.adb_view.specs.Head.{root_word_of_payload}
-use Rattle.adb_view.specs.Plain.{IsNormal, Plain, Shape, null, plain_of, value_of}
+use Rattle.adb_view.specs.Plain.{IsNormal, Plain, Shape, null, plain_of, root_value_with_shape}
 use Rattle.adb_view.specs.Shaped.{HasShape}
 use Rattle.make_index.specs.adb_write.Canonical.{MOST_BYTES, PayloadCounts, canonical, exceeds_a_limit, or_overflow, overflow_of, payload_or_overflow}
-use Rattle.make_index.specs.adb_write.Size.{size_of, value_count}
+use Rattle.make_index.specs.adb_write.Size.{payload_size_of, value_count}
 use Rattle.base_core.specs.declared.cause.Cause.{Cause}
 use Rattle.base_core.proofs.Booleans.{neither_first}
 use Rattle.engine_core.specs.v2_core.Database.{value_of_records}
@@ -24,10 +24,10 @@ use Rattle.root_laws.proofs.TextRecords.{AreGoodIfRead, records_fit, records_goo
 
 -- what the layer of the writer says
 abbrev pub ReadBack : Type 0
-ReadBack = (shape : Shape) (v : Plain) → IsNormal v → HasShape shape v → size_of v ≤ MOST_BYTES → value_of (canonical v) shape ≡ Some v
+ReadBack = (shape : Shape) (v : Plain) → IsNormal v → HasShape shape v → payload_size_of v ≤ MOST_BYTES → root_value_with_shape (canonical v) shape ≡ Some v
 
 abbrev pub Exact : Type 0
-Exact = (v : Plain) → IsNormal v → is_some (overflow_of v) ≡ exceeds_a_limit (size_of v, value_count v)
+Exact = (v : Plain) → IsNormal v → is_some (overflow_of v) ≡ exceeds_a_limit (payload_size_of v, value_count v)
 
 -- ---- a payload that is written
 
@@ -42,10 +42,10 @@ written_ok : (v : Plain) (o : Option PayloadCounts) (payload : List ℕ) → pay
 written_ok v None payload e = (refl, tested_ok (canonical v) payload (payload_fault Tables.Idb (canonical v)) e)
 written_ok v (Some counts) payload e = absurd (cc (e))
 
-value_is : (k : Shape) (payload : List ℕ) (v : Plain) → value_of payload k ≡ Some v → unwrap_or (plain_of payload k (root_word_of_payload payload)) null ≡ v
+value_is : (k : Shape) (payload : List ℕ) (v : Plain) → root_value_with_shape payload k ≡ Some v → unwrap_or (plain_of payload k (root_word_of_payload payload)) null ≡ v
 value_is k payload v e = ap (λ (o : Option Plain). unwrap_or o null) e
 
-root_is : (payload : List ℕ) (v : Plain) → value_of payload (shape_of (Obj Tables.Idb)) ≡ Some v → root_value Tables.Idb payload ≡ v
+root_is : (payload : List ℕ) (v : Plain) → root_value_with_shape payload (shape_of (Obj Tables.Idb)) ≡ Some v → root_value Tables.Idb payload ≡ v
 unfolding value_at
 root_is payload v e = value_is (shape_of (Obj Tables.Idb)) payload v e
 
@@ -54,7 +54,7 @@ module _ (back : ReadBack) (exact : Exact) where
   unfolding payload_or_overflow
   written_normal v payload fit e =
       let written = written_ok v (overflow_of v) payload e in
-      let few : size_of v ≤ MOST_BYTES = ltb-false MOST_BYTES (size_of v) (neither_first _ _ (sym (exact v fit.0) ∙ written.0)) in
+      let few : payload_size_of v ≤ MOST_BYTES = ltb-false MOST_BYTES (payload_size_of v) (neither_first _ _ (sym (exact v fit.0) ∙ written.0)) in
       subst (λ (p : List ℕ). IsNormal (root_value Tables.Idb p)) written.1
       (subst IsNormal (sym (root_is (canonical v) v (back (shape_of (Obj Tables.Idb)) v fit.0 fit.1 few))) fit.0)
 

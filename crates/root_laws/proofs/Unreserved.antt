@@ -11,11 +11,11 @@ use Rattle.make_index.specs.adb_fields.FirstPair.{IsIn}
 use Rattle.make_index.specs.adb_fields.Paths.{path_of}
 use Rattle.make_index.specs.adb_fields.Repeated.{files_in, folders_in, list_of, name_of}
 use Rattle.make_index.specs.adb_schema.Reserved.{is_reserved}
-use Rattle.make_index.specs.adb_schema.SoundValues.{IsSoundFileOf, IsSoundFolder, IsSoundPackage}
+use Rattle.make_index.specs.adb_schema.SoundValues.{IsSoundFileInFolder, IsSoundFolder, IsSoundPackage}
 use Rattle.engine_core.specs.change_files.PlanLists.{first_reserved_path}
 use Rattle.engine_core.specs.db_core.Members.{Listing, Member, is_added, listings_of_member, listings_of_members_from, listings_in_folder, listings_in_folders, member_listings}
 use Rattle.engine_core.specs.db_core.OwnedListings.{HaveAtMostOneOwner, owned_listings}
-use Rattle.engine_core.specs.db_core.SoundMembers.{AreOfSoundContainers, IsOfSoundContainer, IsOfSoundDatabase, MayBeInDatabase, NoneReserved}
+use Rattle.engine_core.specs.db_core.SoundMembers.{AreMembersOfSoundContainers, IsPackageOfSoundContainer, IsOfSoundDatabase, HaveOneOwnerAndNoReservedPath, NoneReserved}
 use Rattle.base_core.specs.ByteOrder.{precedes, smaller_text, smallest_text}
 
 -- ---- a property of each listing
@@ -44,10 +44,10 @@ each_in P v (more u us) h (inr here) = each_in P v us h.1 here
 abbrev IsFree : Listing → Type 0
 IsFree l = is_reserved l.path ≡ false
 
-file_free : (folder : List ℕ) (v : Plain) → IsSoundFileOf Idb folder v → is_reserved (path_of folder (name_of v)) ≡ false
+file_free : (folder : List ℕ) (v : Plain) → IsSoundFileInFolder Idb folder v → is_reserved (path_of folder (name_of v)) ≡ false
 file_free folder v is = not-true (is_reserved (path_of folder (name_of v))) is.listed
 
-folder_free : (m : Member) (place folder i : ℕ) (above : List ℕ) (vs : Plains) → Each (IsSoundFileOf Idb above) vs → EachListing IsFree (listings_in_folder m place folder i above (list_of vs))
+folder_free : (m : Member) (place folder i : ℕ) (above : List ℕ) (vs : Plains) → Each (IsSoundFileInFolder Idb above) vs → EachListing IsFree (listings_in_folder m place folder i above (list_of vs))
 folder_free m place folder i above none h = tt
 folder_free m place folder i above (more v vs) h = (file_free above v h.0, folder_free m place folder (i + 1) above vs h.1)
 
@@ -83,14 +83,14 @@ module _ (m : Member) (place : ℕ) (comes : is_added m ≡ true) where
       each_appended IsFreeIfStays (listings_in_folder m place i 1 (name_of f) (files_in f)) (listings_in_folders m place (i + 1) fs)
       (folder_comes i 1 (name_of f) (files_in f)) (folders_come (i + 1) fs)
 
-member_free : (m : Member) (place : ℕ) → IsOfSoundContainer m.pkg m.id → EachListing IsFreeIfStays (listings_of_member place m)
+member_free : (m : Member) (place : ℕ) → IsPackageOfSoundContainer m.pkg m.id → EachListing IsFreeIfStays (listings_of_member place m)
 member_free m place h = by_id m.id refl h
   where
-    by_id : (id : Option (List ℕ)) → m.id ≡ id → IsOfSoundContainer m.pkg id → EachListing IsFreeIfStays (listings_of_member place m)
+    by_id : (id : Option (List ℕ)) → m.id ≡ id → IsPackageOfSoundContainer m.pkg id → EachListing IsFreeIfStays (listings_of_member place m)
     by_id None e sound = listed_free m place sound
     by_id (Some digest) e sound = folders_come m place (ap is_some e) 1 (folders_in m.pkg)
 
-members_free : (place : ℕ) (ms : List Member) → AreOfSoundContainers ms → EachListing IsFreeIfStays (listings_of_members_from place ms)
+members_free : (place : ℕ) (ms : List Member) → AreMembersOfSoundContainers ms → EachListing IsFreeIfStays (listings_of_members_from place ms)
 members_free place [] h = tt
 members_free place (m ∷ ms) h = each_appended IsFreeIfStays (listings_of_member place m) (listings_of_members_from (place + 1) ms) (member_free m place h.0) (members_free (place + 1) ms h.1)
 
@@ -127,8 +127,8 @@ none_reserved [] h = tt
 none_reserved (l ∷ ls) h = (h.0, none_reserved ls h.1)
 
 -- so what they own may be listed
-pub may_be_listed : (members : List Member) (flags : List Bool) → HaveAtMostOneOwner (owned_listings (member_listings members) flags) → AreOfSoundContainers members → first_reserved_path members ≡ None
-    → MayBeInDatabase (owned_listings (member_listings members) flags)
+pub may_be_listed : (members : List Member) (flags : List Bool) → HaveAtMostOneOwner (owned_listings (member_listings members) flags) → AreMembersOfSoundContainers members → first_reserved_path members ≡ None
+    → HaveOneOwnerAndNoReservedPath (owned_listings (member_listings members) flags)
 unfolding member_listings first_reserved_path
 may_be_listed members flags one sound free =
     record {

@@ -8,19 +8,22 @@ use Rattle.command_core.specs.Command.{CommandLine}
 use Rattle.make_index.specs.make_info.Reads.{Reads}
 use Rattle.report_core.specs.declared.refusal.Refusal.{Refusal}
 use Rattle.report_core.specs.declared.refusal.Refusal.TheVariants.{IndexBad, IndexMissing, RepositoriesBad, Untrusted}
-use Rattle.root_laws.specs.RootLeft.{IsRootLeft, database_of_members}
+use Rattle.root_laws.specs.RootLeft.{IsRootLeftByChange, database_of_members}
 
 -- inputs are what a change has left: the packages before are those after the change, and world is
 -- the one that it was made for
-pub record AreInputsFrom {command : CommandLine} {read : Reads} {chosen : Option (List ℕ)}
-    {done : ChangeDone} (left : IsRootLeft command read chosen done) (inputs : Inputs) : Type 0 where
+pub record AreInputsOfRootLeft {command : CommandLine} {read : Reads} {chosen : Option (List ℕ)}
+    {done : ChangeDone} (left : IsRootLeftByChange command read chosen done)
+    (inputs : Inputs) : Type 0 where
+  -- the packages before are those after the earlier change
   pub database : inputs.root.database ≡ database_of_members (found_members left.found) left.bytes
+  -- world is the new world of the earlier change
   pub world : inputs.root.world ≡ left.selected.inputs.root.new_world
 
 -- a refusal reports a fault of the repositories, or of an index of one
-abbrev pub IsOfRepositories : Refusal → Type 0
-IsOfRepositories (RepositoriesBad line) = Unit {0}
-IsOfRepositories Untrusted = Unit {0}
-IsOfRepositories (IndexMissing n) = Unit {0}
-IsOfRepositories (IndexBad n cause) = Unit {0}
-IsOfRepositories other = ⊥
+abbrev pub IsRefusalOfRepositories : Refusal → Type 0
+IsRefusalOfRepositories (RepositoriesBad line) = Unit {0}
+IsRefusalOfRepositories Untrusted = Unit {0}
+IsRefusalOfRepositories (IndexMissing n) = Unit {0}
+IsRefusalOfRepositories (IndexBad n cause) = Unit {0}
+IsRefusalOfRepositories other = ⊥

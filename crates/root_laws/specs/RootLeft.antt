@@ -12,20 +12,22 @@ use Rattle.command_core.specs.Command.{CommandLine}
 use Rattle.engine_core.specs.db_core.Members.{Member}
 use Rattle.engine_core.specs.db_write.NewDatabase.{packages_in_new_database}
 use Rattle.dep_core.specs.World.{world_text}
-use Rattle.engine_core.specs.Changed.{InputsAndReplacement, selected_for}
+use Rattle.engine_core.specs.Changed.{InputsAndReplacement, selected_from_reads_by_choice}
 use Rattle.engine_core.specs.Wishes.{wishes_of}
 use Rattle.engine_core.specs.file_owners.Owners.{owned_flags_of}
 use Rattle.make_index.specs.make_info.Reads.{Reads}
 use Rattle.root_names.specs.RootNames.{database_name, world_name}
 
 -- each file that reads find has bytes: numbers below 256
-abbrev pub FindBytes : Reads → Type 0
-FindBytes read =
+abbrev pub AreAllReadFilesBytes : Reads → Type 0
+AreAllReadFilesBytes read =
     (n : ℕ) (name bytes : List ℕ) → read n name ≡ Some bytes → All (λ b. b < 256) bytes
 
 -- reads find the database and world of these files
-pub record ReadsRoot (files : Files) (read : Reads) : Type 0 where
+pub record ReadsDatabaseAndWorldOfFiles (files : Files) (read : Reads) : Type 0 where
+  -- the read of the database finds the file under its name
   pub database : read database_read_number database_name ≡ files database_name
+  -- the read of world finds the file under its name
   pub world : read world_read_number world_name ≡ files world_name
 
 -- the database of packages, each with the files that it owns, in a container of these bytes
@@ -36,18 +38,24 @@ database_of_members members bytes =
 
 -- A change leaves a root in which each later command finds a database with the packages after the
 -- change, and the world that the change was made for.
-pub record IsRootLeft (command : CommandLine) (read : Reads) (chosen : Option (List ℕ))
+pub record IsRootLeftByChange (command : CommandLine) (read : Reads) (chosen : Option (List ℕ))
     (done : ChangeDone) : Type 0 where
+  -- what the change read, and the packages before with the candidates that replace them
   pub selected : InputsAndReplacement
-  pub is_selected : selected_for command read chosen ≡ Ok selected
+  pub is_selected : selected_from_reads_by_choice command read chosen ≡ Ok selected
+  -- the packages after the change
   pub found : List MemberFound
   pub members : members_after_change selected.inputs selected.replacement (wishes_of command) read
       ≡ Ok found
+  -- the bytes of the new database
   pub bytes : List ℕ
-  pub database : (later : CommandLine) (next : Reads) → ReadsRoot done.files next
+  -- a later command that reads these files finds a database with the packages after the change
+  pub database : (later : CommandLine) (next : Reads) → ReadsDatabaseAndWorldOfFiles done.files next
       → database_for later next ≡ Ok (database_of_members (found_members found) bytes)
-  pub world : (next : Reads) → ReadsRoot done.files next
+  -- a later command finds the new world of the change
+  pub world : (next : Reads) → ReadsDatabaseAndWorldOfFiles done.files next
       → root_world (found_text_or_empty (next world_read_number world_name))
       ≡ Ok selected.inputs.root.new_world
-  pub text : (next : Reads) → ReadsRoot done.files next
+  -- the text of world is that of this new world
+  pub text : (next : Reads) → ReadsDatabaseAndWorldOfFiles done.files next
       → found_text_or_empty (next world_read_number world_name) ≡ world_text selected.inputs.root.new_world

@@ -3,7 +3,7 @@
 //! change" and "World".
 
 ghost use Rattle.std.specs.Prelude.{◌≡◌, ℕ, false, Err, List, Ok, Option};
-ghost use Rattle.base_core.specs.Files.{AreNamedFiles, Files};
+ghost use Rattle.base_core.specs.Files.{HaveValidNamesAndBytes, Files};
 ghost use Rattle.engine_core.specs.change_inputs.Inputs.{Inputs, inputs_of};
 ghost use Rattle.engine_core.specs.change_outcome.ChangeOutcome.{ChangeDone};
 ghost use Rattle.command_core.specs.Command.{CommandLine};
@@ -11,8 +11,8 @@ ghost use Rattle.engine_core.specs.Changed.{change_of_command};
 ghost use Rattle.make_index.specs.make_info.Reads.{Reads};
 ghost use Rattle.engine_core.specs.path_clashes.Clash.{NamePair};
 ghost use Rattle.report_core.specs.declared.refusal.Refusal.{Refusal};
-ghost use Rattle.root_laws.specs.NextInputs.{AreInputsFrom, IsOfRepositories};
-ghost use Rattle.root_laws.specs.RootLeft.{FindBytes, IsRootLeft, ReadsRoot};
+ghost use Rattle.root_laws.specs.NextInputs.{AreInputsOfRootLeft, IsRefusalOfRepositories};
+ghost use Rattle.root_laws.specs.RootLeft.{AreAllReadFilesBytes, IsRootLeftByChange, ReadsDatabaseAndWorldOfFiles};
 
 use adb_view::{values_have_their_shape, values_of_few_visits_have_no_fault};
 use dep_core::worlds_are_read_back;
@@ -31,11 +31,12 @@ use make_index::{
 /// the change was made for.
 pub fn what_a_change_leaves_is_read_by_the_next_run()
     ensures { (command : CommandLine) (read : Reads) (files : Files) (chosen : Option (List ℕ))
-        (clash : Option NamePair) (done : ChangeDone) → FindBytes read
+        (clash : Option NamePair) (done : ChangeDone) → AreAllReadFilesBytes read
         → change_of_command command read files chosen clash ≡ Ok done
         → command.flags.simulate ≡ false
-        → IsRootLeft command read chosen done }
+        → IsRootLeftByChange command read chosen done }
 {
+    // Laws that the proof needs; they have no effect at run time.
     values_of_few_visits_have_no_fault();
     values_have_their_shape();
     a_canonical_payload_is_read_back();
@@ -56,17 +57,18 @@ pub fn what_a_change_leaves_is_read_by_the_next_run()
 pub fn a_command_begins_with_what_the_last_change_left()
     // A command whose inputs are read.
     ensures inputs { (command later : CommandLine) (read next : Reads) (chosen : Option (List ℕ))
-        (done : ChangeDone) (inputs : Inputs) (left : IsRootLeft command read chosen done)
-        → ReadsRoot done.files next → inputs_of later next ≡ Ok inputs → AreInputsFrom left inputs }
+        (done : ChangeDone) (inputs : Inputs) (left : IsRootLeftByChange command read chosen done)
+        → ReadsDatabaseAndWorldOfFiles done.files next → inputs_of later next ≡ Ok inputs
+        → AreInputsOfRootLeft left inputs }
     // A command that does not.
     ensures refused { (command later : CommandLine) (read next : Reads) (chosen : Option (List ℕ))
-        (done : ChangeDone) (refusal : Refusal) → IsRootLeft command read chosen done
-        → ReadsRoot done.files next → inputs_of later next ≡ Err refusal
-        → IsOfRepositories refusal }
+        (done : ChangeDone) (refusal : Refusal) → IsRootLeftByChange command read chosen done
+        → ReadsDatabaseAndWorldOfFiles done.files next → inputs_of later next ≡ Err refusal
+        → IsRefusalOfRepositories refusal }
 {}
 
 /// What is read of the files of a tree has bytes.
 pub fn reads_of_named_files_find_bytes()
-    ensures { (files : Files) (read : Reads) → AreNamedFiles files
-        → ((n : ℕ) (name : List ℕ) → read n name ≡ files name) → FindBytes read }
+    ensures { (files : Files) (read : Reads) → HaveValidNamesAndBytes files
+        → ((n : ℕ) (name : List ℕ) → read n name ≡ files name) → AreAllReadFilesBytes read }
 {}

@@ -1,5 +1,5 @@
-//! What rows run, and what is seen of a run, beside what is wanted. What is expected is in
-//! `tests/rows.md`, "Lines".
+//! The program that rows run, the results of a run, and their comparison with what a row expects
+//! (`tests/rows.md`, "Lines").
 
 use crate::differences::{RowFault, compare, compare_numbers, differs};
 use crate::recovery::images_of;
@@ -9,7 +9,8 @@ use row_text::{NamedFile, Step};
 use std::alloc::{AllocError, Global};
 use tree_memory::{MemorySink, MemoryTree};
 
-/// Compares all that a row wants of a command line with what its run left and printed.
+/// Compares what a run of a command line printed and left with all that the row expects of it.
+/// `before` is the tree that the command line found.
 pub fn check_run<P: Program>(
     alloc: Global,
     program: &P,
@@ -23,7 +24,8 @@ pub fn check_run<P: Program>(
     check_names(alloc, step, &run.tree)
 }
 
-/// Compares the streams and the status with those that are expected.
+/// Compares standard output, standard error and the exit status of a run with those that the row
+/// expects.
 pub fn check_streams<P: Program>(
     alloc: Global,
     program: &P,
@@ -38,7 +40,8 @@ pub fn check_streams<P: Program>(
     compare_numbers(alloc, line, b"status", u64::from(run.status), status)
 }
 
-/// Compares the counts that the row says; and no memory may be lacking.
+/// Compares the counts of calls of the tree with those that the row states. A run in which the tree
+/// or a stream was out of memory fails the row.
 fn check_counts(alloc: Global, step: &Step, run: &Run) -> Result<(), RowFault> {
     let line = step.line;
     if let Some(calls) = step.calls {
@@ -59,7 +62,8 @@ fn check_counts(alloc: Global, step: &Step, run: &Run) -> Result<(), RowFault> {
     Ok(())
 }
 
-/// Each file is as it is wanted, or as it was before where nothing is said of it.
+/// Checks each file after a command line: it is as the row expects, or as before the command line
+/// if the row says nothing of it.
 fn check_files<P: Program>(
     alloc: Global,
     program: &P,
@@ -67,6 +71,7 @@ fn check_files<P: Program>(
     before: &MemoryTree,
     after: &MemoryTree,
 ) -> Result<(), RowFault> {
+    // The files that were there before, and those that are there now.
     for tree in [before, after] {
         let names = tree.names(alloc)?;
         for i in 0..names.len() {
@@ -79,7 +84,8 @@ fn check_files<P: Program>(
     Ok(())
 }
 
-/// Compares one file: where the row wants none under its name, it is to be as it was before.
+/// Checks one file after a command line: if the row has no line `then` for it, it has to be as
+/// before the command line.
 fn check_file<P: Program>(
     alloc: Global,
     program: &P,
@@ -88,6 +94,7 @@ fn check_file<P: Program>(
     after: &MemoryTree,
     name: &Name,
 ) -> Result<(), RowFault> {
+    // The bytes that the file has to have; None if it has to be absent.
     let wanted = match wanted_file(step, name) {
         Some(file) => match &file.content {
             Some(content) => Some(bytes_of(alloc, program, content)?),
@@ -103,18 +110,18 @@ fn check_file<P: Program>(
         (Some(found), Some(wanted)) => {
             compare(alloc, step.line, name.as_bytes(), found, &wanted)
         }
-        (Some(_), None) => tell(alloc, step.line, name, b" stands there"),
-        (None, Some(_)) => tell(alloc, step.line, name, b" is absent"),
+        (Some(_), None) => file_differs(alloc, step.line, name, b" stands there"),
+        (None, Some(_)) => file_differs(alloc, step.line, name, b" is absent"),
     }
 }
 
-/// Tells that a file differs, and how.
-fn tell(alloc: Global, line: u64, name: &Name, what: &[u8]) -> Result<(), RowFault> {
+/// The fault of a row in which a file differs from the expected one, and how it differs.
+fn file_differs(alloc: Global, line: u64, name: &Name, what: &[u8]) -> Result<(), RowFault> {
     let pieces: [&[u8]; 2] = [name.as_bytes(), what];
     Err(differs(alloc, line, &pieces))
 }
 
-/// What is expected of a file, if the row says something of it.
+/// What the row expects of a file after a command line (`then`), or None if it says nothing of it.
 fn wanted_file<'a>(step: &'a Step, name: &Name) -> Option<&'a NamedFile> {
     for file in &step.files {
         if file.name.as_bytes() == name.as_bytes() {
@@ -124,7 +131,7 @@ fn wanted_file<'a>(step: &'a Step, name: &Name) -> Option<&'a NamedFile> {
     None
 }
 
-/// Compares all names with those that the row says, if it does.
+/// Compares the names of all files with those that the row lists (`names`), if it has such a list.
 fn check_names(alloc: Global, step: &Step, tree: &MemoryTree) -> Result<(), RowFault> {
     let Some(wanted) = &step.names else {
         return Ok(());
@@ -136,18 +143,18 @@ fn check_names(alloc: Global, step: &Step, tree: &MemoryTree) -> Result<(), RowF
             .iter()
             .any(|other| other.as_bytes() == name.as_bytes())
         {
-            return tell(alloc, step.line, name, b" is a name");
+            return file_differs(alloc, step.line, name, b" is a name");
         }
     }
     for name in wanted {
         if tree.file(name).is_none() {
-            return tell(alloc, step.line, name, b" is no name");
+            return file_differs(alloc, step.line, name, b" is no name");
         }
     }
     Ok(())
 }
 
-/// Looks at each image that a crash may leave of a tree: it is to have the tree's files.
+/// Checks that each image that a crash may leave of a tree has the files of the tree.
 pub fn check_images(alloc: Global, step: &Step, tree: &MemoryTree) -> Result<(), RowFault> {
     for choice in 0..images_of(tree) {
         let image = tree.pick_image(alloc, choice)?;
@@ -161,7 +168,8 @@ pub fn check_images(alloc: Global, step: &Step, tree: &MemoryTree) -> Result<(),
 
 /// A program that rows can run, over a tree and two sinks in memory.
 pub trait Program {
-    /// Runs the words of a command line, without the program's name, and answers the exit status.
+    /// Runs a command line, given its words without the program's name, and returns the exit
+    /// status.
     fn run(
         &self,
         alloc: Global,
@@ -171,14 +179,15 @@ pub trait Program {
         err: &mut MemorySink,
     ) -> u8;
 
-    /// Finishes what a run that was stopped left undone. Returns false where that failed.
+    /// Recovers a tree: finishes the change that a stopped run left committed. Returns whether that
+    /// succeeded.
     fn recover(&self, alloc: Global, tree: &mut MemoryTree) -> bool;
 
-    /// The container of a dump text, or None if the text is none.
+    /// The container that is written of a dump text, or None if the text is no dump text.
     fn container_of(&self, alloc: Global, text: &[u8]) -> Result<Option<Vec<u8>>, AllocError>;
 }
 
-/// A run that ended: what it left and what it printed.
+/// The results of a run that ended: the tree that it left, its exit status and what it printed.
 #[derive(Drop)]
 pub struct Run {
     /// The tree that it left, with its counts of calls.

@@ -1,19 +1,19 @@
-//! Why a row fails, and two texts or numbers beside each other. Such a line is after
-//! `FAILED NAME: `, as `tests/rows.md` says in "What runs them".
+//! Why a row fails: the comparison of two texts or of two numbers, and the report of how they
+//! differ. `tests/rows.md`, "What runs them", says that the report follows `FAILED NAME: `.
 use std::alloc::{AllocError, AllocFailed, Global};
 
-/// How many bytes are shown of a text that differs.
+/// How many bytes a report shows of a text that differs.
 const SHOWN: usize = 60;
 
-// How many of them are before the first one that differs.
+// How many of the shown bytes are before the first byte that differs.
 const BEFORE: usize = 20;
 
 /// Why a row fails.
 #[derive(Drop)]
 pub enum RowFault {
-    /// What differs and where.
+    /// The report: what differs and where.
     Differs(Vec<u8>),
-    /// There is no memory to run it.
+    /// There is no memory to run the row.
     Memory,
 }
 
@@ -25,13 +25,14 @@ impl From<AllocError> for RowFault {
 }
 
 impl<T: Drop> From<AllocFailed<T>> for RowFault {
-    // Out of memory; the value to be kept is returned.
+    // Out of memory, as the reason why a row fails. The value that was not stored is dropped.
     fn from(_: AllocFailed<T>) -> RowFault {
         RowFault::Memory
     }
 }
 
-/// A difference, in pieces, at a line of the text.
+/// The fault of a row: a report that begins with the number of a line of the text of rows, and then
+/// has these pieces.
 pub fn differs(alloc: Global, line: u64, pieces: &[&[u8]]) -> RowFault {
     match difference(alloc, line, pieces) {
         Ok(text) => RowFault::Differs(text),
@@ -39,7 +40,8 @@ pub fn differs(alloc: Global, line: u64, pieces: &[&[u8]]) -> RowFault {
     }
 }
 
-/// A line of what differs, with the line of the row that wanted it.
+/// The report of a difference: the number of the line of the text of rows that states the
+/// expectation, and then these pieces.
 fn difference(alloc: Global, line: u64, pieces: &[&[u8]]) -> Result<Vec<u8>, AllocError> {
     let mut text = Vec::from_slice(alloc, b"line ")?;
     add_number(alloc, &mut text, line)?;
@@ -50,20 +52,21 @@ fn difference(alloc: Global, line: u64, pieces: &[&[u8]]) -> Result<Vec<u8>, All
     Ok(text)
 }
 
-/// Adds a number in decimal digits.
+/// Adds the decimal digits of a number to a text.
 pub fn add_number(alloc: Global, text: &mut Vec<u8>, number: u64) -> Result<(), AllocError> {
     let digits = format!(in alloc; "{number}")?;
     text.extend_from_slice(digits.as_bytes())
 }
 
-/// A number in decimal digits.
+/// The decimal digits of a number.
 pub fn digits(alloc: Global, number: u64) -> Result<Vec<u8>, AllocError> {
     let mut text = Vec::new(alloc);
     add_number(alloc, &mut text, number)?;
     Ok(text)
 }
 
-/// Compares two texts; where they differ, the first place is reported, counted from 0.
+/// Compares two texts. If they differ, the first byte that differs is reported, counted from 0,
+/// with `what`, the name of the text, and `line`, the line that states the expectation.
 pub fn compare(
     alloc: Global,
     line: u64,
@@ -76,6 +79,7 @@ pub fn compare(
     }
     let at = first_difference(found, wanted);
     let place = digits(alloc, at as u64)?;
+    // The report shows both texts around the first byte that differs.
     let found = shown(alloc, found, at)?;
     let wanted = shown(alloc, wanted, at)?;
     let pieces: [&[u8]; 7] = [
@@ -90,7 +94,7 @@ pub fn compare(
     Err(differs(alloc, line, &pieces))
 }
 
-/// The place of the first byte that differs, or the end of the shorter text.
+/// The index of the first byte that differs, counted from 0, or the length of the shorter text.
 fn first_difference(found: &[u8], wanted: &[u8]) -> usize {
     let mut at = 0usize;
     for (one, other) in found.iter().zip(wanted.iter()) {
@@ -102,7 +106,8 @@ fn first_difference(found: &[u8], wanted: &[u8]) -> usize {
     at
 }
 
-/// Compares two numbers; where they differ, both are reported.
+/// Compares two numbers. If they differ, both are reported, with `what`, the name of the number,
+/// and `line`, the line that states the expectation.
 pub fn compare_numbers(
     alloc: Global,
     line: u64,
@@ -119,7 +124,7 @@ pub fn compare_numbers(
     Err(differs(alloc, line, &pieces))
 }
 
-/// What is shown of a text near a place, between quotes.
+/// The bytes of a text around the index `at`, between quotes, for a report.
 fn shown(alloc: Global, text: &[u8], at: usize) -> Result<Vec<u8>, AllocError> {
     let mut out = Vec::new(alloc);
     out.push(b'"')?;

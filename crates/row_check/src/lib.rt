@@ -1,5 +1,6 @@
-//! What a row wants beside what is seen: the tree that it begins with, what a run left and printed,
-//! and what a crash may leave. The rules are in `tests/rows.md`.
+//! Compares what a row expects with the results of its runs: the tree that the row begins with,
+//! what a run left and printed, and the images that a crash may leave. The rules are in
+//! `tests/rows.md`.
 //!
 //! Nothing is proved of what is compared: these are tests.
 #![tactic(auto)]

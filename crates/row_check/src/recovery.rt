@@ -1,6 +1,6 @@
-//! What is left after a crash: each image of a tree is recovered, twice, and then has the files
-//! that are expected. The rules are in `tests/rows.md`, "What goes wrong": the paragraphs on images
-//! and on the two sides.
+//! Crash images: each image of a tree is recovered, twice, and compared with the files before and
+//! after a command line. The rules are in `tests/rows.md`, "What goes wrong": the paragraphs on
+//! images and on the two sides.
 use crate::check::Program;
 use crate::differences::{RowFault, differs, digits};
 use crate::start::{are_alike, are_equal, copy_of};
@@ -12,23 +12,24 @@ use tree_memory::MemoryTree;
 /// recovered.
 #[derive(Drop)]
 pub struct Sides {
-    /// The files that it finds.
+    /// The files that the command line finds.
     pub before: MemoryTree,
-    /// The files that it leaves.
+    /// The files that the command line leaves.
     pub after: MemoryTree,
 }
 
-/// Which of the two sides some recovered files are.
+/// Whether recovered files are those before a command line or those after it. If the command line
+/// changes nothing, they can be both.
 #[derive(Clone, Copy)]
 pub struct Found {
     /// They are the files that the command line finds.
     pub before: bool,
-    /// They are the files that it leaves.
+    /// They are the files that the command line leaves.
     pub after: bool,
 }
 
 impl Sides {
-    /// The two sides, each as a recovery leaves it.
+    /// The two sides of a command line: the trees `before` and `after` it, each after a recovery.
     pub fn new<P: Program>(
         alloc: Global,
         program: &P,
@@ -49,8 +50,8 @@ impl Sides {
         Ok(are_alike(alloc, &self.before, &self.after)?)
     }
 
-    /// Which side the files of a tree are, once they are recovered. That they are neither is
-    /// reported, as what stands `where_found`.
+    /// Whether the files of a tree, after a recovery, are those that the command line finds or
+    /// those that it leaves. If they are neither, this is reported; `where_found` names the tree.
     pub fn find<P: Program>(
         &self,
         alloc: Global,
@@ -71,7 +72,8 @@ impl Sides {
         Err(differs(alloc, step.line, &[where_found, what]))
     }
 
-    /// Each image that a crash may leave of a tree has the files afterwards.
+    /// Checks that each image that a crash may leave of a tree has, after a recovery, the files
+    /// that the command line leaves.
     pub fn check_images<P: Program>(
         &self,
         alloc: Global,
@@ -94,15 +96,15 @@ impl Sides {
     }
 }
 
-/// How many images are looked at of a tree: for each map of names that a number picks one for each
-/// of the three fillings of the files that were not synced (`docs/crash-safety.md`,
-/// "Images of the tree in memory": as read, nothing, or bytes of value 255).
+/// How many images of a tree are checked: three for each number that picks a map of names, one for
+/// each content of the unsynced files (`docs/crash-safety.md`, "Images of the tree in memory": as
+/// read, no bytes, or bytes of value 255).
 pub fn images_of(tree: &MemoryTree) -> u64 {
     tree.picks().saturating_mul(3)
 }
 
-/// The image of a tree that a number picks, or None if it is the image of the same map of names with
-/// all files as read, which a smaller number picks.
+/// The image of a tree that a number picks, or None if it is the image of the same map of names
+/// with all files as read, which a smaller number picks.
 pub fn new_image(
     alloc: Global,
     tree: &MemoryTree,
@@ -110,6 +112,7 @@ pub fn new_image(
 ) -> Result<Option<MemoryTree>, AllocError> {
     let image = tree.pick_image(alloc, choice)?;
     let picks = tree.picks();
+    // The numbers below `picks` are the images with all files as read.
     if picks == 0 || choice < picks {
         return Ok(Some(image));
     }
@@ -120,7 +123,7 @@ pub fn new_image(
     Ok(Some(image))
 }
 
-/// A tree that is recovered, which leaves nothing for a second recovery to do.
+/// The tree after a recovery. A second recovery has to succeed too, and to change no file.
 fn recovered<P: Program>(
     alloc: Global,
     program: &P,

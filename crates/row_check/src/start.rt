@@ -1,5 +1,5 @@
-//! Trees in memory: what a row begins with, and copies. The rules are in `tests/rows.md`,
-//! "Lines": `from`, `file`, and what a command line begins on.
+//! Trees in memory: the tree that a row begins with, copies, and comparisons. The rules are in
+//! `tests/rows.md`, "Lines": `from`, `file`, and what a command line begins on.
 use crate::check::Program;
 use crate::differences::{RowFault, differs};
 use base_core::Name;
@@ -7,7 +7,8 @@ use row_text::{Content, NamedFile, Row};
 use std::alloc::{AllocError, Global};
 use tree_memory::MemoryTree;
 
-/// The tree that a row begins with: what an earlier row left, and its own files.
+/// The tree that a row begins with: the files that an earlier row left, if the row names one, and
+/// its own files. `left` has the trees that earlier rows left, or None for a row that failed.
 pub fn tree_of<P: Program>(
     alloc: Global,
     program: &P,
@@ -21,7 +22,8 @@ pub fn tree_of<P: Program>(
     Ok(tree)
 }
 
-/// An empty tree, or a copy of what an earlier row left; a row that failed leaves none.
+/// An empty tree, or a copy of the tree that an earlier row left, if `row` names one (`from`). If
+/// that row failed, there is no tree, and `row` fails too.
 fn first_tree(
     alloc: Global,
     row: &Row,
@@ -36,7 +38,7 @@ fn first_tree(
     }
 }
 
-/// Puts a file of the row; one that is to be absent is not put.
+/// Puts a file of the row into a tree. If the file has no content, nothing is put.
 fn put<P: Program>(
     alloc: Global,
     program: &P,
@@ -56,7 +58,7 @@ fn put<P: Program>(
     Ok(())
 }
 
-/// The bytes of a content. A dump text has those of the container that is written of it.
+/// The bytes of a content: its bytes, or those of the container that is written of its dump text.
 pub fn bytes_of<P: Program>(
     alloc: Global,
     program: &P,
@@ -71,29 +73,32 @@ pub fn bytes_of<P: Program>(
     }
 }
 
-/// A tree with the same files, whose counts are 0 and in which all is synced: its image without a
-/// change undone.
+/// A new tree with the same files, all synced. Its counts are 0, and no failure is planned.
 pub fn copy_of(alloc: Global, tree: &MemoryTree) -> Result<MemoryTree, AllocError> {
+    // The image 0 has the current names, and all files as read.
     tree.pick_image(alloc, 0)
 }
 
-/// Whether a name is one under which an output is made before it is moved to its place: the sides
-/// leave it out.
+/// Whether a name is a scratch name, under which an output is first written. Comparisons of the
+/// files before and after a command line leave it out.
 fn is_scratch(name: &Name) -> bool {
     name.as_bytes().ends_with(b".apk-tmp")
 }
 
-/// Whether two trees have the same files, apart from those that are being made.
+/// Whether two trees have the same files, apart from those under scratch names.
 pub fn are_alike(alloc: Global, one: &MemoryTree, other: &MemoryTree) -> Result<bool, AllocError> {
+    // `false`: files under scratch names do not count.
     Ok(has_all_of(alloc, one, other, false)? && has_all_of(alloc, other, one, false)?)
 }
 
-/// Whether two trees have the same files, those that are being made included.
+/// Whether two trees have the same files, those under scratch names included.
 pub fn are_equal(alloc: Global, one: &MemoryTree, other: &MemoryTree) -> Result<bool, AllocError> {
+    // `true`: files under scratch names count too.
     Ok(has_all_of(alloc, one, other, true)? && has_all_of(alloc, other, one, true)?)
 }
 
-/// Whether a tree has all files of another, with those that are being made or without.
+/// Whether a tree has all files of another, with the same bytes. `with_scratch` says whether files
+/// under scratch names count.
 fn has_all_of(
     alloc: Global,
     tree: &MemoryTree,

@@ -1,5 +1,5 @@
-//! Rows of one line each: a question in words, ` -> `, and the answer that is wanted. The tests of
-//! the layers below the top call are texts of such rows, which a program of each layer reads.
+//! Tests in rows of one line each: the words of a question, ` -> `, and the expected answer. A test
+//! program of some crates implements `Subject` to answer the questions, and calls `run_program`.
 //! `tests/lines.md` describes the form.
 //!
 //! Nothing is proved of what is compared: these are tests.
@@ -15,9 +15,10 @@ use std::io;
 use std::io::{Input, Print, Read, Write};
 use std::process::ExitCode;
 
-/// What a layer answers.
+/// A test program that answers questions about some crates.
 pub trait Subject {
-    /// Adds the answer to a question, whose first word says what is asked.
+    /// Adds the answer to a question to `answer`. The first word of the question says what is
+    /// asked.
     fn answer(
         &mut self,
         alloc: Global,
@@ -27,7 +28,7 @@ pub trait Subject {
 }
 
 /// Runs the rows that are on standard input, and prints what `run_lines` reports. Returns the
-/// exit status: 0 where no row failed, else 1.
+/// exit status: 0 if no row failed, else 1.
 pub fn run_program<R: Input + Print, S: Subject>(
     rt: &R,
     alloc: Global,
@@ -41,8 +42,8 @@ pub fn run_program<R: Input + Print, S: Subject>(
     Ok(ExitCode::from(if passed { 0 } else { 1 }))
 }
 
-/// Runs all rows of a text, and reports each that fails, with its answer, and the count of rows.
-/// Returns whether none failed.
+/// Runs all rows of a text. Reports each row that fails, with the answer that was found, and last
+/// the counts. Returns whether no row failed.
 fn run_lines<S: Subject>(
     alloc: Global,
     subject: &mut S,
@@ -66,7 +67,7 @@ fn run_lines<S: Subject>(
     Ok(failed == 0)
 }
 
-/// Whether the row of this line passes.
+/// Runs the row of a line, and returns whether it passes. If it fails, it is reported.
 fn run_line<S: Subject>(
     alloc: Global,
     subject: &mut S,
@@ -88,7 +89,7 @@ fn run_line<S: Subject>(
     Ok(false)
 }
 
-/// Adds a row that fails, and what was found in place of its answer.
+/// Adds to a report a row that fails, and the answer that was found instead of the expected one.
 fn add_failure(report: &mut Vec<u8>, line: &[u8], found: &[u8]) -> Result<(), AllocError> {
     report.extend_from_slice(b"FAILED ")?;
     report.extend_from_slice(line)?;
@@ -97,8 +98,8 @@ fn add_failure(report: &mut Vec<u8>, line: &[u8], found: &[u8]) -> Result<(), Al
     report.extend_from_slice(b"\n")
 }
 
-/// The question of a line, and the answer that is expected: the text before the first ` ->`, and
-/// after it.
+/// The question of a line and its expected answer: the text before the first ` ->`, and the text
+/// after it. None if there is no ` ->`.
 fn parts_of(line: &[u8]) -> Option<(&[u8], &[u8])> {
     for i in 0..line.len() {
         if let Some(rest) = line[i..].strip_prefix(b" ->") {
@@ -108,18 +109,18 @@ fn parts_of(line: &[u8]) -> Option<(&[u8], &[u8])> {
     None
 }
 
-/// Adds a number in decimal digits.
+/// Adds the decimal digits of a number to a text.
 pub fn add_number(alloc: Global, text: &mut Vec<u8>, number: u128) -> Result<(), AllocError> {
     let digits = format!(in alloc; "{number}")?;
     text.extend_from_slice(digits.as_bytes())
 }
 
-/// Adds `yes` or `no`.
+/// Adds `yes` to a text if `holds`, and else `no`.
 pub fn add_yes_or_no(text: &mut Vec<u8>, holds: bool) -> Result<(), AllocError> {
     text.extend_from_slice(if holds { b"yes" } else { b"no" })
 }
 
-/// Adds a word, and a space before it if it is not the first.
+/// Adds a word to a text, and a space before it if the text is not empty.
 pub fn add_word(text: &mut Vec<u8>, word: &[u8]) -> Result<(), AllocError> {
     if !text.is_empty() {
         text.push(b' ')?;
@@ -127,7 +128,7 @@ pub fn add_word(text: &mut Vec<u8>, word: &[u8]) -> Result<(), AllocError> {
     text.extend_from_slice(word)
 }
 
-/// Adds a name and what is under it, as a word `NAME=BYTES`.
+/// Adds a word `NAME=BYTES` to a text, and a space before it if the text is not empty.
 pub fn add_named(text: &mut Vec<u8>, name: &[u8], bytes: &[u8]) -> Result<(), AllocError> {
     add_word(text, name)?;
     text.push(b'=')?;

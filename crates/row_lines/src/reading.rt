@@ -1,9 +1,9 @@
-//! The words of a question, and the bytes that they denote. The forms are in `tests/lines.md`:
-//! the table of which text denotes which byte, and numbers.
+//! Reads the words of a question, with their escapes, and numbers. The forms are in
+//! `tests/lines.md`: the table of which text denotes which byte, and numbers.
 use base_core::Words;
 use std::alloc::{AllocError, Global};
 
-/// The most words that a question may have; further ones are passed over. No row has as many.
+/// The most words of a question that are read; further words are skipped. No row has as many.
 const MOST_WORDS: usize = 100_000;
 
 /// The most times that a byte is repeated, so that a row cannot ask for all memory.
@@ -21,7 +21,7 @@ pub(crate) fn words_of(alloc: Global, question: &[u8]) -> Result<Words, AllocErr
     Ok(words)
 }
 
-/// The word at a place, counted from 0; no bytes if there is none.
+/// The word with the index `i`, counted from 0, or an empty word if there are fewer words.
 pub fn word_at(words: &Words, i: usize) -> &[u8] {
     if i < words.len() {
         return words.word(i);
@@ -29,7 +29,7 @@ pub fn word_at(words: &Words, i: usize) -> &[u8] {
     b""
 }
 
-/// The words from a place on, counted from 0.
+/// The words from the index `first` on, counted from 0.
 pub fn words_behind(alloc: Global, words: &Words, first: usize) -> Result<Words, AllocError> {
     let mut rest = Words::new(alloc);
     for i in first..words.len() {
@@ -40,7 +40,7 @@ pub fn words_behind(alloc: Global, words: &Words, first: usize) -> Result<Words,
     Ok(rest)
 }
 
-/// What is beside a word in a table.
+/// The value that a table has for a word, or None if the table does not have the word.
 pub fn value_named<T: Copy>(table: &[(&[u8], T)], word: &[u8]) -> Option<T> {
     for (name, value) in table {
         if *name == word {
@@ -50,7 +50,8 @@ pub fn value_named<T: Copy>(table: &[(&[u8], T)], word: &[u8]) -> Option<T> {
     None
 }
 
-/// The number that a word is: in decimal digits, or after `0x` in hexadecimal ones.
+/// The number that a word is, in decimal digits, or in hexadecimal digits after `0x`. None if it is
+/// no such number.
 pub fn number_of(word: &[u8]) -> Option<u128> {
     match word.strip_prefix(b"0x") {
         Some(digits) => number_in(digits, 16),
@@ -58,8 +59,8 @@ pub fn number_of(word: &[u8]) -> Option<u128> {
     }
 }
 
-/// The number that digits are in a base; none if one is no digit of the base, or the number has
-/// more than 128 bits.
+/// The number that digits are in a base. None if there are no digits, if a byte is no digit of the
+/// base, or if the number has more than 128 bits.
 fn number_in(digits: &[u8], base: u8) -> Option<u128> {
     if digits.is_empty() {
         return None;
@@ -77,33 +78,33 @@ fn number_in(digits: &[u8], base: u8) -> Option<u128> {
     Some(number)
 }
 
-/// Where a byte of a text is: alone, after a backslash, or in what such a one begins.
+/// What the next byte of a text belongs to: no escape, or an escape that has begun.
 #[derive(Clone, Copy)]
 enum Place {
-    /// It is alone.
+    /// No escape has begun.
     Plain,
-    /// It is after a backslash.
+    /// The byte is after a backslash.
     Backslash,
-    /// It is after `\x`.
+    /// The byte is after `\x`.
     HighDigit,
-    /// It is after `\x` and the digit of this value.
+    /// The byte is after `\x` and a digit of this value.
     LowDigit(u8),
-    /// It is after `\{` and digits of this number.
+    /// The byte is after `\{` and the digits of this number.
     Count(usize),
 }
 
-/// The bytes of a text so far.
+/// The bytes that the beginning of a text with escapes denotes.
 #[derive(Drop)]
 struct Unescaped {
-    /// The bytes that it denotes so far.
+    /// The denoted bytes so far.
     bytes: Vec<u8>,
-    /// Where the next byte stands.
+    /// What the next byte of the text belongs to.
     place: Place,
 }
 
-/// The bytes that a text denotes: `\n` is a line's end, `\s` a space, `\e` nothing, `\x` and two
-/// hexadecimal digits that byte, a byte and `\{n}` that byte n times, and a backslash and another
-/// byte that byte.
+/// The bytes that a text with escapes denotes. `\n` is a line end, `\s` a space, `\e` no byte, and
+/// `\x` with two hexadecimal digits a byte. `\{n}` repeats the byte before it, so that it is there
+/// n times. A backslash before any other byte denotes this byte.
 pub(crate) fn bytes_of(alloc: Global, text: &[u8]) -> Result<Vec<u8>, AllocError> {
     let mut unescaped = Unescaped {
         bytes: Vec::new(alloc),
@@ -116,7 +117,7 @@ pub(crate) fn bytes_of(alloc: Global, text: &[u8]) -> Result<Vec<u8>, AllocError
 }
 
 impl Unescaped {
-    /// Takes a byte; what escapes denote is the table of `tests/lines.md`.
+    /// Takes the next byte of the text. The table in `tests/lines.md` says what escapes denote.
     fn add(&mut self, byte: u8) -> Result<(), AllocError> {
         match (self.place, byte) {
             (Place::Plain, b'\\') => self.place = Place::Backslash,
@@ -132,7 +133,7 @@ impl Unescaped {
         Ok(())
     }
 
-    /// Adds what a backslash and this byte denote.
+    /// Adds the byte that a backslash and this byte denote, or none for `\e`.
     fn add_escape(&mut self, byte: u8) -> Result<(), AllocError> {
         match byte {
             b'e' => self.add_times(0, byte),
@@ -142,7 +143,7 @@ impl Unescaped {
         }
     }
 
-    /// Repeats the last byte: it then stands `times` times.
+    /// Repeats the last byte, so that it is there `times` times in all.
     fn repeat(&mut self, times: usize) -> Result<(), AllocError> {
         match self.bytes.pop() {
             Some(byte) => self.add_times(times, byte),
@@ -150,7 +151,7 @@ impl Unescaped {
         }
     }
 
-    /// Adds a byte so many times.
+    /// Adds a byte `times` times, and ends the escape.
     fn add_times(&mut self, times: usize, byte: u8) -> Result<(), AllocError> {
         for _ in 0..times {
             self.bytes.push(byte)?;
@@ -167,12 +168,12 @@ fn next_count(count: usize, digit: u8) -> usize {
         .min(MOST_TIMES)
 }
 
-/// The value of a hexadecimal digit; 0 of another byte, since a bad escape makes a row that fails.
+/// The value of a hexadecimal digit. Any other byte counts as 0: a row with a bad escape fails.
 fn digit_value(digit: u8) -> u8 {
     digit_of(digit).unwrap_or(0)
 }
 
-/// The value of a hexadecimal digit, which is lower-case.
+/// The value of a lower-case hexadecimal digit. None for any other byte.
 fn digit_of(digit: u8) -> Option<u8> {
     match digit {
         b'0'..=b'9' => Some(digit - b'0'),

@@ -1,5 +1,5 @@
-//! Packages are added to the members of a change, if they are in order. The order is that of
-//! names, as `docs/formats.md`, "The database after a change", has it.
+//! Adds packages to the members of a change (the packages that are installed after it), if they are
+//! in the order of their names, as `docs/formats.md`, "The database after a change", has it.
 
 ghost use Rattle.db_core.specs.adb_fields.Repeated.{package_name};
 ghost use Rattle.adb_view.specs.Plain.{Plain};
@@ -16,8 +16,8 @@ use std::alloc::{AllocError, Global};
 use std::marker::PhantomData;
 use tree_memory::MemoryTree;
 
-/// The front of the package in a file, which is read as that of a file in a tree of its own; none
-/// where the package is bad.
+/// The front (header and first block) of the package in a file, or None if the package is bad. The
+/// file is put into a tree in memory, from which the front is read.
 pub fn front_of(alloc: Global, file: &[u8]) -> Result<Option<Front>, AllocError> {
     let Some(name) = Name::read(alloc, b"p")? else {
         return Ok(None);
@@ -33,11 +33,12 @@ pub fn front_of(alloc: Global, file: &[u8]) -> Result<Option<Front>, AllocError>
     }
 }
 
-/// The name of the package at a place of a database, counted from 0. The mark serves the borrow
-/// checker alone, which does not know the parts of a view that is made and lent here unless the
-/// signature names the view.
+/// The name of the package with the index `i` in a database, counted from 0. `_mark` names the type
+/// of the view in the signature, which only the borrow checker needs.
 pub fn name_at<'a>(db: &Db<'a>, i: usize, _mark: PhantomData<PackageView<'a>>) -> &'a [u8]
+    // The database has a package with this index.
     requires { i < length (packages_of db.now) }
+    // The result is the name of this package.
     ensures { (pkg : Plain) → slice_get (packages_of db.now) i ≡ Some pkg
         → result.now ≡ package_name pkg }
 {
@@ -45,8 +46,9 @@ pub fn name_at<'a>(db: &Db<'a>, i: usize, _mark: PhantomData<PackageView<'a>>) -
     package.info().name()
 }
 
-/// Adds the package at a place of the database from which members stay, and tells whether there is
-/// one and it is in order.
+/// Adds the installed package with the index `i` in the database as a kept member. Returns false,
+/// and adds nothing, if there is no such package, or if its name is not after the names of the
+/// members.
 pub fn add_installed(members: &mut Members<'_>, i: usize) -> Result<bool, AllocError> {
     if members.len() >= MOST_MEMBERS || i >= members.db().len() {
         return Ok(false);
@@ -58,7 +60,8 @@ pub fn add_installed(members: &mut Members<'_>, i: usize) -> Result<bool, AllocE
     Ok(true)
 }
 
-/// Adds the package with this front, and returns whether it is good and in order.
+/// Adds the package with this front as an added member. Returns false, and adds nothing, if the
+/// package is bad, or if its name is not after the names of the members.
 pub fn add_coming<'a>(
     alloc: Global,
     members: &mut Members<'a>,
@@ -71,7 +74,8 @@ pub fn add_coming<'a>(
     }
 }
 
-/// Adds an added package. False: there are too many members, or its name is not after theirs.
+/// Adds a package as an added member. Returns false, and adds nothing, if there are too many
+/// members, or if its name is not after the names of the members.
 fn add_contents<'a>(
     members: &mut Members<'a>,
     contents: &Contents<'a>,
@@ -86,7 +90,7 @@ fn add_contents<'a>(
     Ok(true)
 }
 
-/// The name of a package that is read in pieces; the mark serves as in `name_at`.
+/// The name of a package that is read in pieces. `_mark` is as in `name_at`.
 fn name_of<'a>(contents: &Contents<'a>, _mark: PhantomData<PackageView<'a>>) -> &'a [u8]
     ensures { result.now ≡ package_name (value_of_contents contents.now) }
 {

@@ -1,5 +1,5 @@
-//! The rows of the search: a row is the text between two lines that begin a row, and indexes are
-//! made of its packages. They serve the program `solver_tests`, whose README has the form of a row.
+//! The rows of the tests of the solver: `Row` has the packages of a row, as indexes, its world and
+//! the names to upgrade. The program `solver_tests` uses it, and its README has the form of a row.
 #![tactic(auto)]
 
 mod package;

@@ -1,4 +1,5 @@
-//! Payloads of indexes, from short texts. Packages are separated by `;`, and their parts by spaces:
+//! Writes the payloads of indexes from short texts. Packages are separated by `;`, and their parts
+//! by spaces:
 //!
 //! - `NAME=VERSION`, and `N*` before it for N such packages;
 //! - `d:` and depends, `p:` and provides, `i:` and install-if, each list with `,` between
@@ -19,26 +20,31 @@ use std::alloc::{AllocError, Global};
 /// How the value of a field is written.
 #[derive(Clone, Copy)]
 enum Form {
-    /// A list of dependencies, with `,` between them.
+    /// As a list of dependencies, with `,` between them.
     Dependencies,
-    /// A decimal number.
+    /// As a decimal number.
     Number,
-    /// The bytes as they are.
+    /// As the bytes of the value.
     Bytes,
 }
 
-/// The prefix of each part: the index of the field in the table of package information, counted
-/// from 0, and its form.
+/// For the prefix of a part: the number of its field in the table of package information, counted
+/// from 0, and how the value of the field is written.
 const FIELDS: [(&[u8], (usize, Form)); 5] = [
+    // Depends.
     (b"d:", (14, Form::Dependencies)),
+    // Provides.
     (b"p:", (15, Form::Dependencies)),
+    // Install-if.
     (b"i:", (17, Form::Dependencies)),
+    // Provider priority.
     (b"k:", (13, Form::Number)),
+    // The id of the package.
     (b"h:", (2, Form::Bytes)),
 ];
 
-/// The payload of an index with these packages. Text that is no part of a package is skipped, and
-/// an index that exceeds a limit has none.
+/// The payload of an index with the packages of a text. Text that is no part of a package is
+/// skipped. If the index exceeds a limit, the result is empty.
 pub(crate) fn index_payload(alloc: Global, text: &[u8]) -> Result<Vec<u8>, AllocError> {
     let mut writer = Writer::new(alloc);
     let mut packages = Vec::new(alloc);
@@ -46,6 +52,7 @@ pub(crate) fn index_payload(alloc: Global, text: &[u8]) -> Result<Vec<u8>, Alloc
         add_packages(alloc, &mut writer, &mut packages, part)?;
     }
     let list = writer.arr(packages.as_slice())?;
+    // The first field of an index, its description, is null.
     let root = writer.obj(&[Val::of(0), list])?;
     match writer.finish(root) {
         Ok(payload) => Ok(payload),
@@ -53,7 +60,7 @@ pub(crate) fn index_payload(alloc: Global, text: &[u8]) -> Result<Vec<u8>, Alloc
     }
 }
 
-// Adds a package, as often as its text says.
+// Adds a package to a list, as often as its text says (`N*` before it).
 fn add_packages(
     alloc: Global,
     writer: &mut Writer,
@@ -74,13 +81,14 @@ fn add_packages(
     Ok(())
 }
 
-// The value of a package, from the first 18 fields of its information, counted from 0: 0 is the
-// name, 1 the version, 2 the id, which is the same 20 bytes if none is given.
+// The value of a package, or null if the text has no name. It has the first 18 fields, counted from
+// 0: 0 is the name, 1 the version, and 2 the id, which is always the same if the text has none.
 fn package_value(alloc: Global, writer: &mut Writer, part: &[u8]) -> Result<Val, AllocError> {
     let mut fields = [Val::of(0); 18];
     if part.is_empty() {
         return Ok(Val::of(0));
     }
+    // The id of a package whose text has no id.
     fields[2] = writer.blob(b"01234567890123456789")?;
     for word in part.split(|byte| *byte == b' ') {
         add_field(alloc, writer, &mut fields, word)?;
@@ -109,7 +117,7 @@ fn add_field(
     Ok(())
 }
 
-// The value of a field, as its text has it.
+// Writes the value of a field, whose text has this form.
 fn value_of(
     alloc: Global,
     writer: &mut Writer,
@@ -123,8 +131,8 @@ fn value_of(
     }
 }
 
-// Adds the name (place 0) and the version (place 1) of a package, which are written as a
-// dependency.
+// Sets the name (field 0) and the version (field 1) of a package, which the word has in the form of
+// a dependency, such as `NAME=VERSION`.
 fn add_name(writer: &mut Writer, fields: &mut [Val; 18], word: &[u8]) -> Result<(), AllocError> {
     if let Some(dep) = read_dep(word) {
         fields[0] = writer.blob(dep.name)?;
@@ -133,7 +141,7 @@ fn add_name(writer: &mut Writer, fields: &mut [Val; 18], word: &[u8]) -> Result<
     Ok(())
 }
 
-// The value of a list of dependencies.
+// Writes the value of a list of dependencies. Text that is no dependency is skipped.
 fn list_value(alloc: Global, writer: &mut Writer, list: &[u8]) -> Result<Val, AllocError> {
     let mut values = Vec::new(alloc);
     for text in list.split(|byte| *byte == b',') {
@@ -144,7 +152,7 @@ fn list_value(alloc: Global, writer: &mut Writer, list: &[u8]) -> Result<Val, Al
     writer.arr(values.as_slice())
 }
 
-// Writes a dependency.
+// Writes the value of a dependency: its name, its version and its match number.
 fn dep_value(writer: &mut Writer, dep: &Dep<'_>) -> Result<Val, AllocError> {
     let name = writer.blob(dep.name)?;
     let version = version_value(writer, dep)?;
@@ -152,7 +160,7 @@ fn dep_value(writer: &mut Writer, dep: &Dep<'_>) -> Result<Val, AllocError> {
     writer.obj(&[name, version, matching])
 }
 
-// Writes the version that a dependency names, or NULL.
+// Writes the version that a dependency names, or null if it names none.
 fn version_value(writer: &mut Writer, dep: &Dep<'_>) -> Result<Val, AllocError> {
     match &dep.version {
         None => Ok(Val::of(0)),
@@ -160,8 +168,9 @@ fn version_value(writer: &mut Writer, dep: &Dep<'_>) -> Result<Val, AllocError> 
     }
 }
 
-// The match number of a dependency: its operator's bits, and 16 more for a conflict; 23 for a
-// conflict without version, and none for a name alone (`docs/formats.md`, "Dependencies").
+// Writes the match number of a dependency: the match bits of its operator, and 16 more for a
+// conflict. It is 23 for a conflict without version, and null for a name alone (`docs/formats.md`,
+// "Dependencies").
 fn matching_value(writer: &mut Writer, dep: &Dep<'_>) -> Result<Val, AllocError> {
     let bits = u64::from(dep.op.bits());
     let number = match (dep.conflict, dep.version.is_some()) {

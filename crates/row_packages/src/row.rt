@@ -1,12 +1,13 @@
-//! A row: the packages to choose from, world, and the names that a command upgrades. It borrows its
-//! text. The lines are in the README of `solver_tests`.
+//! A row of the tests of the solver: the packages to choose from, world, and the names that a
+//! command upgrades. It borrows its text. The lines are in the README of `solver_tests`.
 use crate::package::index_payload;
 use std::alloc::{AllocError, Global};
 
 /// A repository of a row.
 #[derive(Drop)]
 pub struct Repository<'t> {
-    /// Its number; if the row has none, its position among the row's repositories, counted from 1.
+    /// The number of the repository, as the row states it, or else its position among the
+    /// repositories of the row, counted from 1.
     pub number: u64,
     /// The tag of the repository, if it has one.
     pub tag: Option<&'t [u8]>,
@@ -14,7 +15,7 @@ pub struct Repository<'t> {
     pub payload: Vec<u8>,
 }
 
-/// The text between two lines that begin a row.
+/// A row: what the lines between one line that begins a row and the next one say.
 #[derive(Drop)]
 pub struct Row<'t> {
     /// The name of the row.
@@ -23,16 +24,16 @@ pub struct Row<'t> {
     pub repositories: Vec<Repository<'t>>,
     /// The payload of an index of the installed packages, if there are any.
     pub installed: Option<Vec<u8>>,
-    /// World's entries.
+    /// The entries of world, as text.
     pub world: &'t [u8],
-    /// The names that the command upgrades, or `all`.
+    /// The names that the command upgrades, as text, or `all`.
     pub upgraded: &'t [u8],
-    /// How often a result is computed.
+    /// How often the result of the row is computed.
     pub times: u64,
 }
 
 impl<'t> Row<'t> {
-    /// A row without packages.
+    /// A row with this name, without packages. Its result is computed once.
     pub fn new(alloc: Global, name: &'t [u8]) -> Row<'t> {
         Row {
             name,
@@ -44,8 +45,8 @@ impl<'t> Row<'t> {
         }
     }
 
-    /// Adds a repository: its packages, before which its tag may follow `@`, or its number after
-    /// `/`.
+    /// Adds a repository with the packages of a text. The text may begin with `@TAG`, the tag of
+    /// the repository, or with `/N`, its number.
     pub fn add_repository(&mut self, alloc: Global, text: &'t [u8]) -> Result<(), AllocError> {
         let next = (self.repositories.len() as u64).saturating_add(1);
         let (word, rest) = split_word(text);
@@ -63,7 +64,7 @@ impl<'t> Row<'t> {
         Ok(())
     }
 
-    /// Sets the installed packages.
+    /// Sets the installed packages of the row, given as text.
     pub fn set_installed(&mut self, alloc: Global, packages: &[u8]) -> Result<(), AllocError> {
         self.installed = Some(index_payload(alloc, packages)?);
         Ok(())
@@ -78,8 +79,8 @@ pub fn split_word<'t>(line: &'t [u8]) -> (&'t [u8], &'t [u8]) {
     }
 }
 
-/// The number of decimal digits; other bytes are skipped, and it stops growing before it exceeds 64
-/// bits.
+/// The number that the decimal digits of a text are. Other bytes are skipped, and a number above
+/// 2^64 - 1 counts as 2^64 - 1.
 pub fn number_of(text: &[u8]) -> u64 {
     let mut number = 0u64;
     for byte in text {

@@ -1,9 +1,10 @@
-//! Runs rows: each command line over a tree and two sinks in memory, and compares what is seen with
-//! what is wanted.
+//! Runs the rows of a text: each command line of a row runs over a tree and two sinks in memory,
+//! and its results are compared with those that the row expects.
 //!
-//! A program and a text of rows come in. A line for each row goes out, and for a row that fails
-//! what differs and where, and last the count; or the first fault of the text, with its line.
-//! Nothing is proved of what is compared: these are tests. The rules are in `tests/rows.md`.
+//! `run_text` takes a program and a text of rows. It reports a line for each row, which says for a
+//! failed row what differs and where, and last the counts. If the text is not spelled as rows are,
+//! it reports the first bad line. Nothing is proved of what is compared: these are tests. The rules
+//! are in `tests/rows.md`.
 #![tactic(auto)]
 
 mod report;

@@ -4,8 +4,8 @@ use crate::run::run_row;
 use row_check::{Fault, MemoryTree, Program, Row, RowFault, add_number, read_rows};
 use std::alloc::{AllocError, Global};
 
-/// Runs all rows of a text, and adds a line for each. Returns whether the text is one of rows and
-/// none failed.
+/// Runs all rows of a text, and adds a line to the report for each. Returns whether the text is
+/// spelled as rows are, and no row failed.
 pub fn run_text<P: Program>(
     alloc: Global,
     program: &P,
@@ -22,7 +22,8 @@ pub fn run_text<P: Program>(
     run_rows(alloc, program, &rows, report)
 }
 
-/// Runs rows that were read, in their order, and adds a line for each and the count.
+/// Runs rows in their order, and adds a line to the report for each, and a last line with the
+/// counts. Returns whether no row failed.
 fn run_rows<P: Program>(
     alloc: Global,
     program: &P,
@@ -43,8 +44,8 @@ fn run_rows<P: Program>(
     Ok(failed == 0)
 }
 
-/// Runs a row, and adds its line. Answers what it leaves, with which later rows may begin; none
-/// where it fails.
+/// Runs a row, and adds its line to the report. Returns the tree that the row leaves, with which
+/// later rows may begin, or None if the row fails. `left` has the trees that earlier rows left.
 fn run_and_report<P: Program>(
     alloc: Global,
     program: &P,
@@ -64,14 +65,14 @@ fn run_and_report<P: Program>(
     }
 }
 
-// Adds the line of the first fault of a text, and what is wrong there.
+// Adds the number of the line of a text that is not spelled as rows are, and what is wrong there.
 fn add_fault(alloc: Global, report: &mut Vec<u8>, fault: Fault) -> Result<(), AllocError> {
     report.extend_from_slice(b"line ")?;
     add_number(alloc, report, fault.line)?;
     add_line(report, b": ", fault.trouble.text().as_bytes(), b"")
 }
 
-// Adds a row that failed, and what differs.
+// Adds the name of a row that failed, and what differs.
 fn add_failure(report: &mut Vec<u8>, name: &[u8], fault: &RowFault) -> Result<(), AllocError> {
     report.extend_from_slice(b"FAILED ")?;
     match fault {

@@ -1,5 +1,6 @@
-//! A row, and one command line over a tree and two sinks. What a row expects is in
-//! `tests/rows.md`, "Lines", and of further runs in "What goes wrong".
+//! Runs one row: its command lines, one after the other, each over a tree and two sinks in memory.
+//! What a row expects is in `tests/rows.md`, "Lines"; what it expects of further runs, in which
+//! something fails, is in "What goes wrong".
 use crate::sweep::Swept;
 use row_check::{
     MemorySink, MemoryTree, Program, Row, RowFault, Run, Sides, SinkPlan, Step, TreePlan,
@@ -7,7 +8,8 @@ use row_check::{
 };
 use std::alloc::Global;
 
-/// After how many bytes the two streams fail, in place of what the row plans.
+/// After how many bytes the two streams fail. If a field is None, the stream fails as the row
+/// plans.
 #[derive(Clone, Copy)]
 pub(crate) struct StreamEnds {
     /// After how many bytes standard output fails.
@@ -17,15 +19,15 @@ pub(crate) struct StreamEnds {
 }
 
 impl StreamEnds {
-    /// As the row plans.
+    /// Both streams fail as the row plans.
     pub(crate) const NONE: StreamEnds = StreamEnds {
         out: None,
         err: None,
     };
 }
 
-/// Runs the command lines of a row, each on what the one before it left, and answers what the last
-/// one leaves.
+/// Runs the command lines of a row, each over the tree that the one before it left, and returns the
+/// tree that the last one leaves. `left` has the trees that earlier rows left.
 pub(crate) fn run_row<P: Program>(
     alloc: Global,
     program: &P,
@@ -39,7 +41,8 @@ pub(crate) fn run_row<P: Program>(
     Ok(tree)
 }
 
-/// Runs a command line with all that is to go wrong, and answers what it leaves.
+/// Runs a command line with all failures that the row plans for it, checks it, and returns the tree
+/// that it leaves.
 fn run_step<P: Program>(
     alloc: Global,
     program: &P,
@@ -52,7 +55,7 @@ fn run_step<P: Program>(
     Ok(copy_of(alloc, &run.tree)?)
 }
 
-/// The tree that a command line finds, whose calls fail as it is planned.
+/// A copy of the tree that a command line finds, in which the calls fail that the row lists.
 fn planned_tree(alloc: Global, step: &Step, before: &MemoryTree) -> Result<MemoryTree, RowFault> {
     let mut tree = copy_of(alloc, before)?;
     if let TreePlan::Fail(calls) = &step.tree {
@@ -61,7 +64,8 @@ fn planned_tree(alloc: Global, step: &Step, before: &MemoryTree) -> Result<Memor
     Ok(tree)
 }
 
-/// All that is expected of a command line is seen, also if it is run again with what goes wrong.
+/// Compares a run with all that the row expects of the command line, and makes the further runs
+/// that the row plans.
 fn check_step<P: Program>(
     alloc: Global,
     program: &P,
@@ -71,6 +75,7 @@ fn check_step<P: Program>(
 ) -> Result<(), RowFault> {
     check_run(alloc, program, step, before, run)?;
     if !matches!(&step.tree, TreePlan::Fail(_)) {
+        // Each crash image of the tree has the files of the tree.
         check_images(alloc, step, &run.tree)?;
     }
     if is_swept(step) {
@@ -84,7 +89,7 @@ fn is_swept(step: &Step) -> bool {
     matches!(&step.tree, TreePlan::Each(_)) || step.out_plan.each || step.err_plan.each
 }
 
-/// Makes the further runs that are planned, after one in which no call failed.
+/// Makes the further runs that the row plans. `run` is the first run, in which no call failed.
 fn sweep<P: Program>(
     alloc: Global,
     program: &P,
@@ -106,7 +111,8 @@ fn sweep<P: Program>(
     swept.run_all(alloc)
 }
 
-/// Runs the words of a command line once, over this tree and two new sinks.
+/// Runs a command line once, over this tree and two new sinks, as standard output and standard
+/// error.
 pub(crate) fn run_once<P: Program>(
     alloc: Global,
     program: &P,
@@ -126,7 +132,7 @@ pub(crate) fn run_once<P: Program>(
     }
 }
 
-/// A sink that fails as planned; `end` counts before the plan.
+/// A new sink that fails after `end` bytes, or as the row plans if `end` is None.
 fn sink(alloc: Global, plan: SinkPlan, end: Option<usize>) -> MemorySink {
     let mut sink = MemorySink::new(alloc);
     if let Some(end) = end.or(plan.end) {

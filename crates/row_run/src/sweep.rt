@@ -1,6 +1,6 @@
-//! A command line with each of its calls failing in turn, cut off after each of them, and with a
-//! stream that ends after each number of bytes. The rules are in `tests/rows.md`,
-//! "What goes wrong", its table and what follows.
+//! Further runs of a command line: one for each call of the tree, in which this call fails or after
+//! which all calls fail, and one for each number of bytes after which a stream ends. The rules are
+//! in `tests/rows.md`, "What goes wrong", its table and what follows.
 use crate::run::{StreamEnds, run_once};
 use row_check::{
     Found, MemoryTree, Program, RowFault, Run, Sides, Step, TreePlan, add_number, bytes_of,
@@ -8,31 +8,31 @@ use row_check::{
 };
 use std::alloc::{AllocError, Global};
 
-/// The most calls that a run may make of which each fails in turn: a run of a row makes far fewer,
-/// and the loop has to end.
+/// The most calls of the tree that a run may make if each of them fails in turn. A run of a row
+/// makes far fewer; the bound makes the loop end.
 const MOST_CALLS: u64 = 10_000;
 
 /// The status of a run whose tree failed (`docs/commands.md`, "Answers and statuses").
 const TREE_FAULT: u64 = 2;
 
-// What such a run prints on standard error.
+// What a run whose tree failed prints on standard error.
 const TREE_FAULT_TEXT: &[u8] = b"ERROR: the tree failed\n";
 
-/// The status of a run of which a stream failed (the same table).
+/// The status of a run of which a stream failed (`docs/commands.md`, the same table).
 const STREAM_FAULT: u64 = 3;
 
-/// A command line, the files that it finds, and what its run leaves in which nothing fails.
+/// A command line with further runs, the files that it finds, and what it leaves if nothing fails.
 #[derive(Drop)]
 pub(crate) struct Swept<'a, P: Program> {
     /// The program that is run.
     pub(crate) program: &'a P,
     /// The command line, and what is expected of it.
     pub(crate) step: &'a Step,
-    /// The files that it finds.
+    /// The files that the command line finds.
     pub(crate) before: &'a MemoryTree,
-    /// The two sides: these files and those that it leaves, both recovered.
+    /// The files that the command line finds and those that it leaves, both after a recovery.
     pub(crate) sides: &'a Sides,
-    /// The same command line once more, on what it left.
+    /// A second run of the command line, over the files that the first run left.
     pub(crate) again: &'a Run,
 }
 
@@ -41,14 +41,14 @@ pub(crate) struct Swept<'a, P: Program> {
 struct Seen<'s> {
     /// The exit status.
     status: u64,
-    /// What standard output got.
+    /// The bytes that were written to standard output.
     out: &'s [u8],
-    /// What standard error got.
+    /// The bytes that were written to standard error.
     err: &'s [u8],
 }
 
 impl<'a, P: Program> Swept<'a, P> {
-    /// Makes the runs that are planned.
+    /// Makes the further runs that the row plans for the command line.
     pub(crate) fn run_all(&self, alloc: Global) -> Result<(), RowFault> {
         if let TreePlan::Each(sweeps) = &self.step.tree {
             if sweeps.fail {
@@ -59,76 +59,91 @@ impl<'a, P: Program> Swept<'a, P> {
             }
         }
         if self.step.out_plan.each {
+            // `true`: standard output ends.
             self.end_each(alloc, true)?;
         }
         if self.step.err_plan.each {
+            // `false`: standard error ends.
             self.end_each(alloc, false)?;
         }
         Ok(())
     }
 
-    /// Lets each call fail in turn (`fail each`). What is left, and what a crash leaves of it, has
-    /// the files from before or from after, and the same command line goes on from there.
+    /// Lets each call fail in turn (`fail each`). After a recovery, the tree that is left and each
+    /// of its crash images has the files that the command line finds or those that it leaves if
+    /// nothing fails. A second run from there is checked too.
     fn fail_each(&self, alloc: Global) -> Result<(), RowFault> {
-        let mut unchanged_seen = false;
+        let mut run_without_writes_seen = false;
         for call in 1..MOST_CALLS {
             let failed = self.run_failing(alloc, call)?;
             if failed.tree.calls() < call {
+                // The run made fewer calls than `call`, so that none of them failed.
                 return self.check_whole(alloc, &failed);
             }
             self.check_fault(alloc, call, &failed)?;
+            // All runs that write nothing leave the same tree, of which one is checked.
             if leaves_no_trace(&failed) {
-                if unchanged_seen {
+                if run_without_writes_seen {
                     continue;
                 }
-                unchanged_seen = true;
+                run_without_writes_seen = true;
             }
-            self.look(alloc, call, &failed.tree)?;
+            self.try_images(alloc, call, &failed.tree)?;
             self.go_on_from(alloc, call, failed)?;
         }
         Err(self.too_many(alloc))
     }
 
-    /// Runs the command line with one call failing.
+    /// Runs the command line over a tree whose call with this number, counted from 1, fails.
     fn run_failing(&self, alloc: Global, call: u64) -> Result<Run, RowFault> {
         let mut tree = copy_of(alloc, self.before)?;
         tree.fail_at(&[call])?;
         Ok(self.run_over(alloc, tree))
     }
 
-    /// Stops behind each call in turn (`stop each`). A crash then leaves the files of before or of
-    /// after, the new ones are seen, and the same command line goes on from what is left.
+    /// Lets all calls fail after each number of calls in turn (`stop each`). After a recovery, each
+    /// crash image has the files that the command line finds or those that it leaves if nothing
+    /// fails. If these differ, some image has to have the latter. A second run from there is
+    /// checked too.
     fn stop_each(&self, alloc: Global) -> Result<(), RowFault> {
-        let mut new_seen = false;
-        let mut unchanged_seen = false;
+        let mut new_files_seen = false;
+        let mut run_without_writes_seen = false;
         for calls in 0..MOST_CALLS {
-            let cut = self.run_stopped(alloc, calls)?;
-            if cut.tree.calls() <= calls {
-                return self.check_end_of_stops(alloc, new_seen, &cut);
+            let stopped = self.run_stopped(alloc, calls)?;
+            if stopped.tree.calls() <= calls {
+                // The run made no more than `calls` calls, so that none of them failed.
+                return self.check_end_of_stops(alloc, new_files_seen, &stopped);
             }
-            self.check_fault(alloc, calls, &cut)?;
-            if leaves_no_trace(&cut) {
-                if unchanged_seen {
+            self.check_fault(alloc, calls, &stopped)?;
+            // All runs that write nothing leave the same tree, of which one is checked.
+            if leaves_no_trace(&stopped) {
+                if run_without_writes_seen {
                     continue;
                 }
-                unchanged_seen = true;
+                run_without_writes_seen = true;
             }
-            let seen = self.look(alloc, calls, &cut.tree)?;
-            new_seen = new_seen || seen;
+            let seen = self.try_images(alloc, calls, &stopped.tree)?;
+            new_files_seen = new_files_seen || seen;
         }
         Err(self.too_many(alloc))
     }
 
-    /// Runs the command line with all calls failing after so many.
+    /// Runs the command line over a tree whose calls all fail after this number of calls.
     fn run_stopped(&self, alloc: Global, calls: u64) -> Result<Run, RowFault> {
         let mut tree = copy_of(alloc, self.before)?;
         tree.stop_after(calls);
         Ok(self.run_over(alloc, tree))
     }
 
-    /// The last run is whole. If the command changes files, an earlier stop has left the new ones.
-    fn check_end_of_stops(&self, alloc: Global, new_seen: bool, run: &Run) -> Result<(), RowFault> {
-        if !new_seen && !self.sides.are_alike(alloc)? {
+    /// Checks the last run, in which no call failed. If the command line changes files, some image
+    /// of an earlier run has to have the new ones.
+    fn check_end_of_stops(
+        &self,
+        alloc: Global,
+        new_files_seen: bool,
+        run: &Run,
+    ) -> Result<(), RowFault> {
+        if !new_files_seen && !self.sides.are_alike(alloc)? {
             let what: &[u8] = b"no stop leaves the files of behind";
             return Err(differs(alloc, self.step.line, &[what]));
         }
@@ -140,17 +155,18 @@ impl<'a, P: Program> Swept<'a, P> {
         run_once(alloc, self.program, self.step, tree, StreamEnds::NONE)
     }
 
-    /// All that is expected of the command line is seen of a run in which nothing failed.
+    /// Compares a run in which nothing failed with all that the row expects of the command line.
     fn check_whole(&self, alloc: Global, run: &Run) -> Result<(), RowFault> {
         check_run(alloc, self.program, self.step, self.before, run)
     }
 
-    /// Reported if a command line makes more calls than are swept.
+    /// The fault of a row whose command line makes more than `MOST_CALLS` calls.
     fn too_many(&self, alloc: Global) -> RowFault {
         differs(alloc, self.step.line, &[b"too many calls"])
     }
 
-    /// A run whose tree failed says so, and nothing else.
+    /// Checks that a run whose tree failed reports this by its status and on standard error, and
+    /// prints nothing on standard output.
     fn check_fault(&self, alloc: Global, call: u64, run: &Run) -> Result<(), RowFault> {
         let what = at_call(alloc, call, b", what is seen")?;
         let wanted = Seen {
@@ -175,33 +191,37 @@ impl<'a, P: Program> Swept<'a, P> {
         compare(alloc, line, what, run.err.bytes(), wanted.err)
     }
 
-    /// Each image that a crash may leave has the files of before or of behind, and the command line
-    /// goes on from there. Returns whether one has those afterwards.
-    fn look(&self, alloc: Global, call: u64, tree: &MemoryTree) -> Result<bool, RowFault> {
-        let mut new_seen = false;
+    /// Checks each image that a crash may leave of a tree: it has the files that the command line
+    /// finds or those that it leaves, and a second run from there is checked. Returns whether some
+    /// image has the files that it leaves.
+    fn try_images(&self, alloc: Global, call: u64, tree: &MemoryTree) -> Result<bool, RowFault> {
+        let mut new_files_seen = false;
         for choice in 0..images_of(tree) {
             let Some(image) = new_image(alloc, tree, choice)? else {
                 continue;
             };
             let place = at_image(alloc, call, choice)?;
-            let found = self.follow(alloc, call, image, &place)?;
-            new_seen = new_seen || found.after;
+            let found = self.run_again_from(alloc, call, image, &place)?;
+            new_files_seen = new_files_seen || found.after;
         }
-        Ok(new_seen)
+        Ok(new_files_seen)
     }
 
-    /// What a run leaves whose call failed has the files from before or from after, and the command
-    /// line goes on from there.
+    /// Checks the tree that a run left whose call failed, without a crash: it has the files that
+    /// the command line finds or those that it leaves, and a second run from there is checked.
     fn go_on_from(&self, alloc: Global, call: u64, failed: Run) -> Result<(), RowFault> {
         let place = at_call(alloc, call, b", what is left")?;
         let Run { mut tree, .. } = failed;
+        // No call fails from now on.
         tree.fail_at(&[])?;
-        self.follow(alloc, call, tree, &place)?;
+        self.run_again_from(alloc, call, tree, &place)?;
         Ok(())
     }
 
-    /// Which files a tree has, from which the command line goes on.
-    fn follow(
+    /// Returns whether a tree, recovered, has the files that the command line finds or those that
+    /// it leaves, and checks a second run of the command line over this tree. `place` names the
+    /// tree in a report.
+    fn run_again_from(
         &self,
         alloc: Global,
         call: u64,
@@ -217,8 +237,8 @@ impl<'a, P: Program> Swept<'a, P> {
         Ok(found)
     }
 
-    /// A second run ends as the row says where it finds the files of before, and else as one does
-    /// that finds what the row leaves.
+    /// Checks a second run. If it found the files that the first run found, it ends as the row
+    /// says. Otherwise it ends as a run that finds what the command line leaves.
     fn check_second(
         &self,
         alloc: Global,
@@ -229,14 +249,15 @@ impl<'a, P: Program> Swept<'a, P> {
         if found.before {
             check_streams(alloc, self.program, self.step, second)?;
         } else {
+            // The second run found the files that the command line leaves.
             self.check_again(alloc, call, second)?;
         }
         self.sides
             .check_images(alloc, self.program, self.step, &second.tree)
     }
 
-    /// Compares a second run, after a recovery, with the wanted one: its status and what it
-    /// prints.
+    /// Compares the status and the streams of a second run with those of a run over the files that
+    /// the command line leaves.
     fn check_again(&self, alloc: Global, call: u64, second: &Run) -> Result<(), RowFault> {
         let what = at_call(alloc, call, b" and a second run, what is seen")?;
         let wanted = Seen {
@@ -247,8 +268,9 @@ impl<'a, P: Program> Swept<'a, P> {
         self.check_seen(alloc, &what, second, wanted)
     }
 
-    /// Lets a stream end after each number of bytes in turn (`ends after each`). It has these
-    /// bytes then, and the files are those afterwards.
+    /// Lets a stream end after each number of bytes in turn (`ends after each`): standard output if
+    /// `is_out`, and else standard error. It has to have these bytes, and the tree the files that
+    /// the command line leaves.
     fn end_each(&self, alloc: Global, is_out: bool) -> Result<(), RowFault> {
         let whole = self.wanted_text(alloc, is_out)?;
         for count in 0..whole.len() {
@@ -257,7 +279,7 @@ impl<'a, P: Program> Swept<'a, P> {
         Ok(())
     }
 
-    /// What is wanted on standard output, or else on standard error.
+    /// The text that the row expects on standard output if `is_out`, and else on standard error.
     fn wanted_text(&self, alloc: Global, is_out: bool) -> Result<Vec<u8>, RowFault> {
         if is_out {
             bytes_of(alloc, self.program, &self.step.out)
@@ -266,7 +288,8 @@ impl<'a, P: Program> Swept<'a, P> {
         }
     }
 
-    /// Lets a stream end after these bytes.
+    /// Runs the command line with a stream that ends after these bytes: standard output if
+    /// `is_out`, and else standard error.
     fn end_after(&self, alloc: Global, is_out: bool, bytes: &[u8]) -> Result<(), RowFault> {
         let count = bytes.len();
         let ends = StreamEnds {
@@ -274,34 +297,35 @@ impl<'a, P: Program> Swept<'a, P> {
             err: if is_out { None } else { Some(count) },
         };
         let tree = copy_of(alloc, self.before)?;
-        let cut = run_once(alloc, self.program, self.step, tree, ends);
-        self.check_end(alloc, is_out, bytes, &cut)
+        let ended = run_once(alloc, self.program, self.step, tree, ends);
+        self.check_end(alloc, is_out, bytes, &ended)
     }
 
-    /// The stream that ended has these bytes, and the files are those afterwards.
+    /// Checks that the stream which ended has these bytes, and that each crash image of the tree
+    /// has the files that the command line leaves.
     fn check_end(
         &self,
         alloc: Global,
         is_out: bool,
         bytes: &[u8],
-        cut: &Run,
+        ended: &Run,
     ) -> Result<(), RowFault> {
         let what = at_end(alloc, bytes.len() as u64)?;
         let line = self.step.line;
-        compare_numbers(alloc, line, &what, u64::from(cut.status), STREAM_FAULT)?;
-        compare(alloc, line, &what, seen_text(cut, is_out), bytes)?;
+        compare_numbers(alloc, line, &what, u64::from(ended.status), STREAM_FAULT)?;
+        compare(alloc, line, &what, seen_text(ended, is_out), bytes)?;
         self.sides
-            .check_images(alloc, self.program, self.step, &cut.tree)
+            .check_images(alloc, self.program, self.step, &ended.tree)
     }
 }
 
-/// Whether a run made no call that writes. It left the tree that it found, with all files synced,
-/// and each image of it is that tree: what follows from one such run follows from each.
+/// Whether a run made no call that writes. Then it left the tree that it found, with all files
+/// synced, and each crash image of it is that tree.
 fn leaves_no_trace(run: &Run) -> bool {
     run.tree.writes() == 0
 }
 
-/// What a run printed on standard output, or else on standard error.
+/// What a run printed on standard output if `is_out`, and else on standard error.
 fn seen_text(run: &Run, is_out: bool) -> &[u8] {
     if is_out {
         run.out.bytes()
@@ -310,7 +334,7 @@ fn seen_text(run: &Run, is_out: bool) -> &[u8] {
     }
 }
 
-/// Says where a difference is seen: with a fault at a call.
+/// A text for a report that says where a difference is: in the run with a fault at this call.
 fn at_call(alloc: Global, call: u64, rest: &[u8]) -> Result<Vec<u8>, AllocError> {
     let mut text = Vec::from_slice(alloc, b"with a fault at call ")?;
     add_number(alloc, &mut text, call)?;
@@ -318,14 +342,16 @@ fn at_call(alloc: Global, call: u64, rest: &[u8]) -> Result<Vec<u8>, AllocError>
     Ok(text)
 }
 
-/// Says where a difference is seen: in an image after such a fault.
+/// A text for a report that says where a difference is: in the crash image with this number, after
+/// the run with a fault at this call.
 fn at_image(alloc: Global, call: u64, choice: u64) -> Result<Vec<u8>, AllocError> {
     let mut text = at_call(alloc, call, b", image ")?;
     add_number(alloc, &mut text, choice)?;
     Ok(text)
 }
 
-/// Says where a difference is seen: with a stream that ends.
+/// A text for a report that says where a difference is: in the run with a stream that ends after
+/// this number of bytes.
 fn at_end(alloc: Global, count: u64) -> Result<Vec<u8>, AllocError> {
     let mut text = Vec::from_slice(alloc, b"with a stream that ends after ")?;
     add_number(alloc, &mut text, count)?;

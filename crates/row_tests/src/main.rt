@@ -1,10 +1,11 @@
-//! Shows what is reported of texts that are no rows, and of rows that fail. The faults are in
-//! `tests/rows.md`, "A text that is none", and what is compared in "Lines" and "What goes wrong".
+//! Tests the reports of `row_run`: of texts that are not spelled as rows, and of rows that fail.
+//! The faults are in `tests/rows.md`, "A text that is none", and what is compared in "Lines" and
+//! "What goes wrong".
 //!
-//! Standard input has texts of rows, each after a line `==== NAME`. Each is run with a program
-//! that mostly echoes: it prints each word on a line, and is refused if there is none. Some
-//! words make it do what no program should. A text whose last line is `\` has no end of its line
-//! before that.
+//! Standard input has texts of rows, each after a line `==== NAME`. The rows of each run with a
+//! program that prints each word on a line, and returns the status 1 if there is no word. Some
+//! words make it do what no program should. If the last line of a text is `\`, the line before it
+//! has no line end.
 #![tactic(auto)]
 
 use base_core::{Disk, Name, Tree, Words, write_all};
@@ -14,12 +15,12 @@ use std::io;
 use std::io::{Read, Write};
 use tree_memory::{MemorySink, MemoryTree};
 
-/// A program that prints its words, and does what some of them say.
+/// A program that prints its words. Some words also make it change the tree (`act`).
 struct Echo;
 
 impl Program for Echo {
-    /// Does what its words say to the tree, and prints them. It fails on purpose to tell some
-    /// faults.
+    /// Does with the tree what the words say, and prints the words. With some words it fails to
+    /// report a fault, on purpose.
     fn run(
         &self,
         alloc: Global,
@@ -40,7 +41,7 @@ impl Program for Echo {
         for i in 0..words.len() {
             let word = words.word(i);
             let is_taken = write_all(out, word).is_ok() && write_all(out, b"\n").is_ok();
-            // a stream whose end is not told
+            // with the word `deaf`, a failed stream is not reported
             if !is_taken && word != b"deaf".as_slice() {
                 return 3;
             }
@@ -48,7 +49,8 @@ impl Program for Echo {
         if words.is_empty() { 1 } else { 0 }
     }
 
-    /// Recovers by removing staged files, and fails or never ends its work on files of two names.
+    /// Recovers a tree: removes the file `waiting`. A file `stuck` makes this fail, and a file
+    /// `growing` is longer after each recovery.
     fn recover(&self, alloc: Global, tree: &mut MemoryTree) -> bool {
         match recover(alloc, tree) {
             Ok(()) => true,
@@ -56,7 +58,8 @@ impl Program for Echo {
         }
     }
 
-    /// Its containers are texts after the line of a schema.
+    /// The container of a text: what follows `#%SCHEMA: `, or None if the text does not begin with
+    /// this.
     fn container_of(&self, alloc: Global, text: &[u8]) -> Result<Option<Vec<u8>>, AllocError> {
         match text.strip_prefix(b"#%SCHEMA: ") {
             Some(rest) => Ok(Some(Vec::from_slice(alloc, rest)?)),
@@ -65,37 +68,37 @@ impl Program for Echo {
     }
 }
 
-/// What some words do to the tree.
+/// Does with the tree what a word says. Any other word does nothing.
 fn act(alloc: Global, word: &[u8], tree: &mut MemoryTree) -> Result<(), Disk> {
     match word {
-        // a file in its place, synced at last
+        // makes the file `made` under its final name, and syncs it only afterwards
         b"careless" => {
             make(alloc, tree, b"made")?;
             settle(alloc, tree, b"made")
         }
-        // a staged file for its place until it is synced
+        // makes the file under another name, and renames it to its final name when it is synced
         b"careful" => {
             make(alloc, tree, b"waiting")?;
             settle(alloc, tree, b"waiting")?;
             tree.rename(&named(alloc, b"waiting")?, &named(alloc, b"made")?)?;
             tree.sync_names()
         }
-        // a file that nothing keeps
+        // makes the file `made`, and does not sync it
         b"hasty" => make(alloc, tree, b"made"),
-        // a fault that is not reported
+        // syncs the names, and does not report a fault of this call
         b"silent" => {
             let _ = tree.sync_names();
             Ok(())
         }
-        // a file that no call of the tree makes
+        // puts the file `made` without a call of the tree
         b"hidden" => put(alloc, tree, b"made"),
-        // two bytes of a file
+        // reads two bytes of the file `made`
         b"read" => tree.read_at(&named(alloc, b"made")?, 0, &mut [0u8; 2]),
         _ => Ok(()),
     }
 }
 
-/// A name that a word gives; a bad one counts as a fault of the tree.
+/// The name with these bytes. Bytes that are no name count as a fault of the tree.
 fn named(alloc: Global, bytes: &[u8]) -> Result<Name, Disk> {
     match Name::read(alloc, bytes) {
         Ok(Some(name)) => Ok(name),
@@ -103,7 +106,7 @@ fn named(alloc: Global, bytes: &[u8]) -> Result<Name, Disk> {
     }
 }
 
-/// Puts a file with one byte, by no call of the tree.
+/// Puts a file with one byte, without a call of the tree.
 fn put(alloc: Global, tree: &mut MemoryTree, name: &[u8]) -> Result<(), Disk> {
     let name = named(alloc, name)?;
     if tree.can_put(&name) && tree.put(&name, b"x").is_ok() {
@@ -113,7 +116,7 @@ fn put(alloc: Global, tree: &mut MemoryTree, name: &[u8]) -> Result<(), Disk> {
     }
 }
 
-/// Makes a file of one byte, if there is none.
+/// Removes the file of a name, if there is one, and makes a file of one byte under this name.
 fn make(alloc: Global, tree: &mut MemoryTree, name: &[u8]) -> Result<(), Disk> {
     let name = named(alloc, name)?;
     tree.remove(&name)?;
@@ -127,7 +130,7 @@ fn settle(alloc: Global, tree: &mut MemoryTree, name: &[u8]) -> Result<(), Disk>
     tree.sync_names()
 }
 
-/// Removes a staged file. A file `stuck` makes this fail, and a file `growing` is longer after
+/// Removes the file `waiting`. A file `stuck` makes this fail, and a file `growing` is longer after
 /// each call.
 fn recover(alloc: Global, tree: &mut MemoryTree) -> Result<(), Disk> {
     tree.remove(&named(alloc, b"waiting")?)?;
@@ -141,18 +144,20 @@ fn recover(alloc: Global, tree: &mut MemoryTree) -> Result<(), Disk> {
     Ok(())
 }
 
-/// A text that is read, and all that is reported.
+/// The state after some lines of standard input: the lines of the case that has begun, and the
+/// report.
 #[derive(Drop)]
 struct Cases {
+    /// Where memory is taken.
     alloc: Global,
-    /// The text of the case that is read.
+    /// The lines so far of the case that has begun.
     text: Vec<u8>,
-    /// What is reported of all cases.
+    /// The reports of all cases so far.
     report: Vec<u8>,
 }
 
 impl Cases {
-    /// Adds a line of a case; `==== NAME` begins the next one.
+    /// Adds a line to the case. A line `==== NAME` ends the case before it and begins the next one.
     fn add(&mut self, line: &[u8]) -> Result<(), AllocError> {
         match line.strip_prefix(b"==== ") {
             Some(name) => {
@@ -167,7 +172,7 @@ impl Cases {
         }
     }
 
-    /// Runs the text that was read.
+    /// Runs the rows of the case, and adds their report.
     fn end(&mut self) -> Result<(), AllocError> {
         if !self.text.is_empty() {
             let text = case_text(&self.text);
@@ -178,7 +183,7 @@ impl Cases {
     }
 }
 
-/// The text of a case: without the end of its last line where a line `\` is after it.
+/// The text of a case. A last line `\` is removed, together with the line end before it.
 fn case_text(text: &[u8]) -> &[u8] {
     match text.strip_suffix(b"\n\\\n") {
         Some(cut) => cut,
@@ -186,7 +191,7 @@ fn case_text(text: &[u8]) -> &[u8] {
     }
 }
 
-/// Prints what is reported of each case of standard input.
+/// Prints the report of each case of standard input.
 fn main(rt: HostRuntime) -> io::Result<()> {
     let alloc = rt.alloc();
     let mut text = Vec::new(alloc);

@@ -1,9 +1,9 @@
-//! Rows as text: which files are there, which command lines are run, what goes wrong, and what is
-//! to be seen. `tests/rows.md` describes the form, in "Lines", "What goes wrong" and
-//! "A text that is none".
+//! Reads rows from a text: which files are there, which command lines run, which failures are
+//! planned, and what is expected. `tests/rows.md` describes the form, in "Lines", "What goes wrong"
+//! and "A text that is none".
 //!
-//! The bytes of a text come in, and its rows go out, or the line of its first fault and what is
-//! wrong there. No row is run here.
+//! `read_rows` takes the bytes of a text, and returns its rows, or the line of its first fault and
+//! what is wrong there. No row runs here.
 #![tactic(auto)]
 
 mod parts;

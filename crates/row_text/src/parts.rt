@@ -1,6 +1,6 @@
-//! Parts of a row: the files that are there before and after a command line, and what goes wrong
-//! while it runs. The lines are in `tests/rows.md`, "Lines" (`in memory`, `file`, `then`, `\`)
-//! and "What goes wrong"; what is reported of a line that is none, in "A text that is none".
+//! Reads the lines of a row about files before and after a command line, and about planned
+//! failures. The lines are in `tests/rows.md`, "Lines" (`in memory`, `file`, `then`, `\`) and "What
+//! goes wrong"; the faults of lines are in "A text that is none".
 use crate::reader::{Form, Reader, Target, first_word};
 use crate::row::{Content, NamedFile, SinkPlan, Sweeps, TreePlan, Trouble};
 use crate::words::{add_hex, number};
@@ -8,7 +8,8 @@ use base_core::Name;
 use row_lines::value_named;
 use std::alloc::Global;
 
-// How a file's lines are written, by the last word of its line.
+// How the bytes of a file or of an output are written in the lines `|`, by the last word of the
+// line that begins it.
 #[rattlefmt::skip]
 const FORMS: [(&[u8], Form); 3] = [
     (b"text", Form::Text),
@@ -18,8 +19,8 @@ const FORMS: [(&[u8], Form); 3] = [
 
 /// Files.
 impl Reader {
-    /// Takes `in memory`: a host's folder may not carry the row. Here all rows run in memory, so
-    /// nothing else is to be kept of it.
+    /// Takes `in memory`: the row runs only over a tree in memory, not in a folder of the host. All
+    /// rows that are read here run in memory, so that the line has no effect.
     pub(crate) fn keep_in_memory(&mut self, rest: &[u8]) -> Result<(), Trouble> {
         if rest != b"memory".as_slice() {
             return Err(Trouble::BadShape);
@@ -39,7 +40,7 @@ impl Reader {
         let form = form_of(kind)?;
         let file = NamedFile {
             name: name_of(self.alloc, path)?,
-            content: Some(content(self.alloc, form, self.line)),
+            content: Some(empty_content(self.alloc, form, self.line)),
         };
         let Some(row) = &mut self.row else {
             return Err(Trouble::NoRow);
@@ -49,7 +50,7 @@ impl Reader {
         Ok(())
     }
 
-    /// Takes `then PATH ..`: what is at a path after the command line.
+    /// Takes `then PATH ..`: what is expected at a path after the command line.
     pub(crate) fn add_wanted(&mut self, rest: &[u8]) -> Result<(), Trouble> {
         let (path, kind) = first_word(rest);
         let name = name_of(self.alloc, path)?;
@@ -60,13 +61,13 @@ impl Reader {
             });
         }
         let form = form_of(kind)?;
-        let content = Some(content(self.alloc, form, self.line));
+        let content = Some(empty_content(self.alloc, form, self.line));
         self.push_wanted(NamedFile { name, content })?;
         self.target = Target::Wanted(form);
         Ok(())
     }
 
-    /// Adds a file that the command line before is to leave.
+    /// Adds a file that is expected after the last command line.
     fn push_wanted(&mut self, file: NamedFile) -> Result<(), Trouble> {
         let Some(step) = &mut self.step else {
             return Err(Trouble::NoCommand);
@@ -75,7 +76,7 @@ impl Reader {
         Ok(())
     }
 
-    /// Takes a line, after `|`, of the file or of the output that was named last.
+    /// Takes `| LINE`: a line of the file or of the output that was named last.
     pub(crate) fn add_piece(&mut self, piece: &[u8]) -> Result<(), Trouble> {
         match self.target {
             Target::Given(form) => {
@@ -100,7 +101,7 @@ impl Reader {
         }
     }
 
-    /// Takes `\`: the last line of a text or of a stream has no end.
+    /// Takes `\`: the last line of the file or of the stream before has no line end.
     pub(crate) fn cut_line_end(&mut self, rest: &[u8]) -> Result<(), Trouble> {
         if !rest.is_empty() {
             return Err(Trouble::BadShape);
@@ -129,7 +130,7 @@ impl Reader {
     }
 }
 
-/// A path as a name; one that is none makes the row bad.
+/// The name of a path. A text that is no path of a file is a fault.
 pub(crate) fn name_of(alloc: Global, path: &[u8]) -> Result<Name, Trouble> {
     match Name::read(alloc, path)? {
         Some(name) => Ok(name),
@@ -137,7 +138,7 @@ pub(crate) fn name_of(alloc: Global, path: &[u8]) -> Result<Name, Trouble> {
     }
 }
 
-/// How a file's lines are read, by the word after its path.
+/// How the lines of a file are read, by the word after its path.
 fn form_of(word: &[u8]) -> Result<Form, Trouble> {
     match value_named(&FORMS, word) {
         Some(form) => Ok(form),
@@ -145,9 +146,9 @@ fn form_of(word: &[u8]) -> Result<Form, Trouble> {
     }
 }
 
-/// A content of a form before its first line. A dump keeps the line at which it begins, for a
-/// fault.
-fn content(alloc: Global, form: Form, line: u64) -> Content {
+/// An empty content, to which lines in this form can be added. A dump text keeps `line`, the number
+/// of the line at which it begins, for reports.
+fn empty_content(alloc: Global, form: Form, line: u64) -> Content {
     match form {
         Form::Text | Form::Hex => Content::Bytes(Vec::new(alloc)),
         Form::Dump => Content::Dump {
@@ -157,8 +158,8 @@ fn content(alloc: Global, form: Form, line: u64) -> Content {
     }
 }
 
-/// Adds a line to the last file, in the file's form. A line after no file, or after one that is
-/// to be absent, is out of place.
+/// Adds a line to the last of these files, in the file's form. If there is no file, or if the last
+/// one is expected to be absent, the line is out of place.
 fn add_to_last(files: &mut Vec<NamedFile>, form: Form, piece: &[u8]) -> Result<(), Trouble> {
     let Some(file) = files.last_mut() else {
         return Err(Trouble::OutOfPlace);
@@ -169,7 +170,7 @@ fn add_to_last(files: &mut Vec<NamedFile>, form: Form, piece: &[u8]) -> Result<(
     }
 }
 
-/// Adds a line to a content, in its form.
+/// Adds a line to a content: the bytes of hexadecimal digits, or the line itself with a line end.
 fn add_to(content: &mut Content, form: Form, piece: &[u8]) -> Result<(), Trouble> {
     match (content, form) {
         (Content::Bytes(bytes), Form::Hex) => add_hex(bytes, piece),
@@ -178,14 +179,14 @@ fn add_to(content: &mut Content, form: Form, piece: &[u8]) -> Result<(), Trouble
     }
 }
 
-/// Adds a line, with its line end.
+/// Adds a line to a text, followed by a line end.
 pub(crate) fn add_line(text: &mut Vec<u8>, piece: &[u8]) -> Result<(), Trouble> {
     text.extend_from_slice(piece)?;
     text.push(b'\n')?;
     Ok(())
 }
 
-/// Takes the last line end off the last file.
+/// Removes the last line end of the last of these files.
 fn cut_last(files: &mut Vec<NamedFile>) -> Result<(), Trouble> {
     let Some(file) = files.last_mut() else {
         return Err(Trouble::OutOfPlace);
@@ -196,7 +197,7 @@ fn cut_last(files: &mut Vec<NamedFile>) -> Result<(), Trouble> {
     }
 }
 
-/// Takes the last line end off a content of lines.
+/// Removes the last line end of a content. A dump text may not end without one.
 fn cut_content(content: &mut Content) -> Result<(), Trouble> {
     match content {
         Content::Bytes(bytes) => cut(bytes),
@@ -204,7 +205,7 @@ fn cut_content(content: &mut Content) -> Result<(), Trouble> {
     }
 }
 
-/// Takes the last line end off a text, which has one as each line that was added.
+/// Removes the last byte of a text, which is the line end of the last line that was added.
 fn cut(text: &mut Vec<u8>) -> Result<(), Trouble> {
     match text.pop() {
         Some(_) => Ok(()),
@@ -214,8 +215,8 @@ fn cut(text: &mut Vec<u8>) -> Result<(), Trouble> {
 
 /// Standard output.
 impl Reader {
-    /// Takes `out ..`: in which form the output of the command line before follows, or what
-    /// standard output takes of the next command line.
+    /// Takes `out ..`: in which form the expected output of the last command line follows, or how
+    /// many bytes standard output takes of the next command line.
     pub(crate) fn read_out(&mut self, rest: &[u8]) -> Result<(), Trouble> {
         match value_named(&FORMS, rest) {
             Some(Form::Hex) => self.print_hex(),
@@ -224,7 +225,7 @@ impl Reader {
         }
     }
 
-    /// Takes `out hex`: bytes of the output follow.
+    /// Takes `out hex`: bytes of the expected output follow, in lines `|` with hexadecimal digits.
     fn print_hex(&mut self) -> Result<(), Trouble> {
         let Some(step) = &self.step else {
             return Err(Trouble::NoCommand);
@@ -238,7 +239,7 @@ impl Reader {
         }
     }
 
-    /// Takes `out dump`: the dump text follows of the container that the whole output is.
+    /// Takes `out dump`: the expected output is a container, whose dump text follows in lines `|`.
     fn print_dump(&mut self) -> Result<(), Trouble> {
         let Some(step) = &mut self.step else {
             return Err(Trouble::NoCommand);
@@ -247,13 +248,13 @@ impl Reader {
             Content::Bytes(bytes) if bytes.is_empty() => {}
             _ => return Err(Trouble::SaidTwice),
         }
-        step.out = content(self.alloc, Form::Dump, self.line);
+        step.out = empty_content(self.alloc, Form::Dump, self.line);
         self.target = Target::Printed(Form::Dump);
         Ok(())
     }
 }
 
-/// What goes wrong in the next command line.
+/// Planned failures of the next command line.
 impl Reader {
     /// Takes `fail N ..` or `fail each`: the calls of the tree that fail.
     pub(crate) fn plan_failures(&mut self, rest: &[u8]) -> Result<(), Trouble> {
@@ -268,7 +269,8 @@ impl Reader {
         self.plan_tree(TreePlan::Fail(calls))
     }
 
-    /// Takes `stop each`: after which calls the tree stops.
+    /// Takes `stop each`: in further runs, all calls of the tree fail after each number of calls in
+    /// turn.
     pub(crate) fn plan_stops(&mut self, rest: &[u8]) -> Result<(), Trouble> {
         if rest != b"each".as_slice() {
             return Err(Trouble::BadShape);
@@ -277,7 +279,7 @@ impl Reader {
         self.plan_sweeps(Sweeps { fail, stop })
     }
 
-    /// Plans further runs of the next command line, besides those that are planned.
+    /// Plans further runs of the next command line, in addition to those that are already planned.
     fn plan_sweeps(&mut self, more: Sweeps) -> Result<(), Trouble> {
         if let TreePlan::Each(sweeps) = &mut self.plan.tree {
             if (sweeps.fail && more.fail) || (sweeps.stop && more.stop) {
@@ -290,7 +292,7 @@ impl Reader {
         self.plan_tree(TreePlan::Each(more))
     }
 
-    /// Plans failures or stops of the tree, for the next command line alone.
+    /// Plans which calls of the tree fail, for the next command line alone.
     fn plan_tree(&mut self, plan: TreePlan) -> Result<(), Trouble> {
         if self.row.is_none() {
             return Err(Trouble::NoRow);
@@ -304,21 +306,23 @@ impl Reader {
         }
     }
 
-    /// Takes `out ..`: what standard output takes of the next command line.
+    /// Takes `out ends after ..` or `out takes ..`: how many bytes standard output takes of the
+    /// next command line.
     fn plan_out(&mut self, rest: &[u8]) -> Result<(), Trouble> {
         self.plan.out = sink_plan(self.plan.out, rest)?;
         Ok(())
     }
 
-    /// Takes `err ..`: what standard error takes of the next command line.
+    /// Takes `err ends after ..` or `err takes ..`: how many bytes standard error takes of the next
+    /// command line.
     pub(crate) fn plan_err(&mut self, rest: &[u8]) -> Result<(), Trouble> {
         self.plan.err = sink_plan(self.plan.err, rest)?;
         Ok(())
     }
 }
 
-/// What a stream takes: `ends after N` bytes, or after `each` number of bytes in turn, or
-/// `takes N at most` of a piece.
+/// The plan of a stream with one more line: `ends after N` (bytes), `ends after each` (number of
+/// bytes in turn), or `takes N at most` (bytes of one write).
 fn sink_plan(before: SinkPlan, rest: &[u8]) -> Result<SinkPlan, Trouble> {
     let mut plan = before;
     if let Some(count) = rest.strip_prefix(b"ends after ") {
@@ -345,7 +349,7 @@ pub(crate) fn number_at_most(text: &[u8]) -> Result<u64, Trouble> {
     }
 }
 
-/// A decimal number, as a length.
+/// The decimal number that a text is, as a number of bytes.
 fn size(text: &[u8]) -> Result<usize, Trouble> {
     Ok(number(text)? as usize)
 }

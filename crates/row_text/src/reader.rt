@@ -1,26 +1,27 @@
-//! Reads a text line by line: rows, command lines, and what is to be seen of them. Each line
-//! belongs to the row, the command line or the file that is last before it. The lines are in
-//! `tests/rows.md`, "Lines", and the faults in "A text that is none".
+//! Reads a text of rows line by line: rows, their command lines, and what is expected of these.
+//! Each line belongs to the row, the command line or the file that is last before it. The lines are
+//! in `tests/rows.md`, "Lines", and the faults in "A text that is none".
 use crate::parts::{add_line, name_of, number_at_most};
 use crate::row::{Content, Fault, Row, SinkPlan, Step, TreePlan, Trouble};
 use crate::words::{number, words_of};
 use row_lines::value_named;
 use std::alloc::{AllocError, Global};
 
-/// What the next line of text belongs to.
+/// The text that a line `|` adds to, and whose last line end a line `\` removes.
 #[derive(Clone, Copy)]
 pub(crate) enum Target {
-    /// A line of a file, or one without an end, has no place here.
+    /// Neither a line `|` nor a line `\` may come next.
     Nothing,
-    /// A file that is there before, by its form.
+    /// A file that is there before the first command line, in this form.
     Given(Form),
-    /// A file that is there afterwards.
+    /// A file that is expected after the command line, in this form.
     Wanted(Form),
-    /// Standard output of the command line, line by line.
+    /// The expected standard output of the command line, in lines that begin with `>`.
     Out,
-    /// Standard output of the command line, by its form.
+    /// The expected standard output of the command line, in lines that begin with `|`, in this
+    /// form.
     Printed(Form),
-    /// Standard error of the command line.
+    /// The expected standard error of the command line, in lines that begin with `!`.
     Err,
 }
 
@@ -35,7 +36,8 @@ pub(crate) enum Form {
     Dump,
 }
 
-/// What a line says that begins with a word; `tests/rows.md` has a row for each.
+/// The first word of a line that begins with a word. The table in `tests/rows.md`, "Lines", says
+/// what a line with this word says.
 #[derive(Clone, Copy)]
 enum Word {
     Row,
@@ -73,33 +75,34 @@ const WORDS: [(&[u8], Word); 14] = [
     (b"err", Word::Err),
 ];
 
-/// A text that is being read: the rows that are whole, and what has begun.
+/// The state after some lines of a text: the complete rows, and the row and the command line that
+/// are not complete yet.
 #[derive(Drop)]
 pub(crate) struct Reader {
     /// Where memory is taken.
     pub(crate) alloc: Global,
     /// The number of the last line that was begun, counted from 1.
     pub(crate) line: u64,
-    /// The rows that are whole.
+    /// The complete rows.
     rows: Vec<Row>,
-    /// The row that has begun, and is not whole.
+    /// The row that has begun, and may have further lines.
     pub(crate) row: Option<Row>,
-    /// The command line of that row that has begun, and is not whole.
+    /// The last command line of the row that has begun; it may have further lines.
     pub(crate) step: Option<Step>,
-    /// What goes wrong in the next command line.
+    /// The planned failures of the next command line.
     pub(crate) plan: Plans,
-    /// What the next line of a file or of a stream belongs to.
+    /// The text that a line `|` adds to, and whose last line end a line `\` removes.
     pub(crate) target: Target,
 }
 
-/// What goes wrong in a command line: in its tree and its two streams.
+/// The planned failures of a command line: of its tree and its two streams.
 #[derive(Drop)]
 pub(crate) struct Plans {
     /// Which calls of the tree fail.
     pub(crate) tree: TreePlan,
-    /// What standard output takes.
+    /// How many bytes standard output takes.
     pub(crate) out: SinkPlan,
-    /// What standard error takes.
+    /// How many bytes standard error takes.
     pub(crate) err: SinkPlan,
 }
 
@@ -116,7 +119,7 @@ pub fn read_rows(alloc: Global, text: &[u8]) -> Result<Vec<Row>, Fault> {
 }
 
 impl Plans {
-    /// Nothing fails or is stopped.
+    /// The plans by which nothing fails.
     fn none() -> Plans {
         Plans {
             tree: TreePlan::Whole,
@@ -140,8 +143,11 @@ impl Reader {
         }
     }
 
-    /// Reads all lines. After a fault, `line` is the number of the line that has it.
+    /// Reads all lines of a text. After a fault, `self.line` is the number of the line with the
+    /// fault.
     fn read_text(&mut self, text: &[u8]) -> Result<(), Trouble> {
+        // The part of the text before this one, which is a line once a line end follows it. The
+        // last part is no line, and has to be empty.
         let mut rest = None;
         for line in text.split(|byte| *byte == b'\n') {
             if let Some(line) = rest {
@@ -156,20 +162,26 @@ impl Reader {
         }
     }
 
-    /// Reads a line by its first byte, or else by its first word. An empty line ends the text that
-    /// lines are added to.
+    /// Reads a line by its first byte, or else by its first word. After an empty line no line adds
+    /// to the text before it.
     fn read_line(&mut self, line: &[u8]) -> Result<(), Trouble> {
-        let Some((mark, rest)) = line.split_first() else {
+        let Some((first, rest)) = line.split_first() else {
             self.target = Target::Nothing;
             return Ok(());
         };
-        match *mark {
+        match *first {
+            // A remark.
             b'#' => Ok(()),
-            b'|' => self.add_piece(piece(rest)?),
-            b'>' => self.add_out(piece(rest)?),
-            b'!' => self.add_err(piece(rest)?),
+            // A line of the file or of the output that was named last.
+            b'|' => self.add_piece(text_after_blank(rest)?),
+            // A line that standard output is expected to have.
+            b'>' => self.add_out(text_after_blank(rest)?),
+            // A line that standard error is expected to have.
+            b'!' => self.add_err(text_after_blank(rest)?),
+            // The last line of the text before has no line end.
             b'\\' => self.cut_line_end(rest),
-            b'$' => self.begin_step(piece(rest)?),
+            // A command line.
+            b'$' => self.begin_step(text_after_blank(rest)?),
             _ => self.read_words(line),
         }
     }
@@ -203,8 +215,8 @@ impl Reader {
     }
 }
 
-/// What follows the mark of a line: nothing, or a blank and a text.
-fn piece(rest: &[u8]) -> Result<&[u8], Trouble> {
+/// The text after the first byte of a line, such as `|` or `$`. It is empty, or follows a blank.
+fn text_after_blank(rest: &[u8]) -> Result<&[u8], Trouble> {
     match rest.split_first() {
         None => Ok(rest),
         Some((b' ', text)) => Ok(text),
@@ -222,7 +234,7 @@ pub(crate) fn first_word(line: &[u8]) -> (&[u8], &[u8]) {
 
 /// Rows.
 impl Reader {
-    /// Begins a row of a line such as `NAME: SENTENCE`.
+    /// Begins a row, given what follows the word `row` in its line: `NAME: SENTENCE`.
     fn begin_row(&mut self, rest: &[u8]) -> Result<(), Trouble> {
         self.end_row()?;
         let (name, sentence) = match rest.iter().position(|byte| *byte == b':') {
@@ -248,12 +260,12 @@ impl Reader {
         Ok(())
     }
 
-    /// The number of an earlier row, counted from 0, by its name.
+    /// The number of the complete row with this name, counted from 0, or None if there is none.
     fn number_of(&self, name: &[u8]) -> Option<usize> {
         self.rows.iter().position(|row| row.name.as_slice() == name)
     }
 
-    /// Ends a row; one that runs nothing is bad.
+    /// Ends the row that has begun, if there is one. A row without a command line is a fault.
     fn end_row(&mut self) -> Result<(), Trouble> {
         self.end_step()?;
         if let Some(row) = self.row.take() {
@@ -266,8 +278,8 @@ impl Reader {
         Ok(())
     }
 
-    /// Takes `from NAME`: the row begins with the files that an earlier row leaves. They are in
-    /// place of files of its own.
+    /// Takes `from NAME`: the row begins with the files that an earlier row leaves. No line `file`
+    /// of the row may be before this line.
     fn begin_with(&mut self, rest: &[u8]) -> Result<(), Trouble> {
         let Some(number) = self.number_of(rest) else {
             return Err(Trouble::NoSuchRow);
@@ -286,9 +298,9 @@ impl Reader {
     }
 }
 
-/// Command lines, and what is to be seen.
+/// Command lines, and what is expected of them.
 impl Reader {
-    /// Begins a command line, with what was planned for it.
+    /// Begins a command line, with the failures that were planned for it.
     fn begin_step(&mut self, text: &[u8]) -> Result<(), Trouble> {
         if self.row.is_none() {
             return Err(Trouble::NoRow);
@@ -316,7 +328,7 @@ impl Reader {
         Ok(())
     }
 
-    /// Adds the last command line to the others of its row.
+    /// Adds the last command line, if there is one, to the others of its row.
     fn end_step(&mut self) -> Result<(), AllocError> {
         if let Some(step) = self.step.take()
             && let Some(row) = &mut self.row
@@ -326,7 +338,7 @@ impl Reader {
         Ok(())
     }
 
-    /// Adds a line that standard output is to have.
+    /// Takes `> LINE`: a line that standard output is expected to have.
     fn add_out(&mut self, piece: &[u8]) -> Result<(), Trouble> {
         let Some(step) = &mut self.step else {
             return Err(Trouble::NoCommand);
@@ -338,7 +350,7 @@ impl Reader {
         }
     }
 
-    /// Adds a line that standard error is to have.
+    /// Takes `! LINE`: a line that standard error is expected to have.
     fn add_err(&mut self, piece: &[u8]) -> Result<(), Trouble> {
         let Some(step) = &mut self.step else {
             return Err(Trouble::NoCommand);
@@ -347,8 +359,9 @@ impl Reader {
         add_line(&mut step.err, piece)
     }
 
-    /// A count that is expected: the exit status, how many calls there are of the tree, how many of
-    /// them write, or the most bytes that one read may ask for.
+    /// Adds an expected number to the command line. `word` says which: the exit status, the number
+    /// of calls of the tree, the number of calls that write, or the most bytes that one read may
+    /// ask for.
     fn add_count(&mut self, word: Word, number: Result<u64, Trouble>) -> Result<(), Trouble> {
         let number = number?;
         let Some(step) = &mut self.step else {
@@ -358,11 +371,12 @@ impl Reader {
             Word::Status => set_once(&mut step.status, number),
             Word::Calls => set_once(&mut step.calls, number),
             Word::Writes => set_once(&mut step.writes, number),
+            // `Word::Reads`: the callers pass no other word.
             _ => set_once(&mut step.reads, number),
         }
     }
 
-    /// Takes `names PATH ..`: all names that there are, in byte order.
+    /// Takes `names PATH ..`: the names of all files after the command line, in byte order.
     fn add_names(&mut self, rest: &[u8]) -> Result<(), Trouble> {
         let mut names = Vec::new(self.alloc);
         if !rest.is_empty() {
@@ -381,7 +395,7 @@ impl Reader {
     }
 }
 
-/// Sets a number that may be said once.
+/// Sets an expected number, which the lines of a command line may state only once.
 fn set_once(place: &mut Option<u64>, number: u64) -> Result<(), Trouble> {
     if place.is_some() {
         return Err(Trouble::SaidTwice);

@@ -1,24 +1,25 @@
-//! What comes out of a text: rows, each with its files, its command lines and what is expected of
-//! them; or the first fault, with its line. The lines that say them are in `tests/rows.md`.
+//! The results of reading a text: rows, each with its files, its command lines and what is expected
+//! of these, or the first fault, with its line. `tests/rows.md` describes the lines.
 use base_core::{Name, Words};
 use std::alloc::{AllocError, AllocFailed};
 
 /// A row of a text.
 #[derive(Drop)]
 pub struct Row {
-    /// Its name, which no other row has.
+    /// The name of the row, which no other row has.
     pub name: Vec<u8>,
-    /// The line that it begins at, counted from 1.
+    /// The number of the line at which the row begins, counted from 1.
     pub line: u64,
-    /// The row, by its number from 0, with whose files it begins.
+    /// The number of the earlier row, counted from 0, with whose files this row begins, if it names
+    /// one.
     pub from: Option<usize>,
-    /// What else is before the first command line.
+    /// The files that are there before the first command line, besides those of the earlier row.
     pub files: Vec<NamedFile>,
-    /// Its command lines, in order.
+    /// The command lines of the row, in order.
     pub steps: Vec<Step>,
 }
 
-/// A path, and what is there before a row or after a command line.
+/// A path, and the file that is there before a row, or is expected there after a command line.
 #[derive(Drop)]
 pub struct NamedFile {
     /// The path.
@@ -36,34 +37,34 @@ pub enum Content {
     Dump { text: Vec<u8>, line: u64 },
 }
 
-/// A command line, what goes wrong while it runs, and what is to be seen then.
+/// A command line, the failures that are planned for it, and what is expected of it.
 #[derive(Drop)]
 pub struct Step {
-    /// The line of the text that it is on, counted from 1.
+    /// The number of the line of the text that has the command line, counted from 1.
     pub line: u64,
-    /// Its words, without the program's name.
+    /// The words of the command line, without the program's name.
     pub command: Words,
     /// Which calls of the tree fail.
     pub tree: TreePlan,
-    /// What standard output takes.
+    /// How many bytes standard output takes before it fails.
     pub out_plan: SinkPlan,
-    /// What standard error takes.
+    /// How many bytes standard error takes before it fails.
     pub err_plan: SinkPlan,
-    /// What standard output has.
+    /// The expected bytes of standard output.
     pub out: Content,
-    /// The bytes of standard error.
+    /// The expected bytes of standard error.
     pub err: Vec<u8>,
-    /// The exit status: 0 if none is said.
+    /// The expected exit status, if the row states it; otherwise 0 is expected.
     pub status: Option<u64>,
-    /// What is afterwards at these paths. All others are as they were before.
+    /// What is expected at these paths afterwards. All other files are expected to be as before.
     pub files: Vec<NamedFile>,
-    /// All names that there are afterwards, if that is said.
+    /// The expected names of all files afterwards, if the row states them.
     pub names: Option<Vec<Name>>,
-    /// How many calls the run makes of the tree, if that is said.
+    /// The expected number of calls of the tree, if the row states it.
     pub calls: Option<u64>,
-    /// How many of these calls write, if that is said.
+    /// The expected number of calls of the tree that write, if the row states it.
     pub writes: Option<u64>,
-    /// How many bytes a call asks for at most, if that is said.
+    /// The most bytes that one reading call may ask for, if the row states it.
     pub reads: Option<u64>,
 }
 
@@ -72,34 +73,34 @@ pub struct Step {
 pub enum TreePlan {
     /// None of them fails.
     Whole,
-    /// Those with these numbers, counted from 1.
+    /// The calls with these numbers fail, counted from 1.
     Fail(Vec<u64>),
-    /// Many in turn: the command line is run once for each of its calls.
+    /// Each call in turn: the command line is run once for each of its calls.
     Each(Sweeps),
 }
 
-/// Which runs are made of a command line, one for each of its calls.
+/// Which further runs are made of a command line, one for each of its calls.
 #[derive(Clone, Copy)]
 pub struct Sweeps {
-    /// Those in which that call alone fails.
+    /// Whether there are runs in which this call alone fails.
     pub fail: bool,
-    /// Those in which all calls after that one fail.
+    /// Whether there are runs in which all calls after this one fail.
     pub stop: bool,
 }
 
-/// What a stream takes.
+/// How many bytes a stream takes.
 #[derive(Clone, Copy)]
 pub struct SinkPlan {
-    /// How many bytes it takes before it fails.
+    /// How many bytes the stream takes before it fails, if it is to fail.
     pub end: Option<usize>,
-    /// Whether it fails after each number of bytes in turn: the command line is run once for each.
+    /// Whether the stream fails after each number of bytes in turn, in one run for each number.
     pub each: bool,
-    /// How many bytes it takes of one piece at most.
+    /// How many bytes the stream takes in one write at most, if there is a limit.
     pub most: Option<usize>,
 }
 
 impl SinkPlan {
-    /// A stream that takes all.
+    /// A stream that takes all bytes.
     pub const WHOLE: SinkPlan = SinkPlan {
         end: None,
         each: false,
@@ -116,49 +117,49 @@ pub struct Fault {
     pub trouble: Trouble,
 }
 
-/// What is wrong with a line: a row of `tests/rows.md`, "A text that is none".
+/// What is wrong with a line (`tests/rows.md`, the table in "A text that is none").
 #[derive(Clone, Copy)]
 pub enum Trouble {
-    /// It begins with no word of the form.
+    /// The line begins with no word or byte that a line may begin with.
     UnknownWord,
-    /// It has more, or less, than its word takes.
+    /// The line has more, or less, after its first word than this word takes.
     BadShape,
-    /// It is before the first row.
+    /// The line is before the first row.
     NoRow,
-    /// It begins a row without a name.
+    /// The line begins a row without a name.
     NoName,
-    /// It begins a row without a sentence.
+    /// The line begins a row without a sentence after the name.
     NoSentence,
-    /// It begins a row of a name that an earlier row has.
+    /// The line begins a row with the name of an earlier row.
     TwoOfOneName,
-    /// It names a row that is not before it.
+    /// The line names a row (`from`), and no earlier row has this name.
     NoSuchRow,
-    /// It is no path of a file.
+    /// The path in the line is no path of a file.
     BadPath,
-    /// It is no list of bytes in hexadecimal digits.
+    /// The line is no list of bytes in hexadecimal digits.
     BadHex,
-    /// The dump text that begins here is none.
+    /// The text that begins after this line is no dump text.
     BadDump,
-    /// It has no decimal number if one is due.
+    /// The line has no decimal number where its word takes one.
     BadNumber,
     /// A quotation of the command line does not end.
     BadQuotation,
-    /// It says what is to be seen, and no command line is before it.
+    /// The line states an expectation, and no command line is before it.
     NoCommand,
     /// The row before it runs no command line.
     NothingRun,
-    /// It stands where its kind of line may not.
+    /// The line may not follow the lines before it.
     OutOfPlace,
-    /// It says once more what was said of the command line.
+    /// The line states once more what an earlier line states of the same command line.
     SaidTwice,
-    /// It is the last line, and no line end is after it.
+    /// The last line has no line end.
     NoLineEnd,
-    /// There is no memory for it.
+    /// There is no memory for the line.
     Memory,
 }
 
 impl Trouble {
-    /// What is wrong, in the words that are reported.
+    /// The text that is reported.
     pub fn text(self) -> &'static str {
         match self {
             Trouble::UnknownWord => "unknown word",
@@ -191,7 +192,7 @@ impl From<AllocError> for Trouble {
 }
 
 impl<T: Drop> From<AllocFailed<T>> for Trouble {
-    // Out of memory; the value to be kept is returned.
+    // Out of memory, as a fault of the text. The value that was not stored is dropped.
     fn from(_: AllocFailed<T>) -> Trouble {
         Trouble::Memory
     }

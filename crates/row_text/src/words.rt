@@ -1,6 +1,6 @@
-//! The words of a command line, as a shell reads them; bytes in hexadecimal digits, in groups that
-//! may be repeated, as `4144422e 2049*00000000`; and numbers. The forms are in `tests/rows.md`,
-//! "Lines".
+//! Reads parts of a line: the words of a command line, as a shell reads them; bytes in groups of
+//! hexadecimal digits, which a count may repeat, as in `4144422e 2049*00000000`; and numbers. The
+//! forms are in `tests/rows.md`, "Lines".
 use crate::row::Trouble;
 use base_core::Words;
 use std::alloc::Global;
@@ -8,7 +8,7 @@ use std::alloc::Global;
 /// The most words that a command line may have: 2^32 - 2, as `Words` of `base_core` holds.
 const MOST_WORDS: usize = 4_294_967_294;
 
-/// Where a byte of a command line stands.
+/// Where the next byte of a command line is.
 #[derive(Clone, Copy)]
 enum Place {
     /// Between words.
@@ -19,19 +19,19 @@ enum Place {
     Quotation,
 }
 
-/// The words of a command line so far.
+/// The words of a command line, as far as its bytes were read.
 #[derive(Drop)]
 struct Line {
-    /// The words that are whole.
+    /// The complete words.
     words: Words,
-    /// The bytes of the word that has begun.
+    /// The bytes so far of the word that has begun.
     word: Vec<u8>,
-    /// Where the next byte stands.
+    /// Where the next byte of the line is.
     place: Place,
 }
 
-/// The words of a command line after the program's name, which is `apk`. A blank ends a word, and
-/// what stands between two `'` is taken as it is.
+/// The words of a command line after the program's name, which is `apk`. A blank ends a word;
+/// between two `'`, a blank is a byte of the word.
 pub(crate) fn words_of(alloc: Global, text: &[u8]) -> Result<Words, Trouble> {
     let Some(rest) = text.strip_prefix(b"apk") else {
         return Err(Trouble::UnknownWord);
@@ -67,7 +67,8 @@ impl Line {
         Ok(())
     }
 
-    /// Ends the word that was begun; an empty quotation makes an empty one.
+    /// Ends the word that was begun, and adds it to the words. An empty quotation makes an empty
+    /// word.
     fn end_word(&mut self) -> Result<(), Trouble> {
         if self.words.len() >= MOST_WORDS {
             return Err(Trouble::Memory);
@@ -78,7 +79,7 @@ impl Line {
         Ok(())
     }
 
-    /// The words, once the line has ended; a quotation that is open makes the line bad.
+    /// The words of the line, after its last byte. A quotation that does not end is a fault.
     fn finish(self) -> Result<Words, Trouble> {
         let mut line = self;
         match line.place {
@@ -98,8 +99,8 @@ pub(crate) fn add_hex(out: &mut Vec<u8>, line: &[u8]) -> Result<(), Trouble> {
     Ok(())
 }
 
-/// Adds the bytes of a group: an even number of digits, after a count and `*` as often as that
-/// says.
+/// Adds the bytes of a group: an even number of digits, such as `4144`, or such digits after a
+/// count and `*`, such as `2049*00`, which adds their bytes so many times.
 fn add_group(out: &mut Vec<u8>, group: &[u8]) -> Result<(), Trouble> {
     match group.iter().position(|byte| *byte == b'*') {
         None => add_digits(out, group),
@@ -113,7 +114,7 @@ fn add_group(out: &mut Vec<u8>, group: &[u8]) -> Result<(), Trouble> {
     }
 }
 
-/// Adds a byte for each two digits; an odd number of them is bad.
+/// Adds a byte for each two hexadecimal digits. An odd number of digits is a fault.
 fn add_digits(out: &mut Vec<u8>, digits: &[u8]) -> Result<(), Trouble> {
     let mut high = None;
     for digit in digits {
@@ -132,12 +133,12 @@ fn add_digits(out: &mut Vec<u8>, digits: &[u8]) -> Result<(), Trouble> {
     }
 }
 
-/// The byte that two hexadecimal digits are, the high one first.
+/// The byte of two hexadecimal digits, given their values, the high digit first.
 fn byte_of(high: u8, low: u8) -> u8 {
     (high << 4) | low
 }
 
-/// The value of a hexadecimal digit, which is lower-case.
+/// The value of a hexadecimal digit. An upper-case digit is a fault.
 fn digit_value(digit: u8) -> Result<u8, Trouble> {
     match digit {
         b'0'..=b'9' => Ok(digit - b'0'),
@@ -161,7 +162,7 @@ pub(crate) fn number(text: &[u8]) -> Result<u64, Trouble> {
     Ok(number)
 }
 
-/// A number with one more decimal digit; it has at most 64 bits.
+/// The number with one more decimal digit at its end. A number above 2^64 - 1 is a fault.
 fn next_number(number: u64, digit: u8) -> Result<u64, Trouble> {
     let Some(tens) = number.checked_mul(10) else {
         return Err(Trouble::BadNumber);

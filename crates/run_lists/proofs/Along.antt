@@ -1,6 +1,6 @@
 -- Along a list of runs, stops and crashes.
 use Rattle.std.proofs.Common.{◌≡◌, inl, inr, ⊎_elim, ℕ, false, List, [], ◌∷◌, Option, None, sym, subst, ◌∙◌}
-use Rattle.apk_front.specs.Moments.{AnswersOutcome, IgnoresScratchOf, IsDurableState, ignored_except_output}
+use Rattle.apk_front.specs.Moments.{IsOkRefusedOrOutputFault, IgnoresScratchNameOfOutput, IsDurableAndLeavesFiles, ignored_except_output}
 use Rattle.apk_front.specs.declared.answer.Answer.{Answer}
 use Rattle.apk_front.specs.declared.answer.Answer.TheVariants.{Ok as Done, Refused, TreeFault, OutFault, Memory}
 use Rattle.base_core.specs.Calls.{HoldsNow}
@@ -8,7 +8,7 @@ use Rattle.base_core.specs.Files.{Files}
 use Rattle.base_core.specs.Undone.{IsAfterCrash, IsDurable}
 use Rattle.base_core.specs.Tree.{TreeState, files_of}
 use Rattle.apk_front.specs.journal_core.Quiet.{EachCrashLeavesOld}
-use Rattle.apk_front.specs.journal_core.Recovery.{EachCrashLeaves, StateDependsOn, intent_name}
+use Rattle.apk_front.specs.journal_core.Recovery.{EachCrashLeavesStateOf, StateDependsOn, intent_name}
 use Rattle.apk_front.specs.outcome.Effect.{output}
 use Rattle.run_lists.specs.Events.{Crashes, Edits, Ends, RootEvent, HasNoUnfinishedRunSinceCrash, Reaches, ReachesOneCrashState, IsAllSynced, IsRunWithoutCommit, IsMomentOf, IsRunFrom, DiffersOnlyInUnsyncedBytes, PreservesOneCrashState, IsTransition, EnsuresOneCrashState, Run, Stops, Touches, ignored_after, ignored_after_answer, ignored_during_run, nothing_ignored, ignored_with_scratch, ignored_with_touched}
 use Rattle.run_lists.specs.Safety.{IsAtomic, IsSafeRun, LeavesFilesOfAnsweredOutcome}
@@ -58,7 +58,7 @@ module _ (facts : Facts) (start : Ignored) (off : start intent_name ≡ false) w
   seen_durable first v (event ∷ earlier) is_durable (u, seen, leads) = led_durable event earlier u v (seen_durable first u earlier is_durable seen) leads
 
   pub seen_begins : (first v : TreeState) (events : List RootEvent) (words : List (List ℕ)) → IsDurable (StateDependsOn start) first → Reaches first events v
-      → IsDurable (StateDependsOn (ignored_with_scratch (output words) (ignored_after start events))) v × IgnoresScratchOf (output words) (ignored_with_scratch (output words) (ignored_after start events))
+      → IsDurable (StateDependsOn (ignored_with_scratch (output words) (ignored_after start events))) v × IgnoresScratchNameOfOutput (output words) (ignored_with_scratch (output words) (ignored_after start events))
   seen_begins first v events words is_durable seen = (
     more_durable facts (output words) (ignored_after start events) v (seen_durable first v events is_durable seen),
     hides (output words) (ignored_after start events) (after_hides start off events),
@@ -69,11 +69,11 @@ module _ (facts : Facts) (start : Ignored) (off : start intent_name ≡ false) w
 
 -- ---- one state
 
-own_settled : Facts → (ignored : Ignored) (files : Files) (w : TreeState) → EachCrashLeaves ignored files w → EachCrashLeaves ignored (files_of w) w
+own_settled : Facts → (ignored : Ignored) (files : Files) (w : TreeState) → EachCrashLeavesStateOf ignored files w → EachCrashLeavesStateOf ignored (files_of w) w
 own_settled facts ignored files w settled image is = settled image is ∙ sym (settled (files_of w) (facts.read_left w))
 
 abbrev HasOne : Ignored → TreeState → Type 0
-HasOne names w = EachCrashLeaves names (files_of w) w
+HasOne names w = EachCrashLeavesStateOf names (files_of w) w
 
 one_rests : Facts → Resting HasOne
 one_rests facts = record {
@@ -82,11 +82,11 @@ one_rests facts = record {
 }
 
 -- without an output nothing is ignored that was not ignored before
-by_no_output : (Q : Ignored → Type 0) (ignored : Ignored) (run : Run) (answer : Answer) → AnswersOutcome answer → output run.words ≡ None → Q (ignored_during_run run ignored) → Q (ignored_after_answer answer run ignored)
+by_no_output : (Q : Ignored → Type 0) (ignored : Ignored) (run : Run) (answer : Answer) → IsOkRefusedOrOutputFault answer → output run.words ≡ None → Q (ignored_during_run run ignored) → Q (ignored_after_answer answer run ignored)
 by_no_output Q ignored run answer answers none q =
     by answer answers (subst (λ (o : Option (List ℕ)). Q (ignored_with_scratch o ignored)) none q)
   where
-    by : (answer : Answer) → AnswersOutcome answer → Q ignored → Q (ignored_after_answer answer run ignored)
+    by : (answer : Answer) → IsOkRefusedOrOutputFault answer → Q ignored → Q (ignored_after_answer answer run ignored)
     by Done answers q = subst (λ (o : Option (List ℕ)). Q (ignored_except_output o ignored)) (sym none) q
     by (Refused r) answers q = q
     by OutFault answers q = q
@@ -95,7 +95,7 @@ by_no_output Q ignored run answer answers none q =
 
 module _ (facts : Facts) (ignored : Ignored) (v : TreeState) (run : Run) (is_run : IsRunFrom v run) (hidden : ignored intent_name ≡ false) (is_durable : IsDurable (StateDependsOn ignored) v) (w : TreeState) where
   abbrev One : Ignored → Type 0
-  One names = EachCrashLeaves names (files_of w) w
+  One names = EachCrashLeavesStateOf names (files_of w) w
 
   pub made_one : HoldsNow run.now (λ u. u ≡ w) → EnsuresOneCrashState v (Ends run) → One (ignored_after_answer run.answer run ignored)
   made_one ends (answers, inl commit) =
@@ -104,7 +104,7 @@ module _ (facts : Facts) (ignored : Ignored) (v : TreeState) (run : Run) (is_run
       let l = now_at run.now (LeavesFilesOfAnsweredOutcome ignored v run) w (answered facts ignored v run is_run hidden is_durable answers) ends in
       by_no_output One ignored run run.answer answers none (own_settled facts (ignored_during_run run ignored) l.outcome.files w (l.settled (inr can)))
 
-  module _ (settled : EachCrashLeaves ignored (files_of v) v) where
+  module _ (settled : EachCrashLeavesStateOf ignored (files_of v) v) where
     idle_one : EachCrashLeavesOld ignored v w → One (ignored_during_run run ignored)
     idle_one quiet =
         facts.more_settled ignored (ignored_during_run run ignored) (files_of w) w (scratch_more (output run.words) ignored)
@@ -119,13 +119,13 @@ module _ (facts : Facts) (ignored : Ignored) (v : TreeState) (run : Run) (is_run
     pub stopped_one : (m : TreeState) → IsMomentOf run m → DiffersOnlyInUnsyncedBytes m w → IsRunWithoutCommit v run → One (ignored_during_run run ignored)
     stopped_one m moment torn idle = idle_one (torn_quiet m w torn ignored v (idle_moment ignored v run is_run is_durable idle m moment).quiet)
 
-module _ (facts : Facts) (start : Ignored) (off : start intent_name ≡ false) (first : TreeState) (rest : IsDurableState start (files_of first) first) where
+module _ (facts : Facts) (start : Ignored) (off : start intent_name ≡ false) (first : TreeState) (rest : IsDurableAndLeavesFiles start (files_of first) first) where
   pub seen_of : (v : TreeState) (events : List RootEvent) → ReachesOneCrashState first events v → Reaches first events v
   seen_of v [] is = is
   seen_of v (event ∷ earlier) (u, leads, inl (seen, makes)) = (u, seen, leads)
   seen_of v (event ∷ earlier) (u, leads, inr (seen, keeps)) = (u, seen_of u earlier seen, leads)
 
-  led_made : (event : RootEvent) (earlier : List RootEvent) (v w : TreeState) → IsDurable (StateDependsOn (ignored_after start earlier)) v → EnsuresOneCrashState v event → IsTransition v event w → EachCrashLeaves (ignored_after start (event ∷ earlier)) (files_of w) w
+  led_made : (event : RootEvent) (earlier : List RootEvent) (v w : TreeState) → IsDurable (StateDependsOn (ignored_after start earlier)) v → EnsuresOneCrashState v event → IsTransition v event w → EachCrashLeavesStateOf (ignored_after start (event ∷ earlier)) (files_of w) w
   led_made (Ends run) earlier v w is_durable makes (is_run, ends) =
       made_one facts (ignored_after start earlier) v run is_run (after_hides start off earlier) is_durable w ends makes
   led_made (Stops run) earlier v w is_durable makes leads = absurd makes
@@ -133,8 +133,8 @@ module _ (facts : Facts) (start : Ignored) (off : start intent_name ≡ false) (
   led_made Edits earlier v w is_durable makes synced = facts.crash_settled nothing_ignored w w (as_crash facts w synced)
   led_made (Touches theirs) earlier v w is_durable makes touch = absurd makes
 
-  led_kept : (event : RootEvent) (earlier : List RootEvent) (v w : TreeState) → IsDurable (StateDependsOn (ignored_after start earlier)) v → EachCrashLeaves (ignored_after start earlier) (files_of v) v → PreservesOneCrashState v event → IsTransition v event w
-      → EachCrashLeaves (ignored_after start (event ∷ earlier)) (files_of w) w
+  led_kept : (event : RootEvent) (earlier : List RootEvent) (v w : TreeState) → IsDurable (StateDependsOn (ignored_after start earlier)) v → EachCrashLeavesStateOf (ignored_after start earlier) (files_of v) v → PreservesOneCrashState v event → IsTransition v event w
+      → EachCrashLeavesStateOf (ignored_after start (event ∷ earlier)) (files_of w) w
   led_kept (Ends run) earlier v w is_durable one keeps (is_run, ends) =
       kept_one facts (ignored_after start earlier) v run is_run (after_hides start off earlier) is_durable w one ends keeps
   led_kept (Stops run) earlier v w is_durable one keeps (is_run, (m, moment, torn)) =
@@ -150,13 +150,13 @@ module _ (facts : Facts) (start : Ignored) (off : start intent_name ≡ false) (
   order_of : (v : TreeState) (events : List RootEvent) → Reaches first events v → IsDurable (StateDependsOn (ignored_after start events)) v
   order_of v events seen = seen_durable facts start off first v events rest.is_durable seen
 
-  seen_settled : (v : TreeState) (events : List RootEvent) → ReachesOneCrashState first events v → EachCrashLeaves (ignored_after start events) (files_of v) v
-  seen_settled v [] is = subst (λ (u : TreeState). EachCrashLeaves start (files_of u) u) (sym is) rest.settled
+  seen_settled : (v : TreeState) (events : List RootEvent) → ReachesOneCrashState first events v → EachCrashLeavesStateOf (ignored_after start events) (files_of v) v
+  seen_settled v [] is = subst (λ (u : TreeState). EachCrashLeavesStateOf start (files_of u) u) (sym is) rest.settled
   seen_settled v (event ∷ earlier) (u, leads, inl (seen, makes)) = led_made event earlier u v (order_of u earlier seen) makes leads
   seen_settled v (event ∷ earlier) (u, leads, inr (seen, keeps)) =
       led_kept event earlier u v (order_of u earlier (seen_of u earlier seen)) (seen_settled u earlier seen) keeps leads
 
-  pub seen_one : (v : TreeState) (events : List RootEvent) → ReachesOneCrashState first events v → IsDurableState (ignored_after start events) (files_of v) v
+  pub seen_one : (v : TreeState) (events : List RootEvent) → ReachesOneCrashState first events v → IsDurableAndLeavesFiles (ignored_after start events) (files_of v) v
   seen_one v events seen = record { is_durable = order_of v events (seen_of v events seen); settled = seen_settled v events seen }
 
   pub seen_atomic : (v : TreeState) (events : List RootEvent) → ReachesOneCrashState first events v → (run : Run) → IsRunFrom v run → IsAtomic (ignored_after start events) v run

@@ -2,7 +2,7 @@
 use Rattle.std.proofs.Common.{◌≡◌, [], ◌∷◌, refl}
 use Rattle.std.specs.Prelude.{IsSome, IsTrue, is_some}
 use Rattle.apk_front.specs.Answers.{IsAnswerOfSomeOutcome, LeavesFiles}
-use Rattle.apk_front.specs.Moments.{AnswersOutcome, AreFilesReadDuringRun, AreStatesOldOrLeadToOutcome, IsRefusedOrCommitsNothing, HasNothingToRecover, IgnoresScratchOf, LeavesDurableStateIfCommitted, LeavesDurableFilesOnceAnswered, NamesAreDurableWithoutIntentExcept}
+use Rattle.apk_front.specs.Moments.{IsOkRefusedOrOutputFault, AreStatesOfRecoveryOrCommittingRun, AreStatesOldOrLeadToOutcome, IsRefusedOrCommitsNothing, HasNothingToRecover, IgnoresScratchNameOfOutput, LeavesDurableStateIfCommitted, LeavesDurableFilesOnceAnswered, NamesAreDurableWithoutIntentExcept}
 use Rattle.base_core.specs.Calls.{HoldsNow, IfObservable}
 use Rattle.base_core.specs.Crash.{Since}
 use Rattle.base_core.specs.Undone.{IsDurable}
@@ -36,26 +36,26 @@ pub called : AllSafe → AllAtomic → (run : Run)
     → IfObservable run.old (λ v. IsAnswerOfSomeOutcome (IsOutcome (command_of run.words) (files_of v)) (LeavesFiles run.now) (IsFaultCountedWithCause run.before run.after) run.answer run.out run.err)
     → IfObservable run.old (λ v. IsRefusedOrCommitsNothing (IsOutcomeFrom v run) run.answer → HasNothingToRecover (effect_of_arguments (command_of run.words)) v → run.now ≡ run.old)
     → IfObservable run.old (λ v. IsSome (recovery_fault (effect_of_arguments (command_of run.words)) (files_of v)) → run.now ≡ run.old)
-    → IfObservable run.old (λ v. AreFilesReadDuringRun (IsOutcomeFrom v run) (effect_of_arguments (command_of run.words)) (output run.words) v run.old run.now)
+    → IfObservable run.old (λ v. AreStatesOfRecoveryOrCommittingRun (IsOutcomeFrom v run) (effect_of_arguments (command_of run.words)) (output run.words) v run.old run.now)
     → IfObservable run.old (λ v. IsSome (v.names intent_name) → Since (NamesAreDurableWithoutIntentExcept (output run.words)) run.old run.now)
     → IfObservable run.old (λ v. IsRefusedOrCommitsNothing (IsOutcomeFrom v run) run.answer → (ignored : Ignored) → IsDurable (StateDependsOn ignored) v → Since (StateIsUnchanged ignored v) run.old run.now)
-    → IfObservable run.old (λ v. (ignored : Ignored) → IsDurable (StateDependsOn ignored) v → IgnoresScratchOf (output run.words) ignored → AreStatesOldOrLeadToOutcome (IsOutcomeFrom v run) (is_some (output run.words)) ignored v run.old run.now)
-    → IfObservable run.old (λ v. (ignored : Ignored) → IsDurable (StateDependsOn ignored) v → IgnoresScratchOf (output run.words) ignored → HoldsNow run.now (IsDurable (StateDependsOn ignored)))
-    → IfObservable run.old (λ v. (ignored : Ignored) → IsDurable (StateDependsOn ignored) v → IgnoresScratchOf (output run.words) ignored → LeavesDurableFilesOnceAnswered (IsOutcomeFrom v run) (effect_of_arguments (command_of run.words)) ignored v run.now run.answer)
-    → IfObservable run.old (λ v. (ignored : Ignored) → IsDurable (StateDependsOn ignored) v → IgnoresScratchOf (output run.words) ignored → AnswersOutcome run.answer → LeavesDurableStateIfCommitted (IsOutcomeFrom v run) (output run.words) ignored run.now)
+    → IfObservable run.old (λ v. (ignored : Ignored) → IsDurable (StateDependsOn ignored) v → IgnoresScratchNameOfOutput (output run.words) ignored → AreStatesOldOrLeadToOutcome (IsOutcomeFrom v run) (is_some (output run.words)) ignored v run.old run.now)
+    → IfObservable run.old (λ v. (ignored : Ignored) → IsDurable (StateDependsOn ignored) v → IgnoresScratchNameOfOutput (output run.words) ignored → HoldsNow run.now (IsDurable (StateDependsOn ignored)))
+    → IfObservable run.old (λ v. (ignored : Ignored) → IsDurable (StateDependsOn ignored) v → IgnoresScratchNameOfOutput (output run.words) ignored → LeavesDurableFilesOnceAnswered (IsOutcomeFrom v run) (effect_of_arguments (command_of run.words)) ignored v run.now run.answer)
+    → IfObservable run.old (λ v. (ignored : Ignored) → IsDurable (StateDependsOn ignored) v → IgnoresScratchNameOfOutput (output run.words) ignored → IsOkRefusedOrOutputFault run.answer → LeavesDurableStateIfCommitted (IsOutcomeFrom v run) (output run.words) ignored run.now)
     → IfObservable run.old (λ v. IsRunFrom v run × IsSafeAfterAnyEvents v run × IsAtomicAfterAnyEvents v run)
 called all_safe all_atomic run same =
     observed run.old
     (λ v. IsAnswerOfSomeOutcome (IsOutcome (command_of run.words) (files_of v)) (LeavesFiles run.now) (IsFaultCountedWithCause run.before run.after) run.answer run.out run.err)
     (λ v. IsRefusedOrCommitsNothing (IsOutcomeFrom v run) run.answer → HasNothingToRecover (effect_of_arguments (command_of run.words)) v → run.now ≡ run.old)
     (λ v. IsSome (recovery_fault (effect_of_arguments (command_of run.words)) (files_of v)) → run.now ≡ run.old)
-    (λ v. AreFilesReadDuringRun (IsOutcomeFrom v run) (effect_of_arguments (command_of run.words)) (output run.words) v run.old run.now)
+    (λ v. AreStatesOfRecoveryOrCommittingRun (IsOutcomeFrom v run) (effect_of_arguments (command_of run.words)) (output run.words) v run.old run.now)
     (λ v. IsSome (v.names intent_name) → Since (NamesAreDurableWithoutIntentExcept (output run.words)) run.old run.now)
     (λ v. IsRefusedOrCommitsNothing (IsOutcomeFrom v run) run.answer → (ignored : Ignored) → IsDurable (StateDependsOn ignored) v → Since (StateIsUnchanged ignored v) run.old run.now)
-    (λ v. (ignored : Ignored) → IsDurable (StateDependsOn ignored) v → IgnoresScratchOf (output run.words) ignored → AreStatesOldOrLeadToOutcome (IsOutcomeFrom v run) (is_some (output run.words)) ignored v run.old run.now)
-    (λ v. (ignored : Ignored) → IsDurable (StateDependsOn ignored) v → IgnoresScratchOf (output run.words) ignored → HoldsNow run.now (IsDurable (StateDependsOn ignored)))
-    (λ v. (ignored : Ignored) → IsDurable (StateDependsOn ignored) v → IgnoresScratchOf (output run.words) ignored → LeavesDurableFilesOnceAnswered (IsOutcomeFrom v run) (effect_of_arguments (command_of run.words)) ignored v run.now run.answer)
-    (λ v. (ignored : Ignored) → IsDurable (StateDependsOn ignored) v → IgnoresScratchOf (output run.words) ignored → AnswersOutcome run.answer → LeavesDurableStateIfCommitted (IsOutcomeFrom v run) (output run.words) ignored run.now)
+    (λ v. (ignored : Ignored) → IsDurable (StateDependsOn ignored) v → IgnoresScratchNameOfOutput (output run.words) ignored → AreStatesOldOrLeadToOutcome (IsOutcomeFrom v run) (is_some (output run.words)) ignored v run.old run.now)
+    (λ v. (ignored : Ignored) → IsDurable (StateDependsOn ignored) v → IgnoresScratchNameOfOutput (output run.words) ignored → HoldsNow run.now (IsDurable (StateDependsOn ignored)))
+    (λ v. (ignored : Ignored) → IsDurable (StateDependsOn ignored) v → IgnoresScratchNameOfOutput (output run.words) ignored → LeavesDurableFilesOnceAnswered (IsOutcomeFrom v run) (effect_of_arguments (command_of run.words)) ignored v run.now run.answer)
+    (λ v. (ignored : Ignored) → IsDurable (StateDependsOn ignored) v → IgnoresScratchNameOfOutput (output run.words) ignored → IsOkRefusedOrOutputFault run.answer → LeavesDurableStateIfCommitted (IsOutcomeFrom v run) (output run.words) ignored run.now)
     (λ v. IsRunFrom v run × IsSafeAfterAnyEvents v run × IsAtomicAfterAnyEvents v run)
     (λ v begins stated idle bad_intent reads last left crash is_durable settled durable_state.
     let is_run : IsRunFrom v run = record {

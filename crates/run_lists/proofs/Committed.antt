@@ -13,10 +13,10 @@ use Rattle.apk_front.specs.change_outcome.ChangeOutcome.{ChangeDone, ChangeWishe
 use Rattle.command_core.specs.Command.{CommandLine}
 use Rattle.command_core.specs.declared.command.Applet.{Applet}
 use Rattle.command_core.specs.declared.command.Applet.TheVariants.{Demo, Mkndx, Mkpkg}
-use Rattle.apk_front.specs.engine_core.Changed.{InputsAndReplacement, change_of_selected, change_of_command, selected_for, simulated_change}
+use Rattle.apk_front.specs.engine_core.Changed.{InputsAndReplacement, change_of_selected, change_of_command, selected_from_reads_by_choice, simulated_change}
 use Rattle.apk_front.specs.engine_core.Wishes.{wishes_of}
 use Rattle.apk_front.specs.journal_core.Recovery.{intent_name}
-use Rattle.apk_front.specs.journal_core.Replacing.{replaced_files, scratch_name_of}
+use Rattle.apk_front.specs.journal_core.Replacing.{files_after_replacement, scratch_name_of}
 use Rattle.apk_front.specs.journal_core.Staged.{unstaged_files}
 use Rattle.apk_front.specs.make_index.Index.{made_index}
 use Rattle.apk_front.specs.make_info.Output.{output_name}
@@ -36,7 +36,7 @@ use Rattle.apk_front.specs.outcome.Changing.{change_outcome}
 use Rattle.apk_front.specs.outcome.Commands.{IsOutcomeWithoutDemo, IsOutcomeUnlessBadIntent, effect_outcome, reads_in}
 use Rattle.apk_front.specs.outcome.Effect.{Effect, Computes, OnlyReadsFiles, AsksRoot, Makes, Changes, effect_of_arguments, effect_of, reads_only}
 use Rattle.apk_front.specs.outcome.Given.{Given}
-use Rattle.apk_front.specs.outcome.Make.{files_with_output, index_report_line, make_outcome, unless_reserved}
+use Rattle.apk_front.specs.outcome.Make.{files_with_output, index_report_line, make_outcome, outcome_unless_output_reserved}
 use Rattle.apk_front.specs.outcome.Outcome.{Outcome, commit_report, just_refusal}
 use Rattle.apk_front.specs.outcome.Words.{IsOutcome, IsOutcomeOfApplet}
 use Rattle.apk_front.specs.outcome.Work.{recovery_fault, files_recovered_if_needed}
@@ -71,7 +71,7 @@ module _ (gone : BringsNoIntent) where
   changed_none : (command : CommandLine) (read : Reads) (files : Files) (chosen : Option (List ℕ)) (clash : Option NamePair) (done : ChangeDone)
       → change_of_command command read files chosen clash ≡ Ok done → files intent_name ≡ None → done.files intent_name ≡ None
   unfolding change_of_command
-  changed_none command read files chosen clash done is absent = by_selected command read files clash (selected_for command read chosen) done is absent
+  changed_none command read files chosen clash done is absent = by_selected command read files clash (selected_from_reads_by_choice command read chosen) done is absent
 
   change_none : (command : CommandLine) (files : Files) (chosen : Option (List ℕ)) (clash : Option NamePair) (result : Result ChangeDone Refusal)
       → change_of_command command (reads_in files) files chosen clash ≡ result → files intent_name ≡ None → Brings (change_outcome files result)
@@ -83,7 +83,7 @@ module _ (gone : BringsNoIntent) where
 not_reserved : (name : List ℕ) → is_reserved name ≡ false → intent_name ≡ name → ⊥
 not_reserved name free is = false≢true (sym free ∙ ap is_reserved (sym is))
 
-with_other : (name bytes : List ℕ) (files : Files) → is_reserved name ≡ false → replaced_files name bytes files intent_name ≡ files intent_name
+with_other : (name bytes : List ℕ) (files : Files) → is_reserved name ≡ false → files_after_replacement name bytes files intent_name ≡ files intent_name
 with_other name bytes files free =
     ap (λ (b : Bool). if b then Some bytes else (if bytes_eq intent_name (scratch_name_of name) then None else files intent_name)) (other_bytes intent_name name (not_reserved name free))
     ∙ ap (λ (b : Bool). if b then None else files intent_name) (other_bytes intent_name (scratch_name_of name) (intent_is_no_scratch name))
@@ -93,7 +93,7 @@ made_by : (name bytes report : List ℕ) (files : Files) → files intent_name �
 made_by name bytes report files none true is commits = absurd (false≢true commits)
 made_by name bytes report files none false is commits = with_other name bytes files is ∙ none
 
-made_unless : (output : Option (List ℕ)) (bytes report : List ℕ) (files : Files) → files intent_name ≡ None → Brings (unless_reserved files output (commit_report (files_with_output output bytes files) report))
+made_unless : (output : Option (List ℕ)) (bytes report : List ℕ) (files : Files) → files intent_name ≡ None → Brings (outcome_unless_output_reserved files output (commit_report (files_with_output output bytes files) report))
 made_unless None bytes report files none commits = none
 made_unless (Some name) bytes report files none commits = made_by name bytes report files none (is_reserved name) refl commits
 
@@ -101,7 +101,7 @@ refused_by : (name : List ℕ) (files : Files) (refusal : Refusal) (b : Bool) �
 refused_by name files refusal true commits = absurd (false≢true commits)
 refused_by name files refusal false commits = absurd (false≢true commits)
 
-refused_unless : (output : Option (List ℕ)) (files : Files) (refusal : Refusal) → Brings (unless_reserved files output (just_refusal files refusal))
+refused_unless : (output : Option (List ℕ)) (files : Files) (refusal : Refusal) → Brings (outcome_unless_output_reserved files output (just_refusal files refusal))
 refused_unless None files refusal commits = absurd (false≢true commits)
 refused_unless (Some name) files refusal commits = refused_by name files refusal (is_reserved name) commits
 

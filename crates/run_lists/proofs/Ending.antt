@@ -2,7 +2,7 @@
 use Rattle.std.proofs.Common.{◌≡◌, inl, inr, ℕ, Bool, true, false, List, Option, None, Some, refl, sym, ap, subst, ◌∙◌}
 use Rattle.std.specs.Prelude.{is_some, not}
 use Rattle.std.proofs.lemmas.Bool.{false≢true}
-use Rattle.apk_front.specs.Moments.{AnswersOutcome, IsRefusedOrCommitsNothing, IsDurableState, ignored_except_output}
+use Rattle.apk_front.specs.Moments.{IsOkRefusedOrOutputFault, IsRefusedOrCommitsNothing, IsDurableAndLeavesFiles, ignored_except_output}
 use Rattle.apk_front.specs.declared.answer.Answer.{Answer}
 use Rattle.apk_front.specs.declared.answer.Answer.TheVariants.{Ok as Done, Refused, TreeFault, OutFault, Memory}
 use Rattle.apk_front.proofs.Carried.{no_refusal}
@@ -16,7 +16,7 @@ use Rattle.apk_front.specs.outcome.Effect.{output}
 use Rattle.apk_front.specs.outcome.Outcome.{Outcome}
 use Rattle.report_core.specs.declared.refusal.Refusal.{Refusal}
 use Rattle.apk_front.specs.words_core.Grammar.{command_of}
-use Rattle.run_lists.specs.Events.{HasCommit, IsRunWithoutCommit, IsOutcomeFrom, IsRunFrom, Run, ignored_after_answer, ignored_during_run}
+use Rattle.run_lists.specs.Events.{HasOutcomeThatCommits, IsRunWithoutCommit, IsOutcomeFrom, IsRunFrom, Run, ignored_after_answer, ignored_during_run}
 use Rattle.run_lists.specs.Safety.{LeavesFilesOfAnsweredOutcome}
 use Rattle.run_lists.proofs.AtMoments.{now_at}
 use Rattle.run_lists.proofs.Facts.{AreMore, Facts, Ignored}
@@ -29,15 +29,15 @@ done_not_refused o (inr is) = cc
 
 -- What is said of ignored names and of a state: it holds at rest, and for more names.
 pub record Resting (Q : Ignored → TreeState → Type 0) : Type 0 where
-  pub rest : (names : Ignored) (files : Files) (w : TreeState) → files_of w ≡ files → IsDurableState names files w → Q names w
+  pub rest : (names : Ignored) (files : Files) (w : TreeState) → files_of w ≡ files → IsDurableAndLeavesFiles names files w → Q names w
   pub more : (few many : Ignored) (w : TreeState) → AreMore few many → Q few w → Q many w
 
 module _ (facts : Facts) (ignored : Ignored) (v : TreeState) (run : Run) (is_run : IsRunFrom v run) (hidden : ignored intent_name ≡ false) (is_durable : IsDurable (StateDependsOn ignored) v)
     (Q : Ignored → TreeState → Type 0) (resting : Resting Q) (w : TreeState) (ends : HoldsNow run.now (λ u. u ≡ w)) where
-  pub leaves : AnswersOutcome run.answer → LeavesFilesOfAnsweredOutcome ignored v run w
+  pub leaves : IsOkRefusedOrOutputFault run.answer → LeavesFilesOfAnsweredOutcome ignored v run w
   leaves answers = now_at run.now (LeavesFilesOfAnsweredOutcome ignored v run) w (answered facts ignored v run is_run hidden is_durable answers) ends
 
-  rests_by : (answer : Answer) → AnswersOutcome answer → Q (ignored_except_output (output run.words) ignored) w → Q (ignored_after_answer answer run ignored) w
+  rests_by : (answer : Answer) → IsOkRefusedOrOutputFault answer → Q (ignored_except_output (output run.words) ignored) w → Q (ignored_after_answer answer run ignored) w
   rests_by Done answers q = q
   rests_by (Refused r) answers q = resting.more (ignored_except_output (output run.words) ignored) ignored w (but_fewer (output run.words) ignored) q
   rests_by OutFault answers q = resting.more (ignored_except_output (output run.words) ignored) ignored w (but_fewer (output run.words) ignored) q
@@ -48,7 +48,7 @@ module _ (facts : Facts) (ignored : Ignored) (v : TreeState) (run : Run) (is_run
   written l commits = resting.rest (ignored_except_output (output run.words) ignored) l.outcome.files w l.reads (l.durable_state commits)
 
   -- an outcome that commits is at rest
-  pub ends_at_rest : AnswersOutcome run.answer → HasCommit v run → Q (ignored_after_answer run.answer run ignored) w
+  pub ends_at_rest : IsOkRefusedOrOutputFault run.answer → HasOutcomeThatCommits v run → Q (ignored_after_answer run.answer run ignored) w
   ends_at_rest answers (o, one, commits) =
       let l = leaves answers in
       let same : l.outcome.commits ≡ true = ap (λ (x : Outcome). x.commits) (facts.unique run.words (files_of v) l.outcome o l.is_outcome one) ∙ commits in
@@ -75,10 +75,10 @@ module _ (facts : Facts) (ignored : Ignored) (v : TreeState) (run : Run) (is_run
     out_by l false idle = left_idle (inl (inr (l.outcome, l.is_outcome, idle)))
 
     ends_by : (answer : Answer) → run.answer ≡ answer → (run.answer ≡ TreeFault → Q (ignored_during_run run ignored) w) → Q (ignored_after_answer answer run ignored) w
-    ends_by Done is fault = let l = leaves (subst AnswersOutcome (sym is) tt) in done_by is l l.outcome.commits refl
+    ends_by Done is fault = let l = leaves (subst IsOkRefusedOrOutputFault (sym is) tt) in done_by is l l.outcome.commits refl
     ends_by (Refused r) is fault = left_idle (inl (subst (IsRefusedOrCommitsNothing (IsOutcomeFrom v run)) (sym is) (inl tt)))
     ends_by TreeFault is fault = fault is
-    ends_by OutFault is fault = let l = leaves (subst AnswersOutcome (sym is) tt) in out_by l l.outcome.commits refl
+    ends_by OutFault is fault = let l = leaves (subst IsOkRefusedOrOutputFault (sym is) tt) in out_by l l.outcome.commits refl
     ends_by Memory is fault = left_idle (inl (subst (IsRefusedOrCommitsNothing (IsOutcomeFrom v run)) (sym is) (inl tt)))
 
     pub ends_so : (run.answer ≡ TreeFault → Q (ignored_during_run run ignored) w) → Q (ignored_after_answer run.answer run ignored) w

@@ -2,7 +2,7 @@
 use Rattle.std.proofs.Common.{◌≡◌, inr, ℕ, Bool, true, false, cond, ◌||◌, List, [], ◌∷◌, None, Option, refl, sym, subst, ◌∙◌}
 use Rattle.std.specs.Prelude.{IsTrue}
 use Rattle.std.proofs.lemmas.Bool.{false≢true}
-use Rattle.apk_front.specs.Moments.{IsDurableState}
+use Rattle.apk_front.specs.Moments.{IsDurableAndLeavesFiles}
 use Rattle.base_core.specs.Files.{Files}
 use Rattle.base_core.specs.Undone.{IsAfterCrash, IsDurable, IsCrashImage}
 use Rattle.base_core.specs.Tree.{TreeState, files_of}
@@ -21,11 +21,11 @@ use Rattle.run_lists.proofs.OneRun.{idle_end, idle_moment, settled_on}
 use Rattle.run_lists.proofs.Torn.{torn_durable, torn_quiet}
 use Rattle.run_lists.proofs.Touched.{touch_durable, touch_quiet}
 
-still_rest : (ignored : Ignored) (files : Files) (v w : TreeState) → IsDurableState ignored files v → StateIsUnchanged ignored v w → IsDurableState ignored files w
+still_rest : (ignored : Ignored) (files : Files) (v w : TreeState) → IsDurableAndLeavesFiles ignored files v → StateIsUnchanged ignored v w → IsDurableAndLeavesFiles ignored files w
 still_rest ignored files v w rest is_unchanged = record { is_durable = is_unchanged.is_durable; settled = settled_on ignored files v w rest.settled is_unchanged.quiet }
 
 module _ (crash_durable : (ignored : Ignored) (v w : TreeState) → IsAfterCrash v w → IsDurable (StateDependsOn ignored) w) (crash_quiet : (ignored : Ignored) (v w : TreeState) → IsAfterCrash v w → EachCrashLeavesOld ignored v w) where
-  led_idle : (start : Ignored) (files : Files) (earlier : List RootEvent) (v : TreeState) (event : RootEvent) (w : TreeState) → IsDurableState (ignored_with_all_touched earlier start) files v → IsEventWithoutCommit v event → IsTransition v event w → IsDurableState (ignored_with_all_touched (event ∷ earlier) start) files w
+  led_idle : (start : Ignored) (files : Files) (earlier : List RootEvent) (v : TreeState) (event : RootEvent) (w : TreeState) → IsDurableAndLeavesFiles (ignored_with_all_touched earlier start) files v → IsEventWithoutCommit v event → IsTransition v event w → IsDurableAndLeavesFiles (ignored_with_all_touched (event ∷ earlier) start) files w
   led_idle start files earlier v (Ends run) w rest idle (is_run, ends) =
       let names = ignored_with_all_touched earlier start in
       still_rest names files v w rest (idle_end names v run is_run rest.is_durable idle w ends)
@@ -45,18 +45,18 @@ module _ (crash_durable : (ignored : Ignored) (v w : TreeState) → IsAfterCrash
         settled = settled_on names files v w (settled_more few names (touched_more theirs few) files v rest.settled) (touch_quiet theirs v w touch few);
       }
 
-  idle_from : (start : Ignored) (files : Files) (v w : TreeState) (events : List RootEvent) → IsDurableState start files v → ReachesWithoutCommit v events w → IsDurableState (ignored_with_all_touched events start) files w
-  idle_from start files v w [] rest is = subst (IsDurableState start files) (sym is) rest
+  idle_from : (start : Ignored) (files : Files) (v w : TreeState) (events : List RootEvent) → IsDurableAndLeavesFiles start files v → ReachesWithoutCommit v events w → IsDurableAndLeavesFiles (ignored_with_all_touched events start) files w
+  idle_from start files v w [] rest is = subst (IsDurableAndLeavesFiles start files) (sym is) rest
   idle_from start files v w (event ∷ earlier) rest (u, seen, idle, leads) =
       led_idle start files earlier u event w (idle_from start files v u earlier rest seen) idle leads
 
-  pub seen_idly : (ignored : Ignored) (v w : TreeState) (events : List RootEvent) → IsDurableState ignored (files_of v) v → ReachesWithoutCommit v events w → IsDurableState (ignored_with_all_touched events ignored) (files_of v) w
+  pub seen_idly : (ignored : Ignored) (v w : TreeState) (events : List RootEvent) → IsDurableAndLeavesFiles ignored (files_of v) v → ReachesWithoutCommit v events w → IsDurableAndLeavesFiles (ignored_with_all_touched events ignored) (files_of v) w
   seen_idly ignored v w events = idle_from ignored (files_of v) v w events
 
-  same_state : (few many : Ignored) (files : Files) (w : TreeState) → AreMore few many → IsCrashImage w (files_of w) → IsDurableState few files w → state_of many (files_of w) ≡ state_of many files
+  same_state : (few many : Ignored) (files : Files) (w : TreeState) → AreMore few many → IsCrashImage w (files_of w) → IsDurableAndLeavesFiles few files w → state_of many (files_of w) ≡ state_of many files
   same_state few many files w more left rest = states_same few many more (files_of w) files (rest.settled (files_of w) left)
 
-  pub idly_agree : ((v : TreeState) → IsCrashImage v (files_of v)) → (ignored names : Ignored) (v w u : TreeState) (events others : List RootEvent) → IsDurableState ignored (files_of v) v → ReachesWithoutCommit v events w → ReachesWithoutCommit v others u
+  pub idly_agree : ((v : TreeState) → IsCrashImage v (files_of v)) → (ignored names : Ignored) (v w u : TreeState) (events others : List RootEvent) → IsDurableAndLeavesFiles ignored (files_of v) v → ReachesWithoutCommit v events w → ReachesWithoutCommit v others u
       → AreMore (ignored_with_all_touched events ignored) names → AreMore (ignored_with_all_touched others ignored) names → state_of names (files_of w) ≡ state_of names (files_of u)
   idly_agree left ignored names v w u events others rest first second more others_more =
       same_state (ignored_with_all_touched events ignored) names (files_of v) w more (left w) (seen_idly ignored v w events rest first)

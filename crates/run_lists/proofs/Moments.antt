@@ -3,7 +3,7 @@ use Rattle.std.proofs.Common.{◌≡◌, ◌⊎◌, inl, inr, ⊎_elim, ℕ, Boo
 use Rattle.std.specs.Prelude.{IsSome}
 use Rattle.std.specs.Str.{bytes_eq}
 use Rattle.std.proofs.lemmas.Bool.{false≢true, or_from}
-use Rattle.apk_front.specs.Moments.{AreFilesReadDuringRun, IsRecoveringOrNext, HasFilesExceptTemporaryOnes, IsStateDuringRun, NamesAreDurableWithoutIntentExcept, is_temporary_name, output_names}
+use Rattle.apk_front.specs.Moments.{AreStatesOfRecoveryOrCommittingRun, IsStateDuringRecoveryOrNext, HasFilesExceptTemporaryOnes, IsStateDuringRun, NamesAreDurableWithoutIntentExcept, is_temporary_name, output_names}
 use Rattle.base_core.specs.Calls.{HoldsNow}
 use Rattle.base_core.specs.Files.{Files, NameMap}
 use Rattle.base_core.specs.Tree.{File, TreeState, bytes_of_file_number, files_of}
@@ -21,7 +21,7 @@ use Rattle.apk_front.specs.outcome.Outcome.{Outcome}
 use Rattle.apk_front.specs.outcome.Work.{files_recovered_if_needed}
 use Rattle.apk_front.specs.words_core.Grammar.{command_of}
 use Rattle.run_lists.specs.Events.{Crashes, Edits, Ends, RootEvent, Reaches, IsMomentOf, IsOutcomeFrom, IsRunFrom, IsTransition, Run, Stops, Touches, ignored_after, ignored_during_run, ignored_with_scratch}
-use Rattle.run_lists.specs.Reading.{HasOldRecoveredOrOutcomeBytes, HasOutcomeBytes, ReachesByRuns, IsDurablyDone, IsOrdinaryName, IsNoJournalOrDraftName, IsRunWith, IsTrueAt, LeavesTrueAt}
+use Rattle.run_lists.specs.Reading.{HasOldRecoveredOrOutcomeBytes, HasOutcomeBytes, ReachesByRuns, HasDurableRecoveredOrOutcomeBytes, IsNoJournalOutputOrIgnoredName, IsNoJournalOrDraftName, IsRunWith, HoldsAsReadAndAsRecovered, EachCommitPassesTestAtName}
 use Rattle.run_lists.proofs.Along.{seen_durable}
 use Rattle.run_lists.proofs.AtMoments.{History, now_map, start_or_made}
 use Rattle.run_lists.proofs.Committed.{CommitsNoIntent}
@@ -54,16 +54,16 @@ module _ (v : TreeState) (run : Run) (m : TreeState) where
   -- where a moment stands: at the start, in a recovery, at work without a commit, or on the way to
   -- an outcome's files
   abbrev pub Stands : Type 0
-  Stands = (m ≡ v) ⊎ (IsRecoveringOrNext Act (λ w. files_of w ≡ Work) v m
-      ⊎ ((o : Outcome) × IsOutcomeFrom v run o × (o.commits ≡ true) × IsRecoveringOrNext Act (IsStateDuringRun Act (output run.words) o.files Work) v m))
+  Stands = (m ≡ v) ⊎ (IsStateDuringRecoveryOrNext Act (λ w. files_of w ≡ Work) v m
+      ⊎ ((o : Outcome) × IsOutcomeFrom v run o × (o.commits ≡ true) × IsStateDuringRecoveryOrNext Act (IsStateDuringRun Act (output run.words) o.files Work) v m))
 
   pub located : IsRunFrom v run → IsMomentOf run m → Stands
   located is_run moment = by is_run.reads
     where
-      by : AreFilesReadDuringRun (IsOutcomeFrom v run) Act (output run.words) v run.old run.now → Stands
-      by (inl since) = ⊎_elim inl (λ p. inr (inl p)) (start_or_made (IsRecoveringOrNext Act (λ w. files_of w ≡ Work) v) run v m is_run.begins since moment)
+      by : AreStatesOfRecoveryOrCommittingRun (IsOutcomeFrom v run) Act (output run.words) v run.old run.now → Stands
+      by (inl since) = ⊎_elim inl (λ p. inr (inl p)) (start_or_made (IsStateDuringRecoveryOrNext Act (λ w. files_of w ≡ Work) v) run v m is_run.begins since moment)
       by (inr (o, one, commits, since)) =
-          ⊎_elim inl (λ p. inr (inr (o, one, commits, p))) (start_or_made (IsRecoveringOrNext Act (IsStateDuringRun Act (output run.words) o.files Work) v) run v m is_run.begins since moment)
+          ⊎_elim inl (λ p. inr (inr (o, one, commits, p))) (start_or_made (IsStateDuringRecoveryOrNext Act (IsStateDuringRun Act (output run.words) o.files Work) v) run v m is_run.begins since moment)
 
   -- ---- the bytes of a name
 
@@ -96,7 +96,7 @@ module _ (v : TreeState) (run : Run) (m : TreeState) where
 
 module _ (no_intent : CommitsNoIntent) (test : Option (List ℕ) → Bool) (q : List ℕ) (stays : IsJournalName q → ⊥) where
   abbrev At : Files → Type 0
-  At files = IsTrueAt test q files
+  At files = HoldsAsReadAndAsRecovered test q files
 
   abbrev Passes : Option (List ℕ) → Type 0
   Passes bytes = test bytes ≡ true
@@ -133,7 +133,7 @@ module _ (no_intent : CommitsNoIntent) (test : Option (List ℕ) → Bool) (q : 
   one_of_two a b bytes first second (inl is) = subst Passes (sym is) first
   one_of_two a b bytes first second (inr is) = subst Passes (sym is) second
 
-  module _ (v : TreeState) (run : Run) (m : TreeState) (leaves : LeavesTrueAt test q v run) (at : At (files_of v)) where
+  module _ (v : TreeState) (run : Run) (m : TreeState) (leaves : EachCommitPassesTestAtName test q v run) (at : At (files_of v)) where
     recovering : (r : unstaged_files (files_of m) ≡ unstaged_files (files_of v)) → (files_of m q ≡ files_of v q) ⊎ (files_of m q ≡ unstaged_files (files_of v) q) → At (files_of m)
     recovering r bytes = record {
       read = one_of_two (files_of v q) (unstaged_files (files_of v) q) (files_of m q) at.read at.recovered bytes;
@@ -164,19 +164,19 @@ last_by run w (u ∷ added) is ends = inr (u ∷ added, is, (0, omega arith, sub
 pub last_moment : (run : Run) (v w : TreeState) → IsRunFrom v run → HoldsNow run.now (λ u. u ≡ w) → IsMomentOf run w
 last_moment run v w is_run ends = by is_run.reads
   where
-    by : AreFilesReadDuringRun (IsOutcomeFrom v run) (effect_of_arguments (command_of run.words)) (output run.words) v run.old run.now → IsMomentOf run w
+    by : AreStatesOfRecoveryOrCommittingRun (IsOutcomeFrom v run) (effect_of_arguments (command_of run.words)) (output run.words) v run.old run.now → IsMomentOf run w
     by (inl since) = last_by run w since.added since.is ends
     by (inr (o, one, commits, since)) = last_by run w since.added since.is ends
 
-led_true : CommitsNoIntent → (test : Option (List ℕ) → Bool) (q : List ℕ) (stays : IsJournalName q → ⊥) (v w : TreeState) (event : RootEvent) → IsTrueAt test q (files_of v) → IsRunWith (LeavesTrueAt test q) v event w → IsTransition v event w → IsTrueAt test q (files_of w)
+led_true : CommitsNoIntent → (test : Option (List ℕ) → Bool) (q : List ℕ) (stays : IsJournalName q → ⊥) (v w : TreeState) (event : RootEvent) → HoldsAsReadAndAsRecovered test q (files_of v) → IsRunWith (EachCommitPassesTestAtName test q) v event w → IsTransition v event w → HoldsAsReadAndAsRecovered test q (files_of w)
 led_true no_intent test q stays v w (Ends run) at leaves (is_run, ends) = stands_true no_intent test q stays v run w leaves at (located v run w is_run (last_moment run v w is_run ends))
 led_true no_intent test q stays v w (Stops run) at (leaves, moment) (is_run, stop) = stands_true no_intent test q stays v run w leaves at (located v run w is_run moment)
 led_true no_intent test q stays v w Crashes at leaves leads = absurd leaves
 led_true no_intent test q stays v w Edits at leaves leads = absurd leaves
 led_true no_intent test q stays v w (Touches theirs) at leaves leads = absurd leaves
 
-pub seen_true : CommitsNoIntent → (test : Option (List ℕ) → Bool) (q : List ℕ) → (IsJournalName q → ⊥) → (first w : TreeState) (events : List RootEvent) → IsTrueAt test q (files_of first) → ReachesByRuns (LeavesTrueAt test q) first events w → IsTrueAt test q (files_of w)
-seen_true no_intent test q stays first w [] at is = subst (λ (u : TreeState). IsTrueAt test q (files_of u)) (sym is) at
+pub seen_true : CommitsNoIntent → (test : Option (List ℕ) → Bool) (q : List ℕ) → (IsJournalName q → ⊥) → (first w : TreeState) (events : List RootEvent) → HoldsAsReadAndAsRecovered test q (files_of first) → ReachesByRuns (EachCommitPassesTestAtName test q) first events w → HoldsAsReadAndAsRecovered test q (files_of w)
+seen_true no_intent test q stays first w [] at is = subst (λ (u : TreeState). HoldsAsReadAndAsRecovered test q (files_of u)) (sym is) at
 seen_true no_intent test q stays first w (event ∷ earlier) at (v, seen, leaves, leads) =
     led_true no_intent test q stays v w event (seen_true no_intent test q stays first v earlier at seen) leaves leads
 
@@ -255,20 +255,20 @@ module _ (v : TreeState) (run : Run) (m : TreeState) (there : IsSome (v.names in
       (start_or_made (NamesAreDurableWithoutIntentExcept (output run.words)) run v m is_run.begins (is_run.last there) moment)
 
   module _ (facts : Facts) (ignored : Ignored) (hidden : ignored intent_name ≡ false) (is_durable : IsDurable (StateDependsOn ignored) v) where
-    left_as_read : IsRunFrom v run → IsMomentOf run m → (q : List ℕ) → IsOrdinaryName ignored run q → (image : Files) → IsCrashImage m image → image q ≡ files_of m q
+    left_as_read : IsRunFrom v run → IsMomentOf run m → (q : List ℕ) → IsNoJournalOutputOrIgnoredName ignored run q → (image : Files) → IsCrashImage m image → image q ≡ files_of m q
     left_as_read is_run moment q name image (map, is_map, left) =
         let here = durable_at facts ignored v run is_run hidden is_durable (is_run.crash (ignored_during_run run ignored) (now_durable facts ignored v run is_run hidden is_durable) (now_hides facts ignored v run is_run hidden is_durable)) m moment in
         let counts = or_from (is_staged q) (ignored_during_run run ignored q) (not_staged q name.waits) (counts_in (output run.words) ignored q name.other name.counts) in
         synced_as_read m.files (map q) (image q) (λ n at. here.each map is_map q n (inr (inl counts)) at) (left q)
         ∙ ap (bytes_of_file_number m.files) (names_last is_run moment map is_map q name.waits name.other)
 
-    pub done_for_good : IsRunFrom v run → IsMomentOf run m → (q : List ℕ) → IsOrdinaryName ignored run q → IsDurablyDone v run m q
+    pub done_for_good : IsRunFrom v run → IsMomentOf run m → (q : List ℕ) → IsNoJournalOutputOrIgnoredName ignored run q → HasDurableRecoveredOrOutcomeBytes v run m q
     done_for_good is_run moment q name = record {
       done = done_here q (not_staged q name.waits) (no_draft_by (effect_of_arguments (command_of run.words)) (output run.words) q name.other (not_staged q name.waits)) (located v run m is_run moment);
       lasts = left_as_read is_run moment q name;
     }
 
 pub seen_done : Facts → (ignored : Ignored) (first v m : TreeState) (events : List RootEvent) (run : Run) → ignored intent_name ≡ false → IsDurable (StateDependsOn ignored) first → Reaches first events v → IsRunFrom v run
-    → IsSome (v.names intent_name) → IsMomentOf run m → m.names intent_name ≡ None → (q : List ℕ) → IsOrdinaryName (ignored_after ignored events) run q → IsDurablyDone v run m q
+    → IsSome (v.names intent_name) → IsMomentOf run m → m.names intent_name ≡ None → (q : List ℕ) → IsNoJournalOutputOrIgnoredName (ignored_after ignored events) run q → HasDurableRecoveredOrOutcomeBytes v run m q
 seen_done facts ignored first v m events run off is_durable seen is_run there moment unread q name =
     done_for_good v run m there unread facts (ignored_after ignored events) (after_hides ignored off events) (seen_durable facts ignored off first v events is_durable seen) is_run moment q name

@@ -4,7 +4,7 @@ use Rattle.std.specs.Prelude.{IsTrue, if◌then◌else◌}
 use Rattle.std.specs.Str.{bytes_eq}
 use Rattle.std.proofs.lemmas.Bool.{false≢true, or_right, or_left}
 use Rattle.std.proofs.lemmas.Slice.Eq.{bytes_eq-Decides}
-use Rattle.apk_front.specs.Moments.{IgnoresScratchOf, ignored_except_output}
+use Rattle.apk_front.specs.Moments.{IgnoresScratchNameOfOutput, ignored_except_output}
 use Rattle.apk_front.specs.declared.answer.Answer.{Answer}
 use Rattle.apk_front.specs.declared.answer.Answer.TheVariants.{Ok as Done, Refused, TreeFault, OutFault, Memory}
 use Rattle.apk_front.proofs.file_replacement.Suffix.{intent_is_no_scratch}
@@ -12,7 +12,7 @@ use Rattle.command_core.specs.Command.{CommandLine}
 use Rattle.apk_front.specs.journal_core.Recovery.{intent_name}
 use Rattle.apk_front.specs.journal_core.Replacing.{scratch_name_of}
 use Rattle.apk_front.specs.outcome.Effect.{Effect, Computes, OnlyReadsFiles, AsksRoot, Makes, Changes, does_only_read, effect_of_arguments, effect_of, output, output_name_of_arguments, output_name_for_effect, reads_only}
-use Rattle.run_lists.specs.Events.{Crashes, Edits, Ends, RootEvent, HasNoUnfinishedOutputSinceSync, Run, Stops, Touches, ignored_after, ignored_after_answer, names_of_others, nothing_ignored, ignored_with_all_touched, ignored_with_scratch, ignored_with_touched}
+use Rattle.run_lists.specs.Events.{Crashes, Edits, Ends, RootEvent, HasNoUnfinishedOutputSinceSync, Run, Stops, Touches, ignored_after, ignored_after_answer, names_of_others_outside_journal, nothing_ignored, ignored_with_all_touched, ignored_with_scratch, ignored_with_touched}
 use Rattle.run_lists.proofs.Facts.{AreMore, Ignored}
 use Rattle.run_lists.proofs.Touched.{intent_off}
 
@@ -27,7 +27,7 @@ scratch_hides None ignored off = off
 scratch_hides (Some name) ignored off =
     neither (bytes_eq intent_name (scratch_name_of name)) (ignored intent_name) (λ is. intent_is_no_scratch name ((bytes_eq-Decides intent_name (scratch_name_of name)).0 is)) off
 
-pub hides : (o : Option (List ℕ)) (ignored : Ignored) → ignored intent_name ≡ false → IgnoresScratchOf o (ignored_with_scratch o ignored)
+pub hides : (o : Option (List ℕ)) (ignored : Ignored) → ignored intent_name ≡ false → IgnoresScratchNameOfOutput o (ignored_with_scratch o ignored)
 hides None ignored off = tt
 hides (Some name) ignored off = record {
   scratch = or_left (bytes_eq (scratch_name_of name) (scratch_name_of name)) (ignored (scratch_name_of name)) ((bytes_eq-Decides (scratch_name_of name) (scratch_name_of name)).1 refl);
@@ -50,7 +50,7 @@ by_hides OutFault run ignored off = off
 by_hides Memory run ignored off = off
 
 pub touched_hides : (theirs ignored : Ignored) → ignored intent_name ≡ false → ignored_with_touched theirs ignored intent_name ≡ false
-touched_hides theirs ignored off = neither (names_of_others theirs intent_name) (ignored intent_name) (λ is. false≢true (sym (intent_off theirs) ∙ is)) off
+touched_hides theirs ignored off = neither (names_of_others_outside_journal theirs intent_name) (ignored intent_name) (λ is. false≢true (sym (intent_off theirs) ∙ is)) off
 
 pub all_touched_hides : (events : List RootEvent) (ignored : Ignored) → ignored intent_name ≡ false → ignored_with_all_touched events ignored intent_name ≡ false
 all_touched_hides [] ignored off = off
@@ -71,7 +71,7 @@ after_hides ignored off (Touches theirs ∷ earlier) = touched_hides theirs (ign
 -- ---- more and fewer
 
 pub touched_more : (theirs ignored : Ignored) → AreMore ignored (ignored_with_touched theirs ignored)
-touched_more theirs ignored q is = or_right (names_of_others theirs q) (ignored q) is
+touched_more theirs ignored q is = or_right (names_of_others_outside_journal theirs q) (ignored q) is
 
 pub all_touched_more : (events : List RootEvent) (ignored : Ignored) → AreMore ignored (ignored_with_all_touched events ignored)
 all_touched_more [] ignored q is = is

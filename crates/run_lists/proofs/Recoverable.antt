@@ -4,7 +4,7 @@ use Rattle.std.specs.Prelude.{if◌then◌else◌}
 use Rattle.apk_front.specs.adb_schema.Soundness.{container_fault_except_contents}
 use Rattle.adb_view.specs.declared.tables.Which.TheVariants.{Intent as IntentTable}
 use Rattle.apk_front.specs.Answers.{answer_for_refusal}
-use Rattle.apk_front.specs.Moments.{AnswersOutcome, HasOutcomeWithoutCommit}
+use Rattle.apk_front.specs.Moments.{IsOkRefusedOrOutputFault, HasOutcomeWithoutCommit}
 use Rattle.apk_front.specs.declared.answer.Answer.{Answer}
 use Rattle.apk_front.specs.declared.answer.Answer.TheVariants.{Refused}
 use Rattle.base_core.specs.Calls.{HoldsNow}
@@ -13,7 +13,7 @@ use Rattle.base_core.specs.Undone.{IsAfterCrash, IsDurable, IsCrashImage}
 use Rattle.base_core.specs.Tree.{TreeState, files_of}
 use Rattle.base_core.specs.declared.cause.Cause.{Cause}
 use Rattle.apk_front.specs.journal_core.Quiet.{EachCrashLeavesOld}
-use Rattle.apk_front.specs.journal_core.Recovery.{EachCrashLeaves, StateDependsOn, intent_name, is_staged, recovered_files, state_of}
+use Rattle.apk_front.specs.journal_core.Recovery.{EachCrashLeavesStateOf, StateDependsOn, intent_name, is_staged, recovered_files, state_of}
 use Rattle.apk_front.specs.journal_core.Staged.{IsIntentFault, unstaged_files}
 use Rattle.apk_front.proofs.journal_core.More.{quiet_more, states_same}
 use Rattle.apk_front.specs.outcome.Effect.{Effect, Computes, OnlyReadsFiles, AsksRoot, Makes, Changes, does_recover, effect_of_arguments, output}
@@ -130,7 +130,7 @@ module _ (facts : Facts) (only : OnlyBadRefused) where
 
   pub good_unrefused : (v : TreeState) (run : Run) → IsRunFrom v run → does_recover (effect_of_arguments (command_of run.words)) ≡ true → LeavesNoBadIntent v → IsNotRefusedForIntent run
   good_unrefused v run is_run recovers good = λ cause is.
-      let t = told (IsOutcomeFrom v run) (facts.unique run.words (files_of v)) _ _ run.answer run.out run.err is_run.stated (subst AnswersOutcome (sym is) tt) in
+      let t = told (IsOutcomeFrom v run) (facts.unique run.words (files_of v)) _ _ run.answer run.out run.err is_run.stated (subst IsOkRefusedOrOutputFault (sym is) tt) in
       none_some (recovery_fault (effect_of_arguments (command_of run.words)) (files_of v)) cause
       (no_fault (effect_of_arguments (command_of run.words)) (files_of v) (good (files_of v) (facts.read_left v)))
       (only run.words (files_of v) t.0 cause recovers t.1 (told_bad run.answer t.0 cause is t.2))
@@ -180,7 +180,7 @@ pub before_or_outcome_more : (few many : Ignored) (v : TreeState) (run : Run) �
 before_or_outcome_more few many v run more files (inl before) = inl (before_more few many v more files before)
 before_or_outcome_more few many v run more files (inr (o, one, commits, same)) = inr (o, one, commits, states_same few many more files o.files same)
 
-pub one_of_two : (names : Ignored) (v : TreeState) (run : Run) (files : Files) → EachCrashLeaves names (files_of v) v → HasStateOfCrashBeforeOrOutcome names v run files → HasStateAsReadOrOutcome names v run files
+pub one_of_two : (names : Ignored) (v : TreeState) (run : Run) (files : Files) → EachCrashLeavesStateOf names (files_of v) v → HasStateOfCrashBeforeOrOutcome names v run files → HasStateAsReadOrOutcome names v run files
 one_of_two names v run files settled (inl (was, left, same)) = inl (same ∙ settled was left)
 one_of_two names v run files settled (inr (o, one, commits, same)) = inr (o, one, commits, same)
 
@@ -222,7 +222,7 @@ module _ (facts : Facts) (crash_quiet : (ignored : Ignored) (v w : TreeState) �
 
   module _ (same : HasSameBadIntent) (shown : start intent_name ≡ false) (only : OnlyBadRefused) (sound : ReadSound)
       (recovered : (v : TreeState) (run : Run) → IsRunFrom v run → does_recover (effect_of_arguments (command_of run.words)) ≡ true → recovery_fault (effect_of_arguments (command_of run.words)) (files_of v) ≡ None
-      → AnswersOutcome run.answer → HasOutcomeWithoutCommit (IsOutcomeFrom v run) → HoldsNow run.now (λ w. files_of w ≡ unstaged_files (files_of v))) where
+      → IsOkRefusedOrOutputFault run.answer → HasOutcomeWithoutCommit (IsOutcomeFrom v run) → HoldsNow run.now (λ w. files_of w ≡ unstaged_files (files_of v))) where
     -- from a moment of a run on, over what crashes and idle runs leave
     pub next_recovers : (m w : TreeState) (later : List RootEvent) (next : Run) → IsDurable (StateDependsOn start) m → LeavesNoBadIntent m
         → ReachesWithoutCommit m later w → IsRunFrom w next → does_recover (effect_of_arguments (command_of next.words)) ≡ true → (image : Files) × IsCrashImage m image × IsRecoveredBy (HasSameState (ignored_with_all_touched later start) image) w next
@@ -257,7 +257,7 @@ recovered_as A B leads w next is = record {
 -- behind a list
 module _ (facts : Facts) (same : HasSameBadIntent) (committed : CommitsNoIntent) (only : OnlyBadRefused) (sound : ReadSound) (crash_quiet : (ignored : Ignored) (v w : TreeState) → IsAfterCrash v w → EachCrashLeavesOld ignored v w)
     (recovered : (v : TreeState) (run : Run) → IsRunFrom v run → does_recover (effect_of_arguments (command_of run.words)) ≡ true → recovery_fault (effect_of_arguments (command_of run.words)) (files_of v) ≡ None
-    → AnswersOutcome run.answer → HasOutcomeWithoutCommit (IsOutcomeFrom v run) → HoldsNow run.now (λ w. files_of w ≡ unstaged_files (files_of v)))
+    → IsOkRefusedOrOutputFault run.answer → HasOutcomeWithoutCommit (IsOutcomeFrom v run) → HoldsNow run.now (λ w. files_of w ≡ unstaged_files (files_of v)))
     (start : Ignored) (off : start intent_name ≡ false) (first : TreeState) (is_durable : IsDurable (StateDependsOn start) first) (good : LeavesNoBadIntent first) where
   pub stopped_left : (v m w : TreeState) (events later : List RootEvent) (run next : Run) → ReachesWithoutBadIntent first events v → IsRunFrom v run → IsPossibleStop run m → ReachesWithoutCommit m later w
       → IsRunFrom w next → does_recover (effect_of_arguments (command_of next.words)) ≡ true → (image : Files) × IsCrashImage m image × IsRecoveredBy (HasSameState (ignored_with_all_touched later (ignored_during_run run (ignored_after start events))) image) w next

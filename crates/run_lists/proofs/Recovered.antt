@@ -1,6 +1,6 @@
 -- What a run leaves that recovers and commits nothing.
 use Rattle.std.proofs.Common.{◌≡◌, ℕ, true, false, List, Option, None, Result, Ok, Err, ap, subst, ◌∙◌}
-use Rattle.apk_front.specs.Moments.{AnswersOutcome, HasOutcomeWithoutCommit}
+use Rattle.apk_front.specs.Moments.{IsOkRefusedOrOutputFault, HasOutcomeWithoutCommit}
 use Rattle.base_core.specs.Calls.{HoldsNow}
 use Rattle.base_core.specs.Files.{Files}
 use Rattle.base_core.specs.Tree.{TreeState, files_of}
@@ -33,7 +33,7 @@ module _ (idle_leaves : (command : CommandLine) (files : Files) (o : Outcome) �
       idle_leaves command (files_recovered_if_needed (effect_of command.applet) files) o over idle ∙ work_is (effect_of command.applet) files recovers
 
   pub recovered : (v : TreeState) (run : Run) → IsRunFrom v run → does_recover (effect_of_arguments (command_of run.words)) ≡ true → recovery_fault (effect_of_arguments (command_of run.words)) (files_of v) ≡ None
-      → AnswersOutcome run.answer → HasOutcomeWithoutCommit (IsOutcomeFrom v run) → HoldsNow run.now (λ w. files_of w ≡ unstaged_files (files_of v))
+      → IsOkRefusedOrOutputFault run.answer → HasOutcomeWithoutCommit (IsOutcomeFrom v run) → HoldsNow run.now (λ w. files_of w ≡ unstaged_files (files_of v))
   recovered v run is_run recovers none answers (p, one, idle) =
       let t = told (IsOutcomeFrom v run) (unique run.words (files_of v)) _ _ run.answer run.out run.err is_run.stated answers in
       let commits : t.0.commits ≡ false = ap (λ (o : Outcome). o.commits) (unique run.words (files_of v) t.0 p t.1 one) ∙ idle in

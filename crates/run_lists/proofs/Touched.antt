@@ -13,7 +13,7 @@ use Rattle.apk_front.proofs.journal_intent.StageNames.{stage_name_staged}
 use Rattle.apk_front.specs.journal_core.Quiet.{EachCrashLeavesOld}
 use Rattle.apk_front.specs.journal_core.Recovery.{Intent, IsStagedNameOf, StateDependsOn, intent_in_file, intent_name, intent_of, is_staged}
 use Rattle.apk_front.proofs.journal_core.Agree.{state_agree}
-use Rattle.run_lists.specs.Events.{IsSameExcept, IsChangeByOthers, names_of_others, ignored_with_touched}
+use Rattle.run_lists.specs.Events.{HaveSameFilesExceptTheirs, IsChangeByOthers, names_of_others_outside_journal, ignored_with_touched}
 use Rattle.run_lists.proofs.Facts.{Ignored}
 
 -- ---- the names
@@ -27,10 +27,10 @@ off_second true b c is = refl
 off_second false true c is = refl
 off_second false false c is = absurd (false≢true is)
 
-pub intent_off : (theirs : Ignored) → names_of_others theirs intent_name ≡ false
+pub intent_off : (theirs : Ignored) → names_of_others_outside_journal theirs intent_name ≡ false
 intent_off theirs = off_first (bytes_eq intent_name intent_name) (is_staged intent_name) (theirs intent_name) ((bytes_eq-Decides intent_name intent_name).1 refl)
 
-staged_off : (theirs : Ignored) (q : List ℕ) → is_staged q ≡ true → names_of_others theirs q ≡ false
+staged_off : (theirs : Ignored) (q : List ℕ) → is_staged q ≡ true → names_of_others_outside_journal theirs q ≡ false
 staged_off theirs q is = off_second (bytes_eq q intent_name) (is_staged q) (theirs q) is
 
 parts : (a b c : Bool) → (a || (b || c)) ≡ false → (b ≡ false) × ((a || c) ≡ false)
@@ -57,19 +57,19 @@ module _ (theirs : Ignored) (v w : TreeState) (touch : IsChangeByOthers theirs v
   abbrev Names : Ignored
   Names = ignored_with_touched theirs ignored
 
-  counts : (files : Files) (q : List ℕ) → StateDependsOn Names files q → names_of_others theirs q ≡ false
-  counts files q (inl is) = ap (names_of_others theirs) is ∙ intent_off theirs
-  counts files q (inr (inl shown)) = (parts (is_staged q) (names_of_others theirs q) (ignored q) shown).0
+  counts : (files : Files) (q : List ℕ) → StateDependsOn Names files q → names_of_others_outside_journal theirs q ≡ false
+  counts files q (inl is) = ap (names_of_others_outside_journal theirs) is ∙ intent_off theirs
+  counts files q (inr (inl shown)) = (parts (is_staged q) (names_of_others_outside_journal theirs q) (ignored q) shown).0
   counts files q (inr (inr place)) = staged_off theirs q (place_staged (intent_of files) q place)
 
   -- the files that a crash might have left before
   abbrev old_files : NameMap → Files → Files
-  old_files was image q = if names_of_others theirs q then bytes_of_file_number v.files (was q) else image q
+  old_files was image q = if names_of_others_outside_journal theirs q then bytes_of_file_number v.files (was q) else image q
 
-  old_left : (was map : NameMap) (image : Files) → IsSameExcept theirs v was w map → ((q : List ℕ) → CrashMayLeave w.files (map q) (image q)) → (q : List ℕ) → CrashMayLeave v.files (was q) (old_files was image q)
-  old_left was map image same by q = at (names_of_others theirs q) refl
+  old_left : (was map : NameMap) (image : Files) → HaveSameFilesExceptTheirs theirs v was w map → ((q : List ℕ) → CrashMayLeave w.files (map q) (image q)) → (q : List ℕ) → CrashMayLeave v.files (was q) (old_files was image q)
+  old_left was map image same by q = at (names_of_others_outside_journal theirs q) refl
     where
-      at : (b : Bool) → names_of_others theirs q ≡ b → CrashMayLeave v.files (was q) (if b then bytes_of_file_number v.files (was q) else image q)
+      at : (b : Bool) → names_of_others_outside_journal theirs q ≡ b → CrashMayLeave v.files (was q) (if b then bytes_of_file_number v.files (was q) else image q)
       at true is = may_leave_as_read v.files (was q)
       at false is =
           let both = same q is in
@@ -84,9 +84,9 @@ module _ (theirs : Ignored) (v w : TreeState) (touch : IsChangeByOthers theirs v
             (λ q rests. sym (ap (λ (b : Bool). (if b then bytes_of_file_number v.files (at.0 q) else image q)) (counts image q rests))),
       )
 
-  rested : (was map : NameMap) → IsSameExcept theirs v was w map → (q : List ℕ) → StateDependsOn Names (files_under_map w map) q → StateDependsOn ignored (files_under_map v was) q
+  rested : (was map : NameMap) → HaveSameFilesExceptTheirs theirs v was w map → (q : List ℕ) → StateDependsOn Names (files_under_map w map) q → StateDependsOn ignored (files_under_map v was) q
   rested was map same q (inl is) = inl is
-  rested was map same q (inr (inl shown)) = inr (inl (parts (is_staged q) (names_of_others theirs q) (ignored q) shown).1)
+  rested was map same q (inr (inl shown)) = inr (inl (parts (is_staged q) (names_of_others_outside_journal theirs q) (ignored q) shown).1)
   rested was map same q (inr (inr place)) =
       let both = same intent_name (intent_off theirs) in
       let at : files_under_map w map intent_name ≡ files_under_map v was intent_name = ap (bytes_of_file_number w.files) both.0 ∙ same_bytes v.files w.files (was intent_name) both.1 in

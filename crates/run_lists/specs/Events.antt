@@ -4,7 +4,7 @@
 use Rattle.std.specs.Prelude.{◌≡◌, ◌≢◌, ◌⊎◌, ◌++◌, ◌||◌, ℕ, Bool, true, false, if◌then◌else◌, List, [], ◌∷◌, Option, Some, None, Contains, IsSome, IsTrue, is_some}
 use Rattle.std.specs.Str.{bytes_eq}
 use Rattle.apk_front.specs.Answers.{IsAnswerOfSomeOutcome, LeavesFiles}
-use Rattle.apk_front.specs.Moments.{AnswersOutcome, AreFilesReadDuringRun, AreStatesOldOrLeadToOutcome, CanRecover, IsRefusedOrCommitsNothing, HasNothingToRecover, IgnoresScratchOf, LeavesDurableStateIfCommitted, LeavesDurableFilesOnceAnswered, NamesAreDurableWithoutIntentExcept, ignored_except_output}
+use Rattle.apk_front.specs.Moments.{IsOkRefusedOrOutputFault, AreStatesOfRecoveryOrCommittingRun, AreStatesOldOrLeadToOutcome, CanRecover, IsRefusedOrCommitsNothing, HasNothingToRecover, IgnoresScratchNameOfOutput, LeavesDurableStateIfCommitted, LeavesDurableFilesOnceAnswered, NamesAreDurableWithoutIntentExcept, ignored_except_output}
 use Rattle.apk_front.specs.declared.answer.Answer.{Answer}
 use Rattle.apk_front.specs.declared.answer.Answer.TheVariants.{Ok, TreeFault}
 use Rattle.base_core.specs.Calls.{HoldsNow}
@@ -27,6 +27,7 @@ use Rattle.apk_front.specs.words_core.Grammar.{command_of}
 
 -- a call of `apk`, as its caller sees it
 pub record Run : Type 0 where
+  -- the command line, without the program's name
   pub words : List (List ℕ)
   -- the tree's history before it and after it
   pub old : List TreeState
@@ -37,49 +38,63 @@ pub record Run : Type 0 where
   -- standard output and standard error, before the run and after it
   pub out : SinkBeforeAndAfter
   pub err : SinkBeforeAndAfter
+  -- how the run ended
   pub answer : Answer
 
--- the outcome of a run's arguments over the files as read when it begins
+-- an outcome of a run's command line over the files as read in this state, in which the run begins
 abbrev pub IsOutcomeFrom : TreeState → Run → Outcome → Type 0
 IsOutcomeFrom v run = IsOutcome (command_of run.words) (files_of v)
 
--- a run has an outcome that commits
-abbrev pub HasCommit : TreeState → Run → Type 0
-HasCommit v run =
+-- a run that begins in this state has an outcome that commits
+abbrev pub HasOutcomeThatCommits : TreeState → Run → Type 0
+HasOutcomeThatCommits v run =
     (outcome : Outcome) × IsOutcomeFrom v run outcome × (outcome.commits ≡ true)
 
 -- A run that begins in the state v: what the contract of `apk` says of it, clause by clause.
 pub record IsRunFrom (v : TreeState) (run : Run) : Type 0 where
+  -- the run begins in the state v
   pub begins : HoldsNow run.old (λ u. u ≡ v)
+  -- the answer, the bytes printed and the files left are an outcome's; or a call failed, and this is answered
   pub stated : IsAnswerOfSomeOutcome (IsOutcomeFrom v run) (LeavesFiles run.now)
       (IsFaultCountedWithCause run.before run.after) run.answer run.out run.err
+  -- a command that only reads leaves the tree unchanged
   pub same : IsTrue (reads_only (command_of run.words)) → run.now ≡ run.old
+  -- with nothing to recover, a run that is refused, runs out of memory or commits nothing writes nothing
   pub idle : IsRefusedOrCommitsNothing (IsOutcomeFrom v run) run.answer
       → HasNothingToRecover (effect_of_arguments (command_of run.words)) v → run.now ≡ run.old
+  -- if the intent (journal entry) is bad, nothing is written
   pub bad_intent : IsSome (recovery_fault (effect_of_arguments (command_of run.words)) (files_of v))
       → run.now ≡ run.old
-  pub reads : AreFilesReadDuringRun (IsOutcomeFrom v run) (effect_of_arguments (command_of run.words))
+  -- which files are read at each moment of the run (*AreStatesOfRecoveryOrCommittingRun*)
+  pub reads : AreStatesOfRecoveryOrCommittingRun (IsOutcomeFrom v run)
+      (effect_of_arguments (command_of run.words))
       (output run.words) v run.old run.now
+  -- if there was an intent, crashes undo no change of a name from the moment at which no intent is read
   pub last : IsSome (v.names intent_name)
       → Since (NamesAreDurableWithoutIntentExcept (output run.words)) run.old run.now
+  -- a run that is refused, runs out of memory or commits nothing leaves the state of a durable tree unchanged
   pub left : IsRefusedOrCommitsNothing (IsOutcomeFrom v run) run.answer → (ignored : List ℕ → Bool)
       → IsDurable (StateDependsOn ignored) v → Since (StateIsUnchanged ignored v) run.old run.now
+  -- a crash of a durable tree during the run leaves an old state, or that of an outcome that commits
   pub crash : (ignored : List ℕ → Bool)
-      → IsDurable (StateDependsOn ignored) v → IgnoresScratchOf (output run.words) ignored
+      → IsDurable (StateDependsOn ignored) v → IgnoresScratchNameOfOutput (output run.words) ignored
       → AreStatesOldOrLeadToOutcome (IsOutcomeFrom v run) (is_some (output run.words)) ignored v run.old
       run.now
+  -- a durable tree is durable after the run
   pub is_durable : (ignored : List ℕ → Bool)
-      → IsDurable (StateDependsOn ignored) v → IgnoresScratchOf (output run.words) ignored
+      → IsDurable (StateDependsOn ignored) v → IgnoresScratchNameOfOutput (output run.words) ignored
       → HoldsNow run.now (IsDurable (StateDependsOn ignored))
+  -- once an outcome is answered, each crash leaves its files, if they must be durable
   pub settled : (ignored : List ℕ → Bool)
-      → IsDurable (StateDependsOn ignored) v → IgnoresScratchOf (output run.words) ignored
+      → IsDurable (StateDependsOn ignored) v → IgnoresScratchNameOfOutput (output run.words) ignored
       → LeavesDurableFilesOnceAnswered (IsOutcomeFrom v run)
       (effect_of_arguments (command_of run.words)) ignored v
       run.now
       run.answer
+  -- once an outcome that commits is answered, each crash leaves its files, also under the output's name
   pub durable_state : (ignored : List ℕ → Bool)
-      → IsDurable (StateDependsOn ignored) v → IgnoresScratchOf (output run.words) ignored
-      → AnswersOutcome run.answer
+      → IsDurable (StateDependsOn ignored) v → IgnoresScratchNameOfOutput (output run.words) ignored
+      → IsOkRefusedOrOutputFault run.answer
       → LeavesDurableStateIfCommitted (IsOutcomeFrom v run) (output run.words) ignored run.now
 
 -- a moment of a run: the state in which it begins, or one that it made
@@ -94,23 +109,34 @@ IsMomentOf run m =
 -- nothing runs: of any files, which they then sync, or of files under these names, which they do not
 -- sync. A run that a crash cuts off is a stop, and then a crash.
 pub data RootEvent : Type 0 where
+  -- a run that ends
   Ends : Run → RootEvent
+  -- a run that is stopped
   Stops : Run → RootEvent
   Crashes : RootEvent
+  -- others change any files, and sync them
   Edits : RootEvent
+  -- others change files under these names, and do not sync them
   Touches : (List ℕ → Bool) → RootEvent
 
 -- all of a tree is synced: a crash leaves just the files as read
 pub record IsAllSynced (v : TreeState) : Type 0 where
+  -- there is one map of names: a crash can undo no change of a name
   pub one_map : v.older ≡ []
+  -- each file that a name leads to is synced
   pub files : (q : List ℕ) (n : ℕ) → v.names q ≡ Some n → (v.files n).synced ≡ true
 
 -- w differs from v only in the bytes of files that are not synced, as inside a call that appends to one
 pub record DiffersOnlyInUnsyncedBytes (v w : TreeState) : Type 0 where
+  -- names lead to the same files, now and in the older maps to which a crash may return
   pub names : w.names ≡ v.names
+  -- the older maps of names are the same too
   pub older : w.older ≡ v.older
+  -- as many files were made
   pub made : w.made ≡ v.made
+  -- the same files are synced, and these have the same bytes
   pub synced : (n : ℕ) → (w.files n).synced ≡ (v.files n).synced
+  -- a synced file has the same bytes
   pub bytes : (n : ℕ) → (v.files n).synced ≡ true → (w.files n).bytes ≡ (v.files n).bytes
 
 -- a run may be stopped at one of its moments; or inside a call, and then each file that is not synced
@@ -119,14 +145,14 @@ abbrev pub IsPossibleStop : Run → TreeState → Type 0
 IsPossibleStop run w = (m : TreeState) × IsMomentOf run m × DiffersOnlyInUnsyncedBytes m w
 
 -- of these names, those that others may touch: neither the intent's, nor one below the staging area
-abbrev pub names_of_others : (List ℕ → Bool) → List ℕ → Bool
-names_of_others theirs q = if bytes_eq q intent_name || is_staged q then false else theirs q
+abbrev pub names_of_others_outside_journal : (List ℕ → Bool) → List ℕ → Bool
+names_of_others_outside_journal theirs q = if bytes_eq q intent_name || is_staged q then false else theirs q
 
 -- the map `map` of w agrees with the map `was` of v on each name that others may not touch. The file to
 -- which such a name leads is the same in v and w
-abbrev pub IsSameExcept : (List ℕ → Bool) → TreeState → NameMap → TreeState → NameMap → Type 0
-IsSameExcept theirs v was w map =
-    (q : List ℕ) → names_of_others theirs q ≡ false
+abbrev pub HaveSameFilesExceptTheirs : (List ℕ → Bool) → TreeState → NameMap → TreeState → NameMap → Type 0
+HaveSameFilesExceptTheirs theirs v was w map =
+    (q : List ℕ) → names_of_others_outside_journal theirs q ≡ false
     → (map q ≡ was q) × ((n : ℕ) → was q ≡ Some n → w.files n ≡ v.files n)
 
 -- others have changed only files under their names. Each map of names that a crash in w may leave is,
@@ -134,9 +160,9 @@ IsSameExcept theirs v was w map =
 abbrev pub IsChangeByOthers : (List ℕ → Bool) → TreeState → TreeState → Type 0
 IsChangeByOthers theirs v w =
     (map : NameMap) → IsCrashMap w map → (was : NameMap) × IsCrashMap v was
-    × IsSameExcept theirs v was w map
+    × HaveSameFilesExceptTheirs theirs v was w map
 
--- an event finds a tree in the state v, and leaves it in the state w
+-- this event may find a tree in the state v, and leave it in the state w
 abbrev pub IsTransition : TreeState → RootEvent → TreeState → Type 0
 IsTransition v (Ends run) w = IsRunFrom v run × HoldsNow run.now (λ u. u ≡ w)
 IsTransition v (Stops run) w = IsRunFrom v run × IsPossibleStop run w
@@ -158,7 +184,7 @@ Reaches first (event ∷ earlier) w =
 abbrev pub IsRunWithoutCommit : TreeState → Run → Type 0
 IsRunWithoutCommit v run =
     IsRefusedOrCommitsNothing (IsOutcomeFrom v run) run.answer
-    ⊎ ((output run.words ≡ None) × (HasCommit v run → ⊥))
+    ⊎ ((output run.words ≡ None) × (HasOutcomeThatCommits v run → ⊥))
 
 -- an event is a crash, a run that commits nothing, or a touch by others
 abbrev pub IsEventWithoutCommit : TreeState → RootEvent → Type 0
@@ -181,8 +207,8 @@ ReachesWithoutCommit first (event ∷ earlier) w =
 -- this commits, or the run has no output and found an intent.
 abbrev pub EnsuresOneCrashState : TreeState → RootEvent → Type 0
 EnsuresOneCrashState v (Ends run) =
-    AnswersOutcome run.answer
-    × (HasCommit v run
+    IsOkRefusedOrOutputFault run.answer
+    × (HasOutcomeThatCommits v run
     ⊎ ((output run.words ≡ None) × CanRecover (effect_of_arguments (command_of run.words)) v))
 EnsuresOneCrashState v (Stops run) = ⊥
 EnsuresOneCrashState v Crashes = Unit {0}
@@ -239,13 +265,13 @@ ignored_after_answer Ok run ignored = ignored_except_output (output run.words) i
 ignored_after_answer TreeFault run ignored = ignored_during_run run ignored
 ignored_after_answer other run ignored = ignored
 
--- names are among others
+-- each name of the set `few` is in the set `many`
 abbrev pub AreNamesAmong : (List ℕ → Bool) → (List ℕ → Bool) → Type 0
 AreNamesAmong few many = (q : List ℕ) → few q ≡ true → many q ≡ true
 
--- ignored names, and names that others touched
+-- ignored names, and those of the names `theirs` that others may touch
 abbrev pub ignored_with_touched : (List ℕ → Bool) → (List ℕ → Bool) → List ℕ → Bool
-ignored_with_touched theirs ignored q = names_of_others theirs q || ignored q
+ignored_with_touched theirs ignored q = names_of_others_outside_journal theirs q || ignored q
 
 -- ignored names, and all names that others touched along a list
 abbrev pub ignored_with_all_touched : List RootEvent → (List ℕ → Bool) → List ℕ → Bool

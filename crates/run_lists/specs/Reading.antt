@@ -19,7 +19,9 @@ use Rattle.run_lists.specs.Events.{Crashes, Edits, Ends, RootEvent, IsMomentOf, 
 -- a name is neither the intent's, nor that of a staged file, nor one under which the run makes a new
 -- file
 pub record IsNoJournalOrDraftName (run : Run) (q : List ℕ) : Type 0 where
+  -- the name is not that of the intent or of a staged file
   pub waits : IsJournalName q → ⊥
+  -- the run makes no new file under the name
   pub drafts : is_temporary_name (effect_of_arguments (command_of run.words)) (output run.words) q ≡ false
 
 -- at a moment of a run a name has the bytes of an outcome of the run that commits
@@ -65,15 +67,20 @@ IsUnrestrictedRun v run = Unit {0}
 
 -- a test holds of the file of a name, or its absence, in the files as they are read and as they are
 -- recovered
-pub record IsTrueAt (test : Option (List ℕ) → Bool) (q : List ℕ) (files : Files) : Type 0 where
+pub record HoldsAsReadAndAsRecovered (test : Option (List ℕ) → Bool) (q : List ℕ)
+    (files : Files) : Type 0 where
+  -- the test holds of the file as read
   pub read : test (files q) ≡ true
+  -- the test holds of the file as recovery leaves it
   pub recovered : test (unstaged_files files q) ≡ true
 
 -- A name is none of the journal or of a new file of the run. The test holds of what each outcome that
 -- commits leaves there.
-pub record LeavesTrueAt (test : Option (List ℕ) → Bool) (q : List ℕ) (v : TreeState)
+pub record EachCommitPassesTestAtName (test : Option (List ℕ) → Bool) (q : List ℕ) (v : TreeState)
     (run : Run) : Type 0 where
+  -- the name is not of the journal or of a new file of the run
   pub no_draft : IsNoJournalOrDraftName run q
+  -- the test holds of the file in each outcome of the run that commits
   pub outcomes : (outcome : Outcome) → IsOutcomeFrom v run outcome → outcome.commits ≡ true
       → test (outcome.files q) ≡ true
 
@@ -87,13 +94,19 @@ HasBadIntent files = (cause : Cause) × IsIntentFault files cause
 
 -- a name is neither the intent's, nor that of a staged file, nor one that the run may write as or for
 -- its output, nor one of those ignored
-pub record IsOrdinaryName (ignored : List ℕ → Bool) (run : Run) (q : List ℕ) : Type 0 where
+pub record IsNoJournalOutputOrIgnoredName (ignored : List ℕ → Bool) (run : Run) (q : List ℕ) : Type 0 where
+  -- the name is not that of the intent or of a staged file
   pub waits : IsJournalName q → ⊥
+  -- the name is not that of the output or its scratch name
   pub other : IsNoneOf q (output_names (output run.words))
+  -- the name is not ignored
   pub counts : ignored q ≡ false
 
 -- the intent's change is durable under a name: the name has its recovered bytes, or those of an outcome
 -- of the run, and each crash leaves exactly these
-pub record IsDurablyDone (v : TreeState) (run : Run) (m : TreeState) (q : List ℕ) : Type 0 where
+pub record HasDurableRecoveredOrOutcomeBytes (v : TreeState) (run : Run) (m : TreeState)
+    (q : List ℕ) : Type 0 where
+  -- the file is the recovered one, or that of an outcome of the run
   pub done : (files_of m q ≡ unstaged_files (files_of v) q) ⊎ HasOutcomeBytes v run m q
+  -- each crash at this moment leaves exactly this file
   pub lasts : (image : Files) → IsCrashImage m image → image q ≡ files_of m q

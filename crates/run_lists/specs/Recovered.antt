@@ -1,7 +1,7 @@
 -- What keeps a root recoverable, and the state after a run that was stopped. The rules are in
 -- `docs/crash-safety.md`, "Recovery", its table of what is found and its last part.
 use Rattle.std.specs.Prelude.{◌≡◌, ◌≢◌, ◌⊎◌, ℕ, Bool, true, List, [], ◌∷◌, None}
-use Rattle.apk_front.specs.Moments.{AnswersOutcome, HasOutcomeWithoutCommit}
+use Rattle.apk_front.specs.Moments.{IsOkRefusedOrOutputFault, HasOutcomeWithoutCommit}
 use Rattle.apk_front.specs.declared.answer.Answer.TheVariants.{Refused}
 use Rattle.base_core.specs.Calls.{HoldsNow}
 use Rattle.base_core.specs.Undone.{IsCrashImage}
@@ -9,7 +9,7 @@ use Rattle.base_core.specs.Files.{Files}
 use Rattle.base_core.specs.Tree.{TreeState, files_of}
 use Rattle.base_core.specs.declared.cause.Cause.{Cause}
 use Rattle.apk_front.specs.journal_core.Recovery.{intent_name, state_of}
-use Rattle.apk_front.specs.journal_core.Staged.{IsEmptyStage, unstaged_files}
+use Rattle.apk_front.specs.journal_core.Staged.{HasNoStagedNames, unstaged_files}
 use Rattle.apk_front.specs.outcome.Effect.{effect_of_arguments}
 use Rattle.apk_front.specs.outcome.Outcome.{Outcome}
 use Rattle.apk_front.specs.outcome.Work.{recovery_fault}
@@ -66,18 +66,25 @@ HasStateOfCrashBeforeOrOutcome ignored v run files =
     × HasSameState ignored outcome.files files)
 
 -- files are recovered: there is no intent, the staging area is empty, and the files have this state
-pub record AreRecovered (HasState : Files → Type 0) (files : Files) : Type 0 where
+pub record AreRecoveredWithState (HasState : Files → Type 0) (files : Files) : Type 0 where
+  -- there is no intent
   pub intent : files intent_name ≡ None
-  pub stage : IsEmptyStage files
+  -- there is no staged file
+  pub stage : HasNoStagedNames files
+  -- the files have the state
   pub state : HasState files
 
 -- The next run, which finds the root in the state w, is not refused for an intent. It works on the
--- recovered files, and these are as *AreRecovered* says. If its outcome commits nothing, they are what
+-- recovered files, and these are as *AreRecoveredWithState* says. If its outcome commits nothing, they are what
 -- is read once this is answered.
 pub record IsRecoveredBy (HasState : Files → Type 0) (w : TreeState) (next : Run) :
     Type 0 where
+  -- the next run does not answer that the intent is bad
   pub unrefused : IsNotRefusedForIntent next
+  -- the intent, if there is one, is not bad
   pub works : recovery_fault (effect_of_arguments (command_of next.words)) (files_of w) ≡ None
-  pub files : AreRecovered HasState (unstaged_files (files_of w))
-  pub read : AnswersOutcome next.answer → HasOutcomeWithoutCommit (IsOutcomeFrom w next)
+  -- recovery leaves files of this state, with nothing left to do
+  pub files : AreRecoveredWithState HasState (unstaged_files (files_of w))
+  -- after an answer whose outcome commits nothing, the files as read are the recovered ones
+  pub read : IsOkRefusedOrOutputFault next.answer → HasOutcomeWithoutCommit (IsOutcomeFrom w next)
       → HoldsNow next.now (λ u. files_of u ≡ unstaged_files (files_of w))

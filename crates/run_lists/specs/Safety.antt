@@ -2,14 +2,14 @@
 -- "Recovery": the table of what a run may leave, and its last part.
 use Rattle.std.specs.Prelude.{◌≡◌, ◌⊎◌, ℕ, Bool, true, false, List}
 use Rattle.apk_front.specs.Answers.{answer_of}
-use Rattle.apk_front.specs.Moments.{AnswersOutcome, IsDurableState, MustOutcomeBeDurable, ignored_except_output}
+use Rattle.apk_front.specs.Moments.{IsOkRefusedOrOutputFault, IsDurableAndLeavesFiles, MustOutcomeBeDurable, ignored_except_output}
 use Rattle.apk_front.specs.declared.answer.Answer.TheVariants.{OutFault}
 use Rattle.base_core.specs.Calls.{HoldsNow}
 use Rattle.base_core.specs.Undone.{IsDurable, IsCrashImage}
 use Rattle.base_core.specs.Files.{Files}
 use Rattle.base_core.specs.Tree.{TreeState, files_of}
 use Rattle.apk_front.specs.journal_core.Quiet.{EachCrashLeavesOld}
-use Rattle.apk_front.specs.journal_core.Recovery.{EachCrashLeavesOldOrNew, EachCrashLeaves, StateDependsOn, intent_name, state_of}
+use Rattle.apk_front.specs.journal_core.Recovery.{EachCrashLeavesOldOrNew, EachCrashLeavesStateOf, StateDependsOn, intent_name, state_of}
 use Rattle.apk_front.specs.outcome.Effect.{effect_of_arguments, output}
 use Rattle.apk_front.specs.outcome.Outcome.{Outcome}
 use Rattle.apk_front.specs.words_core.Grammar.{command_of}
@@ -30,31 +30,40 @@ LeavesOldOrOutcome ignored v run m =
 -- At the moment m of a run that began in v, a crash leaves a state from before the run. The files as read
 -- have the state of v.
 pub record KeepsStateFromBefore (ignored : List ℕ → Bool) (v m : TreeState) : Type 0 where
+  -- each crash leaves an old state
   pub quiet : EachCrashLeavesOld ignored v m
+  -- the files as read have the same state as in v
   pub reads : state_of ignored (files_of m) ≡ state_of ignored (files_of v)
 
 -- the run's outcome was answered, or a sink's fault in its place, and its files are read
 pub record LeavesFilesOfAnsweredOutcome (ignored : List ℕ → Bool) (v : TreeState) (run : Run)
     (w : TreeState) : Type 0 where
+  -- an outcome of the run
   pub outcome : Outcome
   pub is_outcome : IsOutcomeFrom v run outcome
+  -- the answer is that of the outcome, or a fault of a sink
   pub answered : (run.answer ≡ answer_of outcome) ⊎ (run.answer ≡ OutFault)
+  -- the files as read are those of the outcome
   pub reads : files_of w ≡ outcome.files
   -- each crash leaves them, if it commits, if each left the old ones before, or if an intent was found
   -- and completed
   pub settled : MustOutcomeBeDurable (effect_of_arguments (command_of run.words))
       (ignored_during_run run ignored) v outcome
-      → EachCrashLeaves (ignored_during_run run ignored) outcome.files w
+      → EachCrashLeavesStateOf (ignored_during_run run ignored) outcome.files w
   -- if it commits, under its output and the scratch name too
   pub durable_state : outcome.commits ≡ true
-      → IsDurableState (ignored_except_output (output run.words) ignored) outcome.files w
+      → IsDurableAndLeavesFiles (ignored_except_output (output run.words) ignored) outcome.files w
 
 -- A run is safe: at each moment a crash leaves a state from before or that of the outcome. Once the
 -- outcome is answered its files are read, and are durable. A run that commits nothing keeps the state.
 pub record IsSafeRun (ignored : List ℕ → Bool) (v : TreeState) (run : Run) : Type 0 where
+  -- at each moment of the run a crash leaves an old state or that of an outcome
   pub moments : (m : TreeState) → IsMomentOf run m
       → LeavesOldOrOutcome (ignored_during_run run ignored) v run m
-  pub answered : AnswersOutcome run.answer → HoldsNow run.now (LeavesFilesOfAnsweredOutcome ignored v run)
+  -- after the answer of an outcome its files are read, or after a fault of a sink in its place
+  pub answered : IsOkRefusedOrOutputFault run.answer
+      → HoldsNow run.now (LeavesFilesOfAnsweredOutcome ignored v run)
+  -- a run without a commit keeps the state at each moment
   pub left : IsRunWithoutCommit v run
       → (m : TreeState) → IsMomentOf run m → KeepsStateFromBefore ignored v m
 
@@ -72,12 +81,15 @@ HasStateAsReadOrOutcome ignored v run image =
 -- All or nothing: at each moment a crash leaves the old state or that of the outcome. Once it is
 -- answered a crash leaves that of the outcome, and the old one if the run commits nothing.
 pub record IsAtomic (ignored : List ℕ → Bool) (v : TreeState) (run : Run) : Type 0 where
+  -- at each moment of the run a crash leaves the old state or that of an outcome
   pub moments : (m : TreeState) → IsMomentOf run m → (image : Files) → IsCrashImage m image
       → HasStateAsReadOrOutcome (ignored_during_run run ignored) v run image
-  pub answered : AnswersOutcome run.answer → (outcome : Outcome) → IsOutcomeFrom v run outcome
-      → HoldsNow run.now (EachCrashLeaves (ignored_during_run run ignored) outcome.files)
+  -- after the answer of an outcome each crash leaves the files of the outcome
+  pub answered : IsOkRefusedOrOutputFault run.answer → (outcome : Outcome) → IsOutcomeFrom v run outcome
+      → HoldsNow run.now (EachCrashLeavesStateOf (ignored_during_run run ignored) outcome.files)
+  -- at each moment of a run without a commit, each crash leaves the files as read at its start
   pub left : IsRunWithoutCommit v run
-      → (m : TreeState) → IsMomentOf run m → EachCrashLeaves ignored (files_of v) m
+      → (m : TreeState) → IsMomentOf run m → EachCrashLeavesStateOf ignored (files_of v) m
 
 -- ---- after every list
 
@@ -93,6 +105,6 @@ IsSafeAfterAnyEvents v run =
 abbrev pub IsAtomicAfterAnyEvents : TreeState → Run → Type 0
 IsAtomicAfterAnyEvents v run =
     (ignored : List ℕ → Bool) (first : TreeState) (events : List RootEvent)
-    → ignored intent_name ≡ false → IsDurableState ignored (files_of first) first
+    → ignored intent_name ≡ false → IsDurableAndLeavesFiles ignored (files_of first) first
     → ReachesOneCrashState first events v
     → IsAtomic (ignored_after ignored events) v run

@@ -1,20 +1,20 @@
 //! Laws on lists of runs, stops and crashes. The rules are in `docs/crash-safety.md`, "Recovery",
 //! its last two paragraphs; the sentence is in the README of this crate.
 ghost use Rattle.std.specs.Prelude.{◌≡◌, ℕ, Bool, false, true, List, None, Option, IsSome, IsTrue};
-ghost use Rattle.apk_front.specs.Moments.{AnswersOutcome, HasOutcomeWithoutCommit, IgnoresScratchOf, IsDurableState};
+ghost use Rattle.apk_front.specs.Moments.{IsOkRefusedOrOutputFault, HasOutcomeWithoutCommit, IgnoresScratchNameOfOutput, IsDurableAndLeavesFiles};
 ghost use Rattle.base_core.specs.Calls.{HoldsNow};
 ghost use Rattle.base_core.specs.Undone.{IsDurable, IsCrashImage};
 ghost use Rattle.base_core.specs.Files.{Files};
 ghost use Rattle.base_core.specs.Tree.{TreeState, files_of};
 ghost use Rattle.apk_front.specs.journal_core.Kept.{IsJournalName};
-ghost use Rattle.apk_front.specs.journal_core.Recovery.{EachCrashLeaves, StateDependsOn, intent_name, state_of};
+ghost use Rattle.apk_front.specs.journal_core.Recovery.{EachCrashLeavesStateOf, StateDependsOn, intent_name, state_of};
 ghost use Rattle.apk_front.specs.journal_core.Staged.{unstaged_files};
 ghost use Rattle.apk_front.specs.outcome.Effect.{does_recover, effect_of_arguments, output, reads_only};
 ghost use Rattle.apk_front.specs.outcome.Outcome.{Outcome};
 ghost use Rattle.apk_front.specs.outcome.Words.{IsOutcome};
 ghost use Rattle.apk_front.specs.outcome.Work.{recovery_fault};
 ghost use Rattle.run_lists.specs.Events.{AreNamesAmong, RootEvent, HasNoUnfinishedOutputSinceSync, HasNoUnfinishedRunSinceCrash, Reaches, ReachesWithoutCommit, ReachesOneCrashState, IsRunWithoutCommit, IsMomentOf, IsOutcomeFrom, IsRunFrom, IsPossibleStop, Run, ignored_after, ignored_during_run, nothing_ignored, ignored_with_all_touched, ignored_with_scratch};
-ghost use Rattle.run_lists.specs.Reading.{HasBadIntent, HasOldRecoveredOrOutcomeBytes, ReachesByRuns, IsUnrestrictedRun, IsDurablyDone, IsOrdinaryName, IsNoJournalOrDraftName, IsTrueAt, LeavesTrueAt};
+ghost use Rattle.run_lists.specs.Reading.{HasBadIntent, HasOldRecoveredOrOutcomeBytes, ReachesByRuns, IsUnrestrictedRun, HasDurableRecoveredOrOutcomeBytes, IsNoJournalOutputOrIgnoredName, IsNoJournalOrDraftName, HoldsAsReadAndAsRecovered, EachCommitPassesTestAtName};
 ghost use Rattle.run_lists.specs.Recovered.{ReachesWithoutBadIntent, HasStateOfCrashBeforeOrOutcome, HasSameState, IsRecoveredBy, IsNotRefusedForIntent, LeavesNoBadIntent};
 ghost use Rattle.run_lists.specs.Safety.{HasStateAsReadOrOutcome, IsAtomicAfterAnyEvents, IsSafeAfterAnyEvents};
 ghost use Rattle.apk_front.specs.words_core.Grammar.{command_of};
@@ -42,14 +42,15 @@ pub fn a_run_is_safe_after_any_events()
         → Reaches first events v
         → IsDurable (StateDependsOn (ignored_after ignored events)) v }
 
-    // So each clause of `apk` on crashes holds of the next run, whatever its arguments: with the
-    // scratch name of its output these names meet the conditions of the clauses.
+    // So the clauses of `apk` on crashes hold of the next run, whatever its command line is: the
+    // set of ignored names, with the scratch name of the output of this run, meets their
+    // conditions.
     ensures begins { (ignored : List ℕ → Bool) (first v : TreeState) (events : List RootEvent)
         (words : List (List ℕ)) → ignored intent_name ≡ false
         → IsDurable (StateDependsOn ignored) first
         → Reaches first events v
         → let names = ignored_with_scratch (output words) (ignored_after ignored events) in
-        IsDurable (StateDependsOn names) v × IgnoresScratchOf (output words) names }
+        IsDurable (StateDependsOn names) v × IgnoresScratchNameOfOutput (output words) names }
 
     // On an ordinary root no name is ignored, and none is until a run with an output is stopped, or
     // ends by an I/O error of the tree.
@@ -65,19 +66,21 @@ pub fn a_run_is_safe_after_any_events()
     // after a crash, after a synced change by others, after a commit that was answered, and after a
     // change that was found and completed.
     ensures one_state { (ignored : List ℕ → Bool) (first v : TreeState) (events : List RootEvent)
-        → ignored intent_name ≡ false → IsDurableState ignored (files_of first) first
+        → ignored intent_name ≡ false → IsDurableAndLeavesFiles ignored (files_of first) first
         → ReachesOneCrashState first events v
-        → IsDurableState (ignored_after ignored events) (files_of v) v }
+        → IsDurableAndLeavesFiles (ignored_after ignored events) (files_of v) v }
 
-    // A list keeps it so if no run was stopped, or failed by the tree, since the last crash or
-    // change by others: a power cut during a run is a crash.
+    // After a list of events each crash leaves one state, if since the last crash or change by
+    // others no run was stopped, and none ended by an I/O error of the tree. A power cut during a
+    // run is a crash.
     ensures without_pending_run { (first v : TreeState) (events : List RootEvent)
         → Reaches first events v → HasNoUnfinishedRunSinceCrash events
         → ReachesOneCrashState first events v }
 
-    // Then the next run is all or nothing.
+    // If each crash leaves one state before the next run, this run is all or nothing.
     ensures atomic { (v : TreeState) (run : Run) → IsRunFrom v run → IsAtomicAfterAnyEvents v run }
 {
+    // Laws that the proof needs; they have no effect at run time.
     a_crash_leaves_a_durable_settled_tree();
     more_names_may_be_ignored();
     an_outcome_is_unique();
@@ -91,12 +94,13 @@ pub fn a_root_that_commits_nothing_keeps_its_state()
     // Crashes, and runs that commit nothing, ended or stopped, leave the state unchanged, apart
     // from names that others touched.
     ensures again { (ignored : List ℕ → Bool) (v w : TreeState) (events : List RootEvent)
-        → IsDurableState ignored (files_of v) v → ReachesWithoutCommit v events w
-        → IsDurableState (ignored_with_all_touched events ignored) (files_of v) w }
+        → IsDurableAndLeavesFiles ignored (files_of v) v → ReachesWithoutCommit v events w
+        → IsDurableAndLeavesFiles (ignored_with_all_touched events ignored) (files_of v) w }
 
-    // So two recoveries of a root agree, whatever happened between them.
+    // So two roots that come from one root by events without a commit have the same state, except
+    // under ignored names.
     ensures agree { (ignored names : List ℕ → Bool) (v w u : TreeState)
-        (events others : List RootEvent) → IsDurableState ignored (files_of v) v
+        (events others : List RootEvent) → IsDurableAndLeavesFiles ignored (files_of v) v
         → ReachesWithoutCommit v events w → ReachesWithoutCommit v others u
         → AreNamesAmong (ignored_with_all_touched events ignored) names
         → AreNamesAmong (ignored_with_all_touched others ignored) names
@@ -115,9 +119,10 @@ pub fn a_root_that_commits_nothing_keeps_its_state()
     ensures recovers { (v : TreeState) (run : Run) → IsRunFrom v run
         → does_recover (effect_of_arguments (command_of run.words)) ≡ true
         → recovery_fault (effect_of_arguments (command_of run.words)) (files_of v) ≡ None
-        → AnswersOutcome run.answer → HasOutcomeWithoutCommit (IsOutcomeFrom v run)
+        → IsOkRefusedOrOutputFault run.answer → HasOutcomeWithoutCommit (IsOutcomeFrom v run)
         → HoldsNow run.now (λ w. files_of w ≡ unstaged_files (files_of v)) }
 {
+    // Laws that the proof needs; they have no effect at run time.
     a_crash_leaves_a_durable_settled_tree();
     an_outcome_is_unique();
     a_command_that_reads_leaves_the_files();
@@ -126,9 +131,9 @@ pub fn a_root_that_commits_nothing_keeps_its_state()
 
 /// No file is ever temporarily missing: at each moment of a run a name has its old bytes, its
 /// recovered ones or the outcome's. The same holds along runs that follow each other without a
-/// crash. This excludes the intent's name and those of drafts, and needs no file to be synced.
+/// crash. This excludes the intent's name and temporary names, and needs no file to be synced.
 pub fn each_name_keeps_old_recovered_or_new_bytes()
-    // At each moment of a run.
+    // At each moment of a run each name, except those of the journal and of drafts, has such bytes.
     ensures moments { (v m : TreeState) (run : Run) (q : List ℕ) → IsRunFrom v run
         → IsMomentOf run m → IsNoJournalOrDraftName run q
         → HasOldRecoveredOrOutcomeBytes v run m q }
@@ -141,10 +146,12 @@ pub fn each_name_keeps_old_recovered_or_new_bytes()
     // as recovered, and in each outcome that commits. Then it holds after each run, and wherever
     // one is stopped.
     ensures along { (test : Option (List ℕ) → Bool) (q : List ℕ) (first w : TreeState)
-        (events : List RootEvent) → (IsJournalName q → ⊥) → IsTrueAt test q (files_of first)
-        → ReachesByRuns (LeavesTrueAt test q) first events w
-        → IsTrueAt test q (files_of w) }
+        (events : List RootEvent) → (IsJournalName q → ⊥)
+        → HoldsAsReadAndAsRecovered test q (files_of first)
+        → ReachesByRuns (EachCommitPassesTestAtName test q) first events w
+        → HoldsAsReadAndAsRecovered test q (files_of w) }
 {
+    // Laws that the proof needs; they have no effect at run time.
     a_command_that_reads_leaves_the_files();
     a_reporting_command_leaves_the_files();
     a_change_keeps_paths_free();
@@ -170,9 +177,10 @@ pub fn the_actions_of_an_intent_are_durably_done()
         → ignored intent_name ≡ false → IsDurable (StateDependsOn ignored) first
         → Reaches first events v → IsRunFrom v run → IsSome (v.names intent_name)
         → IsMomentOf run m → m.names intent_name ≡ None
-        → (q : List ℕ) → IsOrdinaryName (ignored_after ignored events) run q
-        → IsDurablyDone v run m q }
+        → (q : List ℕ) → IsNoJournalOutputOrIgnoredName (ignored_after ignored events) run q
+        → HasDurableRecoveredOrOutcomeBytes v run m q }
 {
+    // Laws that the proof needs; they have no effect at run time.
     a_crash_leaves_a_durable_settled_tree();
     more_names_may_be_ignored();
     an_outcome_is_unique();
@@ -189,14 +197,15 @@ pub fn no_events_leave_a_bad_intent()
         → ignored intent_name ≡ false → IsDurable (StateDependsOn ignored) first
         → LeavesNoBadIntent first → ReachesWithoutBadIntent first events v → LeavesNoBadIntent v }
 
-    // Then no run is refused the recovery.
+    // So recovery finds no fault in the intent, whatever the command line is.
     ensures recovers { (v : TreeState) (words : List (List ℕ)) → LeavesNoBadIntent v
         → recovery_fault (effect_of_arguments (command_of words)) (files_of v) ≡ None }
-    // Nor does it answer that an intent is bad.
+    // Nor does a run that recovers answer that an intent is bad.
     ensures unrefused { (v : TreeState) (run : Run) → IsRunFrom v run
         → does_recover (effect_of_arguments (command_of run.words)) ≡ true → LeavesNoBadIntent v
         → IsNotRefusedForIntent run }
 {
+    // Laws that the proof needs; they have no effect at run time.
     a_crash_leaves_a_durable_settled_tree();
     more_names_may_be_ignored();
     a_state_shows_a_bad_intent();
@@ -223,7 +232,8 @@ pub fn a_stopped_run_is_recovered()
         IsRecoveredBy (HasStateOfCrashBeforeOrOutcome
         (ignored_with_all_touched later names) v run) w next }
 
-    // These have the state of files that a crash might have left at that moment.
+    // The files on which the next run works have the state of some files that a crash might have
+    // left at the moment of the stop.
     ensures left { (ignored : List ℕ → Bool) (first v m w : TreeState)
         (events later : List RootEvent) (run next : Run) → ignored intent_name ≡ false
         → IsDurable (StateDependsOn ignored) first
@@ -234,12 +244,14 @@ pub fn a_stopped_run_is_recovered()
         (image : Files) × IsCrashImage m image
         × IsRecoveredBy (HasSameState (ignored_with_all_touched later names) image) w next }
 
-    // If the root had one state when the run began, these are two: the old one and the outcome's.
+    // If each crash left one state when the stopped run began, the next run finds the old state or
+    // that of the outcome.
     ensures two { (ignored : List ℕ → Bool) (v : TreeState) (run : Run) (files : Files)
-        → EachCrashLeaves ignored (files_of v) v
+        → EachCrashLeavesStateOf ignored (files_of v) v
         → HasStateOfCrashBeforeOrOutcome ignored v run files
         → HasStateAsReadOrOutcome ignored v run files }
 {
+    // Laws that the proof needs; they have no effect at run time.
     a_crash_leaves_a_durable_settled_tree();
     more_names_may_be_ignored();
     a_state_shows_a_bad_intent();

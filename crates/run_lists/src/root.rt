@@ -31,6 +31,7 @@ pub fn run_on_a_root<T: Tree, O: Sink, E: Sink>(
       answer = result;
     } in IsRunFrom v run × IsSafeAfterAnyEvents v run × IsAtomicAfterAnyEvents v run) }
 {
+    // A law that the proof needs; it has no effect at run time.
     a_run_is_safe_after_any_events();
     apk(alloc, words, tree, out, err)
 }

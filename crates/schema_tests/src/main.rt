@@ -1,7 +1,8 @@
-//! Answers questions about `adb_view`, `adb_fields` and `adb_schema`: words of a payload, the shape
-//! of payloads, the rules of texts, views, and whole containers. Its stored run has all rows;
-//! `tests/lines.md` describes their form, and the README of this crate has a row for each question.
-//! A payload is kept from one row to the next.
+//! Answers questions about `adb_view`, `adb_fields` and `adb_schema`: words (32-bit references) of
+//! a payload, the shapes (types of values) of payloads, the rules of texts, the fields that views
+//! show, and whole containers. Its stored run has all rows; `tests/lines.md` describes their form,
+//! and the README of this crate has a row for each question. A payload is kept from one row to the
+//! next.
 #![tactic(auto)]
 
 mod payloads;
@@ -21,29 +22,29 @@ use words::{add_head, add_reads};
 /// The kinds of questions; the README of this crate has their answers.
 #[derive(Clone, Copy)]
 enum Question {
-    /// `payload BYTES`.
+    /// `payload BYTES`: later questions `head` and `word` are about this payload.
     Payload,
-    /// `head`.
+    /// `head`: the word of the root, or the fault of the head.
     Head,
-    /// `word W`.
+    /// `word W`: what the readers of values find for the word W.
     Word,
-    /// `shape TABLE MORE WORD ..`.
+    /// `shape TABLE MORE WORD ..`: the fault of an object with these words.
     Shape,
-    /// `faults TABLE`.
+    /// `faults TABLE`: of how many fields the faults of a value are reported.
     Faults,
-    /// `visits TABLE BEFORE WORD ..`.
+    /// `visits TABLE BEFORE WORD ..`: how many values are visited.
     Visits,
-    /// `many_files N`.
+    /// `many_files N`: the fault of a package that lists one folder of N files N times.
     ManyFiles,
-    /// `rules TABLE VALUE`.
+    /// `rules TABLE VALUE`: the first failed test of the value.
     Rules,
-    /// `view TABLE VALUE`.
+    /// `view TABLE VALUE`: the fields of the value.
     View,
-    /// `container BYTES TABLE`.
+    /// `container BYTES TABLE`: the first failed test of the container.
     Container,
 }
 
-// The words that questions begin with.
+// The first word of each question.
 #[rattlefmt::skip]
 const QUESTIONS: [(&[u8], Question); 10] = [
     (b"payload", Question::Payload),
@@ -58,7 +59,7 @@ const QUESTIONS: [(&[u8], Question); 10] = [
     (b"container", Question::Container),
 ];
 
-/// The payload that rows speak of.
+/// The payload of the last question `payload`.
 #[derive(Drop)]
 struct CurrentPayload {
     /// Its bytes; empty before the first `payload`.
@@ -66,7 +67,7 @@ struct CurrentPayload {
 }
 
 impl Subject for CurrentPayload {
-    // Answers a question by its first word. `payload` keeps bytes, which later words read.
+    // Answers a question by its first word. `payload` keeps the bytes that later questions read.
     fn answer(
         &mut self,
         alloc: Global,

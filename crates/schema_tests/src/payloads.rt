@@ -1,5 +1,5 @@
-//! Payloads, from the words of a row, in another layout than the writer's. The words of values are
-//! in `docs/formats.md`, "Values"; how a row writes a value is in `tests/lines.md`.
+//! Payloads, made from the words of a row in another layout than the writer's. The 32-bit words of
+//! values are in `docs/formats.md`, "Values"; `tests/lines.md` describes how a row writes a value.
 use crate::words::int_of;
 use adb_schema::Which;
 use base_core::Words;
@@ -9,16 +9,16 @@ use std::alloc::{AllocError, Global};
 // The kind, in the top four bits of a word, of a blob whose length has two bytes.
 const TEXT: u32 = 0x9000_0000;
 
-// The kind of an array.
+// The kind of an array, in the top four bits of a word.
 const ARRAY: u32 = 0xd000_0000;
 
-// The kind of an object.
+// The kind of an object, in the top four bits of a word.
 const OBJECT: u32 = 0xe000_0000;
 
-/// The kind of an integer in its word; all numbers of rows are small enough for that.
+/// The kind of an integer that is in its word; all numbers of rows are small enough for that.
 const INT: u32 = 0x1000_0000;
 
-/// The length of the head of a payload, before the first value.
+/// The length in bytes of the head of a payload, which precedes the first value.
 const HEAD: usize = 8;
 
 // The names of tables in rows; `rights` is an access list.
@@ -36,25 +36,25 @@ const TABLES: [(&[u8], Which); 10] = [
     (b"intent", Which::Intent),
 ];
 
-/// The table of a name; that of packages if the name is unknown.
+/// The table of this name in a row; that of packages if the name is unknown.
 pub(crate) fn table_of(name: &[u8]) -> Which {
     value_named(&TABLES, name).unwrap_or(Which::Package)
 }
 
-/// A payload under construction: the values after its head, the entries of the open runs, and the
-/// root's word.
+/// A payload under construction: the values after its head, the words of the arrays and objects
+/// that are not yet complete, and the word of the root.
 #[derive(Drop)]
 struct Payload {
     /// The bytes after the head.
     values: Vec<u8>,
-    /// The entries of the runs that are open, the innermost last.
+    /// The words of the arrays and objects that are not yet complete, the innermost last.
     open: Vec<Vec<u32>>,
-    /// The word of the root.
+    /// The word that refers to the root.
     root: u32,
 }
 
-/// The payload of a value: `.` is null, `#` and a number an integer, `'` and bytes a text; `[` and
-/// `]` enclose an array, `{` and `}` an object.
+/// The payload of the value in the words of a row from the index `first` on: `.` is null, `#` and a
+/// number an integer, `'` and bytes a text; `[` and `]` enclose an array, `{` and `}` an object.
 pub(crate) fn payload_of(
     alloc: Global,
     words: &Words,
@@ -69,6 +69,7 @@ pub(crate) fn payload_of(
         payload.add(alloc, words.word(i))?;
     }
     let mut bytes = Vec::new(alloc);
+    // The head: four zero bytes, and the word of the root.
     bytes.extend_from_slice(&[0; 4])?;
     bytes.extend_from_slice(&payload.root.to_le_bytes())?;
     bytes.extend_from_slice(&payload.values)?;
@@ -76,8 +77,8 @@ pub(crate) fn payload_of(
 }
 
 impl Payload {
-    /// Adds a word of a row: `{` and `[` begin, `}` and `]` end, `'` is a text, `#` an integer, and
-    /// any other word NULL.
+    /// Adds a word of a row: `{` and `[` begin an object or an array, `}` and `]` end it, `'` is a
+    /// text, `#` an integer, and any other word null.
     fn add(&mut self, alloc: Global, word: &[u8]) -> Result<(), AllocError> {
         match word {
             [b'{'] | [b'['] => {
@@ -92,7 +93,7 @@ impl Payload {
         }
     }
 
-    /// The word of the next value, if it is of this kind.
+    /// The word that refers to the next written value, which is of this kind.
     fn next_word(&self, kind: u32) -> u32 {
         kind.wrapping_add((self.values.len() % 0x0100_0000 + HEAD) as u32)
     }
@@ -106,7 +107,7 @@ impl Payload {
         self.add_entry(word)
     }
 
-    /// Writes the run that was opened last.
+    /// Writes the array or object that was begun last, and adds its word to the one around it.
     fn close(&mut self, kind: u32) -> Result<(), AllocError> {
         let Some(entries) = self.open.pop() else {
             return Ok(());
@@ -116,7 +117,7 @@ impl Payload {
         self.add_entry(word)
     }
 
-    /// Adds an entry to the run that was opened last; if none is open it is the root.
+    /// Adds a word to the array or object that was begun last; without one, the word is the root's.
     fn add_entry(&mut self, word: u32) -> Result<(), AllocError> {
         match self.open.pop() {
             Some(mut entries) => {
@@ -129,7 +130,8 @@ impl Payload {
     }
 }
 
-/// Writes a run: its count of words, which counts itself, and its entries.
+/// Writes the words of an array or of an object: first their count, which counts itself, and then
+/// the words.
 pub(crate) fn add_run(bytes: &mut Vec<u8>, entries: &[u32]) -> Result<(), AllocError> {
     let count = (entries.len() % 65_536) as u32 + 1;
     bytes.extend_from_slice(&count.to_le_bytes())?;
@@ -146,13 +148,14 @@ pub(crate) fn object_payload(
     more: &[u8],
 ) -> Result<Vec<u8>, AllocError> {
     let mut payload = Vec::new(alloc);
+    // The head, with the word of the root: an object at the offset 8.
     payload.extend_from_slice(b"\0\0\0\0\x08\0\0\xe0")?;
     add_run(&mut payload, entries)?;
     payload.extend_from_slice(more)?;
     Ok(payload)
 }
 
-/// The words of a row that are numbers, from a place on.
+/// The numbers that the words of a row are, from an index on.
 pub(crate) fn ints_of(alloc: Global, words: &Words, first: usize) -> Result<Vec<u32>, AllocError> {
     let mut ints = Vec::new(alloc);
     for i in first..words.len() {

@@ -1,6 +1,6 @@
-//! The tests of payloads and containers: the fault of the shape walk and its number of visits, the
-//! rules of texts and numbers, the first failed test, and repeated names. The rules are in
-//! `docs/formats.md`, "Tests of a container", and the words of values in "Values".
+//! The tests of payloads and containers: the fault of a shape (types of values), and the number of
+//! visited values; the rules of texts and numbers, the first failed test, and repeated names. The
+//! rules are in `docs/formats.md`, "Tests of a container", and the words of values in "Values".
 
 use crate::payloads::{add_run, ints_of, object_payload, payload_of, table_of};
 use crate::words::{add_cause, add_outcome, int_of};
@@ -10,20 +10,20 @@ use base_core::{Cause, Words};
 use row_lines::{add_number, word_at};
 use std::alloc::{AllocError, Global};
 
-/// The root's word of the payloads below: an object after the head.
+/// The word of the root in these payloads: an object after the head.
 const ROOT: u32 = 0xe000_0008;
 
 /// The most values that a payload may have (`docs/formats.md`, "The shape").
 const MOST_VISITS: u32 = 4_194_304;
 
-/// The fault of a payload that is walked as this table.
+/// The fault of a payload whose root should have the shape of this table, if it has one.
 fn fault_of(payload: &[u8], which: Which) -> Result<(), Cause> {
     shape(Adb::new(payload)?, which)?;
     Ok(())
 }
 
-/// Adds the fault of the payload of `shape TABLE MORE WORD ..`: an object with these words, and
-/// more bytes after it.
+/// Answers `shape TABLE MORE WORD ..`: adds the fault of a payload that is an object with these
+/// words, followed by the bytes MORE.
 pub(crate) fn add_shape(
     alloc: Global,
     words: &Words,
@@ -35,7 +35,8 @@ pub(crate) fn add_shape(
     add_outcome(alloc, found, answer)
 }
 
-/// A word of another kind than the field's: a blob for an integer field, else the integer 1.
+/// A word of another kind (top four bits) than this field's: a blob for an integer field, else the
+/// integer 1.
 fn of_another_kind(kind: Kind) -> u32 {
     match kind {
         Kind::Int => 0x8000_0008,
@@ -43,7 +44,8 @@ fn of_another_kind(kind: Kind) -> u32 {
     }
 }
 
-/// A word of the field's kind whose range is outside of every payload in these tests.
+/// A word of the field's kind (its top four bits) whose offset (the other bits) is outside of every
+/// payload in these tests.
 fn outside(kind: Kind) -> u32 {
     match kind {
         Kind::Int => 0x3fff_fff0,
@@ -53,8 +55,9 @@ fn outside(kind: Kind) -> u32 {
     }
 }
 
-/// Adds for how many fields of a table both faults of a value are reported, with null in all fields
-/// before, and then the fault of words after the last field, which are ignored.
+/// Answers `faults TABLE`: adds for how many fields of the table two faults are reported, another
+/// kind and an offset outside, if all fields before are null. Then adds the result for two words
+/// after the last field, which readers ignore.
 pub(crate) fn add_faults(
     alloc: Global,
     table: &[u8],
@@ -62,14 +65,14 @@ pub(crate) fn add_faults(
 ) -> Result<(), AllocError> {
     let which = table_of(table);
     let mut before = Vec::new(alloc);
-    let mut told = 0u64;
+    let mut reported = 0u64;
     for field in fields_of(which) {
         if has_both_faults(alloc, &before, *field, which)? {
-            told = told.saturating_add(1);
+            reported = reported.saturating_add(1);
         }
         before.push(0)?;
     }
-    add_number(alloc, answer, u128::from(told))?;
+    add_number(alloc, answer, u128::from(reported))?;
     // The integer 1 after the last field, followed by a word without a meaning.
     before.push(0x1000_0001)?;
     add_outcome(
@@ -79,7 +82,8 @@ pub(crate) fn add_faults(
     )
 }
 
-/// Whether both faults are reported of this field, after these words.
+/// Whether both faults of this field, another kind and an offset outside, are reported in an object
+/// whose earlier words are `before`.
 fn has_both_faults(
     alloc: Global,
     before: &[u32],
@@ -96,7 +100,7 @@ fn has_both_faults(
     )
 }
 
-/// The fault of an object with these words and one after them.
+/// The fault of an object with the words `before`, and `word` after them.
 fn fault_after(
     alloc: Global,
     before: &[u32],
@@ -109,8 +113,8 @@ fn fault_after(
     Ok(fault_of(&payload, which))
 }
 
-/// Adds the number of visits of a walk over the words of `visits TABLE BEFORE WORD ..` as fields of
-/// the table, after BEFORE earlier visits, or the fault.
+/// Answers `visits TABLE BEFORE WORD ..`: reads an object with these words as fields of the table,
+/// after BEFORE earlier visits. Adds how many values were visited in all, or the fault.
 pub(crate) fn add_visits(
     alloc: Global,
     words: &Words,
@@ -125,7 +129,7 @@ pub(crate) fn add_visits(
     }
 }
 
-/// How many values are visited in all, those before included.
+/// How many values are visited in all, with the `before` earlier visits.
 fn visits_of(payload: &[u8], which: Which, before: u32) -> Result<u32, Cause> {
     if before > MOST_VISITS {
         return Err(Cause::TooLarge { count: before });
@@ -135,17 +139,20 @@ fn visits_of(payload: &[u8], which: Which, before: u32) -> Result<u32, Cause> {
     walk_fields(adb, fields_of(which), before, entries)
 }
 
-/// Adds the fault of a package with one folder of this many files, which occurs in as many places.
+/// Answers `many_files N`: adds the fault of a package with one folder of N files, which is listed
+/// N times.
 pub(crate) fn add_many_files(
     alloc: Global,
     count: &[u8],
     answer: &mut Vec<u8>,
 ) -> Result<(), AllocError> {
     let count = int_of(count) % 65_536;
-    // At 20 a folder, at 36 its files, and after them the folders.
+    // At the offset 20 the folder, at 36 the array of its files, and after it the array of folders.
     let mut more = Vec::new(alloc);
     more.extend_from_slice(b"\x04\0\0\0\0\0\0\0\0\0\0\0\x24\0\0\xd0")?;
+    // The array of files: null in each entry.
     add_run(&mut more, &Vec::from_elem(alloc, 0u32, count as usize)?)?;
+    // The array of folders: each entry is the object at the offset 20 (0x14).
     add_run(
         &mut more,
         &Vec::from_elem(alloc, 0xe000_0014u32, count as usize)?,
@@ -155,7 +162,7 @@ pub(crate) fn add_many_files(
     add_outcome(alloc, fault_of(&payload, Which::Package), answer)
 }
 
-/// Adds the fault of the value of `rules TABLE VALUE`.
+/// Answers `rules TABLE VALUE`: adds the first failed test of the value, or `ok`.
 pub(crate) fn add_rule(
     alloc: Global,
     words: &Words,
@@ -166,14 +173,14 @@ pub(crate) fn add_rule(
     add_outcome(alloc, cause_in(checked)?, answer)
 }
 
-/// Tests a payload: its shape, its texts, and repeated names.
+/// Tests a payload: its shape (types of values), its texts, and that no name is repeated.
 fn check(alloc: Global, payload: &[u8], which: Which) -> Result<(), ReadFault> {
     let shaped = shape(Adb::new(payload)?, which)?;
     Checked::new(alloc, shaped)?;
     Ok(())
 }
 
-/// Adds the first failed test of the file of `container BYTES TABLE`.
+/// Answers `container BYTES TABLE`: adds the first failed test of the container, or `ok`.
 pub(crate) fn add_container(
     alloc: Global,
     words: &Words,

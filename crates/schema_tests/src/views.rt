@@ -1,5 +1,5 @@
-//! Views: each field of each table, as `docs/formats.md` lists them in "Schemas". How the answers
-//! are written is in `tests/lines.md`, `view`. Entries of lists count from 1.
+//! Answers `view`: each field of each table, as `docs/formats.md` lists them in "Schemas". How the
+//! answers are written is in `tests/lines.md`, `view`. Entries of lists count from 1.
 use crate::payloads::{payload_of, table_of};
 use crate::words::add_cause;
 use adb_schema::{
@@ -43,7 +43,7 @@ fn add_int(alloc: Global, number: u64, answer: &mut Vec<u8>) -> Result<(), Alloc
     add_number(alloc, answer, u128::from(number))
 }
 
-// Adds the texts of an array.
+// Adds the texts of an array, in brackets.
 fn add_texts<'a>(list: List<'a, &'a [u8]>, answer: &mut Vec<u8>) -> Result<(), AllocError> {
     add_word(answer, b"[")?;
     for i in 0..list.len() {
@@ -52,7 +52,7 @@ fn add_texts<'a>(list: List<'a, &'a [u8]>, answer: &mut Vec<u8>) -> Result<(), A
     add_word(answer, b"]")
 }
 
-// Adds the names of dependencies.
+// Adds the names of dependencies, in brackets.
 fn add_dependencies<'a>(
     list: List<'a, DepView<'a>>,
     answer: &mut Vec<u8>,
@@ -199,7 +199,7 @@ fn add_package(alloc: Global, adb: Adb<'_>, answer: &mut Vec<u8>) -> Result<(), 
     add_int(alloc, package.replaces_priority(), answer)
 }
 
-// Adds the fields of an index, which passes all tests first.
+// Adds the fields of an index, if it passes all tests.
 fn add_index(alloc: Global, adb: Adb<'_>, answer: &mut Vec<u8>) -> Result<(), AllocError> {
     let shaped = match shape(adb, Which::Index) {
         Ok(shaped) => shaped,

@@ -1,11 +1,11 @@
-//! Words of a payload: the results of the four readers. The rules are in `docs/formats.md`,
-//! "Values".
+//! Words (32-bit references) of a payload: the results of the readers of integers, blobs, arrays
+//! and objects. The rules are in `docs/formats.md`, "Values".
 use adb_view::{Adb, Arr, Val};
 use base_core::Cause;
 use row_lines::{add_number, add_word, number_of};
 use std::alloc::{AllocError, Global};
 
-/// Adds a cause, as its variant and its fields.
+/// Adds the cause of a failed test, as its variant and its fields.
 pub(crate) fn add_cause(
     alloc: Global,
     cause: Cause,
@@ -27,14 +27,14 @@ pub(crate) fn add_outcome(
     }
 }
 
-/// The number of a word; 0 if it is no number.
+/// The number that a word of a row is; 0 if it is no number of 32 bits.
 pub(crate) fn int_of(word: &[u8]) -> u32 {
     number_of(word)
         .and_then(|number| u32::try_from(number).ok())
         .unwrap_or(0)
 }
 
-/// Adds the word of a payload's root, or the fault of its head.
+/// Answers `head`: adds the word of the payload's root, or the fault of its head.
 pub(crate) fn add_head(
     alloc: Global,
     payload: &[u8],
@@ -64,7 +64,8 @@ fn add_value(alloc: Global, value: Val, answer: &mut Vec<u8>) -> Result<(), Allo
     add_word(answer, text.as_bytes())
 }
 
-/// Adds the results of the four readers for a word, except that it is of another kind.
+/// Answers `word W`: adds the results of the four readers (integer, blob, array, object) for the
+/// word W. A reader adds nothing if the word is of another kind.
 pub(crate) fn add_reads(
     alloc: Global,
     payload: &[u8],
@@ -80,19 +81,19 @@ pub(crate) fn add_reads(
             add_word(answer, b"integer ")?;
             add_number(alloc, answer, u128::from(number))?;
         }
-        Err(cause) => add_fault(cause, value, b"integer", answer)?,
+        Err(cause) => add_fault_unless_wrong_kind(cause, value, b"integer", answer)?,
     }
     match adb.blob(value) {
         Ok(bytes) => {
             add_word(answer, b"blob ")?;
             answer.extend_from_slice(bytes)?;
         }
-        Err(cause) => add_fault(cause, value, b"blob", answer)?,
+        Err(cause) => add_fault_unless_wrong_kind(cause, value, b"blob", answer)?,
     }
     add_runs(alloc, adb, value, answer)
 }
 
-/// Adds the results of the readers of arrays and objects, with the first two fields of an object.
+/// Adds the results of the readers of arrays and objects, and the first two fields of an object.
 fn add_runs(
     alloc: Global,
     adb: Adb<'_>,
@@ -101,7 +102,7 @@ fn add_runs(
 ) -> Result<(), AllocError> {
     match adb.arr(value) {
         Ok(found) => add_entries(alloc, found, b"array", answer)?,
-        Err(cause) => add_fault(cause, value, b"array", answer)?,
+        Err(cause) => add_fault_unless_wrong_kind(cause, value, b"array", answer)?,
     }
     match adb.obj::<2>(value) {
         Ok(found) => {
@@ -110,7 +111,7 @@ fn add_runs(
             add_value(alloc, found.field(1), answer)?;
             add_value(alloc, found.field(2), answer)
         }
-        Err(cause) => add_fault(cause, value, b"object", answer),
+        Err(cause) => add_fault_unless_wrong_kind(cause, value, b"object", answer),
     }
 }
 
@@ -132,7 +133,7 @@ fn add_entries(
 }
 
 /// Adds a fault of a reader, unless it is that the word is of another kind.
-fn add_fault(
+fn add_fault_unless_wrong_kind(
     cause: Cause,
     value: Val,
     what: &[u8],

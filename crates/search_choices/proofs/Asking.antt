@@ -17,7 +17,7 @@ use Rattle.search_tables.specs.candidate_core.Candidates.{Candidate, Need, entry
 use Rattle.search_tables.specs.candidate_core.Rank.{SealedPool, bytes_cmp, candidate_at, meets_at}
 use Rattle.search_tables.specs.candidate_core.Options.{IsIn, options_for}
 use Rattle.search_tables.proofs.candidate_core.Places.{place_of}
-use Rattle.search_tables.specs.Selection.{AreAllMembersOf, is_met, is_unmet, names_by_install_if, install_if_applies, least_name, lesser_name, needs, next_need, raised_needs}
+use Rattle.search_tables.specs.Selection.{AreAllMembersOf, is_met, is_unmet, names_by_install_if, install_if_applies, least_name, lesser_name, needs, next_need, needs_of_world_and_chosen}
 use Rattle.search_tables.specs.Reasons.{FrameValue, IsFrameOf}
 use Rattle.search_tables.specs.InstallIf.{AreUsableInstallIfsByName, AreNoneTriggeredBelow, IsLeastTriggeredInstallIf, IsNoInstallIfTriggered, all_met, is_install_if_triggered_at, is_triggered_by_install_if, has_lesser_name, install_if_at, has_usable_install_if_at, name_at, is_install_if_triggered_at_rank}
 use Rattle.search_tables.specs.NameTable.{items_under_name}
@@ -249,7 +249,7 @@ open_asked pool t k c by frame met least here within all is =
     let usable : has_usable_install_if pool.world c ≡ true = sym (some_at (has_usable_install_if pool.world) (candidate_at pool k) c here) ∙ least.usable in
     let applies : install_if_applies pool by c ≡ true = rw usable all in
     let there : IsIn c.name (names_by_install_if pool by) = in_map (λ (x : Candidate). x.name) c (filter (install_if_applies pool by) pool.candidates) (in_filter (install_if_applies pool by) c pool.candidates (there_is pool.candidates k c here).1 applies) in
-    let need : IsIn (named c.name) (needs pool by) = in_right (named c.name) (raised_needs pool by) (map named (names_by_install_if pool by)) (in_map named c.name (names_by_install_if pool by) there) in
+    let need : IsIn (named c.name) (needs pool by) = in_right (named c.name) (needs_of_world_and_chosen pool by) (map named (names_by_install_if pool by)) (in_map named c.name (names_by_install_if pool by) there) in
     let open_now : IsFrameOf pool t ([], options_for pool (named c.name), by) =
     (named c.name, rw (none_raised pool t met) (ap (option_map named) names), refl, within, need, tt) in
     subst (λ (f : FrameValue). IsFrameOf pool t f) (sym is) open_now

@@ -11,7 +11,7 @@ use Rattle.search_tables.specs.candidate_core.Candidates.{is_eligible}
 use Rattle.search_tables.specs.Reasons.{IsFrameTaking, ruled_out_options}
 use Rattle.std.proofs.lemmas.Bool.{cases_Bool}
 use Rattle.search_tables.specs.candidate_core.Options.{IsIn, options_for}
-use Rattle.search_tables.specs.Selection.{AreAllMembersOf, names_by_install_if, depends_at, is_met, is_unmet, needs, positive_needs, next_need, raised_needs}
+use Rattle.search_tables.specs.Selection.{AreAllMembersOf, names_by_install_if, depends_at, is_met, is_unmet, needs, positive_needs, next_need, needs_of_world_and_chosen}
 use Rattle.search_tables.specs.Reasons.{FrameValue, IsFrameOf}
 use Rattle.search_tables.specs.InstallIf.{AreUsableInstallIfsByName, AreNoneTriggeredBelow}
 use Rattle.search_tables.specs.Queue.{AreFirstDepsMet, RaisedDepValue, is_unmet_dep, queue_of, raised_deps_at, raised_deps, raised_deps_from}
@@ -209,7 +209,7 @@ flat_raised pool (c ∷ t) =
     ∙ (ap (λ (z : List Need). z ++ map need_in (flat_map (raised_deps_at pool) t)) (map_raised (Some c) 0 (depends_at pool c))
     ∙ sym (map_append need_in (raised_deps_at pool c) (flat_map (raised_deps_at pool) t)))
 
-pub raised_queue : (pool : SealedPool) (t : List ℕ) → raised_needs pool t ≡ map need_in (queue_of pool t)
+pub raised_queue : (pool : SealedPool) (t : List ℕ) → needs_of_world_and_chosen pool t ≡ map need_in (queue_of pool t)
 raised_queue pool t =
     ap (λ (z : List Need). positive_needs pool.world ++ z) (flat_raised pool t)
     ∙ (ap (λ (z : List Need). z ++ map need_in (flat_map (raised_deps_at pool) t)) (map_raised None 0 pool.world)
@@ -292,13 +292,13 @@ in_needs pool t r h = elim (in_append r (raised_deps None pool.world) (flat_map 
   | inl a ↦
       let k = raised_in None 0 pool.world r a in
       subst (λ (o : Option ℕ). AreAllMembersOf (option_to_list o) t × IsIn (entry r.0) (needs pool (option_to_list o))) (sym k.0)
-      ((λ c g. absurd g), in_left (entry r.0) (raised_needs pool []) (map named (names_by_install_if pool [])) (in_left (entry r.0) (positive_needs pool.world) [] k.1))
+      ((λ c g. absurd g), in_left (entry r.0) (needs_of_world_and_chosen pool []) (map named (names_by_install_if pool [])) (in_left (entry r.0) (positive_needs pool.world) [] k.1))
   | inr b ↦
       let f = flat_in (raised_deps_at pool) r t b in
       let k = raised_in (Some f.0) 0 (depends_at pool f.0) r f.2 in
       subst (λ (o : Option ℕ). AreAllMembersOf (option_to_list o) t × IsIn (entry r.0) (needs pool (option_to_list o))) (sym k.0) (
         (λ c g. elim g [ inl e ↦ subst (λ (z : ℕ). IsIn z t) (sym e) f.1 | inr bad ↦ absurd bad ]),
-        in_left (entry r.0) (raised_needs pool (f.0 ∷ [])) (map named (names_by_install_if pool (f.0 ∷ []))) (in_right (entry r.0) (positive_needs pool.world) (positive_needs (depends_at pool f.0) ++ []) (in_left (entry r.0) (positive_needs (depends_at pool f.0)) [] k.1)),
+        in_left (entry r.0) (needs_of_world_and_chosen pool (f.0 ∷ [])) (map named (names_by_install_if pool (f.0 ∷ []))) (in_right (entry r.0) (positive_needs pool.world) (positive_needs (depends_at pool f.0) ++ []) (in_left (entry r.0) (positive_needs (depends_at pool f.0)) [] k.1)),
       )
 ]
 
@@ -307,13 +307,13 @@ unfolding next_need
 open_raised pool t r frame found is =
     let there = find_in (is_unmet_dep pool t) (queue_of pool t) r found in
     let facts = in_needs pool t r there.0 in
-    let first : find (is_unmet pool t) (raised_needs pool t) ≡ Some (entry r.0) =
+    let first : find (is_unmet pool t) (needs_of_world_and_chosen pool t) ≡ Some (entry r.0) =
     ap (find (is_unmet pool t)) (raised_queue pool t) ∙ find_map (is_unmet pool t) (queue_of pool t) (Some r) found in
     let open_now : IsFrameOf pool t ([], options_for pool (entry r.0), option_to_list r.1) =
     (entry r.0, rw first refl, refl, facts.0, facts.1, tt) in
     subst (λ (f : FrameValue). IsFrameOf pool t f) (sym is) open_now
 
-pub none_raised : (pool : SealedPool) (t : List ℕ) → find (is_unmet_dep pool t) (queue_of pool t) ≡ None → find (is_unmet pool t) (raised_needs pool t) ≡ None
+pub none_raised : (pool : SealedPool) (t : List ℕ) → find (is_unmet_dep pool t) (queue_of pool t) ≡ None → find (is_unmet pool t) (needs_of_world_and_chosen pool t) ≡ None
 none_raised pool t h = ap (find (is_unmet pool t)) (raised_queue pool t) ∙ find_map (is_unmet pool t) (queue_of pool t) None h
 
 pub past_by : (pool : SealedPool) (t : List ℕ) (queue : List RaisedDepValue) (at : ℕ) → queue ≡ queue_of pool t → AreFirstDepsMet pool t at → slice_get queue at ≡ None → slice_get queue at ≡ find (is_unmet_dep pool t) (queue_of pool t)

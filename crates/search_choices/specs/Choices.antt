@@ -41,22 +41,33 @@ AreCheckpointsOfLaterChoices pool install_ifs u (c ∷ cs) (b ∷ bs) =
 pub record IsConsistent (chosen : Choices) : Type 0 where
   -- each choice is a place in the list of candidates
   pub within : (c : ℕ) → IsIn c (choices_of chosen) → c < length (pool_of chosen).candidates
+  -- the queue has the dependencies that world and the choices raise, in order
   pub queue : chosen.queue.items ≡ queue_of (pool_of chosen) (choices_of chosen)
+  -- the dependencies before the cursor of the queue are met
   pub met : AreFirstDepsMet (pool_of chosen) (choices_of chosen) chosen.cursor
+  -- the list of install-ifs has those that can apply, in byte order of names
   pub install_ifs :
       AreUsableInstallIfsByName (pool_of chosen) (install_ifs_of chosen) chosen.install_ifs.waiting
+  -- no install-if before its cursor triggers its candidate
   pub unasked :
       AreNoneTriggeredBelow (pool_of chosen) (choices_of chosen)
       (install_ifs_of chosen) chosen.asking_cursor
+  -- the table has the conflicts of the choices
   pub listed : IsConflictTable (pool_of chosen) (choices_of chosen) chosen.conflicts
+  -- each entry of the table is a conflict of a candidate of the pool
   pub conflicts : AreConflictsOf (pool_of chosen).candidates chosen.conflicts.by_name
+  -- each checkpoint has the state before its choice
   pub checkpoints :
       AreCheckpointsOfLaterChoices (pool_of chosen) (install_ifs_of chosen) [] (choices_of chosen)
       chosen.checkpoints.items
 
 -- the choices are compatible, and the turns are theirs: each was taken from the frame of its need
 pub record IsSearch (chosen : Choices) (turns : List (FrameValue × ℕ)) : Type 0 where
+  -- the state of the choices is right
   pub consistent : IsConsistent chosen
+  -- each choice belongs to one turn, in the same order
   pub choices : choices_of chosen ≡ choices_of_turns turns
+  -- the choices may be selected together
   pub clean : AreCompatible (pool_of chosen) (choices_of chosen)
+  -- each choice was taken from the frame of the need that was next
   pub taken : AreTurnsFrom (pool_of chosen) [] turns

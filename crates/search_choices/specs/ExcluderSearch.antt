@@ -14,18 +14,24 @@ use Rattle.search_choices.specs.declared.choices.Choices.{Choices}
 
 -- the table of conflicts has for each name exactly those of the choices, each at its index
 pub record HasConflictsOfChoices (chosen : Choices) : Type 0 where
+  -- the table has the conflicts of the choices
   pub listed : IsConflictTable (pool_of chosen) (choices_of chosen) chosen.conflicts
+  -- each entry of the table is a conflict of a candidate of the pool
   pub conflicts : AreConflictsOf (pool_of chosen).candidates chosen.conflicts.by_name
 
 -- the pool has this candidate at the place, and it is no choice
 pub record IsUnchosenCandidate (chosen : Choices) (id : ℕ) (details : Candidate) : Type 0 where
+  -- the pool has this candidate at the place
   pub here : candidate_at (pool_of chosen) id ≡ Some details
+  -- the place is that of no choice
   pub once : IsIn id (choices_of chosen) → ⊥
 
 -- Unless memory runs out, a choice is found that excludes the candidate at the place, or none is and
 -- `IfNone` holds. The remembered results are right afterwards.
 pub record FindsExcluder (chosen : Choices) (id : ℕ) (IfNone : Type 0) (remembered : PackageMatches)
     (result : Result (Option ℕ) AllocError) : Type 0 where
+  -- the call finds a choice that excludes the candidate, or it finds none and `IfNone` holds
   pub found : IfOk result (λ found. MatchOption found IfNone
       (λ k. IsExcluderAmongChoices (pool_of chosen) (choices_of chosen) id k))
+  -- the results that are remembered after the call are right
   pub matches : OnOk result (AreMatchesAmong (pool_of chosen).candidates remembered)

@@ -90,6 +90,7 @@ impl<'p> Choices<'p> {
 
     /// Whether a candidate is a choice.
     pub fn has(&self, id: CandId) -> bool
+        // True: the candidate is a choice. False: it is none.
         ensures { MatchBool result (IsIn id (choices_of self.now)) (IsIn id (choices_of self.now)
             → ⊥) }
     {
@@ -100,6 +101,7 @@ impl<'p> Choices<'p> {
     pub fn push(&mut self, id: CandId) -> Result<(), AllocError>
         requires consistent { IsConsistent self.old }
         requires within { id < length (pool_of self.old).candidates }
+        // The candidate is no choice yet.
         requires once { IsIn id (choices_of self.old) → ⊥ }
         ensures consistent { OnOk result (IsConsistent self.new) }
         ensures pool { pool_of self.new ≡ pool_of self.old }
@@ -116,7 +118,8 @@ impl<'p> Choices<'p> {
         self.conflicts.add(&depends, id)?;
         self.checkpoints.push(before)?;
         self.choices.push(id)?;
-        // Only candidates that wait for a name of the new choice may begin to ask.
+        // Only the install-if of a candidate that waits for a name of the new choice may begin to
+        // apply.
         self.asking_cursor = self.least_rank_asking(&details);
         Ok(())
     }
@@ -130,7 +133,8 @@ impl<'p> Choices<'p> {
             choices_of self.new ≡ rest }
     {
         if let Some(before) = self.checkpoints.pop() {
-            // The conflicts are removed first, while the set still has their choice.
+            // The conflicts of the latest choice are removed first, while the choice is still in
+            // the set.
             self.take_conflicts_away();
             self.choices.pop();
             self.queue.truncate(before.queue_len);
@@ -142,9 +146,12 @@ impl<'p> Choices<'p> {
     // Takes the conflicts of the latest choice out of the list of conflicts.
     fn take_conflicts_away(&mut self)
         requires { IsConflictTable (pool_of self.old) (choices_of self.old) self.old.conflicts }
+        // Only the field `conflicts` changes.
         ensures others { self.new ≡ record self.old { conflicts = self.new.conflicts } }
+        // The field then lists the conflicts of the choices except the latest one.
         ensures listed { (rest : List ℕ) (last : ℕ) → choices_of self.old ≡ rest ++ last ∷ [] →
             IsConflictTable (pool_of self.old) rest self.new.conflicts }
+        // If each entry of the field was a conflict of these candidates, it still is.
         ensures conflicts { (candidates : List Candidate)
             → AreConflictsOf candidates self.old.conflicts.by_name
             → AreConflictsOf candidates self.new.conflicts.by_name }
@@ -170,6 +177,7 @@ impl<'p> Choices<'p> {
         // The options that are left are fewer than the base of the measure's digits (*base* of
         // `Measure`).
         ensures few { IfOk result (λ found. IfSome found (λ frame. length frame.1 < 2 ^ 64)) }
+        // None: no need is left. Otherwise: the frame of the next need.
         ensures frame { IfOk result (λ found. MatchOption found (next_need (pool_of self.old)
             (choices_of self.old) ≡ None) (λ frame. IsFrameOf (pool_of self.old)
             (choices_of self.old) frame)) }
@@ -196,6 +204,8 @@ impl<'p> Choices<'p> {
         ensures consistent { IsConsistent self.new }
         ensures pool { pool_of self.new ≡ pool_of self.old }
         ensures choices { choices_of self.new ≡ choices_of self.old }
+        // The entry of the queue at the cursor is then the first dependency in it that no choice
+        // meets.
         ensures front { OnOk result (slice_get self.new.queue.items self.new.cursor
             ≡ find (is_unmet_dep (pool_of self.old) (choices_of self.old)) (queue_of
             (pool_of self.old) (choices_of self.old))) }
@@ -207,10 +217,13 @@ impl<'p> Choices<'p> {
         Ok(())
     }
 
-    // Whether the queue has a dependency at the cursor that a choice meets.
+    // Whether the queue has a dependency at its cursor, and a choice meets this dependency.
     fn is_front_met(&self, matches: &mut PackageMatches<'_>) -> Result<bool, AllocError>
         requires consistent { IsConsistent self.now }
         requires matches { AreMatchesAmong (pool_of self.now).candidates matches.old }
+        // True: all dependencies of the queue up to and including the one at the cursor are met.
+        // False: the entry at the cursor is the first that no choice meets, or the queue ends
+        // there.
         ensures met { IfOk result (λ met. MatchBool met (AreFirstDepsMet (pool_of self.now)
             (choices_of self.now) (self.now.cursor + 1))
             (slice_get self.now.queue.items self.now.cursor
@@ -224,13 +237,14 @@ impl<'p> Choices<'p> {
         }
     }
 
-    // Whether a choice meets a raised dependency. A long version is compared once with each of
-    // those of choices, except for one in an entry of world.
+    // Whether a choice meets a raised dependency. Comparisons with a long version are remembered,
+    // unless the dependency is an entry of world.
     fn is_raised_met(
         &self,
         raised: &RaisedDep<'p>,
         matches: &mut PackageMatches<'_>,
     ) -> Result<bool, AllocError>
+        // If a choice raised it, it is the entry of this choice's `depends` at the stored index.
         requires raised { (c : ℕ) → raised.now.1 ≡ Some c →
             slice_get (depends_at (pool_of self.now) c) raised.now.2 ≡ Some raised.now.0 }
         requires matches { AreMatchesAmong (pool_of self.now).candidates matches.old }
@@ -262,8 +276,8 @@ impl<'p> Choices<'p> {
         self.queue.get(self.cursor)
     }
 
-    // The frame of the byte-least name whose install-if applies and that no choice has. It is
-    // called only if each raised dependency is met.
+    // The frame of a name whose install-if applies and that no choice has: the first such name in
+    // byte order. The call requires that each raised dependency is met.
     fn frame_asked(&mut self) -> Result<Option<Frame>, AllocError>
         requires consistent { IsConsistent self.old }
         requires met { find (is_unmet_dep (pool_of self.old) (choices_of self.old)) (queue_of
@@ -273,6 +287,7 @@ impl<'p> Choices<'p> {
         ensures choices { choices_of self.new ≡ choices_of self.old }
         // As in `next_frame`: fewer options are left than the base of the measure's digits.
         ensures few { IfOk result (λ found. IfSome found (λ frame. length frame.1 < 2 ^ 64)) }
+        // None: no need is left. Otherwise: the frame of the next need.
         ensures frame { IfOk result (λ found. MatchOption found (next_need (pool_of self.old)
             (choices_of self.old) ≡ None) (λ frame. IsFrameOf (pool_of self.old)
             (choices_of self.old) frame)) }
@@ -293,6 +308,8 @@ impl<'p> Choices<'p> {
         ensures consistent { IsConsistent self.new }
         ensures pool { pool_of self.new ≡ pool_of self.old }
         ensures choices { choices_of self.new ≡ choices_of self.old }
+        // At the cursor there is then the first candidate that is triggered. If the list ends
+        // there, none is.
         ensures first { MatchOption (slice_get (install_ifs_of self.new) self.new.asking_cursor)
             (IsNoInstallIfTriggered (pool_of self.old) (choices_of self.old))
             (λ id. IsLeastTriggeredInstallIf (pool_of self.old) (choices_of self.old) id) }
@@ -305,6 +322,9 @@ impl<'p> Choices<'p> {
     // Whether there is a candidate at the cursor of the install-ifs that is not triggered.
     fn is_front_unasked(&self) -> bool
         requires { IsConsistent self.now }
+        // True: the install-ifs up to and including the one at the cursor trigger no candidate.
+        // False: the candidate at the cursor is the first that is triggered, or the list ends
+        // there.
         ensures { MatchBool result ((self.now.asking_cursor + 1
             ≤ length (install_ifs_of self.now)) × AreNoneTriggeredBelow (pool_of self.now)
             (choices_of self.now) (install_ifs_of self.now) (self.now.asking_cursor + 1))
@@ -338,7 +358,8 @@ impl<'p> Choices<'p> {
         Ok(Frame::new(self.alloc, options.into_ids(), by))
     }
 
-    // Whether the candidate of a rank is triggered; false if no candidate has the rank.
+    // Whether the install-if at an index (its rank) in the list of install-ifs triggers its
+    // candidate; false if the list has no such index.
     fn is_install_if_triggered_at_rank(&self, rank: usize) -> bool
         ensures { result ≡ is_install_if_triggered_at_rank (pool_of self.now) (choices_of self.now)
             (install_ifs_of self.now) rank }
@@ -350,10 +371,11 @@ impl<'p> Choices<'p> {
     }
 
     // The cursor of the install-ifs after the candidate is chosen. It is unchanged, or the least
-    // rank before it that now asks and waits for a name which the candidate offers. A new choice
-    // can make only those ask that wait for one of its names.
+    // index before it whose install-if is now triggered and waits for a name that the candidate
+    // offers. A new choice can trigger only install-ifs that wait for one of its names.
     fn least_rank_asking(&self, details: &Details<'_>) -> usize
         ensures less { result ≤ self.now.asking_cursor }
+        // No install-if before the result that waits for a name of the candidate is triggered.
         ensures unasked { (name : List ℕ) (rank : ℕ) → offers_name name details.now ≡ true →
             IsIn rank (items_under_name self.now.install_ifs.waiting name) → rank < result →
             is_install_if_triggered_at_rank (pool_of self.now) (choices_of self.now)
@@ -364,10 +386,11 @@ impl<'p> Choices<'p> {
         self.least_rank_provided(&details.provides(), own)
     }
 
-    // The cursor, or the least rank before it that asks and waits for the name of one of these
-    // entries of provides.
+    // The cursor, or the least index before it whose install-if is triggered, and waits for the
+    // name of one of these entries of provides.
     fn least_rank_provided(&self, provides: &Deps<'_>, cursor: usize) -> usize
         ensures less { result ≤ cursor }
+        // No install-if before the result that waits for a name of these entries is triggered.
         ensures unasked { (d : Dependency) (rank : ℕ) → IsIn d provides.now →
             IsIn rank (items_under_name self.now.install_ifs.waiting d.name) → rank < result →
             is_install_if_triggered_at_rank (pool_of self.now) (choices_of self.now)
@@ -381,9 +404,11 @@ impl<'p> Choices<'p> {
         least
     }
 
-    // The cursor, or the least rank before it that asks and waits for a name.
+    // The cursor, or the least index before it whose install-if is triggered, and waits for this
+    // name.
     fn least_rank_waiting(&self, name: &[u8], cursor: usize) -> usize
         ensures less { result ≤ cursor }
+        // No install-if before the result that waits for this name is triggered.
         ensures unasked { (rank : ℕ) →
             IsIn rank (items_under_name self.now.install_ifs.waiting name.now) → rank < result →
             is_install_if_triggered_at_rank (pool_of self.now) (choices_of self.now)
@@ -397,9 +422,11 @@ impl<'p> Choices<'p> {
         least
     }
 
-    // The lesser of two ranks, of which the first counts only if its candidate asks.
+    // The lesser of two indexes of install-ifs. The first counts only if its install-if is
+    // triggered.
     fn lesser_rank(&self, rank: usize, least: usize) -> usize
         ensures less { result ≤ least }
+        // If the first index is below the result, its install-if is not triggered.
         ensures unasked { rank < result
             → is_install_if_triggered_at_rank (pool_of self.now) (choices_of self.now)
             (install_ifs_of self.now) rank ≡ false }
@@ -422,6 +449,7 @@ impl<'p> Choices<'p> {
 // dependency raised it; no choice raises an entry of world.
 fn frame_of(alloc: Global, pool: &Sealed<'_>, raised: &RaisedDep<'_>) -> Result<Frame, AllocError>
     ensures few { IfOk result (λ frame. length frame.1 < 2 ^ 64) }
+    // No option is ruled out, all options are left, and at most one choice raised the need.
     ensures value { IfOk result (λ frame. frame ≡ (
       [],
       options_for pool.now

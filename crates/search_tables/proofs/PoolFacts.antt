@@ -10,7 +10,7 @@ use Rattle.dep_core.specs.Dependency.{Dependency}
 use Rattle.pool_core.specs.candidate_core.Candidates.{Candidate, Need, entry, has_usable_install_if, named}
 use Rattle.pool_core.specs.candidate_core.Rank.{SealedPool, bytes_cmp, is_eligible_at, is_better, meets_at}
 use Rattle.pool_core.specs.candidate_core.Options.{IsIn, IsSortedBestFirst, options_for}
-use Rattle.search_tables.specs.Selection.{AreAllMembersOf, AreDistinct, exclude_each_other, names_by_install_if, install_if_applies, depends_at, is_met, is_unmet, does_exclude, least_name, lesser_name, needs, positive_needs, next_need, raised_needs}
+use Rattle.search_tables.specs.Selection.{AreAllMembersOf, AreDistinct, exclude_each_other, names_by_install_if, install_if_applies, depends_at, is_met, is_unmet, does_exclude, least_name, lesser_name, needs, positive_needs, next_need, needs_of_world_and_chosen}
 use Rattle.search_tables.specs.Reasons.{AreCompatible}
 use Rattle.search_tables.specs.Reasons.{HasOptions}
 use Rattle.search_tables.proofs.Theory.{Sorted, sorted_split, in_left, in_right, in_append}
@@ -125,7 +125,7 @@ module _ (pool : SealedPool) where
       let r = any_in (λ c. meets_at pool c q) t h in
       in_any (λ c. meets_at pool c q) u r.0 (sub r.0 r.1) r.2
 
-  raised_mono : (t u : List ℕ) (q : Need) → AreAllMembersOf t u → IsIn q (raised_needs pool t) → IsIn q (raised_needs pool u)
+  raised_mono : (t u : List ℕ) (q : Need) → AreAllMembersOf t u → IsIn q (needs_of_world_and_chosen pool t) → IsIn q (needs_of_world_and_chosen pool u)
   raised_mono t u q sub h =
       let of : ℕ → List Need = λ c. positive_needs (depends_at pool c) in
       elim (in_append q (positive_needs pool.world) (flat_map of t) h) [
@@ -147,11 +147,11 @@ module _ (pool : SealedPool) where
       subst (λ (z : List ℕ). IsIn z (names_by_install_if pool u)) (sym m.2) (in_map name m.0 (filter (install_if_applies pool u) pool.candidates) (in_filter (install_if_applies pool u) m.0 pool.candidates f.0 (asks_mono t u m.0 sub f.1)))
 
   needs_mono : (t u : List ℕ) (q : Need) → AreAllMembersOf t u → IsIn q (needs pool t) → IsIn q (needs pool u)
-  needs_mono t u q sub h = elim (in_append q (raised_needs pool t) (map named (names_by_install_if pool t)) h) [
-    | inl a ↦ in_left q (raised_needs pool u) (map named (names_by_install_if pool u)) (raised_mono t u q sub a)
+  needs_mono t u q sub h = elim (in_append q (needs_of_world_and_chosen pool t) (map named (names_by_install_if pool t)) h) [
+    | inl a ↦ in_left q (needs_of_world_and_chosen pool u) (map named (names_by_install_if pool u)) (raised_mono t u q sub a)
     | inr b ↦
         let m = map_in named q (names_by_install_if pool t) b in
-        in_right q (raised_needs pool u) (map named (names_by_install_if pool u)) (subst (λ (z : Need). IsIn z (map named (names_by_install_if pool u))) (sym m.2) (in_map named m.0 (names_by_install_if pool u) (asked_mono t u m.0 sub m.1)))
+        in_right q (needs_of_world_and_chosen pool u) (map named (names_by_install_if pool u)) (subst (λ (z : Need). IsIn z (map named (names_by_install_if pool u))) (sym m.2) (in_map named m.0 (names_by_install_if pool u) (asked_mono t u m.0 sub m.1)))
   ]
 
   some_or_none : {X : Type 0} (o : Option X) → (o ≡ None) ⊎ ((x : X) × (o ≡ Some x))
@@ -171,12 +171,12 @@ module _ (pool : SealedPool) where
 
   next_some : (t : List ℕ) (q : Need) → next_need pool t ≡ Some q → IsIn q (needs pool t) × (is_met pool t q ≡ false)
   unfolding next_need
-  next_some t q h = elim (some_or_none (find (is_unmet pool t) (raised_needs pool t))) [
+  next_some t q h = elim (some_or_none (find (is_unmet pool t) (needs_of_world_and_chosen pool t))) [
     | inr some ↦
         let g : Some some.0 ≡ Some q = rw some.1 at h in
         let s : q ≡ some.0 = cc in
-        let r = find_in (is_unmet pool t) (raised_needs pool t) some.0 some.1 in (
-          in_left q (raised_needs pool t) (map named (names_by_install_if pool t)) (subst (λ (z : Need). IsIn z (raised_needs pool t)) (sym s) r.0),
+        let r = find_in (is_unmet pool t) (needs_of_world_and_chosen pool t) some.0 some.1 in (
+          in_left q (needs_of_world_and_chosen pool t) (map named (names_by_install_if pool t)) (subst (λ (z : Need). IsIn z (needs_of_world_and_chosen pool t)) (sym s) r.0),
           subst (λ (z : Need). is_met pool t z ≡ false) (sym s) (not_false (is_met pool t some.0) r.1),
         )
     | inl none ↦
@@ -188,7 +188,7 @@ module _ (pool : SealedPool) where
               let k : Some (named some.0) ≡ Some q = subst (λ (o : Option (List ℕ)). option_map named o ≡ Some q) some.1 g in
               let s : q ≡ named some.0 = cc in
               let f = filter_in (λ (x : List ℕ). is_unmet pool t (named x)) some.0 (names_by_install_if pool t) (least_in names some.0 some.1) in (
-                in_right q (raised_needs pool t) (map named (names_by_install_if pool t)) (subst (λ (z : Need). IsIn z (map named (names_by_install_if pool t))) (sym s) (in_map named some.0 (names_by_install_if pool t) f.0)),
+                in_right q (needs_of_world_and_chosen pool t) (map named (names_by_install_if pool t)) (subst (λ (z : Need). IsIn z (map named (names_by_install_if pool t))) (sym s) (in_map named some.0 (names_by_install_if pool t) f.0)),
                 subst (λ (z : Need). is_met pool t z ≡ false) (sym s) (not_false (is_met pool t (named some.0)) f.1),
               )
         ]
@@ -196,13 +196,13 @@ module _ (pool : SealedPool) where
 
   pub next_none : (t : List ℕ) (q : Need) → next_need pool t ≡ None → IsIn q (needs pool t) → is_met pool t q ≡ true
   unfolding next_need
-  next_none t q h inside = elim (some_or_none (find (is_unmet pool t) (raised_needs pool t))) [
+  next_none t q h inside = elim (some_or_none (find (is_unmet pool t) (needs_of_world_and_chosen pool t))) [
     | inr some ↦ let g : Some some.0 ≡ None = rw some.1 at h in absurd (cc)
     | inl none ↦
         let g = rw none at h in
         let names = filter (λ (x : List ℕ). is_unmet pool t (named x)) (names_by_install_if pool t) in
-        elim (in_append q (raised_needs pool t) (map named (names_by_install_if pool t)) inside) [
-          | inl a ↦ not_true (is_met pool t q) (find_none (is_unmet pool t) (raised_needs pool t) q none a)
+        elim (in_append q (needs_of_world_and_chosen pool t) (map named (names_by_install_if pool t)) inside) [
+          | inl a ↦ not_true (is_met pool t q) (find_none (is_unmet pool t) (needs_of_world_and_chosen pool t) q none a)
           | inr b ↦
               let m = map_in named q (names_by_install_if pool t) b in
               let no_names : names ≡ [] = elim (some_or_none (least_name names)) [

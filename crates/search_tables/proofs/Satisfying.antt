@@ -11,7 +11,7 @@ use Rattle.dep_core.specs.Dependency.{Dependency}
 use Rattle.pool_core.specs.candidate_core.Candidates.{Candidate, Need, named, occupies_name}
 use Rattle.pool_core.specs.candidate_core.Rank.{SealedPool, candidate_at, candidate_at_passes}
 use Rattle.pool_core.specs.candidate_core.Options.{IsIn}
-use Rattle.search_tables.specs.Selection.{IsSatisfying, exclude_each_other, names_by_install_if, depends_at, conflicts_with, occupied_names_at, occupied_names, is_unmet, does_exclude, least_name, needs, positive_needs, next_need, raised_needs, share_a_name}
+use Rattle.search_tables.specs.Selection.{IsSatisfying, exclude_each_other, names_by_install_if, depends_at, conflicts_with, occupied_names_at, occupied_names, is_unmet, does_exclude, least_name, needs, positive_needs, next_need, needs_of_world_and_chosen, share_a_name}
 use Rattle.search_tables.specs.Reasons.{IsSolution}
 use Rattle.search_tables.proofs.Theory.{in_left, in_right, in_append}
 use Rattle.search_tables.proofs.PoolFacts.{filter_in, in_filter, in_map, map_in, flat_in, in_flat, next_none}
@@ -102,7 +102,7 @@ module _ (pool : SealedPool) where
     unfolding next_need
     no_need s =
         let of : ℕ → List Need = λ c. positive_needs (depends_at pool c) in
-        let first : find (is_unmet pool S) (raised_needs pool S) ≡ None = find_nothing (is_unmet pool S) (raised_needs pool S) (λ q h. elim (in_append q (positive_needs pool.world) (flat_map of S) h) [
+        let first : find (is_unmet pool S) (needs_of_world_and_chosen pool S) ≡ None = find_nothing (is_unmet pool S) (needs_of_world_and_chosen pool S) (λ q h. elim (in_append q (positive_needs pool.world) (flat_map of S) h) [
           | inl a ↦ ap not (s.world_met q a)
           | inr b ↦ let r = flat_in of q S b in ap not (s.depends_met r.0 q r.1 r.2)
         ]) in
@@ -141,8 +141,8 @@ module _ (pool : SealedPool) where
         record {
           once = clean.0;
           eligible = clean.1;
-          world_met = λ q h. all q (in_left q (raised_needs pool S) (map named (names_by_install_if pool S)) (in_left q (positive_needs pool.world) (flat_map of S) h));
-          depends_met = λ k q hk h. all q (in_left q (raised_needs pool S) (map named (names_by_install_if pool S)) (in_right q (positive_needs pool.world) (flat_map of S) (in_flat of q k S hk h)));
+          world_met = λ q h. all q (in_left q (needs_of_world_and_chosen pool S) (map named (names_by_install_if pool S)) (in_left q (positive_needs pool.world) (flat_map of S) h));
+          depends_met = λ k q hk h. all q (in_left q (needs_of_world_and_chosen pool S) (map named (names_by_install_if pool S)) (in_right q (positive_needs pool.world) (flat_map of S) (in_flat of q k S hk h)));
           no_conflict = λ a b ha hb n. elim (cases_Bool (conflicts_with pool a b)) [
             | inl e ↦ absurd (clean.2 a b ha hb (apart_of a b n (true_or (conflicts_with pool a b) (share_a_name pool a b) (inl e))))
             | inr e ↦ e
@@ -151,5 +151,5 @@ module _ (pool : SealedPool) where
             | inl e ↦ e.1
             | inr n ↦ absurd (clean.2 a b ha hb (apart_of a b n.1 (true_or (conflicts_with pool a b) (share_a_name pool a b) (inr (one_any (λ x. candidate_at_passes pool (occupies_name x) b) (occupied_names_at pool a) name (occupied_is_listed_at a name holds_a) holds_b)))))
           ];
-          asked_met = λ name h. all (named name) (in_right (named name) (raised_needs pool S) (map named (names_by_install_if pool S)) (in_map named name (names_by_install_if pool S) h));
+          asked_met = λ name h. all (named name) (in_right (named name) (needs_of_world_and_chosen pool S) (map named (names_by_install_if pool S)) (in_map named name (names_by_install_if pool S) h));
         }

@@ -7,6 +7,8 @@ use Rattle.search_tables.specs.Selection.{AreDistinct}
 
 -- each mark says whether its place is in the list, and the list has each candidate once
 pub record AreMarksOfPlaces (marks : List Bool) (ids : List ℕ) : Type 0 where
+  -- the mark at a place is true exactly if the place is in the list
   pub told : (c : ℕ) → MatchBool (slice_index_or marks c false) (IsIn c ids) (IsIn c ids →
       ⊥)
+  -- no place occurs twice in the list
   pub once : AreDistinct ids

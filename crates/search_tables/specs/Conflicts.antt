@@ -43,7 +43,7 @@ abbrev pub IsConflictOf : List Candidate → ListedConflictValue → Type 0
 IsConflictOf candidates listed = (c : Candidate) → slice_get candidates listed.0 ≡ Some c
     → slice_get c.depends listed.2 ≡ Some listed.1
 
--- each conflict in a table is one of its candidate, at its index
+-- each conflict in the table is an entry of its candidate's `depends`, at the stored index
 abbrev pub AreConflictsOf : List Candidate → List (List ℕ × List ListedConflictValue) → Type 0
 AreConflictsOf candidates table = (name : List ℕ) (listed : ListedConflictValue)
     → IsIn listed (items_under_name table name) → IsConflictOf candidates listed

@@ -13,7 +13,7 @@ use Rattle.pool_core.specs.candidate_core.Rank.{SealedPool, bytes_cmp, candidate
 use Rattle.search_tables.specs.NameTable.{items_under_name}
 use Rattle.search_tables.specs.Selection.{is_met, is_unmet}
 
--- whether a choice meets each of some dependencies
+-- whether each of these dependencies is met by a choice
 abbrev pub all_met : SealedPool → List ℕ → List Dependency → Bool
 all_met pool chosen deps = list_all (λ (d : Dependency). is_met pool chosen (entry d)) deps
 
@@ -74,8 +74,11 @@ AreNoneTriggeredBelow pool chosen by_name count =
 
 -- the candidate is triggered by its install-if, which can apply; no other such candidate has a lesser name
 pub record IsLeastTriggeredInstallIf (pool : SealedPool) (chosen : List ℕ) (k : ℕ) : Type 0 where
+  -- its install-if can apply
   pub usable : has_usable_install_if_at pool k ≡ true
+  -- its install-if triggers it
   pub asks : is_install_if_triggered_at pool chosen k ≡ true
+  -- no other triggered candidate has a name that is less in byte order
   pub least :
       (o : ℕ) → has_usable_install_if_at pool o ≡ true → is_install_if_triggered_at pool chosen o ≡ true →
       has_lesser_name pool o k ≡ false

@@ -26,7 +26,9 @@ IsReason pool reason = (selection : List ℕ) → IsSolution pool selection →
 
 -- why a candidate `c` cannot join some choices: `c` and some of the choices, `others`, form a reason
 pub record IsRuledOutBy (pool : SealedPool) (chosen : List ℕ) (c : ℕ) (others : List ℕ) : Type 0 where
+  -- `others` are choices
   pub within : AreAllMembersOf others chosen
+  -- no satisfying selection has `c` and all of `others`
   pub dead : IsReason pool (c ∷ others)
 
 -- a frame, in this order: the ruled-out options, each with the other members of its reason; the options

@@ -16,7 +16,7 @@ pub use Rattle.pool_core.specs.candidate_core.Options.{AreAllMembersOf, AreDisti
 abbrev pub is_met : SealedPool → List ℕ → Need → Bool
 is_met pool chosen need = list_any (λ c. meets_at pool c need) chosen
 
--- whether no choice meets the need
+-- whether no choice meets the need, by its own name or by what it provides
 abbrev pub is_unmet : SealedPool → List ℕ → Need → Bool
 is_unmet pool chosen need = not (is_met pool chosen need)
 
@@ -30,8 +30,8 @@ depends_at pool c = option_map_or (λ (k : Candidate). k.depends) (candidate_at 
 
 -- the needs that world and the choices raise: the entries of world, then the dependencies of each
 -- choice in the order chosen
-abbrev pub raised_needs : SealedPool → List ℕ → List Need
-raised_needs pool chosen =
+abbrev pub needs_of_world_and_chosen : SealedPool → List ℕ → List Need
+needs_of_world_and_chosen pool chosen =
     positive_needs pool.world ++ flat_map (λ c. positive_needs (depends_at pool c)) chosen
 
 -- whether the install-if of a candidate applies: it is usable, and each entry is met
@@ -47,14 +47,14 @@ names_by_install_if pool chosen =
 
 -- all needs that world and the choices raise, met or not
 abbrev pub needs : SealedPool → List ℕ → List Need
-needs pool chosen = raised_needs pool chosen ++ map named (names_by_install_if pool chosen)
+needs pool chosen = needs_of_world_and_chosen pool chosen ++ map named (names_by_install_if pool chosen)
 
--- the byte-lesser of a name and another, if there is another
+-- of a name and another one, if there is another, the one that is less in byte order
 abbrev pub lesser_name : List ℕ → Option (List ℕ) → List ℕ
 lesser_name name None = name
 lesser_name name (Some other) = if is_lt (bytes_cmp other name) then other else name
 
--- the byte-least of some names
+-- the least of the names in byte order
 abbrev pub least_name : List (List ℕ) → Option (List ℕ)
 least_name [] = None
 least_name (name ∷ names) = Some (lesser_name name (least_name names))
@@ -63,7 +63,7 @@ least_name (name ∷ names) = Some (lesser_name name (least_name names))
 -- of the names whose install-if applies
 unfoldable pub next_need : SealedPool → List ℕ → Option Need
 next_need pool chosen =
-    option_or (find (is_unmet pool chosen) (raised_needs pool chosen))
+    option_or (find (is_unmet pool chosen) (needs_of_world_and_chosen pool chosen))
     (option_map named
     (least_name (filter (λ name. is_unmet pool chosen (named name))
     (names_by_install_if pool chosen))))
@@ -86,8 +86,7 @@ occupied_names c =
 abbrev pub occupied_names_at : SealedPool → ℕ → List (List ℕ)
 occupied_names_at pool c = option_map_or occupied_names (candidate_at pool c) []
 
--- whether both candidates occupy a name: one selection cannot have both, since at most one member may
--- occupy a name
+-- whether both candidates occupy one and the same name: one selection cannot have both
 abbrev pub share_a_name : SealedPool → ℕ → ℕ → Bool
 share_a_name pool a b =
     list_any (λ name. candidate_at_passes pool (occupies_name name) b) (occupied_names_at pool a)
@@ -106,20 +105,27 @@ exclude_each_other pool a b = not (a == b) && (does_exclude pool a b || does_exc
 -- and each dependency of a member is met, and no conflict of a member is met by another. Each name is
 -- occupied by at most one member, and each name whose install-if applies is a member's
 pub record IsSatisfying (pool : SealedPool) (selection : List ℕ) : Type 0 where
+  -- no member occurs twice
   pub once : AreDistinct selection
+  -- each member may be selected
   pub eligible : (c : ℕ) → IsIn c selection → is_eligible_at pool c ≡ true
+  -- each entry of world that is no conflict is met by a member
   pub world_met :
       (q : Need) → IsIn q (positive_needs pool.world) → is_met pool selection q ≡ true
+  -- each dependency of a member that is no conflict is met by a member
   pub depends_met :
       (c : ℕ) (q : Need) → IsIn c selection → IsIn q (positive_needs (depends_at pool c)) →
       is_met pool selection q ≡ true
+  -- no member meets a conflict of another member
   pub no_conflict :
       (a b : ℕ) → IsIn a selection → IsIn b selection → a ≢ b →
       conflicts_with pool a b ≡ false
+  -- each name is occupied by at most one member
   pub names_alone :
       (a b : ℕ) (name : List ℕ) → IsIn a selection → IsIn b selection →
       candidate_at_passes pool (occupies_name name) a ≡ true
       → candidate_at_passes pool (occupies_name name) b ≡ true → a ≡ b
+  -- each name whose install-if applies is the name of a member
   pub asked_met :
       (name : List ℕ) → IsIn name (names_by_install_if pool selection) →
       is_met pool selection (named name) ≡ true
@@ -142,8 +148,8 @@ IsRestOfWalk pool selection chosen (c ∷ rest) =
     × IsRestOfWalk pool selection (chosen ++ c ∷ []) rest
 
 -- the walk of a selection, from the first need on: for each next need, the best member that meets it
-abbrev pub IsWalkOfSelection : SealedPool → List ℕ → List ℕ → Type 0
-IsWalkOfSelection pool selection walk = IsRestOfWalk pool selection [] walk
+abbrev pub IsSelectionWithWalk : SealedPool → List ℕ → List ℕ → Type 0
+IsSelectionWithWalk pool selection walk = IsRestOfWalk pool selection [] walk
 
 -- after some choices: the rest of one walk is preferred to that of another if it has the better rank at
 -- the first place where they differ, for the need there
@@ -161,8 +167,11 @@ IsWalkPreferredTo pool walk other = IsRestOfWalkPreferred pool [] walk other
 -- the preferred solution: it satisfies the world, is its own walk, and is preferred to the walk of each
 -- other satisfying selection
 pub record IsFirstPreferredSelection (pool : SealedPool) (trace : List ℕ) : Type 0 where
+  -- it satisfies the world
   pub satisfies : IsSatisfying pool trace
-  pub walked : IsWalkOfSelection pool trace trace
+  -- its members are in the order of its walk: for each next need, the best member that meets it
+  pub walked : IsSelectionWithWalk pool trace trace
+  -- the walk of each satisfying selection is the same walk, or this one is preferred to it
   pub first :
-      (selection walk : List ℕ) → IsSatisfying pool selection → IsWalkOfSelection pool selection walk →
+      (selection walk : List ℕ) → IsSatisfying pool selection → IsSelectionWithWalk pool selection walk →
       (walk ≡ trace) ⊎ IsWalkPreferredTo pool trace walk

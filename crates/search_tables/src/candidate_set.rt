@@ -44,6 +44,7 @@ impl CandidateSet {
 
     /// Whether the set has a candidate.
     pub fn has(&self, id: CandId) -> bool
+        // True: the candidate is in the set. False: it is not.
         ensures { MatchBool result (IsIn id self.now) (IsIn id self.now → ⊥) }
     {
         let place = id.place as usize;
@@ -54,7 +55,7 @@ impl CandidateSet {
         }
     }
 
-    /// Puts a candidate after the others of the set, unless the set has it.
+    /// Appends a candidate to the set, unless the set has it.
     pub fn add(&mut self, id: CandId) -> Result<(), AllocError>
         ensures { OnOk result (HasSameMembers self.new (self.old ++ id ∷ [])) }
     {
@@ -65,7 +66,7 @@ impl CandidateSet {
         Ok(())
     }
 
-    /// Appends those of some candidates that are not in the set.
+    /// Appends each of these candidates that is not in the set.
     pub fn add_all(&mut self, ids: &[CandId]) -> Result<(), AllocError>
         ensures { OnOk result (HasSameMembers self.new (self.old ++ ids.now)) }
     {

@@ -51,6 +51,7 @@ impl<'p> ListedConflict<'p> {
         requires listed { IsConflictOf (candidates_of_packages matches.old.packages.now) self.now }
         requires matches { AreMatchesAmong (candidates_of_packages matches.old.packages.now)
             matches.old }
+        // The result says whether the candidate at the place meets this conflict.
         ensures meets { IfOk result (λ meets. (c : Candidate)
             → slice_get (candidates_of_packages matches.old.packages.now) id ≡ Some c
             → meets ≡ meets_dependency self.now.1 c) }
@@ -83,11 +84,14 @@ impl<'p> Conflicts<'p> {
         }
     }
 
-    /// Adds the conflicts that are among a candidate's dependencies, after the others of their
-    /// names.
+    /// Adds the conflicts that are among the dependencies of the candidate `by`. Under each name
+    /// they are appended.
     pub fn add(&mut self, depends: &Deps<'p>, by: CandId) -> Result<(), AllocError>
+        // Under each name, the conflicts of these dependencies that have the name are appended.
         ensures conflicts { OnOk result ((name : List ℕ) → conflicts_in self.new.by_name name
             ≡ conflicts_in self.old.by_name name ++ conflicts_of_name_in name by depends.now) }
+        // If the dependencies are those of the choice, each entry is still a conflict of a
+        // candidate.
         ensures listed { OnOk result ((candidates : List Candidate)
             → HasDepends candidates by depends.now → AreConflictsOf candidates self.old.by_name
             → AreConflictsOf candidates self.new.by_name) }
@@ -100,9 +104,11 @@ impl<'p> Conflicts<'p> {
 
     // Adds the dependency that a candidate has at an index to the list, if it is a conflict.
     fn add_one(&mut self, dep: Dep<'p>, by: CandId, index: usize) -> Result<(), AllocError>
+        // The dependency is appended under its name, if it is a conflict.
         ensures conflicts { OnOk result ((name : List ℕ) → conflicts_in self.new.by_name name
             ≡ conflicts_in self.old.by_name name
             ++ conflicts_of_name_in name by (dependency dep.entry ∷ [])) }
+        // If it is a dependency of the choice, each entry is still a conflict of a candidate.
         ensures listed { OnOk result ((candidates : List Candidate)
             → IsConflictOf candidates (by, dependency dep.entry, index)
             → AreConflictsOf candidates self.old.by_name
@@ -119,6 +125,7 @@ impl<'p> Conflicts<'p> {
     /// Removes the conflicts of the candidate that was added last. In the clause, `front` is the
     /// list for each name before that candidate was added.
     pub fn pop_all(&mut self, depends: &Deps<'_>)
+        // If the last conflicts under each name are those of these dependencies, they are removed.
         ensures conflicts { (by : ℕ) (front : List ℕ → List (ℕ × Dependency)) →
             ((name : List ℕ) → conflicts_in self.old.by_name name
             ≡ front name ++ conflicts_of_name_in name by depends.now) →
@@ -136,6 +143,7 @@ impl<'p> Conflicts<'p> {
 
     // Takes the last conflict of the dependency's name out, if the dependency is a conflict.
     fn take_one_away(&mut self, dep: &Dep<'_>)
+        // If the last conflict under its name is this dependency, it is removed.
         ensures conflicts { (by : ℕ) (front : List ℕ → List (ℕ × Dependency)) →
             ((name : List ℕ) → conflicts_in self.old.by_name name
             ≡ front name ++ conflicts_of_name_in name by (dependency dep.now ∷ [])) →
@@ -165,6 +173,7 @@ impl<'p> Conflicts<'p> {
             self.now.by_name }
         requires matches { AreMatchesAmong (candidates_of_packages matches.old.packages.now)
             matches.old }
+        // The result is the choice of the first conflict that the candidate meets, if there is one.
         ensures found { IfOk result (λ found. (details : Candidate)
             → slice_get (candidates_of_packages matches.old.packages.now) id ≡ Some details
             → found ≡ option_map (λ (c : ℕ × Dependency). c.0)

@@ -8,7 +8,8 @@ use pool_core::CandId;
 use std::alloc::{AllocError, Global};
 use std::marker::Model;
 
-/// An option that is ruled out, and why: no satisfying selection contains it and all of the others.
+/// An option that is ruled out, and why: no satisfying selection contains it and all of the
+/// candidates `others`.
 #[derive(Drop)]
 pub struct RuledOutOption {
     /// The option.
@@ -84,6 +85,7 @@ impl Frame {
     /// Takes the best option that is left, if there is one.
     pub fn take_next(&mut self) -> Option<CandId>
         ensures ruled_out { self.new.0 ≡ self.old.0 }
+        // None: no option was left. Otherwise the first of those left is taken from them.
         ensures left { MatchOption result ((self.old.1 ≡ []) × (self.new.1
             ≡ [])) (λ option. self.old.1 ≡ option ∷ self.new.1) }
         ensures by { self.new.2 ≡ self.old.2 }

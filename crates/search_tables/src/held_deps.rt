@@ -31,6 +31,7 @@ pub fn choice_meeting_own(
 ) -> Result<Option<CandId>, AllocError>
     requires held { IsDepOfPackageAt pool.now.candidates held.now }
     requires matches { AreMatchesAmong pool.now.candidates matches.old }
+    // None: no choice meets the dependency. Otherwise: a choice that meets it.
     ensures found { IfOk result (λ found. MatchOption found
         (is_met pool.now choices.now (entry (dependency held.now.dep.now)) ≡ false)
         (λ id. IsIn id choices.now
@@ -83,6 +84,8 @@ fn choice_among(
 ) -> Result<Option<CandId>, AllocError>
     requires held { IsDepOfPackageAt pool.now.candidates held.now }
     requires matches { AreMatchesAmong pool.now.candidates matches.old }
+    // None: none of these places is that of a choice that meets the dependency. Otherwise: a choice
+    // that meets it.
     ensures found { IfOk result (λ found. MatchOption found
         ((k : ℕ) → IsIn k ids.now → IsIn k choices.now →
         meets_at pool.now k (entry (dependency held.now.dep.now)) ≡ false)
@@ -109,6 +112,7 @@ fn is_met_by_choice(
 ) -> Result<bool, AllocError>
     requires held { IsDepOfPackageAt pool.now.candidates held.now }
     requires matches { AreMatchesAmong pool.now.candidates matches.old }
+    // True: the place is that of a choice that meets the dependency. False: it is none of these.
     ensures met { IfOk result (λ met. MatchBool met (IsIn id choices.now
         × (meets_at pool.now id (entry (dependency held.now.dep.now)) ≡ true))
         (IsIn id choices.now →

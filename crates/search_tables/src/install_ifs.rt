@@ -59,6 +59,7 @@ fn in_byte_order(alloc: Global, pool: &Sealed<'_>) -> Result<Vec<CandId>, AllocE
         has_usable_install_if_at pool.now k ≡ true) }
     ensures each { IfOk result (λ ids. (k : ℕ) → has_usable_install_if_at pool.now k ≡ true →
         IsIn k ids.items) }
+    // No name in the list is less, in byte order, than one before it.
     ensures rising { IfOk result (λ ids. (i j d : ℕ) → i ≤ j → j < length ids.items →
         has_lesser_name pool.now (get_or ids.items j d) (get_or ids.items i d) ≡ false) }
 {
@@ -84,7 +85,8 @@ fn name_at<'a>(pool: &'a Sealed<'_>, id: CandId) -> &'a [u8]
     }
 }
 
-// Appends the rank of a candidate to those of the name of each entry of its install-if.
+// For each entry of a candidate's install-if: appends the candidate's index in the list of
+// install-ifs (its rank) under the name of the entry.
 fn add_install_if<'p>(
     waiting: &mut NameTable<'p, usize>,
     pool: &'p Sealed<'p>,
@@ -103,7 +105,7 @@ fn add_install_if<'p>(
     Ok(())
 }
 
-// Appends a rank to those of the name of each of some dependencies.
+// Appends a rank under the name of each of these dependencies.
 fn add_entries<'p>(
     waiting: &mut NameTable<'p, usize>,
     deps: &Deps<'p>,

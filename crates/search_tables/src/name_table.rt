@@ -48,8 +48,9 @@ impl<'p, T: Drop> NameTable<'p, T> {
         }
     }
 
-    /// Appends an item to those of a name; other names are unchanged.
+    /// Appends an item to the items of a name. Those of other names are unchanged.
     pub fn add(&mut self, name: &'p [u8], item: T) -> Result<(), AllocError>
+        // The item is appended under this name. Nothing changes under other names.
         ensures { OnOk result ((other : List ℕ) → items_under_name self.new other
             ≡ items_under_name self.old other
             ++ (if bytes_eq other name.entry.now then item ∷ [] else [])) }
@@ -70,6 +71,7 @@ impl<'p, T: Drop> NameTable<'p, T> {
 
     /// Removes the last item of a name, if there is one; other names are unchanged.
     pub fn pop(&mut self, name: &[u8])
+        // The last item under this name is removed. Nothing changes under other names.
         ensures { (other : List ℕ) → items_under_name self.new other
             ≡ (if bytes_eq other name.now then without_last (items_under_name self.old other)
             else items_under_name self.old other) }

@@ -22,6 +22,7 @@ pub fn choice_meeting(
     choices: &CandidateSet,
     need: &NeedRef<'_>,
 ) -> Option<CandId>
+    // None: no choice meets the need. Otherwise: a choice that meets it.
     ensures { MatchOption result (is_met pool.now choices.now (need_of_ref need.now)
         ≡ false) (λ id. IsIn id choices.now × (meets_at pool.now id (need_of_ref need.now)
         ≡ true)) }
@@ -52,6 +53,8 @@ fn choice_among(
     ids: &[CandId],
     need: &NeedRef<'_>,
 ) -> Option<CandId>
+    // None: none of these places is that of a choice that meets the need. Otherwise: a choice that
+    // meets it.
     ensures { MatchOption result ((k : ℕ) → IsIn k ids.now → IsIn k choices.now →
         meets_at pool.now k (need_of_ref need.now) ≡ false) (λ id. IsIn id choices.now
         × (meets_at pool.now id (need_of_ref need.now) ≡ true)) }
@@ -71,6 +74,7 @@ fn is_choice_meeting(
     id: CandId,
     need: &NeedRef<'_>,
 ) -> bool
+    // True: the place is that of a choice that meets the need. False: it is not.
     ensures { MatchBool result (IsIn id choices.now × (meets_at pool.now id
         (need_of_ref need.now) ≡ true)) (IsIn id choices.now →
         meets_at pool.now id (need_of_ref need.now) ≡ false) }
@@ -123,7 +127,7 @@ pub fn is_met_by_latest_or_other(
     is_met(pool, choices, need)
 }
 
-// Whether the latest choice meets the need. If not, another one may.
+// Whether the latest choice meets the need. If it does not, an earlier choice may still meet it.
 fn latest_meets(pool: &Sealed<'_>, choices: &[CandId], need: &NeedRef<'_>) -> bool
     ensures { result ≡ true → is_met pool.now choices.now (need_of_ref need.now) ≡ true }
 {
@@ -155,7 +159,7 @@ fn wants(pool: &Sealed<'_>, choices: &CandidateSet, details: &Details<'_>) -> bo
     !is_met(pool, choices, &NeedRef::Named(details.name()))
 }
 
-// Whether a choice meets each of some dependencies.
+// Whether each of these dependencies is met by a choice.
 fn all_met(pool: &Sealed<'_>, choices: &CandidateSet, deps: &Deps<'_>) -> bool
     ensures { result ≡ all_met pool.now choices.now deps.now }
 {
@@ -203,6 +207,7 @@ fn push_met(
     ensures within { OnOk result (AreAllMembersOf by.old.items choices.now →
         AreAllMembersOf by.new.items choices.now) }
     ensures more { OnOk result (AreAllMembersOf by.old.items by.new.items) }
+    // If a choice meets the dependency, so does a member of the new list.
     ensures met { OnOk result (is_met pool.now choices.now (entry (dependency dep.now)) ≡ true →
         is_met pool.now by.new.items (entry (dependency dep.now)) ≡ true) }
 {
@@ -218,6 +223,7 @@ fn push_met(
 /// A choice that occupies a name. All choices are searched if they are fewer than the candidates
 /// that offer the name.
 pub fn occupant(pool: &Sealed<'_>, choices: &CandidateSet, name: &[u8]) -> Option<CandId>
+    // None: no choice occupies the name. Otherwise: a choice that occupies it.
     ensures { MatchOption result ((k : ℕ) → IsIn k choices.now →
         candidate_at_passes pool.now (occupies_name name.now) k ≡ false) (λ id. IsIn id choices.now
         × (candidate_at_passes pool.now (occupies_name name.now) id ≡ true)) }
@@ -229,13 +235,15 @@ pub fn occupant(pool: &Sealed<'_>, choices: &CandidateSet, name: &[u8]) -> Optio
     occupant_among(pool, choices, offers, name)
 }
 
-// The first of some candidates that is a choice and occupies a name.
+// The first of the candidates `ids` that is a choice and occupies the name.
 fn occupant_among(
     pool: &Sealed<'_>,
     choices: &CandidateSet,
     ids: &[CandId],
     name: &[u8],
 ) -> Option<CandId>
+    // None: none of these places is that of a choice that occupies the name. Otherwise: a choice
+    // that occupies it.
     ensures { MatchOption result ((k : ℕ) → IsIn k ids.now → IsIn k choices.now →
         candidate_at_passes pool.now (occupies_name name.now) k ≡ false) (λ id. IsIn id choices.now
         × (candidate_at_passes pool.now (occupies_name name.now) id ≡ true)) }
@@ -250,6 +258,7 @@ fn occupant_among(
 
 // Whether the candidate is a choice, and occupies the name.
 fn is_choice_occupying(pool: &Sealed<'_>, choices: &CandidateSet, id: CandId, name: &[u8]) -> bool
+    // True: the place is that of a choice that occupies the name. False: it is not.
     ensures { MatchBool result (IsIn id choices.now
         × (candidate_at_passes pool.now (occupies_name name.now) id ≡ true)) (IsIn id choices.now →
         candidate_at_passes pool.now (occupies_name name.now) id ≡ false) }

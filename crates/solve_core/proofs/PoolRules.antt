@@ -8,7 +8,7 @@ use Rattle.dep_core.specs.Dependency.{Dependency}
 use Rattle.search_choices.specs.candidate_core.Candidates.{Candidate, Need, entry, meets_dependency, occupies_name}
 use Rattle.search_choices.specs.candidate_core.Options.{IsIn}
 use Rattle.search_choices.specs.candidate_core.Rank.{SealedPool, candidate_at, candidate_at_passes}
-use Rattle.search_choices.specs.search_tables.Selection.{conflicts_with, depends_at, does_exclude, exclude_each_other, needs, occupied_names, occupied_names_at, positive_needs, raised_needs, share_a_name}
+use Rattle.search_choices.specs.search_tables.Selection.{conflicts_with, depends_at, does_exclude, exclude_each_other, needs, occupied_names, occupied_names_at, positive_needs, needs_of_world_and_chosen, share_a_name}
 use Rattle.search_choices.proofs.search_tables.Theory.{in_left, in_right}
 use Rattle.search_choices.proofs.search_tables.Places.{there_is}
 use Rattle.search_choices.proofs.search_tables.PoolFacts.{in_filter, in_flat, in_map}
@@ -23,13 +23,13 @@ module _ (pool : SealedPool) where
   -- an entry of world is a need
   pub world_raises : (d : Dependency) → IsIn d pool.world → d.conflict ≡ false → IsIn (entry d) (needs pool [])
   world_raises d there plain =
-      in_left (entry d) (raised_needs pool []) _ (in_left (entry d) (positive_needs pool.world) _ (positive d pool.world there plain))
+      in_left (entry d) (needs_of_world_and_chosen pool []) _ (in_left (entry d) (positive_needs pool.world) _ (positive d pool.world there plain))
 
   -- a dependency is a need of the candidate that has it
   pub choice_raises : (c : ℕ) (d : Dependency) → IsIn d (depends_at pool c) → d.conflict ≡ false → IsIn (entry d) (needs pool (c ∷ []))
   choice_raises c d there plain =
       let of : ℕ → List Need = λ k. positive_needs (depends_at pool k) in
-      in_left (entry d) (raised_needs pool (c ∷ [])) _ (in_right (entry d) (positive_needs pool.world) (flat_map of (c ∷ []))
+      in_left (entry d) (needs_of_world_and_chosen pool (c ∷ [])) _ (in_right (entry d) (positive_needs pool.world) (flat_map of (c ∷ []))
       (in_flat of (entry d) c (c ∷ []) (inl refl) (positive d (depends_at pool c) there plain)))
 
   -- a dependency of the candidate that is there

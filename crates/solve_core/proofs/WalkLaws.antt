@@ -11,7 +11,7 @@ use Rattle.search_choices.specs.candidate_core.Candidates.{Need, is_eligible}
 use Rattle.search_choices.specs.candidate_core.Rank.{SealedPool, is_better, meets_at, rank_cmp}
 use Rattle.search_choices.specs.candidate_core.Options.{IsSortedBestFirst, IsIn, options_for, places_passing_from}
 use Rattle.search_choices.specs.search_tables.Reasons.{HasOptions}
-use Rattle.search_choices.specs.search_tables.Selection.{AreAllMembersOf, IsWalkPreferredTo, IsRestOfWalkPreferred, IsFirstPreferredSelection, IsSatisfying, IsWalkOfSelection, IsRestOfWalk, next_need}
+use Rattle.search_choices.specs.search_tables.Selection.{AreAllMembersOf, IsWalkPreferredTo, IsRestOfWalkPreferred, IsFirstPreferredSelection, IsSatisfying, IsSelectionWithWalk, IsRestOfWalk, next_need}
 use Rattle.search_choices.proofs.search_tables.Theory as law
 use Rattle.search_choices.proofs.search_tables.Turns.{PoolFacts}
 use Rattle.search_choices.proofs.search_tables.PoolFacts.{pool_facts}
@@ -61,20 +61,20 @@ module _ (pool : SealedPool) (total : (need : Need) → IsTotalOrder (rank_cmp p
     facts : PoolFacts pool
     facts = pool_facts pool has
 
-    pub walk_satisfies : (selection walk : List ℕ) → IsSatisfying pool selection → IsWalkOfSelection pool selection walk → IsSatisfying pool walk
+    pub walk_satisfies : (selection walk : List ℕ) → IsSatisfying pool selection → IsSelectionWithWalk pool selection walk → IsSatisfying pool walk
     walk_satisfies selection walk s walked =
         satisfying_of_closed pool walk (law.law facts selection walk (tt, (λ c h. absurd h), λ a b h. absurd h) (closed_of_satisfying pool selection s) walked)
 
-    pub walk_of_walk : (selection walk : List ℕ) → IsWalkOfSelection pool selection walk → IsWalkOfSelection pool walk walk
+    pub walk_of_walk : (selection walk : List ℕ) → IsSelectionWithWalk pool selection walk → IsSelectionWithWalk pool walk walk
     walk_of_walk selection walk walked = law.walk_idem facts selection walk walked
 
-    pub has_a_walk : (selection : List ℕ) → IsSatisfying pool selection → (walk : List ℕ) × IsWalkOfSelection pool selection walk
+    pub has_a_walk : (selection : List ℕ) → IsSatisfying pool selection → (walk : List ℕ) × IsSelectionWithWalk pool selection walk
     has_a_walk selection s = law.walk_of_sat facts (λ q. sorted_of (is_better pool q) (options_for pool q) (has q).best_first) selection (closed_of_satisfying pool selection s)
 
-    pub has_one_walk : (selection walk other : List ℕ) → IsWalkOfSelection pool selection walk → IsWalkOfSelection pool selection other → walk ≡ other
+    pub has_one_walk : (selection walk other : List ℕ) → IsSelectionWithWalk pool selection walk → IsSelectionWithWalk pool selection other → walk ≡ other
     has_one_walk selection walk other a b = law.walk_unique facts one_way selection [] walk other a b
 
-    pub walks_compare : (selection other walk second : List ℕ) → IsSatisfying pool selection → IsSatisfying pool other → IsWalkOfSelection pool selection walk → IsWalkOfSelection pool other second → (walk ≡ second) ⊎ (IsWalkPreferredTo pool walk second ⊎ IsWalkPreferredTo pool second walk)
+    pub walks_compare : (selection other walk second : List ℕ) → IsSatisfying pool selection → IsSatisfying pool other → IsSelectionWithWalk pool selection walk → IsSelectionWithWalk pool other second → (walk ≡ second) ⊎ (IsWalkPreferredTo pool walk second ⊎ IsWalkPreferredTo pool second walk)
     walks_compare selection other walk second s o a b =
         law.before_total facts (λ q c d gc gd mc md. one_of q c d) selection other [] walk second (closed_of_satisfying pool selection s) (closed_of_satisfying pool other o) a b
 

@@ -23,13 +23,14 @@ most_digits = 2 ^ 64
 abbrev pub digit : FrameValue → ℕ
 digit f = suc (length f.1)
 
--- the number with these digits in a base, the first of `room` digits having the most weight
+-- the number with these digits in the base `b`. The first digit is the most significant one; the number has
+-- `room` digits, and those that are missing at the end count as 0
 unfoldable pub weight : ℕ → ℕ → List ℕ → ℕ
 weight b room [] = 0
 weight b zero (d ∷ ds) = 0
 weight b (suc room) (d ∷ ds) = d * power b room + weight b room ds
 
--- the digits of the frames of some turns, the lowest frame's first
+-- the digits of the frames of these turns, the first turn's digit first
 abbrev pub digits : List (FrameValue × ℕ) → List ℕ
 digits [] = []
 digits (turn ∷ turns) = digit turn.0 ∷ digits turns

@@ -104,7 +104,8 @@ pub(crate) fn resolvent(
     Ok(Clause { members, options })
 }
 
-// Appends those of some candidates but one that a list has not.
+// Appends to the list each of the candidates `ids` that it does not have, except for the candidate
+// `but`.
 fn add_others(list: &mut Vec<CandId>, ids: &[CandId], but: CandId) -> Result<(), AllocError>
     ensures old { OnOk result (AreAllMembersOf list.old.items list.new.items) }
     ensures new { OnOk result (AreAllMembersOfOr ids.now but list.new.items) }
@@ -142,8 +143,8 @@ fn has(list: &[CandId], id: CandId) -> bool
     false
 }
 
-/// Whether each member of a reason but the given one is a choice, so that the reason rules that one
-/// out.
+/// Whether each member of a reason, except for the candidate `id`, is a choice: then the reason
+/// rules this candidate out.
 pub(crate) fn are_others_choices(members: &[CandId], id: CandId, chosen: &Choices<'_>) -> bool
     ensures { result ≡ true → AreAllMembersOfOr members.now id (choices_of chosen.now) }
 {

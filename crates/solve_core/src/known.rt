@@ -13,7 +13,8 @@ use std::marker::Model;
 /// The number of clauses from which on no further rules are made clauses.
 const MOST_RULES: usize = 262_144;
 
-/// The clauses that are known. Contracts see them as the pool whose clauses they are.
+/// The clauses of one pool that the search knows. In contracts this value stands for the pool. They
+/// do not say which clauses it holds, only that each is one of the pool.
 #[derive(Drop)]
 pub(crate) struct Known<'p> {
     /// The allocator.
@@ -118,7 +119,7 @@ impl<'p> Known<'p> {
         Ok(())
     }
 
-    /// Takes the causes from a step on back.
+    /// Forgets the causes of the steps from an index on.
     pub(crate) fn truncate_causes(&mut self, len: usize)
         ensures { self.new ≡ self.old }
     {

@@ -4,19 +4,21 @@
 ghost use Rattle.std.specs.Prelude.{◌≡◌, ◌⊎◌, ℕ, true, List, [], ◌∷◌, ◌++◌, Some};
 ghost use Rattle.search_choices.specs.candidate_core.Candidates.{Need};
 ghost use Rattle.search_choices.specs.candidate_core.Rank.{SealedPool, is_better, meets_at};
-ghost use Rattle.search_choices.specs.search_tables.Selection.{AreAllMembersOf, IsWalkPreferredTo, IsFirstPreferredSelection, IsSatisfying, IsWalkOfSelection, next_need};
+ghost use Rattle.search_choices.specs.search_tables.Selection.{AreAllMembersOf, IsWalkPreferredTo, IsFirstPreferredSelection, IsSatisfying, IsSelectionWithWalk, next_need};
 
 use crate::selection::options_are_as_promised;
 use search_choices::rank_is_total;
 
 /// The walk of a satisfying selection satisfies too, and is its own walk.
 pub fn walks_satisfy()
+    // The walk of a satisfying selection is a satisfying selection too.
     ensures satisfies { (pool : SealedPool) (selection walk : List ℕ) →
-        IsSatisfying pool selection → IsWalkOfSelection pool selection walk
+        IsSatisfying pool selection → IsSelectionWithWalk pool selection walk
         → IsSatisfying pool walk }
     ensures walked { (pool : SealedPool) (selection walk : List ℕ) →
-        IsWalkOfSelection pool selection walk → IsWalkOfSelection pool walk walk }
+        IsSelectionWithWalk pool selection walk → IsSelectionWithWalk pool walk walk }
 {
+    // Laws that the proof needs; they have no effect at run time.
     options_are_as_promised();
     rank_is_total();
 }
@@ -24,11 +26,13 @@ pub fn walks_satisfy()
 /// Each satisfying selection has a walk, and one only.
 pub fn each_selection_has_one_walk()
     ensures some { (pool : SealedPool) (selection : List ℕ) →
-        IsSatisfying pool selection → (walk : List ℕ) × IsWalkOfSelection pool selection walk }
+        IsSatisfying pool selection → (walk : List ℕ) × IsSelectionWithWalk pool selection walk }
+    // A selection has at most one walk.
     ensures one { (pool : SealedPool) (selection walk other : List ℕ) →
-        IsWalkOfSelection pool selection walk → IsWalkOfSelection pool selection other → walk
+        IsSelectionWithWalk pool selection walk → IsSelectionWithWalk pool selection other → walk
         ≡ other }
 {
+    // Laws that the proof needs; they have no effect at run time.
     options_are_as_promised();
     rank_is_total();
 }
@@ -36,9 +40,10 @@ pub fn each_selection_has_one_walk()
 /// The walks of satisfying selections have one order. Of two different ones, one is preferred to
 /// the other, at a place where both choose, and not the other way round. The order is transitive.
 pub fn walks_have_one_order()
+    // Of the walks of two satisfying selections, one is preferred to the other, or they are equal.
     ensures one_of { (pool : SealedPool) (selection other walk second : List ℕ) →
         IsSatisfying pool selection → IsSatisfying pool other →
-        IsWalkOfSelection pool selection walk → IsWalkOfSelection pool other second →
+        IsSelectionWithWalk pool selection walk → IsSelectionWithWalk pool other second →
         (walk ≡ second) ⊎ (IsWalkPreferredTo pool walk second
         ⊎ IsWalkPreferredTo pool second walk) }
     ensures not_both { (pool : SealedPool) (walk second : List ℕ) →
@@ -46,6 +51,7 @@ pub fn walks_have_one_order()
     ensures transitive { (pool : SealedPool) (a b c : List ℕ) →
         IsWalkPreferredTo pool a b → IsWalkPreferredTo pool b c → IsWalkPreferredTo pool a c }
 {
+    // Laws that the proof needs; they have no effect at run time.
     options_are_as_promised();
     rank_is_total();
 }
@@ -56,6 +62,7 @@ pub fn the_first_selection_is_unique()
         IsFirstPreferredSelection pool trace → IsFirstPreferredSelection pool other → trace
         ≡ other }
 {
+    // Laws that the proof needs; they have no effect at run time.
     options_are_as_promised();
     rank_is_total();
 }
@@ -66,6 +73,7 @@ pub fn a_first_selection_exists()
     ensures { (pool : SealedPool) (selection : List ℕ) →
         IsSatisfying pool selection → (trace : List ℕ) × IsFirstPreferredSelection pool trace }
 {
+    // Laws that the proof needs; they have no effect at run time.
     options_are_as_promised();
     rank_is_total();
 }
@@ -78,6 +86,7 @@ pub fn each_choice_is_the_best_that_can_be_completed()
         IsSatisfying pool selection → AreAllMembersOf (front ++ o ∷ []) selection →
         meets_at pool o need ≡ true → (o ≡ c) ⊎ (is_better pool need c o ≡ true) }
 {
+    // Laws that the proof needs; they have no effect at run time.
     options_are_as_promised();
     rank_is_total();
 }

@@ -114,7 +114,8 @@ fn add_dependency(
     add_need(known, clause, reached)
 }
 
-// The clause of a need that a candidate raises, or world.
+// The clause of a need: its member is the candidate `by` that raises the need, or there is none if
+// world does.
 fn need_clause(
     alloc: Global,
     pool: &Sealed<'_>,
@@ -124,12 +125,14 @@ fn need_clause(
     requires { IsIn (entry (dependency dep.now)) (needs pool.now (option_to_list by)) }
     ensures { IfOk result (λ clause. IsClause pool.now clause) }
 {
+    // A law that the proof needs; it has no effect at run time.
     options_are_as_promised();
     let clause = raiser_and_options(alloc, pool, dep, by)?;
     Ok(clause)
 }
 
-// The raiser of a need, if one has it, and the options.
+// The clause with the candidate that raises the need as its member, if there is one, and with the
+// options.
 fn raiser_and_options(
     alloc: Global,
     pool: &Sealed<'_>,
@@ -150,8 +153,8 @@ fn raiser_and_options(
     Ok(Clause::new(members, options.into_ids()))
 }
 
-// Adds a reason for each other that offers a name which a candidate provides with a version, and
-// that the candidate excludes.
+// Adds a reason for each candidate that the candidate `id` excludes, since both occupy a name that
+// it provides with a version.
 fn add_provided(
     alloc: Global,
     known: &mut Known<'_>,
@@ -171,8 +174,8 @@ fn add_provided(
     Ok(())
 }
 
-// Adds a reason for each of some candidates that a candidate excludes, unless there are too many of
-// them or of clauses.
+// Adds a reason for each of the candidates `others` that the candidate `id` excludes, unless there
+// are too many of them or of clauses.
 fn add_exclusions(
     alloc: Global,
     known: &mut Known<'_>,
@@ -190,7 +193,7 @@ fn add_exclusions(
     Ok(())
 }
 
-// Adds the reason of two candidates, if the first excludes the second.
+// Adds the reason that has just these two candidates, if the first excludes the second.
 fn add_exclusion(
     alloc: Global,
     known: &mut Known<'_>,
@@ -247,7 +250,7 @@ fn is_conflict_met_by(dep: &Dep<'_>, other: &Details<'_>) -> bool
     dep.conflict && other.meets(dep)
 }
 
-// Whether two candidates occupy a name.
+// Whether both candidates occupy one and the same name.
 fn shares_a_name(details: &Details<'_>, other: &Details<'_>) -> bool
     ensures { result ≡ true → list_any (λ name. occupies_name name other.now)
         (occupied_names details.now) ≡ true }
@@ -264,8 +267,10 @@ fn shares_a_name(details: &Details<'_>, other: &Details<'_>) -> bool
     false
 }
 
-// Whether a candidate occupies the name of an entry of provides that occupies it.
+// Whether an entry of provides occupies its name, and the candidate occupies this name too.
 fn occupies_provided(other: &Details<'_>, provided: &Dep<'_>) -> bool
+    // If the result is true, the entry is no conflict and has a version, and the candidate occupies
+    // its name.
     ensures plain { result ≡ true → (dependency provided.now).conflict ≡ false }
     ensures versioned { result ≡ true → is_some (dependency provided.now).version ≡ true }
     ensures occupied { result ≡ true → occupies_name (dependency provided.now).name other.now

@@ -31,13 +31,15 @@ const MOST_LITERALS: usize = 512;
 pub(crate) struct Propagation {
     /// The allocator.
     alloc: Global,
-    /// What follows from the choices.
+    /// The candidates found to be forced or ruled out by the choices, in order.
     trail: Trail,
-    /// Which clauses to look at.
+    /// For each literal, the clauses to be tested when it becomes false.
     watches: Watches,
-    /// The indexes of clauses that may force a literal from the start.
+    /// The indexes of clauses that are to be tested before the steps of the trail: new clauses, and
+    /// those with less than two literals.
     pending: Vec<usize>,
-    /// How many clauses are not learnt; None before the rules of the pool are added.
+    /// How many known clauses are rules of the pool, and not learnt; None before these rules are
+    /// added.
     base: Option<usize>,
 }
 
@@ -53,7 +55,7 @@ impl Propagation {
         }
     }
 
-    /// Adds the rules of the pool, unless that is done.
+    /// Adds the rules of the pool to the known clauses, unless they were added before.
     pub(crate) fn begin(&mut self, known: &mut Known<'_>) -> Result<(), AllocError>
         ensures { known.new ≡ known.old }
     {
@@ -66,7 +68,8 @@ impl Propagation {
         Ok(())
     }
 
-    // Watches each clause.
+    // Lets each known clause watch two of its literals. A clause with less than two becomes
+    // pending.
     fn watch_all(&mut self, known: &Known<'_>) -> Result<(), AllocError> {
         for index in 0..known.len() {
             if let Some(clause) = known.clause_at(index) {
@@ -79,8 +82,8 @@ impl Propagation {
         Ok(())
     }
 
-    /// Learns a clause, unless it has too many members. If there are too many clauses, the others
-    /// are forgotten first: each rules out what it does whether the others are known or not.
+    /// Learns a clause, unless it has too many members. If too many clauses are learnt already,
+    /// these are forgotten first. Each learnt clause is right without the others.
     pub(crate) fn learn(&mut self, clause: Clause, known: &mut Known<'_>) -> Result<(), AllocError>
         requires { IsClause known.old clause }
         ensures { known.new ≡ known.old }
@@ -100,7 +103,7 @@ impl Propagation {
         known.push(clause)
     }
 
-    /// Takes the choices from a level on back.
+    /// Takes the choices back from a level on, which is the number of the choices that remain.
     pub(crate) fn take_back(&mut self, level: usize, known: &mut Known<'_>)
         ensures { known.new ≡ known.old }
     {
@@ -109,7 +112,7 @@ impl Propagation {
         }
     }
 
-    /// How many choices were propagated.
+    /// The number of the choices that were propagated.
     pub(crate) fn level(&self) -> usize {
         self.trail.level()
     }
@@ -121,6 +124,7 @@ impl Propagation {
         choice: CandId,
         known: &mut Known<'_>,
     ) -> Result<Option<Clause>, AllocError>
+        // The pool of the known clauses is unchanged; `Known` is seen as its pool.
         ensures known { known.new ≡ known.old }
         ensures conflict { IsClauseIfFound known.old result }
     {
@@ -153,9 +157,10 @@ impl Propagation {
         Ok(Some(cause.copy(self.alloc)?))
     }
 
-    /// Propagates what was learnt and the steps that are left. It returns a clause that the choices
-    /// contradict, if one is found.
+    /// Propagates the pending clauses, and then the steps of the trail that are not yet propagated.
+    /// It returns a clause that the choices contradict, if one is found.
     pub(crate) fn propagate(&mut self, known: &mut Known<'_>) -> Result<Option<Clause>, AllocError>
+        // The pool of the known clauses is unchanged; `Known` is seen as its pool.
         ensures known { known.new ≡ known.old }
         ensures conflict { IsClauseIfFound known.old result }
     {
@@ -166,12 +171,13 @@ impl Propagation {
         self.propagate_steps(known)
     }
 
-    // Derives what each of some clauses forces.
+    // For each clause at these indexes: appends the literal that it forces to the trail.
     fn derive_all(
         &mut self,
         indexes: &[usize],
         known: &mut Known<'_>,
     ) -> Result<Option<Clause>, AllocError>
+        // The pool of the known clauses is unchanged; `Known` is seen as its pool.
         ensures known { known.new ≡ known.old }
         ensures conflict { IsClauseIfFound known.old result }
     {
@@ -183,8 +189,9 @@ impl Propagation {
         Ok(None)
     }
 
-    // Propagates the steps that are left.
+    // Propagates the steps of the trail that are not yet propagated.
     fn propagate_steps(&mut self, known: &mut Known<'_>) -> Result<Option<Clause>, AllocError>
+        // The pool of the known clauses is unchanged; `Known` is seen as its pool.
         ensures known { known.new ≡ known.old }
         ensures conflict { IsClauseIfFound known.old result }
     {
@@ -201,12 +208,13 @@ impl Propagation {
         Ok(None)
     }
 
-    // Looks at each clause that watches a literal which became false.
+    // Tests each clause that watches this literal, which became false.
     fn visit(
         &mut self,
         literal: Literal,
         known: &mut Known<'_>,
     ) -> Result<Option<Clause>, AllocError>
+        // The pool of the known clauses is unchanged; `Known` is seen as its pool.
         ensures known { known.new ≡ known.old }
         ensures conflict { IsClauseIfFound known.old result }
     {
@@ -222,7 +230,8 @@ impl Propagation {
         Ok(None)
     }
 
-    // The clause at a place of those that watch a false literal, if it may force another one.
+    // Of the clauses that watch a false literal: the index of the one at a place in their list, if
+    // it may force another literal.
     fn forcing(
         &mut self,
         literal: Literal,
@@ -241,9 +250,10 @@ impl Propagation {
         Ok(if is_forcing { Some(index) } else { None })
     }
 
-    // Appends the last open literal of a clause to the trail. If all its literals are false, the
-    // clause is returned, without the options that are ruled out.
+    // Appends the last literal of a clause whose truth is unknown to the trail, if all others are
+    // false. If all are false, the clause is returned, without the options that are ruled out.
     fn derive(&mut self, index: usize, known: &mut Known<'_>) -> Result<Option<Clause>, AllocError>
+        // The pool of the known clauses is unchanged; `Known` is seen as its pool.
         ensures known { known.new ≡ known.old }
         ensures conflict { IsClauseIfFound known.old result }
     {
@@ -282,7 +292,8 @@ impl Propagation {
         Ok(Some(clause))
     }
 
-    // A clause without an option, by resolution, if the option is ruled out.
+    // A clause from which an option that is ruled out was removed, by resolution; otherwise the
+    // clause.
     fn without_option(
         &self,
         clause: Clause,
@@ -306,6 +317,7 @@ impl Propagation {
         known: &mut Known<'_>,
     ) -> Result<Clause, AllocError>
         requires { IsClause known.old conflict }
+        // The pool of the known clauses is unchanged; `Known` is seen as its pool.
         ensures known { known.new ≡ known.old }
         ensures clause { IfOk result (λ clause. IsClause known.old clause) }
     {

@@ -36,9 +36,11 @@ pub(crate) struct Turn {
 impl Model for Turn {
     ghost use Rattle.std.specs.Prelude.{ℕ, List};
 
+    // The value of a turn: the frame, and the place of the choice in the list of candidates.
     ghost Value = { (List (ℕ × List ℕ) × List ℕ × List ℕ) × ℕ };
 
-    // In this order: the frame, and the choice.
+    // The frame's value is its ruled-out options with the other members of their reasons, the
+    // options left, and the choices that raised the need. The second part is the choice.
     ghost view = { λ turn. (turn.frame, turn.choice) };
 }
 
@@ -56,7 +58,8 @@ impl Turn {
 /// is checked before it is used, so it may be stale.
 #[derive(Clone, Copy)]
 struct Hint {
-    /// The number of the turn, counted from 0; the latest one's frame may still be under way.
+    /// The index of the turn, counted from 0. It equals the number of turns while the frame of this
+    /// turn is still in use, and not yet stored.
     turn: usize,
     /// The index of the option among those that are ruled out there, counted from 0.
     place: usize,
@@ -129,6 +132,7 @@ impl<'p> Search<'p> {
         // The options that are left are fewer than the base of the measure's digits (*base* of
         // `Measure`).
         ensures few { IfOk result (λ found. IfSome found (λ frame. length frame.1 < 2 ^ 64)) }
+        // None: no need is left. Otherwise: the frame of the next need.
         ensures frame { IfOk result (λ found. MatchOption found (next_need
             (pool_of self.new.chosen) (choices_of self.new.chosen)
             ≡ None) (λ frame. IsFrameOf (pool_of self.new.chosen)
@@ -151,9 +155,12 @@ impl<'p> Search<'p> {
     fn reason_against(&mut self, id: CandId) -> Result<Option<Vec<CandId>>, AllocError>
         requires search { IsSearch self.old.chosen self.old.turns.items }
         requires within { id < length (pool_of self.old.chosen).candidates }
+        // The option is no choice yet.
         requires once { IsIn id (choices_of self.old.chosen) → ⊥ }
         requires matches { AreMatchesAmong (pool_of self.old.chosen).candidates self.old.matches }
         requires known { self.old.known ≡ pool_of self.old.chosen }
+        // None: the option and no choice exclude each other. Otherwise: choices that together rule
+        // it out.
         ensures found { IfOk result (λ found. MatchOption found ((other : ℕ) →
             IsIn other (choices_of self.old.chosen) →
             exclude_each_other (pool_of self.old.chosen) other id ≡ false)
@@ -195,8 +202,8 @@ impl<'p> Search<'p> {
     }
 
     // The other members of the reason with which an option is ruled out at an earlier turn. As long
-    // as that turn exists, they rule it out here too. The hint may be stale, so its option is
-    // compared with this one.
+    // as that turn exists, they rule the option out here too. The hint may be stale, so its option
+    // is compared with this one.
     fn ruled_out_with(&self, id: CandId) -> Option<&[CandId]>
         requires { IsSearch self.now.chosen self.now.turns.items }
         ensures { IfSome result (λ others. IsRuledOutBy (pool_of self.now.chosen)
@@ -235,6 +242,7 @@ impl<'p> Search<'p> {
     /// is returned; None if no option is left.
     pub(crate) fn next_option(&mut self, top: &mut Frame) -> Result<Option<CandId>, AllocError>
         requires search { IsSearch self.old.chosen self.old.turns.items }
+        // The frame is that of the next need.
         requires open_now { IsFrameOf (pool_of self.old.chosen)
             (choices_of self.old.chosen) top.old }
         requires matches { AreMatchesAmong (pool_of self.old.chosen).candidates self.old.matches }
@@ -244,14 +252,18 @@ impl<'p> Search<'p> {
         ensures known { self.new.known ≡ self.old.known }
         ensures matches { OnOk result
             (AreMatchesAmong (pool_of self.old.chosen).candidates self.new.matches) }
+        // None: no option of the frame is left. Otherwise the option was taken from the frame, and
+        // can join the choices.
         ensures found { IfOk result (λ found. MatchOption found (IsExhaustedFrame
             (pool_of self.old.chosen) (choices_of self.old.chosen) top.new)
             (λ id. IsFrameTaking (pool_of self.old.chosen) (choices_of self.old.chosen) top.new id
             × AreCompatible (pool_of self.old.chosen)
             (choices_of self.old.chosen ++ id ∷ []))) }
+        // The number of options left does not rise. It falls if an option is returned.
         ensures fewer { IfOk result (λ found. MatchOption found
             (length top.new.1 ≤ length top.old.1) (λ _. length top.new.1 < length top.old.1)) }
     {
+        // A law that the proof needs; it has no effect at run time.
         options_are_as_promised();
         while let Some(id) = top.take_next() {
             match self.reason_against(id)? {
@@ -273,8 +285,10 @@ impl<'p> Search<'p> {
     /// may only be dropped.
     pub(crate) fn choose(&mut self, frame: Frame, choice: CandId) -> Result<(), AllocError>
         requires search { IsSearch self.old.chosen self.old.turns.items }
+        // The choice was just taken from the frame of the next need.
         requires taken { IsFrameTaking (pool_of self.old.chosen)
             (choices_of self.old.chosen) frame choice }
+        // The choice can join the choices made so far.
         requires clean { AreCompatible (pool_of self.old.chosen) (choices_of self.old.chosen
             ++ choice ∷ []) }
         ensures search { OnOk result (IsSearch self.new.chosen self.new.turns.items) }
@@ -294,12 +308,15 @@ impl<'p> Search<'p> {
     /// choice, so that no selection satisfies world.
     pub(crate) fn step_back(&mut self, spent: Frame) -> Result<Option<Frame>, AllocError>
         requires search { IsSearch self.old.chosen self.old.turns.items }
+        // The frame is that of the next need, and has no option left.
         requires spent { IsExhaustedFrame (pool_of self.old.chosen) (choices_of self.old.chosen)
             spent }
         requires known { self.old.known ≡ pool_of self.old.chosen }
         ensures pool { pool_of self.new.chosen ≡ pool_of self.old.chosen }
         ensures matches { self.new.matches ≡ self.old.matches }
         ensures known { self.new.known ≡ self.old.known }
+        // None: the empty reason, so no selection satisfies world. Otherwise the frame is that of
+        // the next need after the choices that remain.
         ensures found { IfOk result (λ found. MatchOption found (IsReason
             (pool_of self.old.chosen) [])
             (λ frame. IsSearch self.new.chosen self.new.turns.items
@@ -309,6 +326,7 @@ impl<'p> Search<'p> {
             (λ frame. search_measure self.new.turns.items frame < search_measure self.old.turns.items
             spent)) }
     {
+        // A law that the proof needs; it has no effect at run time.
         options_are_as_promised();
         let last = std::mem::replace(&mut self.reason, CandidateSet::new(self.alloc));
         self.reason = reason_of(last, &spent)?;
@@ -327,6 +345,8 @@ impl<'p> Search<'p> {
         ensures turns { self.new.turns.items ≡ self.old.turns.items }
         ensures matches { self.new.matches ≡ self.old.matches }
         ensures known { self.new.known ≡ self.old.known }
+        // If the result is true, the members of the stored reason are choices, and no satisfying
+        // selection has them all.
         ensures dead { IfOk result (λ is_dead. is_dead ≡ true →
             AreAllMembersOf self.new.reason (choices_of self.old.chosen)
             × IsReason (pool_of self.old.chosen) self.new.reason) }
@@ -380,19 +400,22 @@ impl<'p> Search<'p> {
         ensures pool { pool_of self.new.chosen ≡ pool_of self.old.chosen }
         ensures matches { self.new.matches ≡ self.old.matches }
         ensures known { self.new.known ≡ self.old.known }
+        // None: the empty reason, so no selection satisfies world. Otherwise the frame is that of
+        // the next need after the choices that remain.
         ensures found { IfOk result (λ found. MatchOption found (IsReason
             (pool_of self.old.chosen) [])
             (λ frame. IsSearch self.new.chosen self.new.turns.items
             × IsFrameOf (pool_of self.new.chosen) (choices_of self.new.chosen) frame)) }
+        // The measure falls, whichever frame had no option left.
         ensures lighter { (spent : FrameValue) → IfOk result (λ found. IfSome found
             (λ frame. search_measure self.new.turns.items frame < search_measure self.old.turns.items
             spent)) }
     {
         while let Some(turn) = self.turns.pop() {
-            // Each turn has its choice: both are removed.
+            // Each turn belongs to one choice: the turn and its choice are both removed.
             self.chosen.pop();
             let Turn { mut frame, choice } = turn;
-            // This is the latest choice of the reason: the others rule it out.
+            // This is the latest choice of the reason: the other members of the reason rule it out.
             if self.reason.has(choice) {
                 self.propagation
                     .take_back(self.turns.len(), &mut self.known);
@@ -437,6 +460,7 @@ fn reason_of(used: CandidateSet, spent: &Frame) -> Result<CandidateSet, AllocErr
 
 // Whether a clause is a reason whose members are choices.
 fn is_reason_of_choices(clause: &Clause, chosen: &Choices<'_>) -> bool
+    // A reason is a clause without options.
     ensures reason { result ≡ true → clause.now.1 ≡ [] }
     ensures choices { result ≡ true → AreAllMembersOf clause.now.0 (choices_of chosen.now) }
 {
@@ -446,7 +470,7 @@ fn is_reason_of_choices(clause: &Clause, chosen: &Choices<'_>) -> bool
     are_choices(clause.members(), chosen)
 }
 
-// A set of these candidates, made in a reused set.
+// A set of the candidates `ids`. It reuses the memory of the set `used`.
 fn set_of(used: CandidateSet, ids: &[CandId]) -> Result<CandidateSet, AllocError>
     ensures { IfOk result (λ members. HasSameMembers members ids.now) }
 {
@@ -456,7 +480,7 @@ fn set_of(used: CandidateSet, ids: &[CandId]) -> Result<CandidateSet, AllocError
     Ok(members)
 }
 
-// All members of a reason but one, which the others rule out.
+// The members of a reason without this choice. They rule the choice out.
 fn without(alloc: Global, members: &[CandId], choice: CandId) -> Result<Vec<CandId>, AllocError>
     ensures { IfOk result (λ others. others.items ≡ filter (λ id. not (id == choice)) members.now) }
 {

@@ -19,6 +19,7 @@ use std::alloc::{AllocError, Global};
 pub(crate) fn options_are_as_promised()
     ensures { (pool : SealedPool) (need : Need) → HasOptions pool need }
 {
+    // A law that the proof needs; it has no effect at run time.
     options_are_the_best_first();
 }
 
@@ -26,6 +27,7 @@ pub(crate) fn options_are_as_promised()
 /// None is returned only if no selection satisfies it; out of memory is possible in both cases.
 pub fn solve(alloc: Global, pool: &Sealed<'_>, world: &World) -> Result<Option<Trace>, AllocError>
     requires { world.now ≡ pool.now.world }
+    // None: no selection satisfies world. Otherwise: the preferred selection.
     ensures { IfOk result (λ found. MatchOption found
         ((selection : List ℕ) → IsSatisfying pool.now selection → ⊥)
         (λ trace. IsFirstPreferredSelection pool.now trace)) }
@@ -41,10 +43,12 @@ fn first_selection(alloc: Global, search: &mut Search<'_>) -> Result<Option<Trac
     requires search { IsSearch search.old.chosen search.old.turns.items }
     requires matches { AreMatchesAmong (pool_of search.old.chosen).candidates search.old.matches }
     requires known { search.old.known ≡ pool_of search.old.chosen }
+    // None: no selection satisfies world. Otherwise: the preferred selection.
     ensures { IfOk result (λ found. MatchOption found ((selection : List ℕ) →
         IsSatisfying (pool_of search.old.chosen) selection → ⊥)
         (λ trace. IsFirstPreferredSelection (pool_of search.old.chosen) trace)) }
 {
+    // A law that the proof needs; it has no effect at run time.
     options_are_as_promised();
     let Some(frame) = search.next_frame()? else {
         return Ok(Some(search.trace(alloc)?));

@@ -39,19 +39,19 @@ struct Step {
 /// What a clause says under the trail.
 #[derive(Clone, Copy)]
 pub(crate) enum Status {
-    /// Nothing further: a literal of it is true, or two are open.
+    /// The clause forces nothing: one of its literals is true, or the truth of two is unknown.
     Quiet,
-    /// One literal of it is open, and all others are false: so the open one is true.
+    /// The truth of one literal is unknown, and all others are false: so this literal is true.
     Unit(Literal),
     /// All its literals are false.
     Conflict,
 }
 
-/// The trail.
+/// The trail, with what is needed to search it and to take choices back.
 #[derive(Drop)]
 pub(crate) struct Trail {
-    /// For each place in the list of candidates, up to the greatest that was in the trail, what is
-    /// known.
+    /// For each place in the list of candidates, what the trail says of this candidate; None if
+    /// nothing. The list ends at the greatest place that was in the trail.
     values: Vec<Option<Value>>,
     /// The steps.
     steps: Vec<Step>,
@@ -72,7 +72,7 @@ impl Trail {
         }
     }
 
-    // What is known of the candidate at a place.
+    // What the trail says of the candidate at a place, if it has a step.
     fn value(&self, place: u32) -> Option<Value> {
         *self.values.get(place as usize)?
     }
@@ -82,7 +82,7 @@ impl Trail {
         self.levels.len()
     }
 
-    /// Whether a literal is known to be true; None if it is open.
+    /// Whether a literal is true by the trail; None if its truth is unknown.
     pub(crate) fn truth(&self, literal: Literal) -> Option<bool> {
         let value = self.value(literal.place)?;
         Some(value.is_in == literal.is_in)
@@ -94,7 +94,8 @@ impl Trail {
         if value.is_in { None } else { Some(value.step) }
     }
 
-    /// The step of a literal's candidate; the number of all steps if it has none.
+    /// The index of the step of a literal's candidate. If the candidate has no step, it is the
+    /// number of all steps.
     pub(crate) fn step_of(&self, literal: Literal) -> usize {
         match self.value(literal.place) {
             Some(value) => value.step,
@@ -102,7 +103,8 @@ impl Trail {
         }
     }
 
-    /// Appends a step.
+    /// Appends the step that makes a literal true. `is_choice` says whether it is a choice of the
+    /// search.
     pub(crate) fn push(&mut self, literal: Literal, is_choice: bool) -> Result<(), AllocError> {
         let Literal { place, is_in } = literal;
         let value = Value {
@@ -119,14 +121,15 @@ impl Trail {
         Ok(())
     }
 
-    /// Begins the level of a further choice.
+    /// Begins the steps of a further choice (its level): stores how many steps were before it.
     pub(crate) fn begin_level(&mut self) -> Result<(), AllocError> {
         let steps = self.steps.len();
         self.levels.push(steps)?;
         Ok(())
     }
 
-    /// The literal that the next step to be propagated made false, if there is a step left.
+    /// The literal that the next step to be propagated made false, if there is such a step. The
+    /// step counts as propagated then.
     pub(crate) fn next_falsified(&mut self) -> Option<Literal> {
         let step = *self.steps.get(self.next)?;
         self.next += 1;
@@ -136,8 +139,8 @@ impl Trail {
         })
     }
 
-    /// Takes the choices from a level on back, with the steps after them. It returns how many steps
-    /// are left; None if there is no such choice.
+    /// Takes choices back, so that `level` of them remain, with all their steps. It returns how
+    /// many steps are left; None if there are no more choices than that.
     pub(crate) fn take_back(&mut self, level: usize) -> Option<usize> {
         let left = *self.levels.get(level)?;
         self.levels.truncate(level);
@@ -172,7 +175,8 @@ impl Trail {
         }
     }
 
-    // What a clause with these literals alone says.
+    // What a clause with these literals alone would say. `is_in` says whether its literals are that
+    // the candidates are in the selection, or that they are not.
     fn status_of(&self, ids: &[CandId], is_in: bool) -> Status {
         let mut status = Status::Conflict;
         for id in ids {
@@ -189,7 +193,7 @@ impl Trail {
         status
     }
 
-    /// The step of the latest of some members that was forced.
+    /// The step of the member that was forced last; None if no member was forced.
     pub(crate) fn latest_forced(&self, members: &[CandId]) -> Option<usize> {
         let mut latest = None;
         for id in members {
@@ -198,13 +202,14 @@ impl Trail {
         latest
     }
 
-    /// The candidate of a step.
+    /// The candidate of the step at an index.
     pub(crate) fn candidate_at(&self, step: usize) -> Option<CandId> {
         let step = self.steps.get(step)?;
         Some(CandId { place: step.place })
     }
 
-    // The step at which the candidate at a place was forced.
+    // The step at which the candidate at a place was forced; None if it is a choice, ruled out or
+    // without a step.
     fn forced_step(&self, place: u32) -> Option<usize> {
         let value = self.value(place)?;
         let step = self.steps.get(value.step)?;
@@ -215,7 +220,8 @@ impl Trail {
         }
     }
 
-    /// Whether at most one of some members is of the level of the latest one.
+    /// Whether at most one of the members has the greatest level that a member has. The level is
+    /// the number of choices made up to the step of the member; it is 0 if the member has no step.
     pub(crate) fn is_last_alone(&self, members: &[CandId]) -> bool {
         let mut last = 0;
         let mut is_alone = true;
@@ -235,7 +241,7 @@ impl Trail {
     }
 }
 
-// The later of two steps.
+// The later of two steps, each of which may be absent.
 fn later(one: Option<usize>, other: Option<usize>) -> Option<usize> {
     match (one, other) {
         (Some(a), Some(b)) => Some(if a < b { b } else { a }),
@@ -244,7 +250,7 @@ fn later(one: Option<usize>, other: Option<usize>) -> Option<usize> {
     }
 }
 
-// Notes what is known of the candidate at a place.
+// Stores what the trail says of the candidate at a place. The list grows as needed.
 fn note(values: &mut Vec<Option<Value>>, place: usize, value: Value) -> Result<(), AllocError> {
     while values.len() <= place {
         values.push(None)?;

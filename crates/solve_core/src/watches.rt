@@ -1,6 +1,7 @@
-//! Which clauses to look at, by two watched literals of each, as in a SAT solver: a clause can force
-//! a literal only once one of its watched literals is false. No contract mentions watches: what they
-//! name is checked before it is used, so a wrong one only costs time.
+//! Which clauses are tested when a literal becomes false: the clauses that watch it. Each clause
+//! watches two of its literals, as in a SAT solver, since it can force a literal only once one of
+//! these two is false. No contract mentions watches: what they name is checked before it is used,
+//! so a wrong one only costs time.
 ghost use Rattle.std.specs.Prelude.{◌<◌, OnOk, vec_len};
 
 use crate::clauses::Clause;
@@ -11,12 +12,14 @@ use std::alloc::{AllocError, Global};
 /// The two watched literals of a clause; one literal twice if the clause has no other.
 #[derive(Clone, Copy)]
 struct Watch {
+    /// One watched literal.
     one: Literal,
+    /// The other one; the same literal if the clause has no other.
     other: Literal,
 }
 
 impl Watch {
-    /// The watched literal beside this one, if this one is watched.
+    /// The other watched literal, if this one is watched.
     fn beside(&self, literal: Literal) -> Option<Literal> {
         if is_same(self.one, literal) {
             return Some(self.other);
@@ -28,7 +31,7 @@ impl Watch {
     }
 }
 
-/// The indexes of the clauses that watch the literals of a candidate, and of some that no longer do.
+/// The indexes of the clauses that watch the literals of a candidate, and of some that did before.
 #[derive(Drop)]
 struct Watching {
     /// The clauses that watch the literal that the candidate is in the selection.
@@ -38,12 +41,13 @@ struct Watching {
 }
 
 impl Watching {
-    // The clauses that watch a literal of the candidate.
+    // The clauses that watch one of the two literals of the candidate: that it is in, or that it is
+    // not.
     fn of(&self, is_in: bool) -> &Vec<usize> {
         if is_in { &self.is_in } else { &self.is_out }
     }
 
-    // The clauses that watch a literal of the candidate, to be changed.
+    // As `of`, to be changed.
     fn of_mut(&mut self, is_in: bool) -> &mut Vec<usize> {
         if is_in {
             &mut self.is_in
@@ -74,7 +78,7 @@ impl Watches {
         }
     }
 
-    /// Forgets the clauses from an index on.
+    /// Forgets the watches of the clauses from an index on; `len` clauses keep theirs.
     pub(crate) fn truncate(&mut self, len: usize) {
         self.watches.truncate(len);
     }
@@ -100,7 +104,8 @@ impl Watches {
         self.push_watch(watch)
     }
 
-    // Adds the watches of the next clause.
+    // Appends the watched literals of the next clause, and adds the clause to the lists of these
+    // literals.
     fn push_watch(&mut self, watch: Option<Watch>) -> Result<(), AllocError> {
         let index = self.watches.len();
         self.watches.push(watch)?;
@@ -114,7 +119,7 @@ impl Watches {
         Ok(())
     }
 
-    // Adds a clause to those that watch a literal.
+    // Adds the clause with an index to those that watch a literal.
     fn add(&mut self, literal: Literal, index: usize) -> Result<(), AllocError> {
         let place = literal.place as usize;
         grow(self.alloc, &mut self.places, place)?;
@@ -130,14 +135,15 @@ impl Watches {
         }
     }
 
-    /// The index of the clause at a place of those that watch a literal.
+    /// The index of a clause that watches a literal: of the one at a place in the list of these.
     pub(crate) fn at(&self, literal: Literal, place: usize) -> Option<usize> {
         let watching = self.places.get(literal.place as usize)?;
         Some(*watching.of(literal.is_in).get(place)?)
     }
 
-    /// Lets a clause, which is at a place of those that watch a false literal, watch another literal
-    /// that is not false. Returns whether there is none, so that the clause may force a literal.
+    /// Lets a clause that watches a false literal watch another literal that is not false. `place`
+    /// is its place among the clauses that watch the false literal. Returns true if there is no
+    /// other literal, so that the clause may force one.
     pub(crate) fn is_forcing(
         &mut self,
         literal: Literal,
@@ -173,7 +179,8 @@ impl Watches {
         watch.beside(literal)
     }
 
-    // Removes the clause at a place of those that watch a literal; the last one takes its place.
+    // Removes a clause from those that watch a literal: the one at a place in their list. The last
+    // one of the list takes its place.
     fn remove(&mut self, literal: Literal, place: usize) {
         let Some(watching) = self.places.get_mut(literal.place as usize) else {
             return;
@@ -193,7 +200,8 @@ fn is_same(one: Literal, other: Literal) -> bool {
     one.place == other.place && one.is_in == other.is_in
 }
 
-// Of two watched literals and a further one, the two that it is better to watch, the best first.
+// The watched literals of a clause after a further literal of it was seen: the two that became
+// false last, or are not false. The best is first.
 fn better(watch: Option<Watch>, literal: Literal, trail: &Trail) -> Option<Watch> {
     let Some(Watch { one, other }) = watch else {
         return Some(Watch {
@@ -220,7 +228,8 @@ fn better(watch: Option<Watch>, literal: Literal, trail: &Trail) -> Option<Watch
     watch
 }
 
-// How good it is to watch a literal: the step at which it became false, or more if it is not false.
+// How well a literal can be watched: the index of the step at which it became false, or the
+// greatest number if it is not false.
 fn watch_rank(literal: Literal, trail: &Trail) -> usize {
     match trail.truth(literal) {
         Some(false) => trail.step_of(literal),
@@ -228,7 +237,7 @@ fn watch_rank(literal: Literal, trail: &Trail) -> usize {
     }
 }
 
-// A literal of a clause that is not false, except for one.
+// A literal of the clause that is not false, and is not the literal `but`.
 fn free_literal(clause: &Clause, but: Literal, trail: &Trail) -> Option<Literal> {
     match free_among(clause.options(), true, but, trail) {
         Some(literal) => Some(literal),
@@ -236,7 +245,7 @@ fn free_literal(clause: &Clause, but: Literal, trail: &Trail) -> Option<Literal>
     }
 }
 
-// The first of some literals that is not false, except for one.
+// The first literal of these candidates that is not false, and is not the literal `but`.
 fn free_among(ids: &[CandId], is_in: bool, but: Literal, trail: &Trail) -> Option<Literal> {
     for id in ids {
         let literal = Literal {
@@ -250,7 +259,7 @@ fn free_among(ids: &[CandId], is_in: bool, but: Literal, trail: &Trail) -> Optio
     None
 }
 
-// Adds places that no clause watches, until there is one at the place.
+// Extends the list with places that no clause watches, until it has this place.
 fn grow(alloc: Global, places: &mut Vec<Watching>, place: usize) -> Result<(), AllocError>
     ensures { OnOk result (place < vec_len places.new) }
 {

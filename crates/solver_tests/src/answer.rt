@@ -23,9 +23,9 @@ const NO_ROW: &[u8] = b"no row";
 enum RowFault {
     /// Out of memory.
     Memory,
-    /// The pool has too many candidates; this is the reported count.
+    /// The pool has too many candidates: this many, as `pool_core` reports.
     TooMany(u64),
-    /// A text of the row is not read, or a question is unknown.
+    /// The question is unknown, or a line of the row cannot be parsed.
     Text,
 }
 
@@ -44,7 +44,7 @@ impl<T: Drop> From<AllocFailed<T>> for RowFault {
 }
 
 impl From<PoolFault> for RowFault {
-    // A fault of the pool, as the reason why a row has no answer.
+    // An error of the pool of candidates, as the reason why a row has no answer.
     fn from(fault: PoolFault) -> RowFault {
         match fault {
             PoolFault::TooMany { count } => RowFault::TooMany(count),
@@ -56,27 +56,27 @@ impl From<PoolFault> for RowFault {
 /// The kinds of questions; the README of this crate has a row for each.
 #[derive(Clone, Copy)]
 enum Question {
-    /// `bytes`.
+    /// `bytes`: the number of bytes of the repository indexes.
     Bytes,
-    /// `packages`.
+    /// `packages`: the number of packages in the repository indexes.
     Packages,
-    /// `candidates`.
+    /// `candidates`: the number of candidates in the pool.
     Candidates,
-    /// `twice`.
+    /// `twice`: the numbers of candidates in two equal pools.
     Twice,
-    /// `offers NAME`.
+    /// `offers NAME`: the candidates that have or provide the name.
     Offers,
-    /// `options DEPENDENCY`.
+    /// `options DEPENDENCY`: the candidates for the dependency, best first.
     Options,
-    /// `named NAME`.
+    /// `named NAME`: the candidates for a name that an install-if asks for.
     Named,
-    /// `select`.
+    /// `select`: the candidates of the preferred selection.
     Select,
-    /// `count`.
+    /// `count`: the number of candidates of the preferred selection.
     Count,
 }
 
-/// The words that questions begin with.
+/// The first word of each question.
 const QUESTIONS: [(&[u8], Question); 9] = [
     (b"bytes", Question::Bytes),
     (b"packages", Question::Packages),
@@ -101,9 +101,9 @@ struct Query<'q> {
 /// The command of a row: its world, and the names that it upgrades.
 #[derive(Clone, Copy)]
 struct Command<'a> {
-    /// World, as the row has it.
+    /// The world of the row: the dependencies that the user asks for.
     world: &'a World,
-    /// The names that it upgrades.
+    /// The names of the packages to upgrade.
     upgrade: Upgrade<'a>,
 }
 
@@ -154,7 +154,7 @@ fn add_to_answer(
     add_last_answer(alloc, row, command, Query { question, rest }, text)
 }
 
-// Adds the answer, which is computed as often as the row says.
+// Computes the answer as often as the row says (`times N`), and leaves the last one in `text`.
 fn add_last_answer(
     alloc: Global,
     row: &Row<'_>,
@@ -169,7 +169,8 @@ fn add_last_answer(
     Ok(())
 }
 
-// Adds the answer, which is computed over the pool unless the question needs none.
+// Computes the answer once. The questions `bytes` and `packages` need no pool of candidates, and
+// `twice` needs two.
 fn add_one_answer(
     alloc: Global,
     row: &Row<'_>,
@@ -185,7 +186,7 @@ fn add_one_answer(
     }
 }
 
-// Adds the answer over the pool of the row.
+// Makes the pool of candidates of the row, and adds the answer about it.
 fn add_answer_of_row(
     alloc: Global,
     row: &Row<'_>,
@@ -224,7 +225,7 @@ fn package_count(alloc: Global, row: &Row<'_>) -> Result<u64, RowFault> {
     Ok(count)
 }
 
-// Adds how many candidates a pool has, and those of a second one that exists beside it.
+// Adds the numbers of candidates of two equal pools, which are in memory at once.
 fn add_two_counts(
     alloc: Global,
     row: &Row<'_>,
@@ -236,7 +237,7 @@ fn add_two_counts(
     Ok(add_counts(alloc, first.len(), second.len(), text)?)
 }
 
-// Adds two numbers in decimal.
+// Adds two numbers in decimal, with a space between them.
 fn add_counts(
     alloc: Global,
     first: usize,
@@ -250,7 +251,8 @@ fn add_counts(
 
 // ---- the pool
 
-// The pool of all packages, joined to the world and to the names that the command upgrades.
+// The pool of all packages of the row, with the world and the names to upgrade. The contract: the
+// world of the pool is the given one.
 fn sealed<'a>(
     alloc: Global,
     row: &'a Row<'a>,
@@ -263,7 +265,7 @@ fn sealed<'a>(
     Ok(pool.seal(world, upgrade)?)
 }
 
-// The pool of all packages.
+// The pool of the packages of all repositories and of the installed packages, without a world.
 fn pool_of<'a>(alloc: Global, row: &'a Row<'a>) -> Result<Pool<'a>, RowFault> {
     let mut pool = Pool::new(alloc);
     add_repositories(alloc, row, &mut pool)?;
@@ -273,7 +275,7 @@ fn pool_of<'a>(alloc: Global, row: &'a Row<'a>) -> Result<Pool<'a>, RowFault> {
     Ok(pool)
 }
 
-// Adds the packages of all repositories.
+// Adds the packages of all repositories to the pool.
 fn add_repositories<'a>(
     alloc: Global,
     row: &'a Row<'a>,
@@ -288,7 +290,7 @@ fn add_repositories<'a>(
     Ok(())
 }
 
-// Adds the installed packages.
+// Adds the installed packages to the pool.
 fn add_installed<'a>(
     alloc: Global,
     payload: &'a [u8],
@@ -299,6 +301,7 @@ fn add_installed<'a>(
     };
     let packages = view.packages();
     for i in 0..packages.len() {
+        // Packages of the list count from 1.
         pool.add_installed(packages.get(i + 1))?;
     }
     Ok(())
@@ -337,7 +340,8 @@ fn upgrade_of<'a>(text: &[u8], words: &'a Words) -> Upgrade<'a> {
 
 // ---- answers of the pool
 
-// Adds the answer to a question about a sealed pool.
+// Adds the answer to a question about a pool of candidates. The given world must be that of the
+// pool.
 fn add_answer_of_pool(
     alloc: Global,
     pool: &Sealed<'_>,
@@ -353,11 +357,12 @@ fn add_answer_of_pool(
         Question::Named => add_options(alloc, pool, &Need::Named(query.rest), text),
         Question::Select => add_selection(alloc, pool, world, text),
         Question::Count => add_selection_count(alloc, pool, world, text),
+        // The question `candidates`.
         _ => add_number(alloc, text, pool.len() as u128),
     }
 }
 
-// Adds the options of a dependency, best first.
+// Adds the candidates for a dependency, best first, or `no row` if the text is no dependency.
 fn add_options_of_text(
     alloc: Global,
     pool: &Sealed<'_>,
@@ -370,7 +375,7 @@ fn add_options_of_text(
     }
 }
 
-// Adds the options of a need, best first.
+// Adds the candidates for a need (a dependency or a name in an install-if), best first.
 fn add_options(
     alloc: Global,
     pool: &Sealed<'_>,
@@ -381,7 +386,8 @@ fn add_options(
     add_candidates(alloc, pool, &options, text)
 }
 
-// Adds the choices of the preferred solution, or `none`.
+// Adds the candidates of the preferred selection in the order in which the solver chose them, or
+// `none`. The given world must be that of the pool.
 fn add_selection(
     alloc: Global,
     pool: &Sealed<'_>,
@@ -396,7 +402,8 @@ fn add_selection(
     }
 }
 
-// Adds how many choices the preferred solution has, or `none`.
+// Adds how many candidates the preferred selection has, or `none`. The given world must be that of
+// the pool.
 fn add_selection_count(
     alloc: Global,
     pool: &Sealed<'_>,
@@ -411,7 +418,7 @@ fn add_selection_count(
     }
 }
 
-// Adds the choices of a selection, in their order.
+// Adds the candidates of a selection, in the order in which the solver chose them.
 fn add_choices(
     alloc: Global,
     pool: &Sealed<'_>,
@@ -424,7 +431,7 @@ fn add_choices(
     Ok(())
 }
 
-// Adds candidates, in their order.
+// Adds these candidates, in their order.
 fn add_candidates(
     alloc: Global,
     pool: &Sealed<'_>,
@@ -438,7 +445,7 @@ fn add_candidates(
 }
 
 // Adds the name and the version of a candidate, and after `/` the number of its repository unless
-// that is 1; 0 is an installed package of no repository.
+// that is 1. The number 0 stands for an installed package that no repository has.
 fn add_candidate(
     alloc: Global,
     pool: &Sealed<'_>,

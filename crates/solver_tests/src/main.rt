@@ -1,5 +1,6 @@
-//! Runs the rows of the search on standard input, and prints failures and a count. `README.md`
-//! describes their form. The exit status is 0 if no row failed, else 1.
+//! Runs the rows about the pool of candidates and the solver that are on standard input, and prints
+//! failures and counts. `README.md` describes the form of the rows. The exit status is 0 if no row
+//! failed, else 1.
 #![tactic(auto)]
 
 mod answer;

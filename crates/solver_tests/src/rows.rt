@@ -1,11 +1,12 @@
-//! All rows of a text, and the printed report. The lines are in the README of this crate.
+//! Runs all rows of a text, compares their answers with the expected ones, and makes the printed
+//! report. The README of this crate describes the lines of rows.
 use crate::answer::answer;
 use row_lines::value_named;
 use row_packages::{Row, number_of, split_word};
 use std::alloc::{AllocError, Global};
 
-/// Runs all rows of a text. It adds a line for each answer that is not the expected one, and one
-/// with counts, and returns whether none failed.
+/// Runs all rows of a text, and returns whether none failed. Adds a line to the report for each
+/// answer that is not the expected one, and a last line with counts.
 pub(crate) fn run_rows(
     alloc: Global,
     text: &[u8],
@@ -26,29 +27,29 @@ pub(crate) fn run_rows(
 /// The kinds of lines, by their first word; the README of this crate has a row for each.
 #[derive(Clone, Copy)]
 enum Line {
-    /// a blank line, `#`.
+    /// A blank line, or `#` and a comment.
     Comment,
-    /// `row NAME: SENTENCE`.
+    /// `row NAME: SENTENCE`: a new row begins.
     Row,
-    /// `repository PACKAGES`, `repository @TAG PACKAGES`.
+    /// `repository PACKAGES`, `repository @TAG PACKAGES`: a repository of the row.
     Repository,
-    /// `installed PACKAGES`.
+    /// `installed PACKAGES`: the installed packages of the row.
     Installed,
-    /// `world ENTRIES`.
+    /// `world ENTRIES`: the dependencies that the user asks for.
     World,
-    /// `upgrade all`, `upgrade NAMES`.
+    /// `upgrade all`, `upgrade NAMES`: the packages to upgrade.
     Upgrade,
-    /// `times N`.
+    /// `times N`: how often each later answer is computed.
     Times,
-    /// `$ QUESTION`.
+    /// `$ QUESTION`: a question about the row so far.
     Question,
-    /// `> ANSWER`.
-    Wanted,
-    /// `?`.
+    /// `> ANSWER`: the expected answer to the question before.
+    Expected,
+    /// `?`: the answer to the question before is printed, and compared with nothing.
     Printed,
 }
 
-/// The words that lines begin with.
+/// The first word of each kind of line.
 const LINES: [(&[u8], Line); 11] = [
     (b"", Line::Comment),
     (b"#", Line::Comment),
@@ -59,28 +60,29 @@ const LINES: [(&[u8], Line); 11] = [
     (b"upgrade", Line::Upgrade),
     (b"times", Line::Times),
     (b"$", Line::Question),
-    (b">", Line::Wanted),
+    (b">", Line::Expected),
     (b"?", Line::Printed),
 ];
 
 /// The state of a run over rows.
 #[derive(Drop)]
 struct Run<'t> {
+    /// The allocator of answers and of the report.
     alloc: Global,
-    /// The row that has begun.
+    /// The current row, as its lines so far describe it.
     row: Row<'t>,
-    /// The question without an answer so far.
+    /// The last question, until the line with its expected answer.
     query: Option<&'t [u8]>,
     /// How many rows have begun.
     rows: u64,
     /// How many answers were computed.
     answers: u64,
-    /// How many of them differ from the expected ones, or are out of place.
+    /// How many failures were reported: wrong answers, and lines that are unknown or out of place.
     failed: u64,
 }
 
 impl<'t> Run<'t> {
-    // Takes all lines of a text, and adds the counts.
+    // Runs all lines of a text, and adds the counts to the report.
     fn take_text(&mut self, text: &'t [u8], report: &mut Vec<u8>) -> Result<(), AllocError> {
         for line in text.split(|byte| *byte == b'\n') {
             self.take_line(line, report)?;
@@ -89,7 +91,7 @@ impl<'t> Run<'t> {
         self.add_counts(report)
     }
 
-    // Takes a line by its first word.
+    // Runs a line, by its first word.
     fn take_line(&mut self, line: &'t [u8], report: &mut Vec<u8>) -> Result<(), AllocError> {
         let (word, rest) = split_word(line);
         let Some(kind) = value_named(&LINES, word) else {
@@ -101,7 +103,7 @@ impl<'t> Run<'t> {
             Line::Repository => self.row.add_repository(self.alloc, rest),
             Line::Installed => self.row.set_installed(self.alloc, rest),
             Line::Question => self.begin_question(rest, report),
-            Line::Wanted => self.end_question(Some(rest), report),
+            Line::Expected => self.end_question(Some(rest), report),
             Line::Printed => self.end_question(None, report),
             _ => {
                 self.set(kind, rest);
@@ -110,7 +112,7 @@ impl<'t> Run<'t> {
         }
     }
 
-    // Takes the other lines of a row.
+    // Sets the world, the names to upgrade or (in the last case) the number of times.
     fn set(&mut self, kind: Line, rest: &'t [u8]) {
         match kind {
             Line::World => self.row.world = rest,
@@ -119,14 +121,14 @@ impl<'t> Run<'t> {
         }
     }
 
-    // A question is asked.
+    // Keeps a question until the line with its expected answer.
     fn begin_question(&mut self, query: &'t [u8], report: &mut Vec<u8>) -> Result<(), AllocError> {
         self.end_row(report)?;
         self.query = Some(query);
         Ok(())
     }
 
-    // A new row begins.
+    // Begins a new row, whose name is the first word of its title.
     fn begin_row(&mut self, title: &'t [u8], report: &mut Vec<u8>) -> Result<(), AllocError> {
         self.end_row(report)?;
         let (name, _) = split_word(title);
@@ -135,7 +137,7 @@ impl<'t> Run<'t> {
         Ok(())
     }
 
-    // A question without an expected answer fails.
+    // Reports the last question as a failure if no line with its expected answer followed it.
     fn end_row(&mut self, report: &mut Vec<u8>) -> Result<(), AllocError> {
         match self.query.take() {
             None => Ok(()),
@@ -162,7 +164,7 @@ impl<'t> Run<'t> {
         }
     }
 
-    // Adds a line of the report.
+    // Adds a line to the report, which consists of these parts.
     fn add_line(&self, parts: &[&[u8]], report: &mut Vec<u8>) -> Result<(), AllocError> {
         for part in parts {
             report.extend_from_slice(part)?;
@@ -170,7 +172,7 @@ impl<'t> Run<'t> {
         report.extend_from_slice(b"\n")
     }
 
-    // Reports a failure and its reason.
+    // Reports a failure: the question or the line that failed, and why.
     fn fail(&mut self, what: &[u8], why: &[u8], report: &mut Vec<u8>) -> Result<(), AllocError> {
         self.failed = self.failed.saturating_add(1);
         self.add_line(

@@ -5,7 +5,7 @@ use Rattle.adb_view.specs.Plain.{Plain}
 use Rattle.audit_core.specs.Audit.{audit_report}
 use Rattle.base_core.specs.Tree.{TreeState, files_of}
 use Rattle.change_inputs.proofs.Handed.{failure_agrees, passed_part}
-use Rattle.change_inputs.specs.Answers.{AgreesUnlessDisk, IsDiskOrMemoryFailure}
+use Rattle.change_inputs.specs.Answers.{AgreesUnlessDiskOrMemory, IsDiskOrMemoryFailure}
 use Rattle.change_inputs.specs.Database.{Database}
 use Rattle.change_inputs.specs.Inputs.{database_for}
 use Rattle.change_inputs.specs.Seen.{installed_seen}
@@ -19,7 +19,7 @@ use Rattle.change_inputs.proofs.package_files.ReadLemmas.{explained, explained_a
 use Rattle.change_inputs.specs.package_files.Runs.{AreReadsOfTree, IsExplainedBySomeReads}
 use Rattle.report_core.specs.declared.refusal.Refusal.{Refusal}
 use Rattle.tell_core.proofs.ReportSteps.{IsPartRead, IsReported}
-use Rattle.tell_core.specs.AuditResult.{audit_of, first_audit_read}
+use Rattle.tell_core.specs.AuditResult.{audit_of, first_audit_read_number}
 
 -- the reads of the databases, and then others
 reads_then : Reads → Reads → Reads
@@ -37,7 +37,7 @@ are_observed : (history : List TreeState) (first others : Reads) → AreReadsOfT
 are_observed [] first others a b = tt
 are_observed (v ∷ rest) first others a b = observed_each v rest first others a b
 
-others_are : (first others : Reads) (n : ℕ) (name : List ℕ) → first_audit_read ≤ n → others n name ≡ reads_then first others n name
+others_are : (first others : Reads) (n : ℕ) (name : List ℕ) → first_audit_read_number ≤ n → others n name ≡ reads_then first others n name
 unfolding reads_then
 others_are first others zero name later = absurd (omega arith)
 others_are first others (suc zero) name later = absurd (omega arith)
@@ -52,28 +52,28 @@ abbrev RestsOnItsReads : Type 0
 RestsOnItsReads = (read other : Reads) (first : ℕ) (packages : List Plain) → ((n : ℕ) (name : List ℕ) → first ≤ n → read n name ≡ other n name) → audit_report read first packages ≡ audit_report other first packages
 
 pub audit_read : RestsOnItsReads → (history : List TreeState) (command : CommandLine) (result : Result ReportAndRefusal Refused) (installed : Installed) → IsPartRead installed_seen (database_for command) history (Ok installed)
-    → IsExplainedBySomeReads history (λ read. AgreesUnlessDisk (λ done. done) result (audit_of read (installed_seen installed))) → IsReported installed_seen (database_for command) history audit_of result
+    → IsExplainedBySomeReads history (λ read. AgreesUnlessDiskOrMemory (λ done. done) result (audit_of read (installed_seen installed))) → IsReported installed_seen (database_for command) history audit_of result
 audit_read rests history command result installed seen audited =
     let read = reads_then seen.read audited.read in
     let packages = (installed_seen installed).packages in
     record {
       read = read;
       observed = are_observed history seen.read audited.read seen.observed audited.observed;
-      is = passed_part (AgreesUnlessDisk (λ done. done) result) (database_for command read) (installed_seen installed) (audit_of read)
+      is = passed_part (AgreesUnlessDiskOrMemory (λ done. done) result) (database_for command read) (installed_seen installed) (audit_of read)
           (subst (λ (d : Result Database Refusal). d ≡ Ok (installed_seen installed)) (sym (same_database seen.read audited.read command)) seen.is)
-          (subst (λ (report : List ℕ). AgreesUnlessDisk (λ done. done) result (Ok (report_and_refusal report None)))
-          (rests audited.read read first_audit_read packages (others_are seen.read audited.read)) audited.is);
+          (subst (λ (report : List ℕ). AgreesUnlessDiskOrMemory (λ done. done) result (Ok (report_and_refusal report None)))
+          (rests audited.read read first_audit_read_number packages (others_are seen.read audited.read)) audited.is);
     }
 
 -- ---- of a database that is read
 
 module _ (history : List TreeState) (database : Database) where
   abbrev IsAuditOf : Result ReportAndRefusal Refused → Type 0
-  IsAuditOf result = IsExplainedBySomeReads history (λ read. AgreesUnlessDisk (λ (done : ReportAndRefusal). done) result (audit_of read database))
+  IsAuditOf result = IsExplainedBySomeReads history (λ read. AgreesUnlessDiskOrMemory (λ (done : ReportAndRefusal). done) result (audit_of read database))
 
-  pub audit_made : (packages : List Plain) (report : List ℕ) → packages ≡ database.packages → IsExplainedBySomeReads history (λ read. report ≡ audit_report read first_audit_read packages) → IsAuditOf (Ok (report_and_refusal report None))
-  audit_made packages report same made = explained_as history (λ read. report ≡ audit_report read first_audit_read packages) (λ read. AgreesUnlessDisk (λ (done : ReportAndRefusal). done) (Ok (report_and_refusal report None)) (audit_of read database)) made
-      (λ read is. ap (λ (ps : List Plain). Ok (report_and_refusal (audit_report read first_audit_read ps) None)) (sym same) ∙ ap (λ (r : List ℕ). Ok (report_and_refusal r None)) (sym is))
+  pub audit_made : (packages : List Plain) (report : List ℕ) → packages ≡ database.packages → IsExplainedBySomeReads history (λ read. report ≡ audit_report read first_audit_read_number packages) → IsAuditOf (Ok (report_and_refusal report None))
+  audit_made packages report same made = explained_as history (λ read. report ≡ audit_report read first_audit_read_number packages) (λ read. AgreesUnlessDiskOrMemory (λ (done : ReportAndRefusal). done) (Ok (report_and_refusal report None)) (audit_of read database)) made
+      (λ read is. ap (λ (ps : List Plain). Ok (report_and_refusal (audit_report read first_audit_read_number ps) None)) (sym same) ∙ ap (λ (r : List ℕ). Ok (report_and_refusal r None)) (sym is))
 
   pub audit_failed : (result : Result ReportAndRefusal Refused) (fault : Refused) → IsErrAnd result (λ e. e ≡ fault) → IsDiskOrMemoryFailure fault → IsAuditOf result
-  audit_failed result fault is failed = explained history (λ read. AgreesUnlessDisk (λ (done : ReportAndRefusal). done) result (audit_of read database)) (λ read. failure_agrees (λ (done : ReportAndRefusal). done) (audit_of read database) result fault is failed)
+  audit_failed result fault is failed = explained history (λ read. AgreesUnlessDiskOrMemory (λ (done : ReportAndRefusal). done) result (audit_of read database)) (λ read. failure_agrees (λ (done : ReportAndRefusal). done) (audit_of read database) result fault is failed)

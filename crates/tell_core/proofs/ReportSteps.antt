@@ -5,7 +5,7 @@ use Rattle.std.specs.Result.{IsErrAnd}
 use Rattle.std.specs.Prelude.{◌≡◌, List}
 use Rattle.base_core.specs.Tree.{TreeState}
 use Rattle.change_inputs.proofs.Handed.{handed_on_disk, passed_part, refused_part_disk, unless_disk}
-use Rattle.change_inputs.specs.Answers.{Agrees, AgreesUnlessDisk}
+use Rattle.change_inputs.specs.Answers.{Agrees, AgreesUnlessDiskOrMemory}
 use Rattle.change_inputs.specs.Chains.{and_then}
 use Rattle.change_inputs.specs.declared.root.Refused.{Refused}
 use Rattle.installed_info.specs.declared.telling.ReportAndRefusal.{ReportAndRefusal}
@@ -17,11 +17,11 @@ use Rattle.report_core.specs.declared.refusal.Refusal.{Refusal}
 module _ {A B : Type 0} (view : A → B) (part : Reads → Result B Refusal) where
   -- what is read is the part
   abbrev pub IsPartRead : List TreeState → Result A Refused → Type 0
-  IsPartRead history found = IsExplainedBySomeReads history (λ read. AgreesUnlessDisk view found (part read))
+  IsPartRead history found = IsExplainedBySomeReads history (λ read. AgreesUnlessDiskOrMemory view found (part read))
 
   -- a result is the report of the part, which may rest on further reads
   abbrev pub IsReported : List TreeState → (Reads → B → Result ReportAndRefusal Refusal) → Result ReportAndRefusal Refused → Type 0
-  IsReported history report result = IsExplainedBySomeReads history (λ read. AgreesUnlessDisk (λ (done : ReportAndRefusal). done) result (and_then (part read) (report read)))
+  IsReported history report result = IsExplainedBySomeReads history (λ read. AgreesUnlessDiskOrMemory (λ (done : ReportAndRefusal). done) result (and_then (part read) (report read)))
 
   module _ (history : List TreeState) (result : Result ReportAndRefusal Refused) where
     pub report_unread : (report : Reads → B → Result ReportAndRefusal Refusal) (fault : Refused) → IsErrAnd result (λ e. e ≡ fault) → IsPartRead history (Err fault) → IsReported history report result
@@ -37,6 +37,6 @@ module _ {A B : Type 0} (view : A → B) (part : Reads → Result B Refusal) whe
     report_read report found seen agrees = record {
       read = seen.read;
       observed = seen.observed;
-      is = passed_part (AgreesUnlessDisk (λ (done : ReportAndRefusal). done) result) (part seen.read) (view found) report seen.is
+      is = passed_part (AgreesUnlessDiskOrMemory (λ (done : ReportAndRefusal). done) result) (part seen.read) (view found) report seen.is
           (unless_disk (λ (done : ReportAndRefusal). done) (report (view found)) result agrees);
     }

@@ -14,13 +14,13 @@ use Rattle.report_core.specs.declared.refusal.Refusal.{Refusal}
 
 -- the number of the read of the first listed file, counted from 0; the reads 0 and 1 are those of the
 -- database and of the text database
-abbrev pub first_audit_read : ℕ
-first_audit_read = 2
+abbrev pub first_audit_read_number : ℕ
+first_audit_read_number = 2
 
 -- what an `audit` reports of the files of all packages of a database
 abbrev pub audit_of : Reads → Database → Result ReportAndRefusal Refusal
 audit_of read database =
-    Ok (report_and_refusal (audit_report read first_audit_read database.packages) None)
+    Ok (report_and_refusal (audit_report read first_audit_read_number database.packages) None)
 
 -- the result of `audit`: its report on the database, or the database's refusal
 abbrev pub audit_result : CommandLine → Reads → Result ReportAndRefusal Refusal

@@ -1,7 +1,7 @@
 //! What `audit` and `manifest` report of a root. The rules are in `docs/commands.md`, "`audit`" and
 //! "`manifest`".
 ghost use Rattle.base_core.specs.Read.{OnlyReads};
-ghost use Rattle.change_inputs.specs.Answers.{Agrees, AgreesUnlessDisk};
+ghost use Rattle.change_inputs.specs.Answers.{Agrees, AgreesUnlessDiskOrMemory};
 ghost use Rattle.change_inputs.specs.Seen.{installed_seen};
 ghost use Rattle.change_inputs.specs.package_files.Runs.{IsExplainedBySomeReads};
 ghost use Rattle.tell_core.specs.AuditResult.{audit_of, audit_result, manifest_report, manifest_result};
@@ -25,7 +25,7 @@ pub(crate) fn report_audit<T: Tree>(
     tree: &mut T,
 ) -> Result<ReportAndRefusal, Refused>
     ensures told { IsExplainedBySomeReads (T.history tree.old) (λ read.
-        AgreesUnlessDisk (λ done. done) result (audit_result command.now read)) }
+        AgreesUnlessDiskOrMemory (λ done. done) result (audit_result command.now read)) }
     ensures tree { OnlyReads Refused.Disk (T.history tree.old) (T.history tree.new)
         (T.counts tree.old) (T.counts tree.new) result }
 {
@@ -42,8 +42,10 @@ fn audit_installed<T: Tree>(
     installed: &Installed,
     tree: &mut T,
 ) -> Result<ReportAndRefusal, Refused>
+    // The report or the refusal is that of the definition, with some reads.
     ensures told { IsExplainedBySomeReads (T.history tree.old) (λ read.
-        AgreesUnlessDisk (λ done. done) result (audit_of read (installed_seen installed.now))) }
+        AgreesUnlessDiskOrMemory (λ done. done) result (audit_of read
+        (installed_seen installed.now))) }
     ensures tree { OnlyReads Refused.Disk (T.history tree.old) (T.history tree.new)
         (T.counts tree.old) (T.counts tree.new) result }
 {
@@ -71,7 +73,7 @@ pub(crate) fn report_manifest<T: Tree>(
     tree: &mut T,
 ) -> Result<ReportAndRefusal, Refused>
     ensures told { IsExplainedBySomeReads (T.history tree.old) (λ read.
-        AgreesUnlessDisk (λ done. done) result (manifest_result command.now read)) }
+        AgreesUnlessDiskOrMemory (λ done. done) result (manifest_result command.now read)) }
     ensures tree { OnlyReads Refused.Disk (T.history tree.old) (T.history tree.new)
         (T.counts tree.old) (T.counts tree.new) result }
 {

@@ -1,6 +1,6 @@
 //! The report of `info` on a root. The rules are in `docs/commands.md`, "`info`".
 ghost use Rattle.base_core.specs.Read.{OnlyReads};
-ghost use Rattle.change_inputs.specs.Answers.{Agrees, AgreesUnlessDisk};
+ghost use Rattle.change_inputs.specs.Answers.{Agrees, AgreesUnlessDiskOrMemory};
 ghost use Rattle.change_inputs.specs.Seen.{installed_seen};
 ghost use Rattle.tell_core.specs.InfoResult.{info_result};
 ghost use Rattle.installed_info.specs.Info.{info_of};
@@ -25,7 +25,7 @@ pub(crate) fn report_info<T: Tree>(
     tree: &mut T,
 ) -> Result<ReportAndRefusal, Refused>
     ensures told { IsExplainedBySomeReads (T.history tree.old) (λ read.
-        AgreesUnlessDisk (λ done. done) result (info_result command.now read)) }
+        AgreesUnlessDiskOrMemory (λ done. done) result (info_result command.now read)) }
     ensures tree { OnlyReads Refused.Disk (T.history tree.old) (T.history tree.new)
         (T.counts tree.old) (T.counts tree.new) result }
 {

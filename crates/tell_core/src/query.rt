@@ -1,7 +1,7 @@
 //! What `list`, `search` and `policy` report of a root. The rules are in `docs/commands.md`, under
 //! each command's name.
 ghost use Rattle.base_core.specs.Read.{OnlyReads};
-ghost use Rattle.change_inputs.specs.Answers.{Agrees, AgreesUnlessDisk};
+ghost use Rattle.change_inputs.specs.Answers.{Agrees, AgreesUnlessDiskOrMemory};
 ghost use Rattle.change_inputs.specs.Seen.{inputs_seen};
 ghost use Rattle.change_inputs.specs.package_files.Runs.{IsExplainedBySomeReads};
 ghost use Rattle.query_core.specs.Queries.{text_of_query};
@@ -29,7 +29,7 @@ pub(crate) fn report_query<T: Tree>(
     tree: &mut T,
 ) -> Result<ReportAndRefusal, Refused>
     ensures told { IsExplainedBySomeReads (T.history tree.old) (λ read.
-        AgreesUnlessDisk (λ done. done) result (query_result command.now read)) }
+        AgreesUnlessDiskOrMemory (λ done. done) result (query_result command.now read)) }
     ensures tree { OnlyReads Refused.Disk (T.history tree.old) (T.history tree.new)
         (T.counts tree.old) (T.counts tree.new) result }
 {

@@ -1,7 +1,7 @@
 //! The command that is asked for reports on a root. Each command's rules are in `docs/commands.md`,
 //! under its name.
 ghost use Rattle.base_core.specs.Read.{OnlyReads};
-ghost use Rattle.change_inputs.specs.Answers.{AgreesUnlessDisk};
+ghost use Rattle.change_inputs.specs.Answers.{AgreesUnlessDiskOrMemory};
 ghost use Rattle.installed_info.specs.Info.{report_and_refusal};
 ghost use Rattle.change_inputs.specs.package_files.Runs.{IsExplainedBySomeReads};
 ghost use Rattle.std.specs.Prelude.{◌≡◌, [], None};
@@ -30,7 +30,7 @@ pub fn tell<T: Tree>(
     tree: &mut T,
 ) -> Result<ReportAndRefusal, Refused>
     ensures told { IsExplainedBySomeReads (T.history tree.old) (λ read.
-        AgreesUnlessDisk (λ done. done) result (report_for_command command.now read)) }
+        AgreesUnlessDiskOrMemory (λ done. done) result (report_for_command command.now read)) }
     ensures tree { OnlyReads Refused.Disk (T.history tree.old) (T.history tree.new)
         (T.counts tree.old) (T.counts tree.new) result }
 {

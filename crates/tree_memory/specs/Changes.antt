@@ -1,6 +1,6 @@
--- The record of a tree's changes, and the states that it describes.
--- `docs/crash-safety.md`, "What each call does", says what each call does to a state. It serves the
--- proofs of `store`, and *after_put* the contract of `put`.
+-- The record of a tree's changes since it was empty, and the states to which these changes lead.
+-- `docs/crash-safety.md`, "What each call does", says what each call does to a state. The
+-- proofs of `src/store.rt` use these definitions, and the contract of `put` uses *after_put*.
 use Rattle.std.specs.Prelude.{ℕ, ◌+◌, Bool, true, false, ◌&&◌, is_some, nat_lt, nat_le, List, [], ◌∷◌, map, length, slice_index_or, take, Some}
 use Rattle.base_core.specs.Files.{no_names, put_name}
 use Rattle.base_core.specs.Tree.{TreeState, File, set_file, with_file_changed, after_create, after_rename, after_remove, after_sync_names}
@@ -8,7 +8,7 @@ use Rattle.tree_memory.specs.declared.store.Change.{Change}
 use Rattle.tree_memory.specs.declared.store.Change.TheVariants.{Put, Create, Append, Sync, Rename, Remove, SyncNames, Stay}
 use Rattle.tree_memory.specs.declared.store.Stored.{Stored}
 
--- the file of a number for which no file was made
+-- what a state has under each file number for which no file was made: no bytes, not synced
 abbrev pub no_file : File
 no_file = record { bytes = []; synced = false }
 
@@ -39,7 +39,8 @@ synced_flags files = map (λ file. file.synced) files
 abbrev pub first_bytes_of_file : List (List ℕ) → ℕ → ℕ → List ℕ
 first_bytes_of_file contents file len = take len (slice_index_or contents file [])
 
--- the state after a change; `Stay` leaves the state as it is, and counts as one more state
+-- the state after a recorded change, given the current bytes of all files and the state before. `Stay` leaves the state
+-- as it is, and counts as one more state
 abbrev pub step : List (List ℕ) → Change → TreeState → TreeState
 step contents (Put name file len) v = after_put name (first_bytes_of_file contents file len) v
 step contents (Create name) v = after_create name v
@@ -53,18 +54,18 @@ step contents (Remove name) v = after_remove name v
 step contents SyncNames v = after_sync_names v
 step contents Stay v = v
 
--- the state after the changes of a record, from the state `v` on
+-- the state to which the changes of a record lead from the state `v`, given the current bytes of all files
 abbrev pub state_after_changes : List (List ℕ) → TreeState → List Change → TreeState
 state_after_changes contents v [] = v
 state_after_changes contents v (c ∷ cs) = state_after_changes contents (step contents c v) cs
 
--- the states before the one that a record leads to, the newest first, followed by those before the
--- record
+-- all states before the one to which a record leads from the state `v`, the newest first: those that the record
+-- passes, then `v`, then the states `earlier` that were before `v`
 abbrev pub earlier_states : List (List ℕ) → TreeState → List TreeState → List Change → List TreeState
 earlier_states contents v earlier [] = earlier
 earlier_states contents v earlier (c ∷ cs) = earlier_states contents (step contents c v) (v ∷ earlier) cs
 
--- ---- what a record is
+-- ---- which changes may be recorded
 
 -- whether a file was made, and has at least this many bytes: a record keeps a length for each change,
 -- and the bytes once

@@ -1,5 +1,5 @@
--- What a crash leaves, by a number. The rule is in `docs/crash-safety.md`, "Images of the tree in
--- memory"; "What a crash leaves" says what a crash may leave at all.
+-- Images: the files that a crash may leave, each picked by a number. The rule is in `docs/crash-safety.md`, "Images of
+-- the tree in memory"; "What a crash leaves" says what a crash may leave at all.
 use Rattle.std.specs.Prelude.{◌≡◌, ℕ, zero, suc, ◌+◌, ◌-◌, ◌*◌, ◌/◌, ◌%◌, ◌^◌, ◌<◌, ◌≤◌, min, nat_le, Bool, true, false, if◌then◌else◌, ◌||◌, ◌==◌, List, [], ◌∷◌, length, replicate}
 use Rattle.std.specs.Option.{option_map}
 use Rattle.base_core.specs.Files.{Files, NameMap, HasNoFileAsFolder}
@@ -13,7 +13,8 @@ use Rattle.tree_memory.specs.declared.table.NameAndFile.{NameAndFile}
 
 -- ---- which changes of names are undone
 
--- the greatest number of changes of names of which each subset is undone by a number
+-- if at most this many changes of names followed the last sync of the names, there is a number for each subset
+-- of these changes: it picks the map of names in which exactly these are undone
 abbrev pub most_changes_with_all_subsets : ℕ
 most_changes_with_all_subsets = 5
 
@@ -33,7 +34,8 @@ is_change_undone changes pick number =
     else (if nat_le pick changes then nat_le (changes - pick) number
     else pick - changes - 1 == number)
 
--- how many numbers pick a map of names, given how many changes of names there are; at most 2^64 - 1
+-- how many numbers pick a map of names, given how many changes of names followed the last sync of the names; at
+-- most 2^64 - 1
 abbrev pub crash_image_count : ℕ → ℕ
 crash_image_count changes =
     if nat_le changes most_changes_with_all_subsets then 2 ^ changes else min (changes * 2 + 1) (2 ^ 64 - 1)
@@ -46,11 +48,11 @@ map_without undone new (old ∷ older) =
     if undone (length older) then map_without undone old older
     else with_change_replayed old new (map_without undone old older)
 
--- the map of names that a number picks
+-- the map of names that a number picks: the changes of names since the last sync, without those that are undone
 abbrev pub picked_crash_map : ℕ → TreeState → NameMap
 picked_crash_map pick v = map_without (is_change_undone (length v.older) pick) v.names v.older
 
--- ---- by a number
+-- ---- the image that a number picks
 
 -- the contents of a file after a crash: those of a synced file. An unsynced file has, as `way`
 -- chooses, its bytes as read (0), nothing (1), or as many bytes of value 255 (any other number)
@@ -58,14 +60,16 @@ abbrev pub crash_bytes : ℕ → File → List ℕ
 crash_bytes way file = if file.synced || way == 0 then file.bytes else
     (if way == 1 then [] else replicate (length file.bytes) 255)
 
--- how many numbers pick a map of names of this state
+-- how many numbers pick a map of names that a crash at this state may leave: the numbers below the result
 abbrev pub crash_image_count_of : TreeState → ℕ
 crash_image_count_of v = crash_image_count (length v.older)
 
--- the map of names of the image that a number picks: the picked one, or that as read if the picked
--- one has a file as a folder, which no tree has
+-- the map of names of the image that a number picks: the picked one, or the current one of the state
+-- if the picked one has a file as a folder, which no tree has
 pub record IsPickedImageMap (pick : ℕ) (v : TreeState) (map : NameMap) : Type 0 where
+  -- if in the picked map no name is a folder of another, the map is the picked one
   pub fits : HasNoFileAsFolder (picked_crash_map pick v) → map ≡ picked_crash_map pick v
+  -- otherwise the map is the current one of the state
   pub as_read : (HasNoFileAsFolder (picked_crash_map pick v) → ⊥) → map ≡ v.names
 
 -- the files after the crash that a number chooses: its remainder by the count of the numbers that pick
@@ -77,17 +81,20 @@ IsImageOf choice v image = (map : NameMap) × IsPickedImageMap (choice % crash_i
 
 -- a table has the names of the image that a number picks
 pub record HasImageNames (pick : ℕ) (v : TreeState) (entries : List NameAndFile) : Type 0 where
+  -- the table is the map of names of the image that the number picks
   pub map : IsPickedImageMap pick v (lookup entries)
+  -- a crash may leave this map of names
   pub left : IsCrashMap v (lookup entries)
+  -- in this map no name is a folder of another
   pub folders : HasNoFileAsFolder (lookup entries)
 
--- ---- as it is read from a record
+-- ---- how the maps of names are counted from the recorded changes
 
--- the maps of names since the names were last synced, that as read first
+-- the maps of names since the names were last synced, the current one first
 abbrev pub maps_newest_first : TreeState → List NameMap
 maps_newest_first v = v.names ∷ v.older
 
--- whether a change that may be recorded syncs the names
+-- whether a change, as a store records it, syncs the names
 abbrev pub syncs_names : Change → Bool
 syncs_names (Put name file len) = true
 syncs_names (Create name) = false
@@ -109,11 +116,13 @@ map_count_after_change (Remove name) maps = maps + 1
 map_count_after_change SyncNames maps = 1
 map_count_after_change Stay maps = maps
 
--- a table has the names of a state, of which this many files were made
+-- a table has the names of the state `v`, and `count` is the number of files that were made in this state
 pub record HasNames (v : TreeState) (entries : List NameAndFile) (count : ℕ) : Type 0 where
+  -- each name leads in the state to the file number that the table has for it
   pub names : (q : List ℕ) → v.names q ≡ lookup entries q
+  -- this many files were made in the state
   pub made : v.made ≡ count
 
--- the file that a `Stored` represents
+-- the file, as states have it, of a `Stored`: the same bytes, and synced exactly if the `Stored` is
 abbrev pub stored_file : Stored → File
 stored_file stored = record { bytes = stored.bytes.items; synced = stored.synced }

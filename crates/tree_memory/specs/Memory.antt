@@ -53,14 +53,14 @@ longest_read_of tree = tree.longest
 
 -- ---- a call that reads
 
--- a call that reads: it is counted, the plan is one call nearer, and an error is a fault, but never
--- means out of memory
+-- a call that reads: it is counted, and the plan of failures is then counted from the call after it. An error is
+-- counted as a fault, but never as a lack of memory
 pub record IsReadCall {T E : Type 0} (old new : MemoryTree) (result : Result T E) : Type 0 where
   -- the call is counted
   pub calls : calls_of new ≡ saturating_increment (calls_of old)
   -- no call that writes is counted
   pub writes : writes_of new ≡ writes_of old
-  -- the plan is one call nearer
+  -- the plan of failures is then counted from the call after this one
   pub plan : plan_of new ≡ plan_after_one_call (plan_of old)
   -- an error is counted as a fault
   pub faults : (counts_of new).faults
@@ -73,29 +73,36 @@ pub record IsReadCall {T E : Type 0} (old new : MemoryTree) (result : Result T E
 
 -- a call that has no reason to fail: no failure is planned for it, and it is no misuse
 pub record HasNoReasonToFail (can : TreeState → Type 0) (old : MemoryTree) : Type 0 where
+  -- no failure of the call is planned
   pub unplanned : is_next_call_to_fail (plan_of old) ≡ false
+  -- the state allows the call, so that it is no misuse
   pub proper : can (tree_state old)
 
 -- a call failed because that was planned, or because it was a misuse
 pub record FailedByPlanOrMisuse (can : TreeState → Type 0) (old new : MemoryTree) : Type 0 where
+  -- the failure is planned, or the state does not allow the call
   pub reason : (is_next_call_to_fail (plan_of old) ≡ true) ⊎ (can (tree_state old) → ⊥)
+  -- no lack of memory is counted
   pub memory_faults : (counts_of new).memory_faults ≡ (counts_of old).memory_faults
 
 -- a call failed only because the tree was out of memory
 pub record FailedForMemory (can : TreeState → Type 0) (old new : MemoryTree) : Type 0 where
+  -- the call had no other reason to fail: no failure is planned, and the state allows the call
   pub free : HasNoReasonToFail can old
+  -- one more lack of memory is counted
   pub memory_faults : (counts_of new).memory_faults ≡ saturating_increment (counts_of old).memory_faults
 
--- a call that writes: it is counted, and the plan is one call nearer; an error is a fault, has one of
--- these reasons, and changes nothing else
+-- a call that writes: it is counted, and the plan of failures is then counted from the call after it. An error is
+-- counted as a fault, has one of the two reasons above, and adds no state to the history
 pub record IsWriteCall {T E : Type 0} (can : TreeState → Type 0) (old new : MemoryTree)
     (result : Result T E) : Type 0 where
   -- the call is counted
   pub calls : calls_of new ≡ saturating_increment (calls_of old)
   -- the call is counted as one that writes
   pub writes : writes_of new ≡ saturating_increment (writes_of old)
-  -- the plan is one call nearer
+  -- the plan of failures is then counted from the call after this one
   pub plan : plan_of new ≡ plan_after_one_call (plan_of old)
+  -- the greatest length that a `read_at` asked for is unchanged
   pub longest : longest_read_of new ≡ longest_read_of old
   -- an error is counted as a fault
   pub faults : (counts_of new).faults

@@ -8,7 +8,9 @@ use Rattle.std.specs.Option.{option_map}
 -- a plan: each call whose number is in `listed` fails, and, if `stop` is Some n, every call after
 -- the next n
 pub record PlanState : Type 0 where
+  -- the numbers of the calls that fail, counted from 1 from now on
   pub listed : List ℕ
+  -- after how many more calls every call fails, if a stop is planned
   pub stop : Option ℕ
 
 -- the plan by which no call is to fail
@@ -17,11 +19,11 @@ no_plan = record { listed = []; stop = None }
 
 -- ---- whether the next call is to fail
 
--- whether the next call is on the list
+-- whether the next call is on the list: its number is 1
 abbrev pub is_next_call_listed : List ℕ → Bool
 is_next_call_listed listed = list_any (λ n. n == 1) listed
 
--- whether no call is left before the stop
+-- whether no call is left before the planned stop, so that the next call fails
 abbrev pub is_stop_reached : Option ℕ → Bool
 is_stop_reached None = false
 is_stop_reached (Some n) = n == 0
@@ -30,7 +32,7 @@ is_stop_reached (Some n) = n == 0
 abbrev pub is_next_call_to_fail : PlanState → Bool
 is_next_call_to_fail plan = is_next_call_listed plan.listed || is_stop_reached plan.stop
 
--- whether a later call is to fail
+-- whether the next call or a later one is to fail
 abbrev pub has_later_failure : PlanState → Bool
 has_later_failure plan = list_any (λ n. nat_lt 0 n) plan.listed || is_some plan.stop
 
@@ -40,17 +42,17 @@ has_later_failure plan = list_any (λ n. nat_lt 0 n) plan.listed || is_some plan
 abbrev pub listed_calls_after_one_call : List ℕ → List ℕ
 listed_calls_after_one_call listed = filter (λ n. nat_lt 0 n) (map (λ n. n - 1) listed)
 
--- the plan after one call
+-- the plan after one call, with each number counted from the call after it
 abbrev pub plan_after_one_call : PlanState → PlanState
 plan_after_one_call plan =
     record { listed = listed_calls_after_one_call plan.listed; stop = option_map (λ n. n - 1) plan.stop }
 
--- the plan after this many calls
-abbrev pub plan_after : ℕ → PlanState → PlanState
-plan_after zero plan = plan
-plan_after (suc k) plan = plan_after k (plan_after_one_call plan)
+-- the plan after this many calls (first argument), with each number counted from the call after them
+abbrev pub plan_after_calls : ℕ → PlanState → PlanState
+plan_after_calls zero plan = plan
+plan_after_calls (suc k) plan = plan_after_calls k (plan_after_one_call plan)
 
--- ---- as it was made
+-- ---- which of the later calls are to fail
 
 -- whether call k, counted from 1, is after the planned stop, which follows n more calls; false without one
 abbrev pub is_after_stop : Option ℕ → ℕ → Bool

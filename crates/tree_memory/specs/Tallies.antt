@@ -1,6 +1,6 @@
 -- The counts of a tree in memory, and how a call changes them.
--- The rules are in `docs/crash-safety.md`, "Misuses, faults and counts". Serves the contracts of
--- `calls`.
+-- The rules are in `docs/crash-safety.md`, "Misuses, faults and counts". The contracts
+-- of `src/calls.rt` use these definitions.
 use Rattle.std.specs.Prelude.{◌≤◌, Bool, true, false}
 use Rattle.base_core.specs.Faults.{saturating_increment}
 use Rattle.tree_memory.specs.declared.calls.Tally.{Tally}
@@ -9,11 +9,11 @@ use Rattle.tree_memory.specs.declared.calls.Tally.{Tally}
 abbrev pub no_calls : Tally
 no_calls = record { calls = 0; writes = 0; faults = 0; misuses = 0; memory_faults = 0 }
 
--- the counts with one call more
+-- the counts with one more call, up to 2^64 - 1
 abbrev pub with_call : Tally → Tally
 with_call t = record t { calls = saturating_increment t.calls }
 
--- the counts if the call failed: one more fault
+-- the counts after a failed call: one more fault, up to 2^64 - 1
 abbrev pub with_fault : Tally → Tally
 with_fault t = record t { faults = saturating_increment t.faults }
 
@@ -47,6 +47,9 @@ goes_on true false = true
 
 -- no count of failures fell
 pub record HasNotFallen (old new : Tally) : Type 0 where
+  -- the number of failed calls did not fall
   pub faults : old.faults ≤ new.faults
+  -- the number of misuses did not fall
   pub misuses : old.misuses ≤ new.misuses
+  -- the number of calls that ran out of memory did not fall
   pub memory_faults : old.memory_faults ≤ new.memory_faults

@@ -1,6 +1,5 @@
--- Each state of a tree in memory is whole.
--- The rule is in `docs/crash-safety.md`, "A tree at one moment": each state is whole. It is proved
--- here and not in `proofs/`, since the field `whole` of `Tree` is this proof.
+-- The proof that each state of a tree in memory is well formed (*IsWellFormed*), as `docs/crash-safety.md`, "A tree
+-- at one moment", says. It is here and not in `proofs/`, since the field `whole` of `Tree` is this proof.
 use Rattle.std.specs.Prelude.{◌≡◌, ℕ, ◌+◌, ◌<◌, ◌≤◌, Bool, true, false, if◌then◌else◌, ◌||◌, List, [], ◌∷◌, Option, Some, None, IsSome, All, refl}
 use Rattle.std.proofs.Common.{inl, inr, sym, ap, subst, arith}
 use Rattle.std.specs.Str.{bytes_eq}
@@ -15,15 +14,19 @@ use Rattle.tree_memory.specs.declared.store.Change.{Change}
 use Rattle.tree_memory.specs.declared.store.Change.TheVariants.{Put, Create, Append, Sync, Rename, Remove, SyncNames, Stay}
 use Rattle.tree_memory.specs.declared.tree.MemoryTree.{MemoryTree}
 
--- a map has finitely many names, and leads to numbers below one
+-- a map of names has finitely many names, and leads only to file numbers below `made`
 pub record IsFiniteMapOfMadeFiles (made : ℕ) (map : NameMap) : Type 0 where
+  -- all names of the map are in some finite list
   pub finite : (names : List (List ℕ)) × HasNamesAmong names map
+  -- each name leads to a file number below `made`
   pub below : (q : List ℕ) (n : ℕ) → map q ≡ Some n → n < made
 
--- each map of a state is such a map
+-- each map of names of a state, current or older, has finitely many names and leads only to files that were made
 pub record AreMapsFiniteOfMadeFiles (v : TreeState) : Type 0 where
+  -- each map of names has finitely many names, and leads only to files that were made
   pub each : (map : NameMap) → IsCurrentOrOlderMap v map → IsFiniteMapOfMadeFiles v.made map
 
+-- in the state without files each map of names is finite and leads only to made files
 bounded_empty : AreMapsFiniteOfMadeFiles empty_state
 bounded_empty = record { each = λ map is. record { finite = finite map is; below = made map is } }
   where
@@ -39,8 +42,9 @@ bounded_empty = record { each = λ map is. record { finite = finite map is; belo
         ap (λ (m : NameMap). m q) is in absurd (cc (none, at))
     made map (inr other) q n at = absurd other
 
--- ---- one map more, or the maps of a state with other files
+-- ---- maps of names after one change, and states with other files
 
+-- a map of names that leads only to files below `made` leads only to files below a greater number `more`
 more_made : (made more : ℕ) (map : NameMap) → made ≤ more → IsFiniteMapOfMadeFiles made map
     → IsFiniteMapOfMadeFiles more map
 more_made made more map up old =
@@ -50,6 +54,7 @@ more_made made more map up old =
           old.below q n at in omega (arith, lower, up);
     }
 
+-- a map of names stays finite, and below `made`, if a name is added that leads to the made file k
 bounded_put : (made : ℕ) (name : List ℕ) (k : ℕ) (map : NameMap) → k < made
     → IsFiniteMapOfMadeFiles made map
     → IsFiniteMapOfMadeFiles made (put_name map name k)
@@ -73,6 +78,7 @@ bounded_put made name k map under old = record {
     lower n true was small at = let same : k ≡ n = cc (at) in omega (arith, under)
     lower n false was small at = small at
 
+-- a map of names stays finite, and below `made`, if a name is removed
 bounded_drop : (made : ℕ) (name : List ℕ) (map : NameMap) → IsFiniteMapOfMadeFiles made map
     → IsFiniteMapOfMadeFiles made (drop_name map name)
 bounded_drop made name map old = record {
@@ -90,12 +96,14 @@ bounded_drop made name map old = record {
     lower n true was small at = absurd (cc (at))
     lower n false was small at = small at
 
--- ---- what the changes leave
+-- ---- each change of a tree leaves maps of names that are finite and lead only to made files
 
+-- a map of names that is equal to a finite one below `made` is finite and below `made`
 same_map : (made : ℕ) (map new : NameMap) → map ≡ new → IsFiniteMapOfMadeFiles made new
     → IsFiniteMapOfMadeFiles made map
 same_map made map new is = subst (IsFiniteMapOfMadeFiles made) (sym is)
 
+-- after a put, each map of names is still finite and leads only to made files
 bounded-after_put : (name bytes : List ℕ) (v : TreeState) → AreMapsFiniteOfMadeFiles v
     → AreMapsFiniteOfMadeFiles (after_put name bytes v)
 bounded-after_put name bytes v whole = record { each = each }
@@ -108,6 +116,7 @@ bounded-after_put name bytes v whole = record { each = each }
         (more_made v.made (v.made + 1) v.names (omega arith) (whole.each v.names (inl refl))))
     each map (inr other) = absurd other
 
+-- after a new empty file, each map of names is still finite and leads only to made files
 bounded-after_create : (name : List ℕ) (v : TreeState) → AreMapsFiniteOfMadeFiles v
     → AreMapsFiniteOfMadeFiles (after_create name v)
 bounded-after_create name v whole = record { each = each }
@@ -120,12 +129,14 @@ bounded-after_create name v whole = record { each = each }
         (more_made v.made (v.made + 1) v.names (omega arith) (whole.each v.names (inl refl))))
     each map (inr old) = more_made v.made (v.made + 1) map (omega arith) (whole.each map old)
 
+-- after a change of one file's bytes, each map of names is still finite and leads only to made files
 bounded-with_file_changed : (change : File → File) (v : TreeState) (o : Option ℕ)
     → AreMapsFiniteOfMadeFiles v
     → AreMapsFiniteOfMadeFiles (with_file_changed change v o)
 bounded-with_file_changed change v None whole = whole
 bounded-with_file_changed change v (Some n) whole = record { each = whole.each }
 
+-- with a new current map that is finite and leads only to made files, so does each map of names
 bounded-with_names : (v : TreeState) (new : NameMap) → AreMapsFiniteOfMadeFiles v
     → IsFiniteMapOfMadeFiles v.made new
     → AreMapsFiniteOfMadeFiles (with_names v new)
@@ -135,6 +146,7 @@ bounded-with_names v new whole small = record { each = each }
     each map (inl is) = same_map v.made map new is small
     each map (inr old) = whole.each map old
 
+-- after a file is moved to another name, each map of names is still finite and leads only to made files
 bounded-with_file_moved : (from to : List ℕ) (v : TreeState) (o : Option ℕ) → v.names from ≡ o
     → AreMapsFiniteOfMadeFiles v → AreMapsFiniteOfMadeFiles (with_file_moved from to v o)
 bounded-with_file_moved from to v None is whole = whole
@@ -144,6 +156,7 @@ bounded-with_file_moved from to v (Some n) is whole =
     (bounded_put v.made to n (drop_name v.names from) (old.below from n is)
     (bounded_drop v.made from v.names old))
 
+-- after a name is removed, each map of names is still finite and leads only to made files
 bounded-with_name_removed : (name : List ℕ) (v : TreeState) (o : Option ℕ) → AreMapsFiniteOfMadeFiles v
     → AreMapsFiniteOfMadeFiles (with_name_removed name v o)
 bounded-with_name_removed name v None whole = whole
@@ -151,6 +164,7 @@ bounded-with_name_removed name v (Some n) whole =
     bounded-with_names v (drop_name v.names name) whole
     (bounded_drop v.made name v.names (whole.each v.names (inl refl)))
 
+-- after a sync of the names, each map of names is still finite and leads only to made files
 bounded-after_sync_names : (v : TreeState) → AreMapsFiniteOfMadeFiles v
     → AreMapsFiniteOfMadeFiles (after_sync_names v)
 bounded-after_sync_names v whole = record { each = each }
@@ -160,7 +174,7 @@ bounded-after_sync_names v whole = record { each = each }
     each map (inl is) = same_map v.made map v.names is (whole.each v.names (inl refl))
     each map (inr other) = absurd other
 
--- a recorded change keeps that names lead only to files that were made, and are of finite number
+-- after a recorded change, each map of names is still finite and leads only to made files
 pub bounded-step : (contents : List (List ℕ)) (c : Change) (v : TreeState) → AreMapsFiniteOfMadeFiles v
     → AreMapsFiniteOfMadeFiles (step contents c v)
 bounded-step contents (Put name file len) v whole =
@@ -179,17 +193,19 @@ bounded-step contents (Remove name) v whole = bounded-with_name_removed name v (
 bounded-step contents SyncNames v whole = bounded-after_sync_names v whole
 bounded-step contents Stay v whole = whole
 
+-- after the changes of a record, each map of names is still finite and leads only to made files
 bounded_from : (contents : List (List ℕ)) (v : TreeState) (cs : List Change) → AreMapsFiniteOfMadeFiles v
     → AreMapsFiniteOfMadeFiles (state_after_changes contents v cs)
 bounded_from contents v [] whole = whole
 bounded_from contents v (c ∷ cs) whole =
     bounded_from contents (step contents c v) cs (bounded-step contents c v whole)
 
--- the newest state of a record is whole
+-- in the newest state of a record, each map of names is finite and leads only to made files
 pub bounded_state : (contents : List (List ℕ)) (cs : List Change)
     → AreMapsFiniteOfMadeFiles (state_after_changes contents empty_state cs)
 bounded_state contents cs = bounded_from contents empty_state cs bounded_empty
 
+-- in each state before the newest one of a record, each map of names is finite and leads only to made files
 bounded_earlier : (contents : List (List ℕ)) (v : TreeState) (earlier : List TreeState)
     (cs : List Change) → AreMapsFiniteOfMadeFiles v → All AreMapsFiniteOfMadeFiles earlier
     → All AreMapsFiniteOfMadeFiles (earlier_states contents v earlier cs)
@@ -198,6 +214,7 @@ bounded_earlier contents v earlier (c ∷ cs) whole all =
     bounded_earlier contents (step contents c v) (v ∷ earlier) cs (bounded-step contents c v whole)
     (All-cons AreMapsFiniteOfMadeFiles v earlier whole all)
 
+-- in each state of a record, each map of names is finite and leads only to made files
 bounded_history : (contents : List (List ℕ)) (cs : List Change)
     → All AreMapsFiniteOfMadeFiles
     (state_after_changes contents empty_state cs ∷ earlier_states contents empty_state [] cs)
@@ -206,6 +223,7 @@ bounded_history contents cs =
     (bounded_state contents cs)
     (bounded_earlier contents empty_state [] cs bounded_empty (All-nil AreMapsFiniteOfMadeFiles))
 
+-- a sound state is well formed if each map of names is finite and leads only to made files
 well_formed_by_both : (v : TreeState) → AreMapsFiniteOfMadeFiles v → IsSoundState v → IsWellFormed v
 well_formed_by_both v bounded sound = record {
   finite = λ map is. (bounded.each map is).finite;
@@ -215,7 +233,7 @@ well_formed_by_both v bounded sound = record {
   bytes = sound.bytes;
 }
 
--- each state of a tree in memory is whole
+-- each state so far of a tree in memory is well formed
 pub well_formed_history : (tree : MemoryTree) → All IsWellFormed (history_of tree)
 well_formed_history tree i d within =
     well_formed_by_both _ (bounded_history (contents_of tree.store.files.items)

@@ -3,7 +3,7 @@
 
 ghost use Rattle.std.specs.Prelude.{◌≡◌, [], None, Some, OnOk, OnErr, is_ok, if◌then◌else◌, ◌⊎◌, ◌+◌, ℕ, false};
 ghost use Rattle.base_core.specs.Faults.{saturating_increment, IsFaultCountedWithCause, RoseOrIsSaturated};
-ghost use Rattle.tree_memory.specs.Plans.{PlanState, no_plan, is_next_call_to_fail, is_next_call_listed, plan_after_one_call, listed_calls_after_one_call, has_later_failure, is_call_to_fail, plan_after};
+ghost use Rattle.tree_memory.specs.Plans.{PlanState, no_plan, is_next_call_to_fail, is_next_call_listed, plan_after_one_call, listed_calls_after_one_call, has_later_failure, is_call_to_fail, plan_after_calls};
 ghost use Rattle.tree_memory.specs.Tallies.{no_calls, with_call, with_fault, with_misuse, with_memory_fault, with_begun_call, goes_on, HasNotFallen};
 ghost use Rattle.tree_memory.specs.Memory.{plan_of, counts_of};
 ghost use Rattle.tree_memory.specs.Sink.{SinkState, sink_counts};
@@ -43,6 +43,7 @@ impl Plan {
 
     /// The plan by which the calls with these numbers are to fail.
     pub fn at(alloc: Global, calls: &[u64]) -> Result<Plan, AllocError>
+        // On success the plan has these numbers, and no stop.
         ensures { OnOk result (result ≡ Ok (record { listed = calls.now; stop = None })) }
     {
         let listed = Vec::from_slice(alloc, calls)?;
@@ -61,7 +62,9 @@ impl Plan {
 
     /// Whether the next call is to fail. Afterwards the plan counts from the call after it.
     pub fn pass(&mut self) -> bool
+        // True exactly if the next call is to fail.
         ensures planned { result ≡ is_next_call_to_fail self.old }
+        // The plan is then counted from the call after this one.
         ensures nearer { self.new ≡ plan_after_one_call self.old }
     {
         let listed = pass(&mut self.listed);
@@ -75,10 +78,12 @@ impl Plan {
     }
 }
 
-// Whether the next call is listed to fail. The call is then counted: each number is one less, and 0
-// is dropped.
+// Whether the next call is listed to fail. Then the list is counted from the call after it: each
+// number is one less, and 0 is dropped.
 fn pass(plan: &mut Vec<u64>) -> bool
+    // True exactly if the next call is on the list.
     ensures planned { result ≡ is_next_call_listed plan.old.items }
+    // The list is then counted from the call after this one.
     ensures nearer { plan.new.items ≡ listed_calls_after_one_call plan.old.items }
 {
     let planned = plan.contains(&1);
@@ -93,15 +98,15 @@ fn pass(plan: &mut Vec<u64>) -> bool
 /// 2^64 - 1.
 #[derive(Clone, Copy)]
 pub struct Tally {
-    /// Calls of any kind.
+    /// How many calls were made, of any kind.
     pub calls: u64,
-    /// Calls that write.
+    /// How many of the calls write.
     pub writes: u64,
-    /// Calls that failed.
+    /// How many of the calls failed.
     pub faults: u64,
-    /// Of these, the misuses.
+    /// How many of the failed calls were misuses.
     pub misuses: u64,
-    /// Calls that failed because the tree itself was out of memory.
+    /// How many of the calls failed because the tree itself was out of memory.
     pub memory_faults: u64,
 }
 
@@ -135,7 +140,9 @@ impl Tally {
 
     /// Counts the call as one that failed.
     pub fn fault(&mut self)
+        // One more fault is counted, up to 2^64 - 1.
         ensures is { self.new ≡ with_fault self.old }
+        // No count of failures falls.
         ensures grown { HasNotFallen self.old self.new }
     {
         self.faults = self.faults.saturating_add(1);
@@ -143,16 +150,20 @@ impl Tally {
 
     /// Counts the call as a misuse, which is a fault too.
     pub fn misuse(&mut self)
+        // One more fault and one more misuse are counted, each up to 2^64 - 1.
         ensures is { self.new ≡ with_misuse self.old }
+        // No count of failures falls.
         ensures grown { HasNotFallen self.old self.new }
     {
         self.fault();
         self.misuses = self.misuses.saturating_add(1);
     }
 
-    /// Counts the call as out of memory, which is a fault too.
+    /// Counts the call as one that ran out of memory, which is a fault too.
     pub fn want(&mut self)
+        // One more fault and one more lack of memory are counted, each up to 2^64 - 1.
         ensures is { self.new ≡ with_memory_fault self.old }
+        // No count of failures falls.
         ensures grown { HasNotFallen self.old self.new }
     {
         self.fault();
@@ -163,16 +174,18 @@ impl Tally {
 /// The calls of a tree: which are to fail, and how many there were.
 #[derive(Drop)]
 pub struct Calls {
-    /// Which calls are to fail.
+    /// Which calls are to fail, counted from 1 from now on.
     pub plan: Plan,
-    /// How many there were.
+    /// How many calls were made, and how many of them failed.
     pub tally: Tally,
 }
 
 impl Calls {
     /// No calls yet, none of which is to fail.
     pub fn new(alloc: Global) -> Calls
+        // No call is to fail.
         ensures plan { result.plan ≡ no_plan }
+        // No call was made.
         ensures tally { result.tally ≡ no_calls }
     {
         Calls {
@@ -181,13 +194,17 @@ impl Calls {
         }
     }
 
-    /// Counts a call. It fails if it is a misuse, or if its failure is planned.
+    /// Counts a call, at its start. It fails if it is a misuse (`can` is false), or if its failure
+    /// is planned.
     pub fn begin(&mut self, can: bool) -> Result<(), Disk>
-        // The plan is one call nearer, and the call is counted, with its failure if it has one.
+        // The plan of failures is then counted from the call after this one.
         ensures plan { self.new.plan ≡ plan_after_one_call self.old.plan }
+        // The call is counted, with its failure if it has one.
         ensures tally { self.new.tally ≡ with_begun_call can
             (is_next_call_to_fail self.old.plan) self.old.tally }
+        // No count of failures falls.
         ensures grown { HasNotFallen self.old.tally self.new.tally }
+        // The call continues exactly if it is no misuse and no failure is planned for it.
         ensures when { is_ok result ≡ goes_on can (is_next_call_to_fail self.old.plan) }
     {
         self.tally.call();
@@ -203,24 +220,34 @@ impl Calls {
         Ok(())
     }
 
-    /// Counts a call that writes. It fails if it is a misuse, or if its failure is planned.
+    /// Counts a call that writes, at its start. It fails if it is a misuse (`can` is false), or if
+    /// its failure is planned.
     pub fn begin_write(&mut self, can: bool) -> Result<(), Disk>
+        // The plan of failures is then counted from the call after this one.
         ensures plan { self.new.plan ≡ plan_after_one_call self.old.plan }
+        // The call is counted, with its failure if it has one.
         ensures tally { self.new.tally ≡ with_begun_call can (is_next_call_to_fail self.old.plan)
             (record self.old.tally { writes = saturating_increment self.old.tally.writes }) }
+        // No count of failures falls.
         ensures grown { HasNotFallen self.old.tally self.new.tally }
+        // The call continues exactly if it is no misuse and no failure is planned for it.
         ensures when { is_ok result ≡ goes_on can (is_next_call_to_fail self.old.plan) }
     {
         self.tally.write();
         self.begin(can)
     }
 
-    /// Ends a call that did not fail at its start: out of memory is counted as the call's fault.
+    /// Ends a call that did not fail at its start. `done` is the result of its change of the store:
+    /// if that ran out of memory, the call fails, and this is counted.
     pub fn finish(&mut self, done: Result<(), AllocError>) -> Result<(), Disk>
+        // The plan of failures is unchanged.
         ensures plan { self.new.plan ≡ self.old.plan }
+        // If out of memory, one more fault and one more lack of memory is counted.
         ensures tally { self.new.tally
             ≡ (if is_ok done then self.old.tally else with_memory_fault self.old.tally) }
+        // No count of failures falls.
         ensures grown { HasNotFallen self.old.tally self.new.tally }
+        // The call succeeds exactly if the change of the store succeeded.
         ensures when { is_ok result ≡ is_ok done }
     {
         match done {
@@ -233,7 +260,8 @@ impl Calls {
     }
 }
 
-/// If no failure of a tree in memory is planned, a fault is a misuse, or the tree is out of memory.
+/// A law: if no failure of a tree in memory is planned and a fault was counted, misuses or lacks of
+/// memory were counted too, or their count was at its last value.
 pub fn an_unplanned_fault_has_its_reason()
     ensures { (before now : MemoryTree) → has_later_failure (plan_of before) ≡ false
         → IsFaultCountedWithCause (counts_of before) (counts_of now)
@@ -241,16 +269,17 @@ pub fn an_unplanned_fault_has_its_reason()
         ⊎ RoseOrIsSaturated (counts_of before).memory_faults (counts_of now).memory_faults }
 {}
 
-/// If no end of a sink in memory is planned, a fault means that the sink is out of memory.
+/// A law: if no end of a sink in memory is planned, a fault means that the sink is out of memory,
+/// or that the count of these was at its last value.
 pub fn an_endless_sink_runs_out_of_memory()
     ensures { (before now : SinkState) → before.room ≡ None
         → IsFaultCountedWithCause (sink_counts before) (sink_counts now)
         → RoseOrIsSaturated before.memory_faults now.memory_faults }
 {}
 
-/// Apart from misuses and out of memory, call k from now on fails exactly if it is listed or after
-/// the stop.
+/// A law: the failure of call k + 1 from now on is planned exactly if this number is listed, or if
+/// the call is after the stop.
 pub fn a_call_fails_where_it_is_planned()
-    ensures { (plan : PlanState) (k : ℕ) → is_next_call_to_fail (plan_after k plan)
+    ensures { (plan : PlanState) (k : ℕ) → is_next_call_to_fail (plan_after_calls k plan)
         ≡ is_call_to_fail plan (k + 1) }
 {}

@@ -1,4 +1,4 @@
-//! What a crash leaves of a store.
+//! The images of a store: the stores that a crash may leave, each picked by a number.
 //! The rule is in `docs/crash-safety.md`, "Images of the tree in memory".
 ghost use Rattle.std.specs.Prelude.{◌≡◌, ◌+◌, ◌-◌, ◌<◌, ◌≤◌, ◌^◌, ℕ, [], List, true, false, if◌then◌else◌, IfOk, OnOk, length, take};
 ghost use Rattle.std.specs.List.{AllWithin};
@@ -16,14 +16,17 @@ use crate::table::NameTable;
 use base_core::Name;
 use std::alloc::{AllocError, Global};
 
-/// The greatest number of changes of names of which each subset is undone by a number.
+/// If at most this many changes of names followed the last sync of the names, there is a number
+/// for each subset of these changes: it picks the map of names in which exactly these are undone.
 const FEW_CHANGES: u64 = 5;
 
 impl Store {
-    /// How many maps of names there are: that as read, and the older ones since the names were last
-    /// synced.
+    /// How many maps of names there are: the current one, and the older ones since the names were
+    /// last synced.
     pub fn maps(&self) -> u64
+        // The number of maps of names in the newest state.
         ensures count { result ≡ length (maps_newest_first (store_state self.now)) }
+        // The count is not 0.
         ensures some { 0 < result }
     {
         let mut maps = 1;
@@ -33,7 +36,7 @@ impl Store {
         maps
     }
 
-    /// How many numbers pick a map of names that a crash may leave.
+    /// How many numbers pick a map of names that a crash may leave: the numbers below the result.
     pub fn picks(&self) -> u64
         ensures { result ≡ crash_image_count_of (store_state self.now) }
     {
@@ -43,13 +46,16 @@ impl Store {
     /// The store after the crash that a number chooses: the number picks the map of names and the
     /// contents of unsynced files.
     pub fn image(&self, alloc: Global, choice: u64) -> Result<Store, AllocError>
+        // The files of the image are those that `choice` picks.
         ensures files { IfOk result (λ image.
             IsImageOf choice (store_state self.now) (files_of (store_state image))) }
+        // A crash of this store can leave the state of the image.
         ensures crash { IfOk result (λ image.
             IsAfterCrash (store_state self.now) (store_state image)) }
     {
         let changes = self.maps() - 1;
         let picks = crash_image_count(changes);
+        // What unsynced files contain: as read (0), no bytes (1), or bytes of value 255 (2).
         let way = choice / picks % 3;
         let names = self.image_names(alloc, changes, choice % picks)?;
         let mut image = Store::new(alloc);
@@ -60,9 +66,12 @@ impl Store {
         Ok(image)
     }
 
-    // The names of the image that a number picks.
+    // The names of the image that a number picks: the picked map of names, or the current one if
+    // the picked one has a file as a folder. `changes` is how many changes of names may be undone.
     fn image_names(&self, alloc: Global, changes: u64, pick: u64) -> Result<NameTable, AllocError>
+        // Each change of names since the last sync of the names left one older map.
         requires { changes ≡ length (store_state self.now).older }
+        // The result has the names of the image of the specification.
         ensures { IfOk result (λ names.
             HasImageNames pick (store_state self.now) names.entries.items) }
     {
@@ -74,14 +83,17 @@ impl Store {
         Ok(names)
     }
 
-    // The names by the map that a number picks.
+    // The map of names that a number picks. `changes` is how many changes of names followed the
+    // last sync of the names.
     fn picked_names(&self, alloc: Global, changes: u64, pick: u64) -> Result<NameTable, AllocError>
+        // Each change of names since the last sync of the names left one older map.
         requires { changes ≡ length (store_state self.now).older }
+        // Each name leads where it leads in the picked map of the specification.
         ensures { IfOk result (λ names. (q : List ℕ) → lookup names.entries.items q
             ≡ picked_crash_map pick (store_state self.now) q) }
     {
-        // The names are followed from the moment of the last sync on, and beside them the picked
-        // ones, which lack the changes that are undone.
+        // Both tables begin with the names at the last sync. `names` then gets each later change,
+        // and `picked` only those that are not undone.
         let start = last_sync(&self.changes);
         let first = names_after(alloc, &self.changes[..start])?;
         let second = names_after(alloc, &self.changes[..start])?;
@@ -105,9 +117,11 @@ impl Store {
     }
 }
 
-// How many numbers pick a map, given how many changes of names there are.
+// How many numbers pick a map of names, given how many changes of names may be undone.
 fn crash_image_count(changes: u64) -> u64
+    // The count of the specification.
     ensures count { result ≡ crash_image_count changes }
+    // The count is not 0.
     ensures some { 0 < result }
 {
     if changes <= FEW_CHANGES {
@@ -116,7 +130,8 @@ fn crash_image_count(changes: u64) -> u64
     changes.saturating_mul(2).saturating_add(1)
 }
 
-// Whether the number that picks undoes the change of names with a number.
+// Whether the map that `pick` picks lacks a change of names. `changes` is how many changes may be
+// undone, and `number` is the number of the change, the oldest as 0.
 fn is_change_undone(changes: u64, pick: u64, number: u64) -> bool
     ensures { result ≡ is_change_undone changes pick number }
 {
@@ -129,7 +144,7 @@ fn is_change_undone(changes: u64, pick: u64, number: u64) -> bool
     pick - changes - 1 == number
 }
 
-// Whether the binary digit of a number is 1 at a place, counted from the lowest as 0.
+// Whether a binary digit of a number is 1. The place of the digit is counted from the lowest as 0.
 fn is_bit_set_at(n: u64, place: u64) -> bool
     ensures { result ≡ is_bit_set_at n place }
 {
@@ -142,9 +157,9 @@ fn is_bit_set_at(n: u64, place: u64) -> bool
     left % 2 == 1
 }
 
-// How many maps of names there are after one more change.
+// How many maps of names there are after one more change, if there were `maps` before it.
 fn maps_after(maps: u64, change: &Change) -> u64
-    // Counts have 64 bits, and the change may add one.
+    // The count has 64 bits, and the change may add one map.
     requires { maps < 2 ^ 64 - 1 }
     ensures { result ≡ map_count_after_change change.now maps }
 {
@@ -160,7 +175,7 @@ fn maps_after(maps: u64, change: &Change) -> u64
     }
 }
 
-// Whether a change syncs the names.
+// Whether a change syncs the names, so that no older map of names is left.
 fn syncs_names(change: &Change) -> bool
     ensures { result ≡ syncs_names change.now }
 {
@@ -176,11 +191,14 @@ fn syncs_names(change: &Change) -> bool
     }
 }
 
-// How many changes the record had when the names were last synced.
+// How many of these changes are up to the last one that synced the names, this one included.
 fn last_sync(changes: &[Change]) -> usize
+    // Not more than there are changes.
     ensures within { result ≤ length changes.now }
+    // In the state after these first changes there is no older map of names.
     ensures synced { (contents : List (List ℕ))
         → (state_after_changes contents empty_state (take result changes.now)).older ≡ [] }
+    // None of the later changes syncs the names.
     ensures behind { AllWithin (λ c. syncs_names c ≡ false) changes.now result
         (length changes.now) }
 {
@@ -194,20 +212,22 @@ fn last_sync(changes: &[Change]) -> usize
     n
 }
 
-// The names after some changes.
+// The names after the first changes of a record, and how many files these changes made.
 #[derive(Drop)]
 struct Replayed {
-    // The names.
+    // The names after the changes.
     names: NameTable,
-    // How many files were made.
+    // How many files the changes made.
     made: usize,
 }
 
 // The names after the first changes of a record.
 fn names_after(alloc: Global, changes: &[Change]) -> Result<Replayed, AllocError>
+    // The table has the names of the state after these changes, and `made` its number of files.
     ensures names { IfOk result (λ replayed. (contents : List (List ℕ))
         → HasNames (state_after_changes contents empty_state changes.now) replayed.names.entries.items
         replayed.made) }
+    // Each change makes at most one file.
     ensures few { IfOk result (λ replayed. replayed.made ≤ length changes.now) }
 {
     let mut names = NameTable::new(alloc);
@@ -218,8 +238,8 @@ fn names_after(alloc: Global, changes: &[Change]) -> Result<Replayed, AllocError
     Ok(Replayed { names, made })
 }
 
-// Applies one more change to the picked names unless it is undone, given the names as they were
-// before it.
+// Applies one more change to the picked names, unless it is undone. `names` are the current names
+// before this change, and `made` is how many files were made before it.
 fn change_picked(
     alloc: Global,
     picked: &mut NameTable,
@@ -228,6 +248,8 @@ fn change_picked(
     change: &Change,
     undone: bool,
 ) -> Result<(), AllocError>
+    // The picked names are as before if the change is undone. Otherwise each name whose file the
+    // change replaces in a state `v` with these names leads where it leads after the change.
     ensures { OnOk result ((contents : List (List ℕ)) (v : TreeState)
         → HasNames v names.now.entries.items made → can_record_change contents change.now v ≡ true
         → (q : List ℕ) → lookup picked.new.entries.items q
@@ -241,7 +263,8 @@ fn change_picked(
     keep_change(alloc, picked, names, made, change)
 }
 
-// Applies one more change to the picked names, given the names as they were before it.
+// Applies one more change to the picked names. `names` are the current names before this change,
+// and `made` is how many files were made before it.
 fn keep_change(
     alloc: Global,
     picked: &mut NameTable,
@@ -249,6 +272,8 @@ fn keep_change(
     made: usize,
     change: &Change,
 ) -> Result<(), AllocError>
+    // Each name whose file the change replaces in a state `v` with these names leads where it leads
+    // after the change. All other picked names lead where they led.
     ensures { OnOk result ((contents : List (List ℕ)) (v : TreeState)
         → HasNames v names.now.entries.items made → can_record_change contents change.now v ≡ true
         → (q : List ℕ) → lookup picked.new.entries.items q
@@ -277,7 +302,8 @@ fn keep_change(
     }
 }
 
-// Lets a picked name lead to a number or to none, unless it does so among the names already.
+// Lets a picked name lead to a file, or removes it if `file` is None. If the name leads there in
+// `names` already, the picked names are unchanged.
 fn lead(
     alloc: Global,
     picked: &mut NameTable,
@@ -285,6 +311,7 @@ fn lead(
     name: &Name,
     file: Option<usize>,
 ) -> Result<(), AllocError>
+    // The name is changed so in the picked names, and all other picked names are as before.
     ensures { OnOk result ((q : List ℕ) → lookup picked.new.entries.items q
         ≡ (if bytes_eq q name.now then
         (if lead_to_same_file (lookup names.now.entries.items name.now) file then
@@ -301,16 +328,19 @@ fn lead(
     Ok(())
 }
 
-// Applies one more change to the names, and returns how many files were made then.
+// Applies one more change to the names, and returns how many files were made after it. `made` is
+// how many were made before it.
 fn replay(
     alloc: Global,
     names: &mut NameTable,
     made: usize,
     change: &Change,
 ) -> Result<usize, AllocError>
-    // Counts have 64 bits, and the change may add one.
+    // The count has 64 bits, and the change may make one file.
     requires { made < 2 ^ 64 - 1 }
+    // The change makes at most one file.
     ensures bound { IfOk result (λ n. n ≤ made + 1) }
+    // If the table had the names of a state, it has those of the state after the change.
     ensures names { IfOk result (λ n. (contents : List (List ℕ)) (v : TreeState)
         → HasNames v names.old.entries.items made
         → HasNames (step contents change.now v) names.new.entries.items n) }
@@ -343,8 +373,8 @@ fn replay(
     }
 }
 
-// The contents of a file after a crash: its bytes if it is synced; otherwise, as chosen, its bytes
-// as read, nothing, or as many bytes of value 255.
+// The contents of a file after a crash: its bytes if it is synced. Otherwise `way` chooses its
+// bytes as read (0), no bytes (1), or as many bytes of value 255 (2).
 fn crash_bytes(alloc: Global, file: &Stored, way: u64) -> Result<Vec<u8>, AllocError>
     ensures { IfOk result (λ bytes. bytes.items ≡ crash_bytes way (stored_file file.now)) }
 {
@@ -357,15 +387,15 @@ fn crash_bytes(alloc: Global, file: &Stored, way: u64) -> Result<Vec<u8>, AllocE
     Vec::from_elem(alloc, 255, file.bytes.len())
 }
 
-/// If few names were changed since the names were last synced, a number picks each map of names
-/// that a crash may leave.
+/// A law: if at most 5 changes of names followed the last sync of the names, some number picks each
+/// map of names that a crash may leave.
 pub fn each_map_of_few_changes_is_picked()
     ensures { (v : TreeState) (map : NameMap) → length v.older ≤ most_changes_with_all_subsets
         → IsCrashMap v map
         → (pick : ℕ) × (pick < crash_image_count_of v) × (picked_crash_map pick v ≡ map) }
 {}
 
-/// The number 0 picks the map of names as read.
+/// A law: the number 0 picks the current map of names.
 pub fn no_change_is_undone_by_0()
     ensures { (v : TreeState) → picked_crash_map 0 v ≡ v.names }
 {}

@@ -3,7 +3,7 @@
 //! `docs/crash-safety.md`, "Misuses, faults and counts".
 ghost use Rattle.std.specs.Prelude.{◌≡◌, ◌≤◌, List, Option, Some, take, IfOk, OnErr, [], IsOk};
 ghost use Rattle.base_core.specs.Faults.{FailsWithCause, saturating_increment};
-ghost use Rattle.base_core.specs.Sink.{Adds, IsWriteCount};
+ghost use Rattle.base_core.specs.Sink.{AddsBytesToSink, IsWriteCount};
 ghost use Rattle.tree_memory.specs.Sink.{SinkState, new_sink, sink_counts, len_that_fits, len_within_write_limit, Takes, Refuses};
 
 use base_core::{Sink, SinkFault};
@@ -13,6 +13,7 @@ use std::marker::Model;
 /// A sink in memory, with everything observable: its bytes, how many more it takes, and its counts.
 #[derive(Drop)]
 pub struct MemorySink {
+    // All bytes that were written.
     bytes: Vec<u8>,
     // How many more bytes it takes, if its end is planned.
     room: Option<usize>,
@@ -84,7 +85,9 @@ impl MemorySink {
 
     /// Counts a write that failed.
     fn fault(&mut self) -> SinkFault
+        // The count of faults is one higher, up to 2^64 - 1.
         ensures is { self.new ≡ record self.old { faults = saturating_increment self.old.faults } }
+        // The count of faults does not fall.
         ensures later { self.old.faults ≤ self.new.faults }
     {
         self.faults = self.faults.saturating_add(1);
@@ -93,12 +96,15 @@ impl MemorySink {
 
     /// Counts a write that failed because the sink was out of memory, which is a fault too.
     fn want(&mut self) -> SinkFault
+        // The count of faults is one higher, up to 2^64 - 1.
         ensures is { self.new ≡ record self.old {
           faults = saturating_increment self.old.faults;
           memory_faults =
               saturating_increment self.old.memory_faults;
         } }
+        // The count of faults does not fall.
         ensures later { self.old.faults ≤ self.new.faults }
+        // The count of faults for lack of memory does not fall.
         ensures more { self.old.memory_faults ≤ self.new.memory_faults }
     {
         self.memory_faults = self.memory_faults.saturating_add(1);
@@ -106,7 +112,7 @@ impl MemorySink {
     }
 }
 
-// How many of these bytes fit into the room that is left; all if no end is planned.
+// How many of `len` bytes fit into the room that is left; all of them if no end is planned.
 fn len_that_fits(room: Option<usize>, len: usize) -> usize
     ensures { result ≡ len_that_fits room len }
 {
@@ -116,7 +122,8 @@ fn len_that_fits(room: Option<usize>, len: usize) -> usize
     }
 }
 
-// How many of these bytes a write takes, by the planned limit: at least one if there is one.
+// How many of `len` bytes a write takes, by the planned limit. A limit of 0 counts as 1, so that a
+// write takes at least one byte if there is one.
 fn len_within_write_limit(most: Option<usize>, len: usize) -> usize
     ensures { result ≡ len_within_write_limit most len }
 {
@@ -127,22 +134,31 @@ fn len_within_write_limit(most: Option<usize>, len: usize) -> usize
 }
 
 impl Sink for MemorySink {
+    // The bytes that were written so far, which contracts see.
     ghost bytes = { λ sink. Some sink.bytes };
 
+    // The counts of a sink: its failed calls, and those that ran out of memory.
     ghost counts = { λ sink. sink_counts sink };
 
     /// Takes a prefix of a piece, as long as it can, and returns how many bytes that is.
     fn write(&mut self, piece: &[u8]) -> Result<usize, SinkFault>
+        // The returned number is at most the length of the piece, and not 0 unless the piece is
+        // empty.
         ensures taken { IfOk result (λ n. IsWriteCount n piece.now) }
+        // A write of no bytes succeeds.
         ensures empty { piece.now ≡ [] → IsOk result }
+        // On success the first n bytes of the piece are added to those written.
         ensures added { IfOk result (λ n.
-            Adds (Some self.old.bytes) (Some self.new.bytes) (take n piece.now)) }
+            AddsBytesToSink (Some self.old.bytes) (Some self.new.bytes) (take n piece.now)) }
+        // An error leaves the written bytes as they were.
         ensures unchanged { OnErr result (Some self.new.bytes ≡ Some self.old.bytes) }
+        // The counts rise only if the call fails, and then with the cause.
         ensures cause { FailsWithCause (sink_counts self.old) (sink_counts self.new) result }
 
-        // It takes all that fits, or the most that a write takes. It fails only if nothing fits or
-        // the sink is out of memory.
+        // On success the sink takes as many bytes as it can: all that fit, or the most that a
+        // write takes.
         ensures ok { IfOk result (λ n. Takes self.old piece.now n self.new) }
+        // It fails only if no byte fits, or if the sink is out of memory.
         ensures err { OnErr result (Refuses self.old piece.now self.new) }
     {
         if piece.is_empty() {

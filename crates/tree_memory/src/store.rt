@@ -5,7 +5,7 @@
 ghost use Rattle.std.specs.Prelude.{◌≡◌, ◌↔◌, ℕ, ◌<◌, ◌≤◌, ◌+◌, [], ◌∷◌, ◌++◌, List, IsTrue, IfOk, IfSome, OnOk, OnErr, length, take, drop, false, All};
 ghost use Rattle.std.specs.Option.{option_copied};
 ghost use Rattle.std.specs.Vec.{vec_len, vec_capacity};
-ghost use Rattle.base_core.specs.Listed.{IsNamesOf, IsListOf};
+ghost use Rattle.base_core.specs.Listed.{AreSortedNamesInMap, IsSortedListingOfFolder};
 ghost use Rattle.base_core.specs.Tree.{files_of, HasName, CanRead, CanCreate, CanRename, after_create, after_append, after_sync, after_rename, after_remove, after_sync_names};
 ghost use Rattle.tree_memory.specs.Changes.{empty_state, after_put};
 ghost use Rattle.tree_memory.specs.Kept.{IsConsistentStore, CanPut};
@@ -17,14 +17,15 @@ use std::alloc::{AllocError, Global};
 /// The record of all changes of a tree, and its current state: the names, and the files by number.
 #[derive(Drop)]
 pub struct Store {
+    /// Where memory is taken.
     pub alloc: Global,
     /// The record: all changes since the tree was empty, the oldest first.
     pub changes: Vec<Change>,
-    /// The names as read now.
+    /// The current names, each with the number of its file.
     pub names: NameTable,
     /// All files that were made, by their numbers, including those that no name leads to any more.
     pub files: Vec<Stored>,
-    // The names and the files are those of the record's newest state.
+    // The invariant: the names and the files are those of the state after all recorded changes.
     pub ghost in_step: { IsConsistentStore changes.items names.entries.items files.items },
 }
 
@@ -57,6 +58,7 @@ impl Store {
 
     /// Fills a buffer with the file's bytes from an offset on.
     pub fn read_at(&self, name: &Name, at: u64, into: &mut [u8])
+        // The file must be present, and have as many bytes after the offset as the buffer.
         requires { CanRead name.now at (length into.old) (store_state self.now) }
         ensures { IfSome (files_of (store_state self.now) name.now)
             (λ bytes. into.new ≡ take (length into.old) (drop at bytes)) }
@@ -68,21 +70,21 @@ impl Store {
 
     /// The present names, in byte order.
     pub fn names(&self, alloc: Global) -> Result<Names, AllocError>
-        ensures { IfOk result (IsNamesOf (store_state self.now).names) }
+        ensures { IfOk result (AreSortedNamesInMap (store_state self.now).names) }
     {
         self.names.list(alloc)
     }
 
     /// The present names below a folder, in byte order.
     pub fn list(&self, alloc: Global, folder: &Name) -> Result<Names, AllocError>
-        ensures { IfOk result (IsListOf folder.now (store_state self.now)) }
+        ensures { IfOk result (IsSortedListingOfFolder folder.now (store_state self.now)) }
     {
         self.names.list_below(alloc, folder.as_bytes())
     }
 
-    // ---- when a call is no misuse
+    // ---- which calls the state allows: any other call is a misuse
 
-    /// Whether the file is there, and has so many bytes from this offset on.
+    /// Whether the file is present, and has at least `len` bytes from the offset `at` on.
     pub fn can_read(&self, name: &Name, at: u64, len: usize) -> bool
         ensures { IsTrue result ↔ CanRead name.now at len (store_state self.now) }
     {
@@ -99,14 +101,15 @@ impl Store {
         self.names.find(name.as_bytes()).is_some()
     }
 
-    /// Whether a file may be put under the name.
+    /// Whether a file may be put under the name: no name becomes a folder of another.
     pub fn can_put(&self, name: &Name) -> bool
         ensures { IsTrue result ↔ CanPut name.now (store_state self.now) }
     {
         self.names.fits(name.as_bytes(), name.as_bytes())
     }
 
-    /// Whether a file may be made under the name.
+    /// Whether a file may be made under the name: it is absent, and no name becomes a folder of
+    /// another.
     pub fn can_create(&self, name: &Name) -> bool
         ensures { IsTrue result ↔ CanCreate name.now (store_state self.now) }
     {
@@ -116,7 +119,8 @@ impl Store {
         self.can_put(name)
     }
 
-    /// Whether the file of one name may get another name.
+    /// Whether the file of the name `from` may get the other name `to`: `from` is present, and
+    /// afterwards no name is a folder of another.
     pub fn can_rename(&self, from: &Name, to: &Name) -> bool
         ensures { IsTrue result ↔ CanRename from.now to.now (store_state self.now) }
     {
@@ -133,9 +137,12 @@ impl Store {
 
     /// Puts a new synced file under the name, and syncs the names.
     pub fn put(&mut self, name: &Name, bytes: Vec<u8>) -> Result<(), AllocError>
+        // The name must fit beside the other names: no name becomes a folder of another.
         requires { CanPut name.now (store_state self.old) }
+        // On success one state is added to the history, that after this call.
         ensures ok { OnOk result (store_history self.new
             ≡ after_put name.now bytes.items (store_state self.old) ∷ store_history self.old) }
+        // An error adds no state to the history.
         ensures err { OnErr result (store_history self.new ≡ store_history self.old) }
     {
         // All memory is reserved before the first change, so that a refused put changes nothing.
@@ -166,11 +173,15 @@ impl Store {
 
     /// Makes a new empty file under the name.
     pub fn create(&mut self, name: &Name) -> Result<(), AllocError>
+        // The name must be absent, and fit beside the other names.
         requires { CanCreate name.now (store_state self.old) }
+        // On success one state is added to the history, that after this call.
         ensures ok { OnOk result (store_history self.new
             ≡ after_create name.now (store_state self.old) ∷ store_history self.old) }
+        // An error adds no state to the history.
         ensures err { OnErr result (store_history self.new ≡ store_history self.old) }
     {
+        // Memory for the record of this change, so that nothing fails after the first change.
         self.changes.reserve(1)?;
         self.files.reserve(1)?;
         let file = self.files.len();
@@ -190,12 +201,16 @@ impl Store {
 
     /// Adds a piece at the file's end.
     pub fn append(&mut self, name: &Name, piece: &[u8]) -> Result<(), AllocError>
+        // The name must be present.
         requires { HasName name.now (store_state self.old) }
+        // On success one state is added to the history, that after this call.
         ensures ok { OnOk result (store_history self.new
             ≡ after_append name.now piece.now (store_state self.old) ∷ store_history self.old) }
+        // An error adds no state to the history.
         ensures err { OnErr result (store_history self.new ≡ store_history self.old) }
     {
         if let Some(file) = self.names.find(name.as_bytes()) {
+            // Memory for the record of this change, so that nothing fails after the first change.
             self.changes.reserve(1)?;
             self.files[file].append(piece)?;
             let len = self.files[file].bytes.len();
@@ -206,12 +221,16 @@ impl Store {
 
     /// Syncs the file.
     pub fn sync(&mut self, name: &Name) -> Result<(), AllocError>
+        // The name must be present.
         requires { HasName name.now (store_state self.old) }
+        // On success one state is added to the history, that after this call.
         ensures ok { OnOk result (store_history self.new
             ≡ after_sync name.now (store_state self.old) ∷ store_history self.old) }
+        // An error adds no state to the history.
         ensures err { OnErr result (store_history self.new ≡ store_history self.old) }
     {
         if let Some(file) = self.names.find(name.as_bytes()) {
+            // Memory for the record of this change, so that nothing fails after the first change.
             self.changes.reserve(1)?;
             self.files[file].synced = true;
             add(&mut self.changes, Change::Sync { file });
@@ -221,12 +240,16 @@ impl Store {
 
     /// Moves the file of one name to another.
     pub fn rename(&mut self, from: &Name, to: &Name) -> Result<(), AllocError>
+        // `from` must be present, and `to` must be another name that fits beside the other names.
         requires { CanRename from.now to.now (store_state self.old) }
+        // On success one state is added to the history, that after this call.
         ensures ok { OnOk result (store_history self.new
             ≡ after_rename from.now to.now (store_state self.old) ∷ store_history self.old) }
+        // An error adds no state to the history.
         ensures err { OnErr result (store_history self.new ≡ store_history self.old) }
     {
         if let Some(file) = self.names.find(from.as_bytes()) {
+            // Memory for the record of this change, so that nothing fails after the first change.
             self.changes.reserve(1)?;
             let recorded_from = from.copy(self.alloc)?;
             let recorded_to = to.copy(self.alloc)?;
@@ -246,15 +269,19 @@ impl Store {
 
     /// Removes the name; removing an absent name adds one more state that is the same.
     pub fn remove(&mut self, name: &Name) -> Result<(), AllocError>
+        // On success one state is added to the history, that after this call.
         ensures ok { OnOk result (store_history self.new
             ≡ after_remove name.now (store_state self.old) ∷ store_history self.old) }
+        // An error adds no state to the history.
         ensures err { OnErr result (store_history self.new ≡ store_history self.old) }
     {
         if !self.has(name) {
+            // Memory for the record of this change, so that nothing fails after the first change.
             self.changes.reserve(1)?;
             add(&mut self.changes, Change::Stay);
             return Ok(());
         }
+        // Memory for the record of this change, so that nothing fails after the first change.
         self.changes.reserve(1)?;
         let recorded = name.copy(self.alloc)?;
         self.names.remove(name.as_bytes());
@@ -264,10 +291,13 @@ impl Store {
 
     /// Syncs the names.
     pub fn sync_names(&mut self) -> Result<(), AllocError>
+        // On success one state is added to the history, that after this call.
         ensures ok { OnOk result (store_history self.new
             ≡ after_sync_names (store_state self.old) ∷ store_history self.old) }
+        // An error adds no state to the history.
         ensures err { OnErr result (store_history self.new ≡ store_history self.old) }
     {
+        // Memory for the record of this change, so that nothing fails after the first change.
         self.changes.reserve(1)?;
         add(&mut self.changes, Change::SyncNames);
         Ok(())
@@ -276,6 +306,7 @@ impl Store {
 
 // Adds an element for which there is room.
 fn add<X: Drop>(list: &mut Vec<X>, x: X)
+    // The list must have room for one more element.
     requires { vec_len list.old < vec_capacity list.old }
     ensures { list.new.items ≡ list.old.items ++ x ∷ [] }
 {
@@ -283,7 +314,7 @@ fn add<X: Drop>(list: &mut Vec<X>, x: X)
     let _ = list.push(x);
 }
 
-/// Whether this many bytes follow the offset.
+/// Whether at least `len` bytes follow the offset `at`.
 fn has_range(bytes: &[u8], at: u64, len: usize) -> bool
     ensures { IsTrue result ↔ (at + len ≤ length bytes.now) }
 {
@@ -303,21 +334,21 @@ fn copy_from(bytes: &[u8], start: usize, into: &mut [u8])
     into.copy_from_slice(&bytes[start..end]);
 }
 
-/// A change of a tree. Bytes are given by the number of their file and the file's length after the
-/// change, and are kept with the file.
+/// A recorded change of a tree. `file` is the number of a file, and `len` is its length after the
+/// change. The bytes are not repeated here: they are the first `len` bytes of the file.
 #[derive(Drop)]
 pub enum Change {
     /// A new synced file under a name, and the names synced.
     Put { name: Name, file: usize, len: usize },
     /// A new empty file under a name.
     Create { name: Name },
-    /// Bytes at the file's end, which makes it unsynced.
+    /// Bytes were added at the file's end, which makes the file unsynced.
     Append { file: usize, len: usize },
     /// The file is synced.
     Sync { file: usize },
-    /// A present name is absent then, and another leads to its file.
+    /// The name `from` is absent afterwards, and the name `to` leads to its file.
     Rename { from: Name, to: Name },
-    /// A present name is absent then.
+    /// The name, which was present, is absent afterwards.
     Remove { name: Name },
     /// The names are synced.
     SyncNames,
@@ -325,12 +356,12 @@ pub enum Change {
     Stay,
 }
 
-/// The bytes of a file, and whether a crash keeps exactly these.
+/// The bytes of a file, and whether a crash keeps exactly these bytes.
 #[derive(Drop)]
 pub struct Stored {
     /// The bytes as read.
     pub bytes: Vec<u8>,
-    /// Whether a crash keeps exactly these.
+    /// Whether the file is synced: a crash keeps exactly these bytes.
     pub synced: bool,
 }
 
@@ -338,10 +369,15 @@ impl Stored {
     /// Adds a piece at the end of the file, which is unsynced then. If out of memory, nothing
     /// changes.
     pub fn append(&mut self, piece: &[u8]) -> Result<(), AllocError>
+        // On success the piece is added at the end of the bytes.
         ensures bytes { OnOk result (self.new.bytes.items ≡ self.old.bytes.items ++ piece.now) }
+        // On success the file is unsynced.
         ensures synced { OnOk result (self.new.synced ≡ false) }
+        // Each byte of the piece is a byte: below 256.
         ensures piece { All (λ b. b < 256) piece.now }
+        // An error leaves the bytes as they were.
         ensures same_bytes { OnErr result (self.new.bytes.items ≡ self.old.bytes.items) }
+        // An error leaves the file synced or unsynced, as it was.
         ensures same_synced { OnErr result (self.new.synced ≡ self.old.synced) }
     {
         self.bytes.extend_from_slice(piece)?;

@@ -21,11 +21,12 @@ pub struct NameAndFile {
     pub file: usize,
 }
 
-/// The names, each with its number, in byte order.
+/// The names of a tree, each with the number of its file, in byte order.
 #[derive(Drop)]
 pub struct NameTable {
-    /// In the byte order of their names, each name once.
+    /// The entries in the byte order of their names, each name once.
     pub entries: Vec<NameAndFile>,
+    // The invariant: the entries are in the byte order of their names, without repetition.
     pub ghost rising: { IsSortedNameTable entries.items },
 }
 
@@ -39,7 +40,7 @@ impl NameTable {
         }
     }
 
-    /// The number that a name leads to, if it is in the table.
+    /// The number of the file that a name leads to, or None if the name is not in the table.
     pub fn find(&self, name: &[u8]) -> Option<usize>
         ensures { result ≡ lookup self.now.entries.items name.now }
     {
@@ -49,20 +50,26 @@ impl NameTable {
         }
     }
 
-    // The place of the name, or else the place where it would be inserted.
+    // Ok with the place of the name in the table, or an error with the place where it would be
+    // inserted.
     fn place(&self, name: &[u8]) -> Result<usize, usize>
+        // Ok has the place of the entry of this name, counted from 0.
         ensures found { IfOk result (λ i. IsNameAtPlace self.now.entries.items i name.now) }
+        // An error has the place at which an entry of this name would be inserted.
         ensures absent { IfErr result (λ i. IsInsertionPlace self.now.entries.items i name.now) }
     {
         self.entries
             .binary_search_by(|entry| entry.name.as_bytes().cmp(name))
     }
 
-    /// Lets a name lead to a number. If out of memory, nothing changes.
+    /// Lets a name lead to the file of this number, and adds the name if it is absent. If out of
+    /// memory, nothing changes.
     pub fn set(&mut self, name: Name, file: usize) -> Result<(), AllocError>
+        // On success the name leads to this number, and all other names lead where they led.
         ensures ok { OnOk result ((q : List ℕ)
             → lookup self.new.entries.items q
             ≡ put_name (lookup self.old.entries.items) name file q) }
+        // An error leaves the table as it was.
         ensures err { OnErr result (self.new.entries.items ≡ self.old.entries.items) }
     {
         match self.place(name.as_bytes()) {
@@ -72,8 +79,9 @@ impl NameTable {
         Ok(())
     }
 
-    /// Removes a name.
+    /// Removes a name; if it is absent, nothing changes.
     pub fn remove(&mut self, name: &[u8])
+        // The name is absent, and all other names lead where they led.
         ensures { (q : List ℕ) → lookup self.new.entries.items q
             ≡ drop_name (lookup self.old.entries.items) name.now q }
     {
@@ -147,7 +155,8 @@ impl NameTable {
         false
     }
 
-    // The place where the names below a folder begin, or would.
+    // The place in the table, counted from 0, at which the names below a folder begin, or would
+    // begin if there were any.
     fn start(&self, folder: &[u8]) -> usize
         ensures { IsStartOfFolder self.now.entries.items result folder.now }
     {
@@ -183,7 +192,7 @@ impl NameTable {
     }
 }
 
-// Whether a name is before the folder's name and a slash.
+// Whether a name is, in byte order, before the text of the folder's name and a slash.
 fn is_before(name: &[u8], folder: &[u8]) -> bool
     ensures { result ≡ is_lt (slice_cmp nat_cmp name.now (folder.now ++ 47 ∷ [])) }
 {
@@ -194,7 +203,7 @@ fn is_before(name: &[u8], folder: &[u8]) -> bool
     }
 }
 
-// How a name compares with the folder's name and a slash.
+// How a name compares, in byte order, with the text of the folder's name and a slash.
 fn against_folder(name: &[u8], folder: &[u8]) -> Ordering
     ensures { result ≡ slice_cmp nat_cmp name.now (folder.now ++ 47 ∷ []) }
 {

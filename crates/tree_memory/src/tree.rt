@@ -6,7 +6,7 @@ ghost use Rattle.std.specs.Option.{option_map, option_copied};
 ghost use Rattle.base_core.specs.Calls.{IsCounted, ChangesHistory, IfObservable};
 ghost use Rattle.base_core.specs.Faults.{CountsOnlyRise, IsFaultCountedWithCause, CountsNoNewFault, saturating_increment};
 ghost use Rattle.base_core.specs.Files.{put_name};
-ghost use Rattle.base_core.specs.Listed.{AreNamesBelow, IsNamesOf, IsListOf};
+ghost use Rattle.base_core.specs.Listed.{AreSortedNamesBelowFolder, AreSortedNamesInMap, IsSortedListingOfFolder};
 ghost use Rattle.base_core.specs.Tree.{files_of, after_create, after_append, after_failed_append, after_sync, after_rename, after_remove, after_sync_names, unchanged_after_failed_call, IsAlwaysAllowed, HasName, CanRead, CanCreate, CanRename};
 ghost use Rattle.base_core.specs.Undone.{IsAfterCrash};
 ghost use Rattle.base_core.specs.declared.tree.TreeFault.TheVariants.{Memory, Disk as DiskFault};
@@ -37,11 +37,17 @@ impl MemoryTree {
 
     /// An empty tree, with no faults and no planned failures.
     pub fn new(alloc: Global) -> MemoryTree
+        // The tree has one state so far, that without files.
         ensures history { history_of result ≡ empty_state ∷ [] }
+        // No call has failed, and no failure is planned.
         ensures counts { counts_of result ≡ no_faults }
+        // No call is to fail.
         ensures plan { plan_of result ≡ no_plan }
+        // No call was made.
         ensures calls { calls_of result ≡ 0 }
+        // No call that writes was made.
         ensures writes { writes_of result ≡ 0 }
+        // No `read_at` has asked for bytes.
         ensures longest { longest_read_of result ≡ 0 }
     {
         MemoryTree {
@@ -62,15 +68,23 @@ impl MemoryTree {
     /// refused put changes nothing.
     pub fn put(&mut self, name: &Name, bytes: &[u8]) -> Result<(), AllocError>
         requires { CanPut name.now (tree_state self.old) }
+        // On success one state is added: the file is new and synced, and the names are synced.
         ensures ok { OnOk result (history_of self.new
             ≡ after_put name.now bytes.now (tree_state self.old) ∷ history_of self.old) }
+        // On success the name has exactly these bytes, and all other files are as before.
         ensures files { OnOk result (files_of (tree_state self.new)
             ≡ put_name (files_of (tree_state self.old)) name.now bytes.now) }
+        // An error adds no state to the history.
         ensures err { OnErr result (history_of self.new ≡ history_of self.old) }
+        // The counts of failed calls are unchanged.
         ensures counts { counts_of self.new ≡ counts_of self.old }
+        // The planned failures are unchanged.
         ensures plan { plan_of self.new ≡ plan_of self.old }
+        // The number of calls so far is unchanged.
         ensures calls { calls_of self.new ≡ calls_of self.old }
+        // The number of calls so far that write is unchanged.
         ensures writes { writes_of self.new ≡ writes_of self.old }
+        // The greatest length that a `read_at` asked for is unchanged.
         ensures longest { longest_read_of self.new ≡ longest_read_of self.old }
     {
         let bytes = Vec::from_slice(self.store.alloc, bytes)?;
@@ -86,7 +100,7 @@ impl MemoryTree {
 
     /// All names, in byte order.
     pub fn names(&self, alloc: Global) -> Result<Names, AllocError>
-        ensures { IfOk result (IsNamesOf (tree_state self.now).names) }
+        ensures { IfOk result (AreSortedNamesInMap (tree_state self.now).names) }
     {
         self.store.names(alloc)
     }
@@ -94,13 +108,20 @@ impl MemoryTree {
     /// Makes the calls with these numbers fail, counted from 1 from now on; this replaces the
     /// earlier plan. A refused plan changes nothing.
     pub fn fail_at(&mut self, calls: &[u64]) -> Result<(), AllocError>
+        // On success the plan is this list of calls, and has no stop.
         ensures ok { OnOk result (plan_of self.new ≡ record { listed = calls.now; stop = None }) }
+        // An error leaves the earlier plan.
         ensures err { OnErr result (plan_of self.new ≡ plan_of self.old) }
+        // The states of the tree so far are unchanged.
         ensures history { history_of self.new ≡ history_of self.old }
+        // The counts are unchanged; `fallible` says whether a later call is planned to fail.
         ensures counts { counts_of self.new
             ≡ record (counts_of self.old) { fallible = has_later_failure (plan_of self.new) } }
+        // The number of calls so far is unchanged.
         ensures calls { calls_of self.new ≡ calls_of self.old }
+        // The number of calls so far that write is unchanged.
         ensures writes { writes_of self.new ≡ writes_of self.old }
+        // The greatest length that a `read_at` asked for is unchanged.
         ensures longest { longest_read_of self.new ≡ longest_read_of self.old }
     {
         self.calls.plan = Plan::at(self.store.alloc, calls)?;
@@ -109,32 +130,45 @@ impl MemoryTree {
 
     /// Makes every call after the next n fail; this replaces the earlier plan.
     pub fn stop_after(&mut self, n: u64)
+        // The plan is this stop alone, without listed calls.
         ensures plan { plan_of self.new ≡ record { listed = []; stop = Some n } }
+        // The states of the tree so far are unchanged.
         ensures history { history_of self.new ≡ history_of self.old }
+        // The counts are unchanged; `fallible` says that a later call is planned to fail.
         ensures counts { counts_of self.new ≡ record (counts_of self.old) { fallible = true } }
+        // The number of calls so far is unchanged.
         ensures calls { calls_of self.new ≡ calls_of self.old }
+        // The number of calls so far that write is unchanged.
         ensures writes { writes_of self.new ≡ writes_of self.old }
+        // The greatest length that a `read_at` asked for is unchanged.
         ensures longest { longest_read_of self.new ≡ longest_read_of self.old }
     {
         self.calls.plan = Plan::after(self.store.alloc, n);
     }
 
     /// A new tree as after a crash: it has a map of names that a crash may leave, and all its files
-    /// are synced. With `p` of `picks`, the number `choice mod p` picks the map. 0 picks that as
-    /// read. If few names were changed since the names were last synced, each map has its number.
-    /// A map that has a file as a folder is replaced by that as read. A file that was not
-    /// synced has its bytes as read if `(choice / p) mod 3` is 0, nothing if it is 1, and as many
-    /// bytes of value 255 if it is 2. The new tree has no faults and no planned failures. The tree
-    /// itself is unchanged.
+    /// are synced. If `picks` returns `p`, the number `choice mod p` picks the map. 0 picks the
+    /// current map. If at most 5 changes of names followed the last sync of the names, each map
+    /// that a crash may leave has its number. If the picked map has a file as a folder, the new
+    /// tree has the current map instead. A file that was not synced has its bytes as read if
+    /// `(choice / p) mod 3` is 0, no bytes if it is 1, and as many bytes of value 255 if it is 2.
+    /// The new tree has no faults and no planned failures. The tree itself is unchanged.
     pub fn pick_image(&self, alloc: Global, choice: u64) -> Result<MemoryTree, AllocError>
+        // The files of the new tree are those that `choice` picks.
         ensures files { IfOk result (λ image.
             IsImageOf choice (tree_state self.now) (files_of (tree_state image))) }
+        // A crash of this tree can leave the state of the new tree.
         ensures crash { IfOk result (λ image. IsAfterCrash (tree_state self.now) (tree_state
             image)) }
+        // In the new tree no call has failed, and no failure is planned.
         ensures counts { IfOk result (λ image. counts_of image ≡ no_faults) }
+        // No call of the new tree is to fail.
         ensures plan { IfOk result (λ image. plan_of image ≡ no_plan) }
+        // No call of the new tree was made.
         ensures calls { IfOk result (λ image. calls_of image ≡ 0) }
+        // No call of the new tree that writes was made.
         ensures writes { IfOk result (λ image. writes_of image ≡ 0) }
+        // No `read_at` of the new tree has asked for bytes.
         ensures longest { IfOk result (λ image. longest_read_of image ≡ 0) }
     {
         let store = self.store.image(alloc, choice)?;
@@ -159,14 +193,14 @@ impl MemoryTree {
         self.calls.tally.writes
     }
 
-    /// How many of its calls failed.
+    /// How many calls of this tree failed.
     pub fn faults(&self) -> u64
         ensures { result ≡ (counts_of self.now).faults }
     {
         self.calls.tally.faults
     }
 
-    /// How many of its calls failed because the tree was out of memory.
+    /// How many calls of this tree failed because the tree was out of memory.
     pub fn wants(&self) -> u64
         ensures { result ≡ (counts_of self.now).memory_faults }
     {
@@ -181,15 +215,15 @@ impl MemoryTree {
         self.longest
     }
 
-    /// How many maps of names there are: that as read, and the older ones since the names were last
-    /// synced.
+    /// How many maps of names there are: the current one, and the older ones since the names were
+    /// last synced.
     pub fn maps(&self) -> u64
         ensures { result ≡ length (maps_newest_first (tree_state self.now)) }
     {
         self.store.maps()
     }
 
-    /// How many numbers pick a map of names that a crash may leave.
+    /// How many numbers pick a map of names in `pick_image`: the numbers below the result.
     pub fn picks(&self) -> u64
         ensures { result ≡ crash_image_count_of (tree_state self.now) }
     {
@@ -201,10 +235,13 @@ impl Tree for MemoryTree {
     ghost use Rattle.tree_memory.specs.Memory.{tree_state, history_of, counts_of, calls_of, writes_of, plan_of, longest_read_of, IsReadCall, IsWriteCall};
     ghost use Rattle.tree_memory.specs.WellFormedLaw.{well_formed_history};
 
+    // The history of a tree: its states so far, the newest first.
     ghost history = { λ tree. history_of tree };
 
+    // The counts of a tree: failed calls, misuses, calls that ran out of memory.
     ghost counts = { λ tree. counts_of tree };
 
+    // The proof that each state of a tree so far is well formed.
     ghost whole = { λ tree. well_formed_history tree };
 
     // A tree in memory takes a file under each name, and allows each name to be removed.
@@ -212,9 +249,9 @@ impl Tree for MemoryTree {
 
     /// The length of a file in bytes, or None if the name is absent.
     fn size(&mut self, name: &Name) -> Result<Option<u64>, Disk>
-        // The history is unchanged.
+        // The call adds no state to the history.
         ensures same { history_of self.new ≡ history_of self.old }
-        // How the counts change, and which states allow the call.
+        // How the counts change; each state allows the call, so that it is no misuse.
         ensures counts { IsCounted IsAlwaysAllowed (history_of self.old) (counts_of self.old)
             (counts_of self.new) result }
         // What is returned, if the history is observable.
@@ -222,12 +259,14 @@ impl Tree for MemoryTree {
             IfObservable (history_of self.old)
             (λ v. size ≡ option_map length (files_of v name.now))) }
 
-        // It fails exactly if that is planned.
+        // The call fails exactly if its failure is planned.
         ensures when { IsOk result ↔ (is_next_call_to_fail (plan_of self.old) ≡ false) }
         // What is counted of the call, and why it fails.
         ensures call { IsReadCall self.old self.new result }
+        // The greatest length that a `read_at` asked for is unchanged.
         ensures longest { longest_read_of self.new ≡ longest_read_of self.old }
     {
+        // Counts the call, which each state allows; ends it if its failure is planned.
         self.calls.begin(true)?;
         match self.store.file(name) {
             None => Ok(None),
@@ -237,9 +276,9 @@ impl Tree for MemoryTree {
 
     /// Fills a buffer with the file's bytes from an offset on.
     fn read_at(&mut self, name: &Name, at: u64, into: &mut [u8]) -> Result<(), Disk>
-        // The history is unchanged.
+        // The call adds no state to the history.
         ensures same { history_of self.new ≡ history_of self.old }
-        // How the counts change, and which states allow the call.
+        // How the counts change; the call is a misuse in the states that do not allow it.
         ensures counts { IsCounted (CanRead name.now at (length into.old)) (history_of self.old)
             (counts_of self.old) (counts_of self.new) result }
         // What is returned, if the history is observable.
@@ -247,19 +286,20 @@ impl Tree for MemoryTree {
             (λ v. IfSome (files_of v name.now) (λ bytes.
             into.new ≡ take (length into.old) (drop at bytes)))) }
 
-        // It fails exactly if that is planned, or if it is a misuse.
+        // The call fails exactly if its failure is planned, or if it is a misuse.
         ensures when { IsOk result ↔ ((is_next_call_to_fail (plan_of self.old) ≡ false)
             × CanRead name.now at (length into.old) (tree_state self.old)) }
         // An error leaves the buffer as it was.
         ensures unchanged_after_failed_call { OnErr result (into.new ≡ into.old) }
         // What is counted of the call, and why it fails.
         ensures call { IsReadCall self.old self.new result }
-        // The greatest length that was asked for, with this one.
+        // The greatest length that a `read_at` asked for: as before, or the length of this buffer.
         ensures longest { longest_read_of self.new
             ≡ max (longest_read_of self.old) (length into.old) }
     {
         self.longest = self.longest.max(into.len() as u64);
         let can = self.store.can_read(name, at, into.len());
+        // Counts the call; ends it if it is a misuse, or if its failure is planned.
         self.calls.begin(can)?;
         self.store.read_at(name, at, into);
         Ok(())
@@ -271,15 +311,16 @@ impl Tree for MemoryTree {
         ensures moves { ChangesHistory (CanCreate name.now) (after_create name.now) (after_create
             name.now)
             (history_of self.old) (history_of self.new) result }
-        // How the counts change, and which states allow the call.
+        // How the counts change; the call is a misuse in the states that do not allow it.
         ensures counts { IsCounted (CanCreate name.now) (history_of self.old) (counts_of self.old)
             (counts_of self.new) result }
 
-        // It fails exactly if it is a misuse, if that is planned, or if the tree is out of memory,
-        // and then changes nothing.
+        // What is counted of the call, and why it fails: its failure is planned, it is a misuse, or
+        // the tree is out of memory. If it fails, the history is unchanged.
         ensures call { IsWriteCall (CanCreate name.now) self.old self.new result }
     {
         let can = self.store.can_create(name);
+        // Counts the call; ends it if it is a misuse, or if its failure is planned.
         self.calls.begin_write(can)?;
         let done = self.store.create(name);
         self.calls.finish(done)
@@ -290,13 +331,14 @@ impl Tree for MemoryTree {
         // Which state is added to the history: on success, and on an error.
         ensures moves { ChangesHistory (HasName name.now) (after_append name.now piece.now)
             (after_failed_append name.now) (history_of self.old) (history_of self.new) result }
-        // How the counts change, and which states allow the call.
+        // How the counts change; the call is a misuse in the states that do not allow it.
         ensures counts { IsCounted (HasName name.now) (history_of self.old) (counts_of self.old)
             (counts_of self.new) result }
         // What is counted of the call, and why it fails.
         ensures call { IsWriteCall (HasName name.now) self.old self.new result }
     {
         let can = self.store.has(name);
+        // Counts the call; ends it if it is a misuse, or if its failure is planned.
         self.calls.begin_write(can)?;
         let done = self.store.append(name, piece);
         self.calls.finish(done)
@@ -308,13 +350,14 @@ impl Tree for MemoryTree {
         ensures moves { ChangesHistory (HasName name.now)
             (after_sync name.now) unchanged_after_failed_call
             (history_of self.old) (history_of self.new) result }
-        // How the counts change, and which states allow the call.
+        // How the counts change; the call is a misuse in the states that do not allow it.
         ensures counts { IsCounted (HasName name.now) (history_of self.old) (counts_of self.old)
             (counts_of self.new) result }
         // What is counted of the call, and why it fails.
         ensures call { IsWriteCall (HasName name.now) self.old self.new result }
     {
         let can = self.store.has(name);
+        // Counts the call; ends it if it is a misuse, or if its failure is planned.
         self.calls.begin_write(can)?;
         let done = self.store.sync(name);
         self.calls.finish(done)
@@ -325,13 +368,14 @@ impl Tree for MemoryTree {
         // Which state is added to the history: on success, and on an error.
         ensures moves { ChangesHistory (CanRename from.now to.now) (after_rename from.now to.now)
             (after_rename from.now to.now) (history_of self.old) (history_of self.new) result }
-        // How the counts change, and which states allow the call.
+        // How the counts change; the call is a misuse in the states that do not allow it.
         ensures counts { IsCounted (CanRename from.now to.now) (history_of self.old)
             (counts_of self.old) (counts_of self.new) result }
         // What is counted of the call, and why it fails.
         ensures call { IsWriteCall (CanRename from.now to.now) self.old self.new result }
     {
         let can = self.store.can_rename(from, to);
+        // Counts the call; ends it if it is a misuse, or if its failure is planned.
         self.calls.begin_write(can)?;
         let done = self.store.rename(from, to);
         self.calls.finish(done)
@@ -343,12 +387,13 @@ impl Tree for MemoryTree {
         ensures moves { ChangesHistory IsAlwaysAllowed (after_remove name.now) (after_remove
             name.now)
             (history_of self.old) (history_of self.new) result }
-        // How the counts change, and which states allow the call.
+        // How the counts change; each state allows the call, so that it is no misuse.
         ensures counts { IsCounted IsAlwaysAllowed (history_of self.old) (counts_of self.old)
             (counts_of self.new) result }
         // What is counted of the call, and why it fails.
         ensures call { IsWriteCall IsAlwaysAllowed self.old self.new result }
     {
+        // Counts the call, which each state allows; ends it if its failure is planned.
         self.calls.begin_write(true)?;
         let done = self.store.remove(name);
         self.calls.finish(done)
@@ -359,12 +404,13 @@ impl Tree for MemoryTree {
         // Which state is added to the history: on success, and on an error.
         ensures moves { ChangesHistory IsAlwaysAllowed after_sync_names unchanged_after_failed_call
             (history_of self.old) (history_of self.new) result }
-        // How the counts change, and which states allow the call.
+        // How the counts change; each state allows the call, so that it is no misuse.
         ensures counts { IsCounted IsAlwaysAllowed (history_of self.old) (counts_of self.old)
             (counts_of self.new) result }
         // What is counted of the call, and why it fails.
         ensures call { IsWriteCall IsAlwaysAllowed self.old self.new result }
     {
+        // Counts the call, which each state allows; ends it if its failure is planned.
         self.calls.begin_write(true)?;
         let done = self.store.sync_names();
         self.calls.finish(done)
@@ -373,7 +419,7 @@ impl Tree for MemoryTree {
     /// The present names below a folder, in byte order. Out of memory for the answer is no fault of
     /// the tree.
     fn list(&mut self, alloc: Global, folder: &Name) -> Result<Names, TreeFault>
-        // The history is unchanged.
+        // The call adds no state to the history.
         ensures same { history_of self.new ≡ history_of self.old }
         // No count falls.
         ensures goes_on { CountsOnlyRise (counts_of self.old) (counts_of self.new) }
@@ -382,48 +428,60 @@ impl Tree for MemoryTree {
             → IsFaultCountedWithCause (counts_of self.old) (counts_of self.new) }
         // Ok is returned only if no fault was counted.
         ensures kept { OnOk result (CountsNoNewFault (counts_of self.old) (counts_of self.new)) }
+        // If out of memory for the answer, no fault of the tree was counted.
         ensures memory { IsErrOf result Memory
             → CountsNoNewFault (counts_of self.old) (counts_of self.new) }
+        // The call is no misuse.
         ensures proper { (counts_of self.new).misuses ≡ (counts_of self.old).misuses }
         // What is returned, if the history is observable.
         ensures value { IfOk result (λ names.
-            IfObservable (history_of self.old) (λ v. IsListOf folder.now v names)) }
-        ensures order { IfOk result (λ names. AreNamesBelow folder.now names) }
+            IfObservable (history_of self.old) (λ v. IsSortedListingOfFolder folder.now v names)) }
+        // The answer has only names below the folder, in byte order.
+        ensures order { IfOk result (λ names. AreSortedNamesBelowFolder folder.now names) }
 
-        // The tree fails exactly if that is planned.
+        // The call fails with an I/O error exactly if its failure is planned.
         ensures when { IsErrOf result DiskFault ↔ (is_next_call_to_fail (plan_of self.old) ≡ true) }
+        // The plan of failures is counted from the next call on.
         ensures plan { plan_of self.new ≡ plan_after_one_call (plan_of self.old) }
+        // One more call was made.
         ensures calls { calls_of self.new ≡ saturating_increment (calls_of self.old) }
+        // The number of calls so far that write is unchanged.
         ensures writes { writes_of self.new ≡ writes_of self.old }
+        // One more fault is counted if the failure of this call is planned.
         ensures faults { (counts_of self.new).faults
             ≡ (if is_next_call_to_fail (plan_of self.old) then saturating_increment
             (counts_of self.old).faults else
             (counts_of self.old).faults) }
+        // No call is counted as failed for lack of memory of the tree.
         ensures memory_faults { (counts_of self.new).memory_faults
             ≡ (counts_of self.old).memory_faults }
+        // The greatest length that a `read_at` asked for is unchanged.
         ensures longest { longest_read_of self.new ≡ longest_read_of self.old }
     {
+        // Counts the call, which each state allows; ends it if its failure is planned.
         self.calls.begin(true)?;
         let names = self.store.list(alloc, folder)?;
-        // A law that the proof needs; it computes nothing.
+        // A law for the proof, which computes nothing: each element of `names` is a name.
         names.are_names();
         Ok(names)
     }
 
     /// Returns Ok unless a failure is planned: a tree in memory has no folders that refuse.
     fn check_target(&mut self, name: &Name, source: Option<&Name>) -> Result<(), Disk>
-        // The history is unchanged.
+        // The call adds no state to the history.
         ensures same { history_of self.new ≡ history_of self.old }
-        // How the counts change, and which states allow the call.
+        // How the counts change; each state allows the call, so that it is no misuse.
         ensures counts { IsCounted IsAlwaysAllowed (history_of self.old) (counts_of self.old)
             (counts_of self.new) result }
 
-        // It fails exactly if that is planned.
+        // The call fails exactly if its failure is planned.
         ensures when { IsOk result ↔ (is_next_call_to_fail (plan_of self.old) ≡ false) }
         // What is counted of the call, and why it fails.
         ensures call { IsReadCall self.old self.new result }
+        // The greatest length that a `read_at` asked for is unchanged.
         ensures longest { longest_read_of self.new ≡ longest_read_of self.old }
     {
+        // Counts the call, which each state allows; ends it if its failure is planned.
         self.calls.begin(true)?;
         Ok(())
     }

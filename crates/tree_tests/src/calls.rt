@@ -1,5 +1,5 @@
-//! Calls of a tree in memory that read a part or write: which are a misuse, and what then is in
-//! the tree. The rules are in `docs/crash-safety.md`, "What each call does" and
+//! Calls on a tree in memory that read a part of a file, or write: whether each succeeds, and what
+//! is in the tree then. The rules are in `docs/crash-safety.md`, "What each call does" and
 //! "Misuses, faults and counts".
 use crate::trees::{add_tree, long_at, name_at};
 use base_core::{Name, Tree, Words};
@@ -10,8 +10,8 @@ use tree_memory::MemoryTree;
 /// The most bytes that a row reads at once.
 const LONGEST: usize = 4096;
 
-/// Reads `read NAME AT LEN` into a buffer of sevens, and adds whether that succeeded, what is
-/// then in the buffer, and the longest read so far.
+/// Answers `read NAME AT LEN`: reads LEN bytes of the file at the offset AT into a buffer of digits
+/// `7`. Adds whether that succeeded, the buffer, and the longest read so far.
 pub(crate) fn add_read(
     alloc: Global,
     tree: &mut MemoryTree,
@@ -24,18 +24,19 @@ pub(crate) fn add_read(
     let len = usize::try_from(long_at(words, 3)).unwrap_or(0);
     let mut into = Vec::from_elem(alloc, b'7', len.min(LONGEST))?;
     let read = tree.read_at(&name, long_at(words, 2), &mut into);
-    add_made(read.is_ok(), answer)?;
+    add_ok_or_failed(read.is_ok(), answer)?;
     add_word(answer, &into)?;
     add_word(answer, b"")?;
     add_number(alloc, answer, u128::from(tree.longest_read()))
 }
 
-/// Adds `ok`, or `failed`: a call fails that is a misuse, and one that was planned to fail.
-fn add_made(is_made: bool, answer: &mut Vec<u8>) -> Result<(), AllocError> {
-    answer.extend_from_slice(if is_made { b"ok" } else { b"failed" })
+/// Adds `ok` if a call succeeded, and else `failed`: it was a misuse (an invalid call), or planned
+/// to fail.
+fn add_ok_or_failed(succeeded: bool, answer: &mut Vec<u8>) -> Result<(), AllocError> {
+    answer.extend_from_slice(if succeeded { b"ok" } else { b"failed" })
 }
 
-/// A call that writes to a name, or syncs it.
+/// The calls that write to the file of a name, or sync it.
 #[derive(Clone, Copy)]
 enum Call {
     Create,
@@ -45,7 +46,7 @@ enum Call {
     Rename,
 }
 
-// The words for these calls.
+// The first word of a row for each call.
 #[rattlefmt::skip]
 const CALLS: [(&[u8], Call); 5] = [
     (b"create", Call::Create),
@@ -55,8 +56,8 @@ const CALLS: [(&[u8], Call); 5] = [
     (b"rename", Call::Rename),
 ];
 
-/// Makes a call that writes, and adds whether it succeeded, how many maps of names there are, and
-/// what then is in the tree.
+/// Makes a call that writes; adds whether it succeeded, how many maps of names there are, and the
+/// files that are then in the tree.
 pub(crate) fn add_call(
     alloc: Global,
     tree: &mut MemoryTree,
@@ -69,18 +70,18 @@ pub(crate) fn add_call(
     let Some(name) = name_at(alloc, words, 1)? else {
         return answer.extend_from_slice(b"no name");
     };
-    let made = match call {
+    let succeeded = match call {
         Call::Create => tree.create(&name).is_ok(),
         Call::Append => tree.append(&name, word_at(words, 2)).is_ok(),
         Call::Sync => tree.sync(&name).is_ok(),
         Call::Remove => tree.remove(&name).is_ok(),
-        Call::Rename => moves(alloc, tree, &name, words)?,
+        Call::Rename => rename_succeeds(alloc, tree, &name, words)?,
     };
-    add_written(alloc, tree, made, answer)
+    add_written(alloc, tree, succeeded, answer)
 }
 
-/// Whether a rename to the name of the row's third word succeeds.
-fn moves(
+/// Renames a file to the name in the third word of the row, and returns whether that succeeds.
+fn rename_succeeds(
     alloc: Global,
     tree: &mut MemoryTree,
     name: &Name,
@@ -99,24 +100,26 @@ pub(crate) fn add_sync_names(
     tree: &mut MemoryTree,
     answer: &mut Vec<u8>,
 ) -> Result<(), AllocError> {
-    let made = tree.sync_names().is_ok();
-    add_written(alloc, tree, made, answer)
+    let succeeded = tree.sync_names().is_ok();
+    add_written(alloc, tree, succeeded, answer)
 }
 
-/// Adds how a call that writes ended, and what it left.
+/// Adds whether a call that writes succeeded, the number of maps of names, and the files of the
+/// tree.
 fn add_written(
     alloc: Global,
     tree: &MemoryTree,
-    made: bool,
+    succeeded: bool,
     answer: &mut Vec<u8>,
 ) -> Result<(), AllocError> {
-    add_made(made, answer)?;
+    add_ok_or_failed(succeeded, answer)?;
     add_word(answer, b"")?;
     add_number(alloc, answer, u128::from(tree.maps()))?;
     add_tree(alloc, tree, answer)
 }
 
-/// Moves a file to and fro as often as `turns TIMES HERE THERE` says.
+/// Answers `turns TIMES HERE THERE`: renames a file from HERE to THERE and back, TIMES times; adds
+/// nothing.
 pub(crate) fn make_turns(
     alloc: Global,
     tree: &mut MemoryTree,

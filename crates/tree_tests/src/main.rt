@@ -1,7 +1,8 @@
-//! Answers questions to `base_core` and `tree_memory`: names and lists of them, a sink in memory,
-//! and a tree in memory with its misuses, its planned failures and what a crash leaves of it. Its
-//! stored run has all rows; `tests/lines.md` describes their form. The tree and the sink stay from
-//! one row to the next. The README of this crate has a row for each question.
+//! Answers questions to `base_core` and `tree_memory`: names and lists of names, and a sink (output
+//! stream) in memory; a tree in memory with its misuses (invalid calls), its planned failures, and
+//! the files that a crash leaves of it. Its stored run has all rows; `tests/lines.md` describes
+//! their form. The tree and the sink stay from one row to the next. The README of this crate has a
+//! row for each question.
 #![tactic(auto)]
 
 mod calls;
@@ -19,48 +20,49 @@ use trees::{
     add_sink_bytes_and_wants, add_size, add_write, plan_failures, set_sink,
 };
 
-/// What is asked; the README of this crate says what each question answers.
+/// The questions of rows; the README of this crate says what each question answers.
 #[derive(Clone, Copy)]
 enum Question {
-    /// `name TEXT`.
+    /// `name TEXT`: whether TEXT is a valid name.
     Name,
-    /// `names WORD ..`.
+    /// `names WORD ..`: which words are valid names.
     Names,
-    /// `new_sink`.
+    /// `new_sink`: the sink is replaced by an empty one.
     NewSink,
-    /// `fail_after N`, `take_at_most N`.
+    /// `fail_after N`, `take_at_most N`: how much the sink takes.
     SetSink,
-    /// `write BYTES`, `write_all BYTES`.
+    /// `write BYTES`, `write_all BYTES`: bytes are written to the sink.
     Write,
-    /// `sink_bytes`.
+    /// `sink_bytes`: the bytes in the sink, and how often it ran out of memory.
     SinkBytesAndWants,
-    /// `new_tree`.
+    /// `new_tree`: the tree is replaced by an empty one.
     NewTree,
-    /// `put NAME BYTES`, `can_put NAME`.
+    /// `put NAME BYTES`, `can_put NAME`: a file is put, or whether it can be.
     Put,
-    /// `file NAME`.
+    /// `file NAME`: the bytes of the file.
     File,
-    /// `size NAME`.
+    /// `size NAME`: the length of the file.
     Size,
-    /// `read NAME AT LEN`.
+    /// `read NAME AT LEN`: LEN bytes of the file from the offset AT on.
     Read,
-    /// `list NAME`.
+    /// `list NAME`: the names below the folder NAME.
     List,
-    /// `fail_at N ..`, `stop_after N`.
-    Plan,
-    /// `counts`.
+    /// `fail_at N ..`, `stop_after N`: which later calls on the tree fail.
+    PlanFailures,
+    /// `counts`: the counts of calls on the tree, and of maps of names.
     Counts,
-    /// `image N`.
+    /// `image N`: the files of the crash image number N.
     Image,
-    /// `turns N HERE THERE`.
+    /// `turns N HERE THERE`: a file is renamed to THERE and back, N times.
     Turns,
-    /// `sync_names`.
+    /// `sync_names`: the names of the tree are synced.
     SyncNames,
-    /// `create NAME`, `append NAME BYTES`, `sync NAME`, `remove NAME`, `rename NAME NAME`.
+    /// Calls on a file: `create NAME`, `append NAME BYTES`, `sync NAME`, `remove NAME`,
+    /// `rename NAME NAME`.
     Call,
 }
 
-// The words that questions begin with.
+// The first word of each question.
 #[rattlefmt::skip]
 const QUESTIONS: [(&[u8], Question); 26] = [
     (b"name", Question::Name),
@@ -78,8 +80,8 @@ const QUESTIONS: [(&[u8], Question); 26] = [
     (b"size", Question::Size),
     (b"read", Question::Read),
     (b"list", Question::List),
-    (b"fail_at", Question::Plan),
-    (b"stop_after", Question::Plan),
+    (b"fail_at", Question::PlanFailures),
+    (b"stop_after", Question::PlanFailures),
     (b"counts", Question::Counts),
     (b"image", Question::Image),
     (b"turns", Question::Turns),
@@ -91,18 +93,18 @@ const QUESTIONS: [(&[u8], Question); 26] = [
     (b"rename", Question::Call),
 ];
 
-/// The tree and the sink that rows speak of.
+/// The tree and the sink on which all rows work.
 #[derive(Drop)]
 struct InMemory {
-    /// The tree, as the rows before have left it.
+    /// The tree, as earlier rows have left it.
     tree: MemoryTree,
-    /// The sink, as the rows before have left it.
+    /// The sink, as earlier rows have left it.
     sink: MemorySink,
 }
 
 impl Subject for InMemory {
-    // Answers a question by its first word, on the tree and the sink that the rows before have
-    // left.
+    // Answers a question by its first word, on the tree and the sink as earlier rows have left
+    // them.
     fn answer(
         &mut self,
         alloc: Global,
@@ -134,7 +136,7 @@ impl Subject for InMemory {
     }
 }
 
-// Answers a question to the tree.
+// Answers a question about the tree, or makes a call on it.
 fn answer_of_tree(
     alloc: Global,
     tree: &mut MemoryTree,
@@ -148,7 +150,7 @@ fn answer_of_tree(
         Question::Size => add_size(alloc, tree, words, answer),
         Question::Read => add_read(alloc, tree, words, answer),
         Question::List => add_list(alloc, tree, words, answer),
-        Question::Plan => plan_failures(alloc, tree, words),
+        Question::PlanFailures => plan_failures(alloc, tree, words),
         Question::Counts => add_counts(alloc, tree, answer),
         Question::Image => add_image(alloc, tree, words, answer),
         Question::Turns => make_turns(alloc, tree, words),

@@ -7,7 +7,8 @@ use row_lines::{add_named, add_number, add_word, add_yes_or_no, number_of, word_
 use std::alloc::{AllocError, Global};
 use tree_memory::{MemorySink, MemoryTree};
 
-/// Adds whether a file may be put under a name, and puts it there.
+/// Answers `put` and `can_put`: adds whether the tree can have a file under a name, and for `put`
+/// puts it there.
 pub(crate) fn add_put(
     alloc: Global,
     tree: &mut MemoryTree,
@@ -24,7 +25,8 @@ pub(crate) fn add_put(
     add_yes_or_no(answer, can)
 }
 
-/// Adds the bytes of a file, as it stands and as it is read whole.
+/// Answers `file NAME`: adds the bytes of the file, or `differs` if `read_all` reads other bytes
+/// than `file` returns.
 pub(crate) fn add_file(
     alloc: Global,
     tree: &mut MemoryTree,
@@ -43,7 +45,7 @@ pub(crate) fn add_file(
     answer.extend_from_slice(tree.file(&name).unwrap_or(b"absent"))
 }
 
-/// Adds how many bytes a file has, or that it is absent.
+/// Answers `size NAME`: adds how many bytes the file has, or that it is absent.
 pub(crate) fn add_size(
     alloc: Global,
     tree: &mut MemoryTree,
@@ -60,7 +62,7 @@ pub(crate) fn add_size(
     }
 }
 
-/// Adds the names below a folder, in byte order.
+/// Answers `list NAME`: adds the names below the folder NAME, in byte order.
 pub(crate) fn add_list(
     alloc: Global,
     tree: &mut MemoryTree,
@@ -76,7 +78,8 @@ pub(crate) fn add_list(
     }
 }
 
-/// Makes the calls of these numbers fail (`fail_at`), or all after so many (`stop_after`).
+/// Makes the calls on the tree with these numbers fail (`fail_at N ..`), or all after the next N
+/// calls (`stop_after N`).
 pub(crate) fn plan_failures(
     alloc: Global,
     tree: &mut MemoryTree,
@@ -93,8 +96,8 @@ pub(crate) fn plan_failures(
     tree.fail_at(&calls)
 }
 
-/// Adds how many calls were made, which of them wrote, failed, and were out of memory, the
-/// longest read, and how many maps of names there are.
+/// Adds how many calls on the tree were made, and how many of them wrote, failed, and ran out of
+/// memory. Then adds the length of the longest read, and how many maps of names there are.
 pub(crate) fn add_counts(
     alloc: Global,
     tree: &MemoryTree,
@@ -137,7 +140,7 @@ pub(crate) fn add_tree(
     Ok(())
 }
 
-/// Adds what a crash may leave, by the number of this choice, and its counts.
+/// Answers `image N`: adds the files of the crash image number N, and the counts of this image.
 pub(crate) fn add_image(
     alloc: Global,
     tree: &MemoryTree,
@@ -149,7 +152,8 @@ pub(crate) fn add_image(
     add_counts(alloc, &image, answer)
 }
 
-/// Lets the sink end after so many bytes, or take at most so many in a write.
+/// Lets the sink fail after N more bytes (`fail_after N`), or take at most N bytes of each write
+/// (`take_at_most N`).
 pub(crate) fn set_sink(sink: &mut MemorySink, words: &Words) {
     let count = usize::try_from(long_at(words, 1)).unwrap_or(0);
     if word_at(words, 0) == b"fail_after".as_slice() {
@@ -159,25 +163,26 @@ pub(crate) fn set_sink(sink: &mut MemorySink, words: &Words) {
     }
 }
 
-/// Adds how many bytes of a piece the sink takes, or of `write_all` whether it takes all.
+/// Answers `write` and `write_all`: adds how many of the bytes the sink took in one write, or for
+/// `write_all` whether it took all of them.
 pub(crate) fn add_write(
     alloc: Global,
     sink: &mut MemorySink,
     words: &Words,
     answer: &mut Vec<u8>,
 ) -> Result<(), AllocError> {
-    let piece = word_at(words, 1);
+    let bytes = word_at(words, 1);
     if word_at(words, 0) == b"write_all".as_slice() {
-        let taken = write_all(sink, piece).is_ok();
+        let taken = write_all(sink, bytes).is_ok();
         return answer.extend_from_slice(if taken { b"all" } else { b"failed" });
     }
-    match sink.write(piece) {
+    match sink.write(bytes) {
         Ok(taken) => add_number(alloc, answer, taken as u128),
         Err(_) => answer.extend_from_slice(b"failed"),
     }
 }
 
-/// Adds what the sink took, and how often it had no memory.
+/// Answers `sink_bytes`: adds the bytes that the sink took, and how often it ran out of memory.
 pub(crate) fn add_sink_bytes_and_wants(
     alloc: Global,
     sink: &MemorySink,
@@ -188,7 +193,8 @@ pub(crate) fn add_sink_bytes_and_wants(
     add_number(alloc, answer, u128::from(sink.wants()))
 }
 
-/// Adds whether bytes are a name, which lends them, and so does its copy.
+/// Answers `name TEXT`: adds whether TEXT is a valid name. The name and a copy of it must then have
+/// the bytes of TEXT.
 pub(crate) fn add_is_name(
     alloc: Global,
     words: &Words,
@@ -207,19 +213,19 @@ pub(crate) fn add_is_name(
     }
 }
 
-/// The name that the word at a place is; none if it is no name.
+/// The name that the word at an index of the row is; None if it is no valid name.
 pub(crate) fn name_at(alloc: Global, words: &Words, i: usize) -> Result<Option<Name>, AllocError> {
     Name::read(alloc, word_at(words, i))
 }
 
-/// The number that the word at a place is; 0 if it is none.
+/// The number that the word at an index of the row is; 0 if it is no number of 64 bits.
 pub(crate) fn long_at(words: &Words, i: usize) -> u64 {
     number_of(word_at(words, i))
         .and_then(|number| u64::try_from(number).ok())
         .unwrap_or(0)
 }
 
-/// Lists the words that are names, and adds how many there are, and each.
+/// Answers `names WORD ..`: adds how many of the words are valid names, and each of these names.
 pub(crate) fn add_names(
     alloc: Global,
     words: &Words,

@@ -4,7 +4,7 @@ use Rattle.std.specs.Prelude.{IfOk, Vec}
 use Rattle.std.specs.declared.alloc.Global.{Global}
 use Rattle.base_core.specs.Tree.{TreeState}
 use Rattle.base_core.specs.declared.tree.TreeFault.{TreeFault}
-use Rattle.change_inputs.specs.Answers.{AgreesUnlessDisk}
+use Rattle.change_inputs.specs.Answers.{AgreesUnlessDiskOrMemory}
 use Rattle.change_inputs.specs.Candidates.{root_pool}
 use Rattle.change_inputs.specs.Inputs.{Inputs, inputs_of}
 use Rattle.change_inputs.specs.Seen.{inputs_seen}
@@ -19,7 +19,7 @@ use Rattle.report_core.specs.declared.refusal.Refusal.{Refusal}
 use Rattle.search_tables.specs.candidate_core.Rank.{SealedPool, no_names}
 use Rattle.unmet_world.specs.Explained.{ExplainsChange, ExplainsIfPool, ExplainsIfRead, ExplainsInputs, ExplainsPool, ExplainsResult}
 
-pub of_read : (command : CommandLine) (history : List TreeState) (read : Result Loaded Refused) (r : Result (Vec ℕ Global) TreeFault) → IsExplainedBySomeReads history (λ reads. AgreesUnlessDisk inputs_seen read (inputs_of command reads)) → IfOk r (λ text. ExplainsResult read text.items) → IfOk r (λ text. ExplainsChange command history text.items)
+pub of_read : (command : CommandLine) (history : List TreeState) (read : Result Loaded Refused) (r : Result (Vec ℕ Global) TreeFault) → IsExplainedBySomeReads history (λ reads. AgreesUnlessDiskOrMemory inputs_seen read (inputs_of command reads)) → IfOk r (λ text. ExplainsResult read text.items) → IfOk r (λ text. ExplainsChange command history text.items)
 of_read command history read (Err fault) e h = tt
 of_read command history (Ok loaded) (Ok text) e h = record { read = e.read; observed = e.observed; is = subst (λ (found : Result Inputs Refusal). ExplainsIfRead found text.items) (sym e.is) h }
 of_read command history (Err (Refuseds.Refusal refusal)) (Ok text) e h = record { read = e.read; observed = e.observed; is = subst (λ (found : Result Inputs Refusal). ExplainsIfRead found text.items) (sym e.is) h }

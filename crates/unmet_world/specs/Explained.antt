@@ -17,7 +17,7 @@ use Rattle.command_core.specs.declared.command.Applet.TheVariants.{Add, Del, Upg
 use Rattle.change_inputs.specs.package_files.Runs.{IsExplainedBySomeReads}
 use Rattle.report_core.specs.declared.refusal.Refusal.{Refusal}
 use Rattle.hint_core.specs.Repositories.{no_index_line}
-use Rattle.unmet_world.specs.Lines.{ExplainsWorld}
+use Rattle.unmet_world.specs.Lines.{IsExplanationOfUnmetWorld}
 
 -- a text explains the world of a pool, of which a file lists some entries, and whose candidates are of
 -- these repositories
@@ -25,7 +25,7 @@ pub record ExplainsPool (listed : List Dependency) (repositories : List Reposito
     (pool : SealedPool) (text : List ℕ) : Type 0 where
   -- the explanation itself
   pub front : List ℕ
-  pub explains : ExplainsWorld pool listed repositories front
+  pub explains : IsExplanationOfUnmetWorld pool listed repositories front
   -- the line on repositories follows it
   pub whole : text ≡ front ++ no_index_line repositories
 

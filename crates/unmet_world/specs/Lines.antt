@@ -6,7 +6,7 @@ use Rattle.std.specs.Str.{bytes_eq}
 use Rattle.dep_core.specs.Dependency.{Dependency}
 use Rattle.dep_core.specs.DependencyText.{dep_text}
 use Rattle.dep_core.specs.Repositories.{Repository}
-use Rattle.search_tables.specs.candidate_core.Candidates.{Candidate, entry, is_allowed}
+use Rattle.search_tables.specs.candidate_core.Candidates.{Candidate, entry, is_allowed_by_tags_of_world}
 use Rattle.search_tables.specs.candidate_core.Rank.{SealedPool, candidate_at}
 use Rattle.search_tables.specs.candidate_core.Options.{options_for, places_offering}
 use Rattle.hint_core.specs.Lines.{printed_bytes}
@@ -89,7 +89,7 @@ world_conflict_text listed (Some d) =
 -- nothing if it may
 abbrev pub world_conflict_reason_text : List Dependency → List Dependency → Candidate → List ℕ
 world_conflict_reason_text listed world c =
-    if is_allowed world c then
+    if is_allowed_by_tags_of_world world c then
     world_conflict_text listed (find (is_conflict_met_by c) world) else
     codes " (tagged @" ++ unwrap_or c.tag [] ++ codes ")"
 
@@ -271,7 +271,7 @@ explanation_text pool listed repositories found =
 
 -- a text explains a world, of which a file lists some entries: the text is that of a refutation, or
 -- without one that of the entries of world
-pub record ExplainsWorld (pool : SealedPool) (listed : List Dependency)
+pub record IsExplanationOfUnmetWorld (pool : SealedPool) (listed : List Dependency)
     (repositories : List Repository) (text : List ℕ) : Type 0 where
   pub found : Option Refutation
   pub refutes : IfSome found (IsRefutation pool)

@@ -5,7 +5,7 @@ ghost use Rattle.std.specs.Option.{option_map_or};
 ghost use Rattle.std.specs.List.{list_any};
 ghost use Rattle.dep_core.specs.DependencyText.{dep_text};
 ghost use Rattle.dep_core.specs.Meets.{dependency};
-ghost use Rattle.search_tables.specs.candidate_core.Candidates.{uses_tag, is_allowed};
+ghost use Rattle.search_tables.specs.candidate_core.Candidates.{is_tag_used_in_world, is_allowed_by_tags_of_world};
 ghost use Rattle.unmet_world.specs.Exclusion.{is_conflict_met_by};
 ghost use Rattle.unmet_world.specs.Lines.{origin_text, name_and_version_text, candidate_text, candidate_text_at, is_named, is_same_text, is_entry_of_file, entry_origin, entry_origin_text, dependency_owner_text, world_conflict_text, world_conflict_reason_text, offer_text, offer_text_at, with_text_once, with_texts, joined_texts, most_shown_offers, dots_if, is_like_file, no_package_text, note_on_file, offered_text, offers_line_of_name};
 
@@ -203,8 +203,8 @@ pub(crate) fn add_owner(
 // ---- what there is of a name
 
 // Whether an entry of world uses a tag.
-fn uses_tag(world: &World, tag: &[u8]) -> bool
-    ensures { result ≡ uses_tag world.now tag.now }
+fn is_tag_used_in_world(world: &World, tag: &[u8]) -> bool
+    ensures { result ≡ is_tag_used_in_world world.now tag.now }
 {
     for i in 0..world.len() {
         if has_tag(&world.entry(i), tag) {
@@ -226,15 +226,15 @@ fn has_tag(dep: &Dep<'_>, tag: &[u8]) -> bool
 
 // Whether a candidate is allowed: installed, or of a repository without a tag or with one that
 // world uses.
-fn is_allowed(world: &World, details: &Details<'_>) -> bool
-    ensures { result ≡ is_allowed world.now details.now }
+fn is_allowed_by_tags_of_world(world: &World, details: &Details<'_>) -> bool
+    ensures { result ≡ is_allowed_by_tags_of_world world.now details.now }
 {
     if details.is_installed() || details.repo().is_none() {
         return true;
     }
     match details.tag() {
         None => true,
-        Some(tag) => uses_tag(world, tag),
+        Some(tag) => is_tag_used_in_world(world, tag),
     }
 }
 
@@ -260,7 +260,7 @@ fn add_refusal(
     ensures { OnOk result (text.new.items ≡ text.old.items
         ++ world_conflict_reason_text sources.now.listed.now sources.now.world.now details.now) }
 {
-    if is_allowed(sources.world, details) {
+    if is_allowed_by_tags_of_world(sources.world, details) {
         return add_bar(text, sources.listed, bar(sources.world, details));
     }
     text.extend_from_slice(b" (tagged @")?;

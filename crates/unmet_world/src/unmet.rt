@@ -1,7 +1,7 @@
 //! Why a world cannot be met: a refutation. The rules are in `docs/selection.md`, "What satisfies
 //! world" and "`unable to select packages`".
 ghost use Rattle.std.specs.Prelude.{◌≡◌, ℕ, [], IfOk, IfSome, MatchBool, MatchOption};
-ghost use Rattle.unmet_world.specs.Lines.{ExplainsWorld};
+ghost use Rattle.unmet_world.specs.Lines.{IsExplanationOfUnmetWorld};
 ghost use Rattle.unmet_world.specs.Refutation.{IsFirstUnmetOfWorld, IsRefutation, IsUnmet, want_of_world_entry};
 
 use crate::lines::explanation;
@@ -55,7 +55,7 @@ pub fn explanation_of(
 ) -> Result<Vec<u8>, AllocError>
     requires { world.now ≡ pool.now.world }
     ensures { IfOk result (λ text.
-        ExplainsWorld pool.now listed.now repositories.now text.items) }
+        IsExplanationOfUnmetWorld pool.now listed.now repositories.now text.items) }
 {
     let found = why_unmet(alloc, pool, world)?;
     let sources = Sources {

@@ -21,7 +21,7 @@ pub record BeginsText (front : List (List ℕ)) : Type 0 where
 -- The lines up to a number are those of no text in which their last record ends there, and every text
 -- that continues from there is refused with this number; but those up to any smaller number begin a
 -- text.
-pub record IsReportedLine (lines : List (List ℕ)) (number : ℕ) : Type 0 where
+pub record IsNumberOfReportedBadLine (lines : List (List ℕ)) (number : ℕ) : Type 0 where
   -- the lines up to the number
   pub front : List (List ℕ)
   -- the lines after them

@@ -13,7 +13,7 @@ ghost use Rattle.v2_core.specs.Reading.{records_from_record_end, records_from, r
 ghost use Rattle.v2_core.specs.Records.{Record as RecordModel, empty_record};
 ghost use Rattle.v2_core.specs.Writing.{IsLineFault, draft_with_database, draft_with_records};
 ghost use Rattle.dep_core.specs.World.{lines_of};
-ghost use Rattle.v2_core.specs.FirstBadLine.{IsReportedLine};
+ghost use Rattle.v2_core.specs.FirstBadLine.{IsNumberOfReportedBadLine};
 ghost use Rattle.v2_core.specs.Spelling.{SpellsText};
 
 use crate::record::Record;
@@ -34,7 +34,9 @@ use v2_lines::{Checked, Draft, ReadFault, Which, WriteFault, repeated, shape};
 /// an installed database that the payload fails. Or `Memory`.
 #[tactic(auto, unfolding(crate::specs::Payload::payload_of_text))]
 pub fn read_v2(alloc: Global, bytes: &[u8]) -> Result<Vec<u8>, V2Fault>
+    // On Ok, the payload is that of the text.
     ensures ok { IfOk result (λ payload. payload_of_text bytes.now ≡ Ok payload.items) }
+    // An error is that of the definition, or out of memory.
     ensures err { IfErr result (λ fault. IsV2Fault fault (payload_of_text bytes.now)) }
 {
     let payload = write_payload(alloc, bytes)?;
@@ -47,8 +49,10 @@ pub fn read_v2(alloc: Global, bytes: &[u8]) -> Result<Vec<u8>, V2Fault>
 
 // Tests a payload as that of an installed database.
 fn check_database(alloc: Global, payload: &[u8]) -> Result<(), ReadFault>
+    // The error is the first failed test, or out of memory.
     ensures bad { IfErr result
         (λ fault. IsReadFault fault (payload_fault Tables.Idb payload.now)) }
+    // On Ok, none of the tests of a database failed.
     ensures sound { OnOk result (payload_fault Tables.Idb payload.now ≡ None) }
 {
     let adb = Adb::new(payload)?;
@@ -62,8 +66,10 @@ fn check_database(alloc: Global, payload: &[u8]) -> Result<(), ReadFault>
 
 // Writes the payload of a text.
 fn write_payload(alloc: Global, bytes: &[u8]) -> Result<Vec<u8>, V2Fault>
+    // On Ok, the payload is that of the text's records.
     ensures ok { IfOk result
         (λ payload. payload_of_records (records_of bytes.now) ≡ Ok payload.items) }
+    // An error is the one of the definition, or out of memory.
     ensures err { IfErr result (λ fault. IsV2Fault fault (payload_of_records
         (records_of bytes.now))) }
 {
@@ -78,6 +84,7 @@ fn write_payload(alloc: Global, bytes: &[u8]) -> Result<Vec<u8>, V2Fault>
 
 // Writes the database of a text.
 fn write_database(alloc: Global, draft: &mut Draft, bytes: &[u8]) -> Result<(), V2Fault>
+    // On Ok, the database of the text's records is added to the draft.
     ensures ok { OnOk result
         (draft_with_database (records_of bytes.now) draft.old ≡ Ok draft.new) }
     // An error is the first bad line, or out of memory.
@@ -94,6 +101,7 @@ fn write_database(alloc: Global, draft: &mut Draft, bytes: &[u8]) -> Result<(), 
 // Writes the packages of a text, each at the end of its record.
 #[tactic(auto, unfolding(crate::specs::Reading::records_of))]
 fn write_packages(alloc: Global, draft: &mut Draft, bytes: &[u8]) -> Result<(), V2Fault>
+    // On Ok, the packages of the text's records are added to the draft.
     ensures ok { OnOk result (draft_with_records (records_of bytes.now) draft.old ≡ Ok draft.new) }
     // An error is the first bad line, or out of memory.
     ensures bad { IfErr result (λ fault. IsLineFault fault (records_of bytes.now)) }
@@ -116,7 +124,10 @@ fn add_line<'a>(
     line: &'a [u8],
     number: u64,
 ) -> Result<(), V2Fault>
+    // Lines are numbered from 1.
     requires { 0 < number }
+    // On Ok, the line is read: whatever lines follow, the text so far and they give the same
+    // packages.
     ensures ok { OnOk result ((rest : List (List ℕ))
         → draft_with_records (records_from number text_record.new rest) draft.new
         ≡ draft_with_records (records_from (number - 1) text_record.old (line.entry.now ∷ rest))
@@ -138,6 +149,7 @@ fn add_line<'a>(
 // records that follow.
 fn end_record(draft: &mut Draft, text_record: &mut Record<'_>, lines: u64) -> Result<(), V2Fault>
     ensures new { OnOk result (text_record.new ≡ empty_record) }
+    // On Ok, the record is added to the draft if it has lines, whatever the further records are.
     ensures ok { OnOk result ((others : Result (List RecordModel) ℕ)
         → draft_with_records others draft.new
         ≡ draft_with_records (records_from_record_end lines text_record.old others) draft.old) }
@@ -153,6 +165,7 @@ fn end_record(draft: &mut Draft, text_record: &mut Record<'_>, lines: u64) -> Re
 // Writes the package of a record, which has this many lines of the text up to its end. A record
 // without a line is no record. The clauses hold for any records that follow.
 fn write_record(draft: &mut Draft, text_record: &Record<'_>, lines: u64) -> Result<(), V2Fault>
+    // On Ok, the record is added to the draft, whatever the further records are.
     ensures ok { OnOk result ((others : Result (List RecordModel) ℕ)
         → draft_with_records others draft.new
         ≡ draft_with_records (records_from_record_end lines text_record.now others) draft.old) }
@@ -221,14 +234,16 @@ impl From<Cause> for V2Fault {
 /// accepted.
 pub fn the_reported_line_is_the_first_that_no_text_has()
     ensures { (text : List ℕ) (number : ℕ) → records_of text ≡ Err number
-        → IsReportedLine (lines_of text) number }
+        → IsNumberOfReportedBadLine (lines_of text) number }
 {}
 
 /// The text of records is read as these records, whatever text each value has; so a text is that of
 /// one list of records alone.
 pub fn the_text_of_records_is_read_back()
+    // The text of some records is read as these.
     ensures back { (text : List ℕ) (records : List RecordModel)
         → SpellsText text records → records_of text ≡ Ok records }
+    // A text is that of one list of records only.
     ensures one { (text : List ℕ) (records others : List RecordModel)
         → SpellsText text records → SpellsText text others → records ≡ others }
 {}

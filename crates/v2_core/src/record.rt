@@ -165,7 +165,7 @@ fn add_hash_to_last(files: &mut Vec<File<'_>>, hash: Vec<u8>) -> bool
     }
 }
 
-/// The lines of a record.
+/// The lines of a text database that describe one package.
 #[derive(Drop)]
 pub(crate) struct Record<'a> {
     alloc: Global,

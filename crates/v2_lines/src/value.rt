@@ -52,6 +52,7 @@ pub(crate) fn read_value<'a>(
         Grammar::Sha1Text => read_bytes(alloc, text),
         Grammar::PackageName => Ok(text_value_if(text, is_package_name(text))),
         Grammar::PackageVersion => Ok(text_value_if(text, Version::read(text).is_some())),
+        // Any text is allowed.
         Grammar::AnyText => Ok(text_value_if(text, true)),
         Grammar::Number => Ok(number_value(text)),
         Grammar::Commit => read_commit(alloc, text),

@@ -1,5 +1,6 @@
-//! Answers questions to `v2_core`: what is read of a text database. Its stored run has all rows;
-//! `tests/lines.md` describes their form. The README of this crate has a row for each question.
+//! Answers questions about `v2_core`: how text databases are read. The stored run of this program
+//! has all rows; `tests/lines.md` describes their form. The README of this crate has a row for each
+//! question.
 #![tactic(auto)]
 
 mod texts;
@@ -11,14 +12,14 @@ use std::io;
 use std::process::ExitCode;
 use texts::{add_package_count, add_read};
 
-/// What is asked; the README of this crate says what each question answers.
+/// The kinds of questions, with what is answered; the README of this crate says more.
 #[derive(Clone, Copy)]
 enum Question {
-    /// `read TEXT`.
+    /// `read TEXT`: the dump of the database that is made of a text database.
     Read,
-    /// `read_repeated FRONT N PART BACK`.
+    /// `read_repeated FRONT N PART BACK`: the same for the text FRONT, N times PART, and BACK.
     ReadRepeated,
-    /// `count_packages N`.
+    /// `count_packages N`: how many packages are read of a text database with N records.
     CountPackages,
 }
 
@@ -30,12 +31,12 @@ const QUESTIONS: [(&[u8], Question); 3] = [
     (b"count_packages", Question::CountPackages),
 ];
 
-/// The crate; it keeps nothing from one row to the next.
+/// The crate that the questions are about. Nothing is kept from one row to the next.
 #[derive(Drop)]
 struct TextDatabases;
 
 impl Subject for TextDatabases {
-    /// Answers a question by its first word. No question rests on one before it.
+    /// Answers a question by its first word. Questions are independent of each other.
     fn answer(
         &mut self,
         alloc: Global,
@@ -58,7 +59,7 @@ impl Subject for TextDatabases {
     }
 }
 
-/// The text of `read_repeated FRONT COUNT PART BACK`: a front, a part so many times, and a back.
+/// The text of `read_repeated FRONT N PART BACK`: FRONT, then N times PART, and then BACK.
 fn repeated_text(alloc: Global, words: &Words) -> Result<Vec<u8>, AllocError> {
     let mut text = Vec::new(alloc);
     text.extend_from_slice(word_at(words, 1))?;
@@ -69,14 +70,14 @@ fn repeated_text(alloc: Global, words: &Words) -> Result<Vec<u8>, AllocError> {
     Ok(text)
 }
 
-/// The number that a word is; 0 if it is none.
+/// The number that a word is, or 0 if it is no number below 2^32.
 fn count_of(word: &[u8]) -> u32 {
     number_of(word)
         .and_then(|number| u32::try_from(number).ok())
         .unwrap_or(0)
 }
 
-/// Answers the rows of standard input.
+/// Runs the rows of standard input, and returns the exit status.
 fn main(rt: HostRuntime) -> io::Result<ExitCode> {
     let alloc = rt.alloc();
     let mut databases = TextDatabases;

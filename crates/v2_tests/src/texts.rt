@@ -1,5 +1,5 @@
-//! What is read of a text database: the dump of what it says, or why it is refused. The rules are
-//! in `docs/formats.md`, "Text database of version 2".
+//! Reads text databases, and answers with a dump of the database that is made of them, or why they
+//! are refused. The rules are in `docs/formats.md`, "Text database of version 2".
 
 ghost use Rattle.std.specs.Prelude.{◌≡◌, IfOk};
 ghost use Rattle.adb_schema.specs.Checked.{table_of_checked};
@@ -13,7 +13,8 @@ use row_lines::add_number;
 use std::alloc::{AllocError, Global};
 use v2_core::{V2Fault, read_v2};
 
-/// Adds the dump of the database that a text says, or why the text is refused.
+/// Answers `read TEXT`: the dump of the database that is made of a text database, or why the text
+/// is refused.
 pub(crate) fn add_read(alloc: Global, text: &[u8], answer: &mut Vec<u8>) -> Result<(), AllocError> {
     match read_v2(alloc, text) {
         Ok(payload) => add_dump(alloc, &payload, answer),
@@ -21,7 +22,7 @@ pub(crate) fn add_read(alloc: Global, text: &[u8], answer: &mut Vec<u8>) -> Resu
     }
 }
 
-/// Adds the dump of a database's payload.
+/// Adds to the answer the dump of the database in a payload.
 fn add_dump(alloc: Global, payload: &[u8], answer: &mut Vec<u8>) -> Result<(), AllocError> {
     let Ok(adb) = Adb::new(payload) else {
         return answer.extend_from_slice(b"no payload");
@@ -33,8 +34,8 @@ fn add_dump(alloc: Global, payload: &[u8], answer: &mut Vec<u8>) -> Result<(), A
     answer.extend_from_slice(text.as_bytes())
 }
 
-/// Adds the number of the first bad line, or another fault as its variant and its fields. Nothing
-/// is added if out of memory, which is passed on.
+/// Adds to the answer why a text is refused: the number of the first bad line, or the name of
+/// another cause and its fields. If out of memory, nothing is added, and this is returned.
 fn add_fault(alloc: Global, fault: V2Fault, answer: &mut Vec<u8>) -> Result<(), AllocError> {
     match fault {
         V2Fault::Bad(Cause::TextLine { line }) => {
@@ -53,8 +54,8 @@ fn add_fault(alloc: Global, fault: V2Fault, answer: &mut Vec<u8>) -> Result<(), 
     }
 }
 
-/// Adds how many packages are read of a text that has so many records, each of a name and a
-/// version.
+/// Answers `count_packages N`: how many packages are read of a text database with N records, each
+/// of which has a name and a version.
 pub(crate) fn add_package_count(
     alloc: Global,
     packages: u32,
@@ -71,7 +72,7 @@ pub(crate) fn add_package_count(
     }
 }
 
-/// Adds how many packages a database has.
+/// Adds to the answer how many packages the database in a payload has.
 fn add_count(alloc: Global, payload: &[u8], answer: &mut Vec<u8>) -> Result<(), AllocError> {
     let Ok(checked) = checked_database(alloc, payload) else {
         return answer.extend_from_slice(b"no database");
@@ -79,8 +80,9 @@ fn add_count(alloc: Global, payload: &[u8], answer: &mut Vec<u8>) -> Result<(), 
     add_number(alloc, answer, checked.idb().packages().len() as u128)
 }
 
-/// The database in a payload, which passes all tests.
+/// The database in a payload, after all tests of it passed; otherwise the failed test.
 fn checked_database(alloc: Global, payload: &[u8]) -> Result<Checked<'_>, ReadFault>
+    // On success the payload is that of a database.
     ensures { IfOk result (λ checked. table_of_checked checked ≡ Tables.Idb) }
 {
     let shaped = shape(Adb::new(payload)?, Which::Idb)?;

@@ -16,7 +16,7 @@ use Rattle.std.proofs.Math.Bool.{and-false}
 use Rattle.version_core.specs.declared.token.Class.{Class}
 use Rattle.version_core.specs.declared.token.Class.TheVariants.{Revision, Hash, SuffixNumber, Letter, Component}
 use Rattle.version_core.specs.Token.{Token, Lexeme, number_token, text_token, lexeme, stray_lexeme, is_component, is_suffix, is_before_hash, is_before_revision, is_hex_digit, leading_digits, leading_hex_digits, leading_letters, number_lexeme, later_component_lexeme, suffix_lexeme, hash_lexeme, revision_lexeme, next_lexeme, lexeme_at}
-use Rattle.version_core.specs.Order.{are_in_grammar, is_last_token_class, is_stray_class, is_version, token_cmp, tokens, tokens_after_class, version_cmp}
+use Rattle.version_core.specs.Order.{are_in_grammar, is_last_token_class, is_stray_class, is_version, token_cmp, tokens, tokens_after_class_skipping_bytes, version_cmp}
 use Rattle.version_core.specs.Matching.{all_fit, is_prefix_of, fits, is_fuzzy_match, is_zero_component}
 use Rattle.version_core.specs.Reading.{AreEqualUpTo, IsLastMark, begins_with_mark, hash_cmp, hash_fits, is_token_mark, is_unmarked}
 use Rattle.version_core.proofs.OrderLaws.{token_cmp-total}
@@ -99,7 +99,7 @@ mark_lexeme (Some last) m x mark h =
 -- ---- the tokens of a text that is in the grammar
 
 abbrev pub IsGood : Option Class → ℕ → List ℕ → Type 0
-IsGood last inside text = are_in_grammar (tokens_after_class last inside text) ≡ true
+IsGood last inside text = are_in_grammar (tokens_after_class_skipping_bytes last inside text) ≡ true
 
 no_end : (last : Option Class) (b : ℕ) (rest : List ℕ) → NoEnd (lexeme_at last (b ∷ rest))
 no_end None b rest = number_no_end Component 0 (leading_digits (b ∷ rest)) (λ h. h)
@@ -114,9 +114,9 @@ goes_on last b rest good = bool_by _ (λ h. sym (stray_first last (b ∷ rest) (
 
 -- the tokens after a token, if it begins a text of which so much follows its first byte
 abbrev tokens_by : List ℕ → Lexeme → List Token
-tokens_by rest found = found.token ∷ cond (is_last_token_class found.token.class) [] (tokens_after_class (Some found.token.class) (found.width - 1) rest)
+tokens_by rest found = found.token ∷ cond (is_last_token_class found.token.class) [] (tokens_after_class_skipping_bytes (Some found.token.class) (found.width - 1) rest)
 
-pub good_after : (rest : List ℕ) (found : Lexeme) (stray : Bool) (last : Bool) → last ≡ false → (not stray && are_in_grammar (cond last [] (tokens_after_class (Some found.token.class) (found.width - 1) rest))) ≡ true → IsGood (Some found.token.class) (found.width - 1) rest
+pub good_after : (rest : List ℕ) (found : Lexeme) (stray : Bool) (last : Bool) → last ≡ false → (not stray && are_in_grammar (cond last [] (tokens_after_class_skipping_bytes (Some found.token.class) (found.width - 1) rest))) ≡ true → IsGood (Some found.token.class) (found.width - 1) rest
 good_after rest found true last e h = absurd (false≢true h)
 good_after rest found false true e h = absurd (false≢true (sym e))
 good_after rest found false false e h = h
@@ -127,14 +127,14 @@ PassesEqual make = (token : Token) (ts us : List Token) → is_last_token_class 
 
 -- what is made of the tokens of two texts after a token of some class
 abbrev made_at : {X : Type 0} → (List Token → List Token → X) → Option Class → ℕ → List ℕ → List ℕ → X
-made_at make last inside left right = make (tokens_after_class last inside left) (tokens_after_class last inside right)
+made_at make last inside left right = make (tokens_after_class_skipping_bytes last inside left) (tokens_after_class_skipping_bytes last inside right)
 
 module _ {X : Type 0} (make : List Token → List Token → X) (passes : PassesEqual make) where
   -- of two texts that begin with one token the same is made as of what follows it
   same_token : (found : Lexeme) (x y : List ℕ) → is_last_token_class found.token.class ≡ false → make (tokens_by x found) (tokens_by y found) ≡ made_at make (Some found.token.class) (found.width - 1) x y
   same_token found x y h =
-      ap (λ b. make (found.token ∷ cond b [] (tokens_after_class (Some found.token.class) (found.width - 1) x)) (found.token ∷ cond b [] (tokens_after_class (Some found.token.class) (found.width - 1) y))) h
-      ∙ passes found.token (tokens_after_class (Some found.token.class) (found.width - 1) x) (tokens_after_class (Some found.token.class) (found.width - 1) y) h
+      ap (λ b. make (found.token ∷ cond b [] (tokens_after_class_skipping_bytes (Some found.token.class) (found.width - 1) x)) (found.token ∷ cond b [] (tokens_after_class_skipping_bytes (Some found.token.class) (found.width - 1) y))) h
+      ∙ passes found.token (tokens_after_class_skipping_bytes (Some found.token.class) (found.width - 1) x) (tokens_after_class_skipping_bytes (Some found.token.class) (found.width - 1) y) h
 
   -- the same with an equal front, after which both go on with a mark
   made_after : (last : Option Class) (inside : ℕ) (a : List ℕ) (m : ℕ) (x y : List ℕ) → is_token_mark m ≡ true → inside ≤ length a → IsGood last inside (a ++ m ∷ x) → IsGood last inside (a ++ m ∷ y) → made_at make last inside (a ++ m ∷ x) (a ++ m ∷ y) ≡ made_at make (Some Component) 0 (m ∷ x) (m ∷ y)
@@ -196,18 +196,18 @@ no_hash_byte b rest h = λ i.
 -- the digits of a hash up to a place within it
 record AreHashDigits (digits rest : List ℕ) : Type 0 where
   text : leading_hex_digits (digits ++ rest) ≡ digits ++ leading_hex_digits rest
-  behind : tokens_after_class (Some Hash) (length (leading_hex_digits (digits ++ rest))) (digits ++ rest) ≡ tokens_after_class (Some Hash) (length (leading_hex_digits rest)) rest
+  behind : tokens_after_class_skipping_bytes (Some Hash) (length (leading_hex_digits (digits ++ rest))) (digits ++ rest) ≡ tokens_after_class_skipping_bytes (Some Hash) (length (leading_hex_digits rest)) rest
 
 hash_digits_by : (b : ℕ) (digits rest : List ℕ) (hex : Bool) → is_hex_digit b ≡ hex → not (is_token_mark b) ≡ true → IsGood (Some Hash) (length (leading_hex_digits (b ∷ (digits ++ rest)))) (b ∷ (digits ++ rest))
     → (IsGood (Some Hash) (length (leading_hex_digits (digits ++ rest))) (digits ++ rest) → AreHashDigits digits rest) → AreHashDigits (b ∷ digits) rest
 hash_digits_by b digits rest true h plain good later =
     let run : leading_hex_digits (b ∷ (digits ++ rest)) ≡ b ∷ leading_hex_digits (digits ++ rest) = take_while-cons is_hex_digit b (digits ++ rest) ∙ ap (λ c. cond c (b ∷ leading_hex_digits (digits ++ rest)) []) h in
-    let there : tokens_after_class (Some Hash) (length (leading_hex_digits (b ∷ (digits ++ rest)))) (b ∷ (digits ++ rest)) ≡ tokens_after_class (Some Hash) (length (leading_hex_digits (digits ++ rest))) (digits ++ rest) = ap (λ ds. tokens_after_class (Some Hash) (length ds) (b ∷ (digits ++ rest))) run in
+    let there : tokens_after_class_skipping_bytes (Some Hash) (length (leading_hex_digits (b ∷ (digits ++ rest)))) (b ∷ (digits ++ rest)) ≡ tokens_after_class_skipping_bytes (Some Hash) (length (leading_hex_digits (digits ++ rest))) (digits ++ rest) = ap (λ ds. tokens_after_class_skipping_bytes (Some Hash) (length ds) (b ∷ (digits ++ rest))) run in
     let more = later (ap are_in_grammar (sym there) ∙ good) in
     record { text = run ∙ ap (λ ds. b ∷ ds) more.text; behind = there ∙ more.behind }
 hash_digits_by b digits rest false h plain good later =
     let run : leading_hex_digits (b ∷ (digits ++ rest)) ≡ [] = take_while-cons is_hex_digit b (digits ++ rest) ∙ ap (λ c. cond c (b ∷ leading_hex_digits (digits ++ rest)) []) h in
-    let here : IsGood (Some Hash) 0 (b ∷ (digits ++ rest)) = ap (λ ds. are_in_grammar (tokens_after_class (Some Hash) (length ds) (b ∷ (digits ++ rest)))) (sym run) ∙ good in
+    let here : IsGood (Some Hash) 0 (b ∷ (digits ++ rest)) = ap (λ ds. are_in_grammar (tokens_after_class_skipping_bytes (Some Hash) (length ds) (b ∷ (digits ++ rest)))) (sym run) ∙ good in
     let stray : is_last_token_class (lexeme_at (Some Hash) (b ∷ (digits ++ rest))).token.class ≡ true = ap (λ (l : Lexeme). is_last_token_class l.token.class) (no_hash_byte b (digits ++ rest) plain) in
     absurd (false≢true (sym (goes_on (Some Hash) b (digits ++ rest) here) ∙ stray))
 
@@ -216,13 +216,13 @@ hash_digits [] rest plain good = record { text = refl; behind = refl }
 hash_digits (b ∷ digits) rest plain good =
     hash_digits_by b digits rest (is_hex_digit b) refl (and_left (not (is_token_mark b)) (is_unmarked digits) plain) good (hash_digits digits rest (and_right (not (is_token_mark b)) (is_unmarked digits) plain))
 
-hash_first : (rest : List ℕ) → IsGood (Some Component) 0 (126 ∷ rest) → tokens_after_class (Some Component) 0 (126 ∷ rest) ≡ text_token Hash (leading_hex_digits rest) ∷ tokens_after_class (Some Hash) (length (leading_hex_digits rest)) rest
+hash_first : (rest : List ℕ) → IsGood (Some Component) 0 (126 ∷ rest) → tokens_after_class_skipping_bytes (Some Component) 0 (126 ∷ rest) ≡ text_token Hash (leading_hex_digits rest) ∷ tokens_after_class_skipping_bytes (Some Hash) (length (leading_hex_digits rest)) rest
 unfolding next_lexeme hash_lexeme
 hash_first rest good =
     let len = length (leading_hex_digits rest) in
     let less : 1 + len - 1 ≡ len = omega arith in
     ap (tokens_by rest) (plain_by (ltb 0 len) (lexeme (text_token Hash (leading_hex_digits rest)) (1 + len)) (goes_on (Some Component) 126 rest good))
-    ∙ ap (λ n. text_token Hash (leading_hex_digits rest) ∷ tokens_after_class (Some Hash) n rest) less
+    ∙ ap (λ n. text_token Hash (leading_hex_digits rest) ∷ tokens_after_class_skipping_bytes (Some Hash) n rest) less
 
 same_digits : (a x y : List ℕ) → slice_cmp nat_cmp (a ++ x) (a ++ y) ≡ slice_cmp nat_cmp x y
 same_digits [] x y = refl
@@ -231,9 +231,9 @@ same_digits (b ∷ a) x y = ap (λ o. ordering_then o (slice_cmp nat_cmp (a ++ x
 -- the tokens from a hash on, whose digits are these and those that a text begins with
 abbrev hash_and_after : List ℕ → List ℕ → List Token
 hash_and_after digits rest =
-    text_token Hash (digits ++ leading_hex_digits rest) ∷ tokens_after_class (Some Hash) (length (leading_hex_digits rest)) rest
+    text_token Hash (digits ++ leading_hex_digits rest) ∷ tokens_after_class_skipping_bytes (Some Hash) (length (leading_hex_digits rest)) rest
 
-hash_tokens : (digits rest : List ℕ) → is_unmarked digits ≡ true → IsGood (Some Component) 0 (126 ∷ (digits ++ rest)) → tokens_after_class (Some Component) 0 (126 ∷ (digits ++ rest)) ≡ hash_and_after digits rest
+hash_tokens : (digits rest : List ℕ) → is_unmarked digits ≡ true → IsGood (Some Component) 0 (126 ∷ (digits ++ rest)) → tokens_after_class_skipping_bytes (Some Component) 0 (126 ∷ (digits ++ rest)) ≡ hash_and_after digits rest
 hash_tokens digits rest plain good =
     let first = hash_first (digits ++ rest) good in
     let inner = hash_digits digits rest plain (ap are_in_grammar (sym first) ∙ good) in
@@ -270,7 +270,7 @@ pub cmp_whole : (left right : List ℕ) → slice_cmp token_cmp (tokens left) (t
 unfolding version_cmp
 cmp_whole left right = refl
 
-tokens_whole : (text : List ℕ) → tokens text ≡ tokens_after_class None 0 text
+tokens_whole : (text : List ℕ) → tokens text ≡ tokens_after_class_skipping_bytes None 0 text
 unfolding tokens
 tokens_whole text = refl
 
@@ -279,7 +279,7 @@ unfolding is_version tokens
 good_whole text h = h
 
 module _ {X : Type 0} (make : List Token → List Token → X) (passes : PassesEqual make) (left right : List ℕ) (len at : ℕ) (equal : AreEqualUpTo left right len) (found : IsLastMark (take len left) at) (one : is_version left ≡ true) (two : is_version right ≡ true) where
-  pub made_from_mark : make (tokens left) (tokens right) ≡ make (tokens_after_class (Some Component) 0 (drop at left)) (tokens_after_class (Some Component) 0 (drop at right))
+  pub made_from_mark : make (tokens left) (tokens right) ≡ make (tokens_after_class_skipping_bytes (Some Component) 0 (drop at left)) (tokens_after_class_skipping_bytes (Some Component) 0 (drop at right))
   made_from_mark =
       let front = take len left in
       with_mark _ (drop at front) found.mark (λ m plain h mark.
@@ -317,10 +317,10 @@ cmp_passes token ts us h = ap (λ o. ordering_then o (slice_cmp token_cmp ts us)
 
 cmp_drops : (digits x y : List ℕ) → slice_cmp token_cmp (hash_and_after digits x) (hash_and_after digits y) ≡ hash_cmp x y
 cmp_drops digits x y =
-    ap (λ o. ordering_then o (slice_cmp token_cmp (tokens_after_class (Some Hash) (length (leading_hex_digits x)) x) (tokens_after_class (Some Hash) (length (leading_hex_digits y)) y)))
+    ap (λ o. ordering_then o (slice_cmp token_cmp (tokens_after_class_skipping_bytes (Some Hash) (length (leading_hex_digits x)) x) (tokens_after_class_skipping_bytes (Some Hash) (length (leading_hex_digits y)) y)))
     (same_digits digits (leading_hex_digits x) (leading_hex_digits y))
 
-pub cmp_from_mark : (left right : List ℕ) (len at : ℕ) → AreEqualUpTo left right len → IsLastMark (take len left) at → is_version left ≡ true → is_version right ≡ true → version_cmp left right ≡ slice_cmp token_cmp (tokens_after_class (Some Component) 0 (drop at left)) (tokens_after_class (Some Component) 0 (drop at right))
+pub cmp_from_mark : (left right : List ℕ) (len at : ℕ) → AreEqualUpTo left right len → IsLastMark (take len left) at → is_version left ≡ true → is_version right ≡ true → version_cmp left right ≡ slice_cmp token_cmp (tokens_after_class_skipping_bytes (Some Component) 0 (drop at left)) (tokens_after_class_skipping_bytes (Some Component) 0 (drop at right))
 cmp_from_mark left right len at equal found one two =
     sym (cmp_whole left right) ∙ made_from_mark (slice_cmp token_cmp) cmp_passes left right len at equal found one two
 
@@ -346,14 +346,14 @@ fit_passes token ts us h =
 fit_drops : (digits x y : List ℕ) → all_fit (hash_and_after digits x) (hash_and_after digits y) ≡ hash_fits x y
 unfolding fits
 fit_drops digits x y =
-    ap (λ o. is_eq o && all_fit (tokens_after_class (Some Hash) (length (leading_hex_digits x)) x) (tokens_after_class (Some Hash) (length (leading_hex_digits y)) y))
+    ap (λ o. is_eq o && all_fit (tokens_after_class_skipping_bytes (Some Hash) (length (leading_hex_digits x)) x) (tokens_after_class_skipping_bytes (Some Hash) (length (leading_hex_digits y)) y))
     (same_digits digits (leading_hex_digits y) (leading_hex_digits x))
 
 pub fit_whole : (wanted found : List ℕ) → all_fit (tokens wanted) (tokens found) ≡ is_fuzzy_match found wanted
 unfolding is_fuzzy_match
 fit_whole wanted found = refl
 
-pub fit_from_mark : (wanted found : List ℕ) (len at : ℕ) → AreEqualUpTo wanted found len → IsLastMark (take len wanted) at → is_version wanted ≡ true → is_version found ≡ true → is_fuzzy_match found wanted ≡ all_fit (tokens_after_class (Some Component) 0 (drop at wanted)) (tokens_after_class (Some Component) 0 (drop at found))
+pub fit_from_mark : (wanted found : List ℕ) (len at : ℕ) → AreEqualUpTo wanted found len → IsLastMark (take len wanted) at → is_version wanted ≡ true → is_version found ≡ true → is_fuzzy_match found wanted ≡ all_fit (tokens_after_class_skipping_bytes (Some Component) 0 (drop at wanted)) (tokens_after_class_skipping_bytes (Some Component) 0 (drop at found))
 fit_from_mark wanted found len at equal last one two =
     sym (fit_whole wanted found) ∙ made_from_mark all_fit fit_passes wanted found len at equal last one two
 

@@ -11,10 +11,10 @@ use Rattle.version_core.specs.declared.token.Class.{Class}
 use Rattle.version_core.specs.declared.token.Class.TheVariants as Classes
 use Rattle.version_core.specs.declared.overlapping.Place.{Place}
 use Rattle.version_core.specs.Token.{Lexeme, number_token, text_token, lexeme, stray_lexeme, has_number_length, is_component, is_suffix, is_before_hash, is_before_revision, is_hex_digit, begins_with_zero, leading_digits, leading_hex_digits, leading_letters, number_lexeme, later_component_lexeme, suffix_rank, suffix_lexeme, suffix_lexeme_of_rank, hash_lexeme, revision_lexeme, next_lexeme}
-use Rattle.version_core.specs.Order.{are_in_grammar, tokens_after_class}
+use Rattle.version_core.specs.Order.{are_in_grammar, tokens_after_class_skipping_bytes}
 use Rattle.version_core.specs.Reading.{is_hash, unread_len}
 use Rattle.version_core.specs.Overlapping.{IsNextPlace, can_rest_follow_place, is_valid_version_rest}
-use Rattle.version_core.proofs.Walk.{after, tokens_after_class-drop, tokens_after_class-step}
+use Rattle.version_core.proofs.Walk.{after, tokens_after_class_skipping_bytes-drop, tokens_after_class_skipping_bytes-step}
 use Rattle.version_core.proofs.Local.{drop_range, run_by}
 
 -- ---- runs
@@ -81,15 +81,15 @@ unread_none class xs n m some none = unread_none_by (is_hash class) none
     unread_none_by true none = run_none is_hex_digit xs n m some none
     unread_none_by false none = refl
 
-tokens_on : (class : Class) (k j : ℕ) (xs : List ℕ) → tokens_after_class (Some class) (k + j) xs ≡ tokens_after_class (Some class) j (drop k xs)
+tokens_on : (class : Class) (k j : ℕ) (xs : List ℕ) → tokens_after_class_skipping_bytes (Some class) (k + j) xs ≡ tokens_after_class_skipping_bytes (Some class) j (drop k xs)
 tokens_on class k j xs =
-    tokens_after_class-drop (Some class) (k + j) xs ∙ ap (tokens_after_class (Some class) 0) (sym (drop-drop j k xs)) ∙ sym (tokens_after_class-drop (Some class) j (drop k xs))
+    tokens_after_class_skipping_bytes-drop (Some class) (k + j) xs ∙ ap (tokens_after_class_skipping_bytes (Some class) 0) (sym (drop-drop j k xs)) ∙ sym (tokens_after_class_skipping_bytes-drop (Some class) j (drop k xs))
 
 -- what follows a place may follow after some more digits, and the other way round
 pub digits_follow : (bytes : List ℕ) (place : Place) (n end k : ℕ) → k ≡ unread_len (Some place.class) (take n (drop place.at bytes)) → place.at + k ≤ end → can_rest_follow_place bytes place end ≡ can_rest_follow_place bytes (record { at = place.at + k; class = place.class }) end
 digits_follow bytes place n end k e fits =
     let xs : List ℕ = slice_range bytes place.at end in
-    ap (λ u. are_in_grammar (tokens_after_class (Some place.class) u xs)) (unread_front place.class (drop place.at bytes) n (end - place.at) k e (omega arith))
+    ap (λ u. are_in_grammar (tokens_after_class_skipping_bytes (Some place.class) u xs)) (unread_front place.class (drop place.at bytes) n (end - place.at) k e (omega arith))
     ∙ ap are_in_grammar (tokens_on place.class k (unread_len (Some place.class) (drop k xs)) xs)
     ∙ ap (is_valid_version_rest place) (drop_range bytes place.at end k fits)
 
@@ -194,7 +194,7 @@ no_digits ds none marked = false≢true (sym (ap (λ xs. is_hash (cond (ltb 0 (l
 
 -- what follows the mark and the first digit of a hash may follow there exactly if the whole is in the
 -- grammar
-hash_first : (last : Class) (b d : ℕ) (rest : List ℕ) → next_lexeme last (b ∷ d ∷ rest) ≡ hash_lexeme (leading_hex_digits (d ∷ rest)) → is_hex_digit d ≡ true → are_in_grammar (tokens_after_class (Some last) 0 (b ∷ d ∷ rest)) ≡ are_in_grammar (tokens_after_class (Some Classes.Hash) (unread_len (Some Classes.Hash) rest) rest)
+hash_first : (last : Class) (b d : ℕ) (rest : List ℕ) → next_lexeme last (b ∷ d ∷ rest) ≡ hash_lexeme (leading_hex_digits (d ∷ rest)) → is_hex_digit d ≡ true → are_in_grammar (tokens_after_class_skipping_bytes (Some last) 0 (b ∷ d ∷ rest)) ≡ are_in_grammar (tokens_after_class_skipping_bytes (Some Classes.Hash) (unread_len (Some Classes.Hash) rest) rest)
 unfolding hash_lexeme
 hash_first last b d rest is digit =
     let ds : List ℕ = leading_hex_digits rest in
@@ -202,13 +202,13 @@ hash_first last b d rest is digit =
     let found : next_lexeme last (b ∷ d ∷ rest) ≡ lexeme (text_token Classes.Hash (d ∷ ds)) (1 + length (d ∷ ds)) =
     is ∙ ap (λ xs. cond (ltb 0 (length xs)) (lexeme (text_token Classes.Hash xs) (1 + length xs)) stray_lexeme) (run_by true is_hex_digit d rest digit) ∙ ap (λ c. cond c (lexeme (text_token Classes.Hash (d ∷ ds)) (1 + length (d ∷ ds))) stray_lexeme) some in
     let width : 1 + length (d ∷ ds) ≡ 2 + length ds = omega arith in
-    ap are_in_grammar (tokens_after_class-step (Some last) (b ∷ d ∷ rest) ∙ ap (λ (l : Lexeme). l.token ∷ after (b ∷ d ∷ rest) l) found)
-    ∙ ap (λ n. are_in_grammar (tokens_after_class (Some Classes.Hash) 0 (drop n (b ∷ d ∷ rest)))) width
-    ∙ ap (λ xs. are_in_grammar (tokens_after_class (Some Classes.Hash) 0 xs)) (sym (drop-drop (length ds) 2 (b ∷ d ∷ rest)))
-    ∙ ap are_in_grammar (sym (tokens_after_class-drop (Some Classes.Hash) (length ds) rest))
+    ap are_in_grammar (tokens_after_class_skipping_bytes-step (Some last) (b ∷ d ∷ rest) ∙ ap (λ (l : Lexeme). l.token ∷ after (b ∷ d ∷ rest) l) found)
+    ∙ ap (λ n. are_in_grammar (tokens_after_class_skipping_bytes (Some Classes.Hash) 0 (drop n (b ∷ d ∷ rest)))) width
+    ∙ ap (λ xs. are_in_grammar (tokens_after_class_skipping_bytes (Some Classes.Hash) 0 xs)) (sym (drop-drop (length ds) 2 (b ∷ d ∷ rest)))
+    ∙ ap are_in_grammar (sym (tokens_after_class_skipping_bytes-drop (Some Classes.Hash) (length ds) rest))
 
 -- a text that is cut after a mark and a digit at least
-pub hash_follow : (last : Class) (xs : List ℕ) (n m : ℕ) → is_hash (next_lexeme last (take n xs)).token.class ≡ true → 2 ≤ m → are_in_grammar (tokens_after_class (Some last) 0 (take m xs)) ≡ are_in_grammar (tokens_after_class (Some Classes.Hash) (unread_len (Some Classes.Hash) (drop 2 (take m xs))) (drop 2 (take m xs)))
+pub hash_follow : (last : Class) (xs : List ℕ) (n m : ℕ) → is_hash (next_lexeme last (take n xs)).token.class ≡ true → 2 ≤ m → are_in_grammar (tokens_after_class_skipping_bytes (Some last) 0 (take m xs)) ≡ are_in_grammar (tokens_after_class_skipping_bytes (Some Classes.Hash) (unread_len (Some Classes.Hash) (drop 2 (take m xs))) (drop 2 (take m xs)))
 unfolding next_lexeme
 hash_follow last [] zero m marked fits = absurd (false≢true marked)
 hash_follow last [] (suc n) m marked fits = absurd (false≢true marked)

@@ -8,9 +8,9 @@ use Rattle.version_core.specs.declared.token.Class.{Class}
 use Rattle.version_core.specs.declared.token.Class.TheVariants as Classes
 use Rattle.version_core.specs.declared.overlapping.Place.{Place}
 use Rattle.version_core.specs.Token.{Token, Lexeme, number_token, text_token, lexeme, stray_lexeme, has_number_length, is_component, is_suffix, is_before_hash, is_before_revision, begins_with_zero, leading_digits, leading_hex_digits, leading_letters, number_lexeme, later_component_lexeme, suffix_rank, suffix_lexeme, suffix_lexeme_of_rank, hash_lexeme, revision_lexeme, next_lexeme, lexeme_at}
-use Rattle.version_core.specs.Order.{are_in_grammar, is_last_token_class, is_stray_class, is_version, tokens, tokens_after_class}
+use Rattle.version_core.specs.Order.{are_in_grammar, is_last_token_class, is_stray_class, is_version, tokens, tokens_after_class_skipping_bytes}
 use Rattle.version_core.specs.Overlapping.{IsNextPlace, IsSafeSkip, can_rest_follow_place, is_valid_version_rest, passed_len}
-use Rattle.version_core.proofs.Walk.{after, lexeme_at_within, tokens_after_class-step}
+use Rattle.version_core.proofs.Walk.{after, lexeme_at_within, tokens_after_class_skipping_bytes-step}
 use Rattle.version_core.specs.Reading.{is_hash, unread_len}
 use Rattle.version_core.proofs.Local.{drop_range, token_local}
 use Rattle.version_core.proofs.HashDigits.{digits_follow, hash_follow, hash_room, unread_none}
@@ -47,8 +47,8 @@ grammar_by false true ts l s = absurd (false≢true (sym s))
 
 -- ---- places that are not between the digits of a hash
 
-follow_by : (bytes : List ℕ) (place : Place) (end n : ℕ) → unread_len (Some place.class) (slice_range bytes place.at end) ≡ n → can_rest_follow_place bytes place end ≡ are_in_grammar (tokens_after_class (Some place.class) n (slice_range bytes place.at end))
-follow_by bytes place end n e = ap (λ u. are_in_grammar (tokens_after_class (Some place.class) u (slice_range bytes place.at end))) e
+follow_by : (bytes : List ℕ) (place : Place) (end n : ℕ) → unread_len (Some place.class) (slice_range bytes place.at end) ≡ n → can_rest_follow_place bytes place end ≡ are_in_grammar (tokens_after_class_skipping_bytes (Some place.class) n (slice_range bytes place.at end))
+follow_by bytes place end n e = ap (λ u. are_in_grammar (tokens_after_class_skipping_bytes (Some place.class) u (slice_range bytes place.at end))) e
 
 no_hash_unread : (class : Class) (rest : List ℕ) → is_hash class ≡ false → unread_len (Some class) rest ≡ 0
 no_hash_unread class rest h = ap (λ b. cond b (length (leading_hex_digits rest)) 0) h
@@ -56,11 +56,11 @@ no_hash_unread class rest h = ap (λ b. cond b (length (leading_hex_digits rest)
 -- what is in a range is in the grammar exactly if what follows its first token, no hash, may follow
 -- there
 behind_first : (bytes : List ℕ) (last : Option Class) (at end : ℕ) (found : Lexeme) → lexeme_at last (slice_range bytes at end) ≡ found → is_last_token_class found.token.class ≡ false → is_hash found.token.class ≡ false → at + found.width ≤ end
-    → are_in_grammar (tokens_after_class last 0 (slice_range bytes at end)) ≡ can_rest_follow_place bytes (record { at = at + found.width; class = found.token.class }) end
+    → are_in_grammar (tokens_after_class_skipping_bytes last 0 (slice_range bytes at end)) ≡ can_rest_follow_place bytes (record { at = at + found.width; class = found.token.class }) end
 behind_first bytes last at end found is token plain fits =
-    ap are_in_grammar (tokens_after_class-step last (slice_range bytes at end) ∙ ap (λ (l : Lexeme). l.token ∷ after (slice_range bytes at end) l) is)
-    ∙ grammar_by (is_last_token_class found.token.class) (is_stray_class found.token.class) (tokens_after_class (Some found.token.class) 0 (drop found.width (slice_range bytes at end))) token (no_last found.token.class token)
-    ∙ ap (λ ts. are_in_grammar (tokens_after_class (Some found.token.class) 0 ts)) (drop_range bytes at end found.width fits)
+    ap are_in_grammar (tokens_after_class_skipping_bytes-step last (slice_range bytes at end) ∙ ap (λ (l : Lexeme). l.token ∷ after (slice_range bytes at end) l) is)
+    ∙ grammar_by (is_last_token_class found.token.class) (is_stray_class found.token.class) (tokens_after_class_skipping_bytes (Some found.token.class) 0 (drop found.width (slice_range bytes at end))) token (no_last found.token.class token)
+    ∙ ap (λ ts. are_in_grammar (tokens_after_class_skipping_bytes (Some found.token.class) 0 ts)) (drop_range bytes at end found.width fits)
     ∙ sym (follow_by bytes (record { at = at + found.width; class = found.token.class }) end 0 (no_hash_unread found.token.class (slice_range bytes (at + found.width) end) plain))
 
 -- ---- no token but at the end of the text is the end
@@ -116,9 +116,9 @@ stray_by : (stray : Bool) (ts : List Token) → stray ≡ true → (not stray &&
 stray_by true ts h = refl
 stray_by false ts h = absurd (false≢true h)
 
-pub stray_first : (last : Option Class) (text : List ℕ) → NoEnd (lexeme_at last text) → is_last_token_class (lexeme_at last text).token.class ≡ true → are_in_grammar (tokens_after_class last 0 text) ≡ false
+pub stray_first : (last : Option Class) (text : List ℕ) → NoEnd (lexeme_at last text) → is_last_token_class (lexeme_at last text).token.class ≡ true → are_in_grammar (tokens_after_class_skipping_bytes last 0 text) ≡ false
 stray_first last text no_end h =
-    ap are_in_grammar (tokens_after_class-step last text) ∙ stray_by (is_stray_class (lexeme_at last text).token.class) (after text (lexeme_at last text)) (no_end h)
+    ap are_in_grammar (tokens_after_class_skipping_bytes-step last text) ∙ stray_by (is_stray_class (lexeme_at last text).token.class) (after text (lexeme_at last text)) (no_end h)
 
 -- ---- what the reader finds
 
@@ -193,7 +193,7 @@ after_plain bytes place end found order within none is token plain =
     }
 
 hash_behind : (bytes : List ℕ) (place : Place) (end other : ℕ) → is_hash (lexeme_at (Some place.class) (slice_range bytes place.at end)).token.class ≡ true → place.at + 2 ≤ other
-    → are_in_grammar (tokens_after_class (Some place.class) 0 (slice_range bytes place.at other)) ≡ can_rest_follow_place bytes (record { at = place.at + 2; class = Classes.Hash }) other
+    → are_in_grammar (tokens_after_class_skipping_bytes (Some place.class) 0 (slice_range bytes place.at other)) ≡ can_rest_follow_place bytes (record { at = place.at + 2; class = Classes.Hash }) other
 hash_behind bytes place end other marked fits =
     hash_follow place.class (drop place.at bytes) (end - place.at) (other - place.at) marked (omega arith)
     ∙ ap (is_valid_version_rest (record { at = place.at + 2; class = Classes.Hash })) (drop_range bytes place.at other 2 fits)
@@ -260,6 +260,6 @@ follows_at_end bytes place end past =
     let none : end - place.at ≡ 0 = omega arith in
     ap (λ n. is_valid_version_rest place (take n (drop place.at bytes))) none ∙ good_end (is_hash place.class)
   where
-    good_end : (b : Bool) → are_in_grammar (tokens_after_class (Some place.class) (cond b 0 0) []) ≡ true
+    good_end : (b : Bool) → are_in_grammar (tokens_after_class_skipping_bytes (Some place.class) (cond b 0 0) []) ≡ true
     good_end true = refl
     good_end false = refl

@@ -12,9 +12,9 @@ use Rattle.std.proofs.lemmas.List.Folds.{length-prefix_len}
 use Rattle.version_core.specs.declared.token.Class.{Class}
 use Rattle.version_core.specs.declared.token.Class.TheVariants.{Stray, PreRelease, End, Revision, Hash, SuffixNumber, Suffix, Letter, ZeroComponent, Component}
 use Rattle.version_core.specs.Token.{Token, Lexeme, number_token, text_token, lexeme, stray_lexeme, has_number_length, is_hex_digit, is_component, is_suffix, is_before_hash, is_before_revision, begins_with_zero, leading_digits, leading_hex_digits, leading_letters, number_lexeme, later_component_lexeme, suffix_rank, suffix_lexeme, suffix_lexeme_of_rank, hash_lexeme, revision_lexeme, next_lexeme}
-use Rattle.version_core.specs.Order.{are_in_grammar, is_last_token_class, is_stray_class, is_version, tokens, tokens_after_class}
+use Rattle.version_core.specs.Order.{are_in_grammar, is_last_token_class, is_stray_class, is_version, tokens, tokens_after_class_skipping_bytes}
 use Rattle.version_core.specs.Grammar.{Parts, IsSpelledVersion, is_none_or, is_numeral, is_hash_text, is_suffix_part, SuffixPart, later_components_text, letter_text, number_text, suffixes_text, hash_text, revision_text, component_token}
-use Rattle.version_core.proofs.Walk.{after, has_number_length-pos, tokens_after_class-step}
+use Rattle.version_core.proofs.Walk.{after, has_number_length-pos, tokens_after_class_skipping_bytes-step}
 use Rattle.version_core.proofs.Spelled.{first_true, then_true, number_read, component_read, component_is_not_last_by, suffix_whole_by, suffix_class_by, suffix_is_not_last, hash_read, component_before_hash, before_hash_before_revision, suffix_before_hash}
 
 -- ---- runs
@@ -63,12 +63,12 @@ unfolding hash_lexeme
 hash_goes_on text ds h = sound_or_stray text (ltb 0 (length ds)) (lexeme (text_token Hash ds) (1 + length ds)) h
 
 -- what follows a lexeme is sound too
-sound_after : (text behind : List ℕ) (found : Lexeme) (token : Token) (width : ℕ) → found ≡ lexeme token width → is_last_token_class token.class ≡ false → drop width text ≡ behind → CountsOnlyRise text found → are_in_grammar (tokens_after_class (Some token.class) 0 behind) ≡ true
+sound_after : (text behind : List ℕ) (found : Lexeme) (token : Token) (width : ℕ) → found ≡ lexeme token width → is_last_token_class token.class ≡ false → drop width text ≡ behind → CountsOnlyRise text found → are_in_grammar (tokens_after_class_skipping_bytes (Some token.class) 0 behind) ≡ true
 sound_after text behind found token width e h d sound =
     let here : are_in_grammar (token ∷ after text (lexeme token width)) ≡ true = subst (CountsOnlyRise text) e sound in
     let rest = then_true (not (is_stray_class token.class)) (are_in_grammar (after text (lexeme token width))) here in
-    subst (λ b. are_in_grammar (cond b [] (tokens_after_class (Some token.class) 0 behind)) ≡ true) h
-    (subst (λ t. are_in_grammar (cond (is_last_token_class token.class) [] (tokens_after_class (Some token.class) 0 t)) ≡ true) d rest)
+    subst (λ b. are_in_grammar (cond b [] (tokens_after_class_skipping_bytes (Some token.class) 0 behind)) ≡ true) h
+    (subst (λ t. are_in_grammar (cond (is_last_token_class token.class) [] (tokens_after_class_skipping_bytes (Some token.class) 0 t)) ≡ true) d rest)
 
 -- ---- the end of a version, after a token of some class
 
@@ -287,7 +287,7 @@ with_revision last ds behind h numeral end = record {
 
 -- what holds of shorter texts
 abbrev Shorter : ℕ → Type 0
-Shorter n = (last : Class) (text : List ℕ) → length text ≤ n → are_in_grammar (tokens_after_class (Some last) 0 text) ≡ true → IsTail last text
+Shorter n = (last : Class) (text : List ℕ) → length text ≤ n → are_in_grammar (tokens_after_class_skipping_bytes (Some last) 0 text) ≡ true → IsTail last text
 
 cond_case : (P : Lexeme → Type 0) (b : Bool) (x y : Lexeme) → (b ≡ true → P x) → P y → P (cond b x y)
 cond_case P true x y f g = f refl
@@ -423,14 +423,14 @@ tails zero last [] few sound = at_end last
 tails zero last (b ∷ rest) few sound = absurd (omega arith)
 tails (suc n) last [] few sound = at_end last
 tails (suc n) last (b ∷ rest) few sound =
-    lexeme_case n (tails n) last b rest (omega arith) (ap are_in_grammar (sym (tokens_after_class-step (Some last) (b ∷ rest))) ∙ sound)
+    lexeme_case n (tails n) last b rest (omega arith) (ap are_in_grammar (sym (tokens_after_class_skipping_bytes-step (Some last) (b ∷ rest))) ∙ sound)
 
 pub spelled : (text : List ℕ) → is_version text ≡ true → IsSpelledVersion text
 unfolding is_version tokens
 spelled text h =
     let ds : List ℕ = leading_digits text in
     let behind : List ℕ = drop (length ds) text in
-    let here : CountsOnlyRise text (number_lexeme Component 0 ds) = ap are_in_grammar (sym (tokens_after_class-step None text)) ∙ h in
+    let here : CountsOnlyRise text (number_lexeme Component 0 ds) = ap are_in_grammar (sym (tokens_after_class_skipping_bytes-step None text)) ∙ h in
     let numeral = digits_numeral text (number_goes_on text Component 0 ds here) in
     let same : drop (0 + length ds) text ≡ behind = let e : 0 + length ds ≡ length ds = omega arith in ap (λ m. drop m text) e in
     let end = tails (length behind) Component behind (omega arith)

@@ -13,9 +13,9 @@ use Rattle.std.proofs.lemmas.Slice.Eq.{bytes_eq-Decides}
 use Rattle.version_core.specs.declared.token.Class.{Class}
 use Rattle.version_core.specs.declared.token.Class.TheVariants.{Stray, PreRelease, End, Revision, Hash, SuffixNumber, Suffix, Letter, ZeroComponent, Component}
 use Rattle.version_core.specs.Token.{Token, Lexeme, token_without_value, number_token, text_token, lexeme, stray_lexeme, has_number_length, is_hex_digit, is_component, is_suffix, is_before_hash, is_before_revision, begins_with_zero, leading_digits, leading_hex_digits, leading_letters, number_lexeme, later_component_lexeme, suffix_rank, suffix_lexeme, suffix_lexeme_of_rank, hash_lexeme, revision_lexeme, next_lexeme, lexeme_at}
-use Rattle.version_core.specs.Order.{are_in_grammar, is_last_token_class, is_stray_class, is_version, tokens, tokens_after_class}
+use Rattle.version_core.specs.Order.{are_in_grammar, is_last_token_class, is_stray_class, is_version, tokens, tokens_after_class_skipping_bytes}
 use Rattle.version_core.specs.Grammar.{Parts, are_version_parts, spelling, tokens_of, is_none_or, is_numeral, is_hash_text, is_suffix_part, SuffixPart, later_components_text, letter_text, number_text, suffixes_text, hash_text, revision_text, component_token, later_component_tokens, letter_tokens, number_tokens, suffix_tokens, hash_tokens, revision_tokens}
-use Rattle.version_core.proofs.Walk.{after, tokens_after_class-step}
+use Rattle.version_core.proofs.Walk.{after, tokens_after_class_skipping_bytes-step}
 
 -- ---- tests
 
@@ -89,12 +89,12 @@ run_all q ds all = ap (take_while q) (sym (append-nil ds)) ∙ run-append q ds [
 
 -- ---- one token
 
-read_token : (last : Option Class) (text front rest : List ℕ) (token : Token) (width : ℕ) → text ≡ front ++ rest → width ≡ length front → lexeme_at last text ≡ lexeme token width → is_last_token_class token.class ≡ false → tokens_after_class last 0 text ≡ token ∷ tokens_after_class (Some token.class) 0 rest
+read_token : (last : Option Class) (text front rest : List ℕ) (token : Token) (width : ℕ) → text ≡ front ++ rest → width ≡ length front → lexeme_at last text ≡ lexeme token width → is_last_token_class token.class ≡ false → tokens_after_class_skipping_bytes last 0 text ≡ token ∷ tokens_after_class_skipping_bytes (Some token.class) 0 rest
 read_token last text front rest token width whole long e h =
     let behind : drop width text ≡ rest = (λ i. drop (long i) (whole i)) ∙ drop-append_seam front rest in
-    tokens_after_class-step last text
+    tokens_after_class_skipping_bytes-step last text
     ∙ ap (λ (l : Lexeme). l.token ∷ after text l) e
-    ∙ (λ i. token ∷ cond (h i) [] (tokens_after_class (Some token.class) 0 (behind i)))
+    ∙ (λ i. token ∷ cond (h i) [] (tokens_after_class_skipping_bytes (Some token.class) 0 (behind i)))
 
 pub number_read : (class : Class) (mark : ℕ) (ds : List ℕ) → is_numeral ds ≡ true → number_lexeme class mark ds ≡ lexeme (number_token class (digits_value 10 ds)) (mark + length ds)
 unfolding number_lexeme
@@ -115,11 +115,11 @@ unfolding revision_lexeme
 revision_digits ds ok =
     ap (number_lexeme Revision 2) (run_all is_ascii_digit ds (numeral_digits ds ok)) ∙ number_read Revision 2 ds ok
 
-at_end : (last : Class) → tokens_after_class (Some last) 0 [] ≡ token_without_value End ∷ []
+at_end : (last : Class) → tokens_after_class_skipping_bytes (Some last) 0 [] ≡ token_without_value End ∷ []
 unfolding next_lexeme
 at_end last = refl
 
-read_revision : (revision : Option (List ℕ)) (last : Class) → is_before_revision last ≡ true → is_none_or is_numeral revision ≡ true → tokens_after_class (Some last) 0 (revision_text revision) ≡ revision_tokens revision ++ token_without_value End ∷ []
+read_revision : (revision : Option (List ℕ)) (last : Class) → is_before_revision last ≡ true → is_none_or is_numeral revision ≡ true → tokens_after_class_skipping_bytes (Some last) 0 (revision_text revision) ≡ revision_tokens revision ++ token_without_value End ∷ []
 read_revision None last h ok = at_end last
 read_revision (Some ds) last h ok =
     let long : 2 + length ds ≡ length (45 ∷ 114 ∷ ds) = omega arith in
@@ -150,7 +150,7 @@ before_hash_before_revision Letter h = h
 before_hash_before_revision ZeroComponent h = h
 before_hash_before_revision Component h = h
 
-read_hash : (hash : Option (List ℕ)) (last : Class) (rest : List ℕ) (ts : List Token) → is_before_hash last ≡ true → is_none_or is_hash_text hash ≡ true → begins is_hex_digit rest ≡ false → ((class : Class) → is_before_revision class ≡ true → tokens_after_class (Some class) 0 rest ≡ ts) → tokens_after_class (Some last) 0 (hash_text hash ++ rest) ≡ hash_tokens hash ++ ts
+read_hash : (hash : Option (List ℕ)) (last : Class) (rest : List ℕ) (ts : List Token) → is_before_hash last ≡ true → is_none_or is_hash_text hash ≡ true → begins is_hex_digit rest ≡ false → ((class : Class) → is_before_revision class ≡ true → tokens_after_class_skipping_bytes (Some class) 0 rest ≡ ts) → tokens_after_class_skipping_bytes (Some last) 0 (hash_text hash ++ rest) ≡ hash_tokens hash ++ ts
 read_hash None last rest ts h ok other more = more last (before_hash_before_revision last h)
 read_hash (Some ds) last rest ts h ok other more =
     let long : 1 + length ds ≡ length (126 ∷ ds) = omega arith in
@@ -190,7 +190,7 @@ suffix_is_not_last Letter h = refl
 suffix_is_not_last ZeroComponent h = refl
 suffix_is_not_last Component h = refl
 
-read_number : (number : Option (List ℕ)) (last : Class) (rest : List ℕ) (ts : List Token) → is_suffix last ≡ true → is_none_or is_numeral number ≡ true → begins is_ascii_digit rest ≡ false → ((class : Class) → is_before_hash class ≡ true → tokens_after_class (Some class) 0 rest ≡ ts) → tokens_after_class (Some last) 0 (number_text number ++ rest) ≡ number_tokens number ++ ts
+read_number : (number : Option (List ℕ)) (last : Class) (rest : List ℕ) (ts : List Token) → is_suffix last ≡ true → is_none_or is_numeral number ≡ true → begins is_ascii_digit rest ≡ false → ((class : Class) → is_before_hash class ≡ true → tokens_after_class_skipping_bytes (Some class) 0 rest ≡ ts) → tokens_after_class_skipping_bytes (Some last) 0 (number_text number ++ rest) ≡ number_tokens number ++ ts
 read_number None last rest ts h ok other more = more last (suffix_before_hash last h)
 read_number (Some []) last rest ts h ok other more = absurd (false≢true ok)
 read_number (Some (d ∷ ds)) last rest ts h ok other more =
@@ -240,7 +240,7 @@ begins_no_letter : (number : Option (List ℕ)) (rest : List ℕ) → is_none_or
 begins_no_letter None rest ok h = h
 begins_no_letter (Some ds) rest ok h = digits_are_no_letters ds rest (numeral_digits ds ok) h
 
-read_suffixes : (suffixes : List SuffixPart) (last : Class) (rest : List ℕ) (ts : List Token) → is_before_hash last ≡ true → list_all is_suffix_part suffixes ≡ true → begins is_ascii_digit rest ≡ false → begins is_ascii_lowercase rest ≡ false → ((class : Class) → is_before_hash class ≡ true → tokens_after_class (Some class) 0 rest ≡ ts) → tokens_after_class (Some last) 0 (suffixes_text suffixes ++ rest) ≡ suffix_tokens suffixes ++ ts
+read_suffixes : (suffixes : List SuffixPart) (last : Class) (rest : List ℕ) (ts : List Token) → is_before_hash last ≡ true → list_all is_suffix_part suffixes ≡ true → begins is_ascii_digit rest ≡ false → begins is_ascii_lowercase rest ≡ false → ((class : Class) → is_before_hash class ≡ true → tokens_after_class_skipping_bytes (Some class) 0 rest ≡ ts) → tokens_after_class_skipping_bytes (Some last) 0 (suffixes_text suffixes ++ rest) ≡ suffix_tokens suffixes ++ ts
 read_suffixes [] last rest ts h ok no_digit no_letter more = more last h
 read_suffixes (s ∷ ss) last rest ts h ok no_digit no_letter more =
     let behind : List ℕ = suffixes_text ss ++ rest in
@@ -253,7 +253,7 @@ read_suffixes (s ∷ ss) last rest ts h ok no_digit no_letter more =
     let word = run-append is_ascii_lowercase s.name (number_text s.number ++ behind) (suffix_letters s.name known)
     (begins_no_letter s.number behind number (begins-suffixes is_ascii_lowercase ss rest refl no_letter)) in
     let class = suffix_class_by s.name (suffix_rank s.name) known in
-    ap (tokens_after_class (Some last) 0) whole
+    ap (tokens_after_class_skipping_bytes (Some last) 0) whole
     ∙ read_token (Some last) (95 ∷ (s.name ++ (number_text s.number ++ behind))) (95 ∷ s.name) (number_text s.number ++ behind) (suffix_lexeme s.name).token (1 + length s.name) refl long
     (next_suffix last (s.name ++ (number_text s.number ++ behind)) h ∙ ap suffix_lexeme word ∙ suffix_whole_by s.name (suffix_rank s.name) known)
     (suffix_is_not_last (suffix_lexeme s.name).token.class class)
@@ -281,7 +281,7 @@ component_before_hash Letter h = refl
 component_before_hash ZeroComponent h = refl
 component_before_hash Component h = refl
 
-read_letter : (letter : Option ℕ) (last : Class) (rest : List ℕ) (ts : List Token) → is_component last ≡ true → is_none_or is_ascii_lowercase letter ≡ true → ((class : Class) → is_before_hash class ≡ true → tokens_after_class (Some class) 0 rest ≡ ts) → tokens_after_class (Some last) 0 (letter_text letter ++ rest) ≡ letter_tokens letter ++ ts
+read_letter : (letter : Option ℕ) (last : Class) (rest : List ℕ) (ts : List Token) → is_component last ≡ true → is_none_or is_ascii_lowercase letter ≡ true → ((class : Class) → is_before_hash class ≡ true → tokens_after_class_skipping_bytes (Some class) 0 rest ≡ ts) → tokens_after_class_skipping_bytes (Some last) 0 (letter_text letter ++ rest) ≡ letter_tokens letter ++ ts
 read_letter None last rest ts h ok more = more last (component_before_hash last h)
 read_letter (Some b) last rest ts h ok more =
     read_token (Some last) (b ∷ rest) (b ∷ []) rest (number_token Letter b) 1 refl refl (next_letter last b rest h ok) refl
@@ -314,13 +314,13 @@ pub component_is_not_last_by : (zero : Bool) (text : List ℕ) (n : ℕ) → is_
 component_is_not_last_by true text n = refl
 component_is_not_last_by false text n = refl
 
-read_later : (later : List (List ℕ)) (last : Class) (rest : List ℕ) (ts : List Token) → is_component last ≡ true → list_all is_numeral later ≡ true → begins is_ascii_digit rest ≡ false → ((class : Class) → is_component class ≡ true → tokens_after_class (Some class) 0 rest ≡ ts) → tokens_after_class (Some last) 0 (later_components_text later ++ rest) ≡ later_component_tokens later ++ ts
+read_later : (later : List (List ℕ)) (last : Class) (rest : List ℕ) (ts : List Token) → is_component last ≡ true → list_all is_numeral later ≡ true → begins is_ascii_digit rest ≡ false → ((class : Class) → is_component class ≡ true → tokens_after_class_skipping_bytes (Some class) 0 rest ≡ ts) → tokens_after_class_skipping_bytes (Some last) 0 (later_components_text later ++ rest) ≡ later_component_tokens later ++ ts
 read_later [] last rest ts h ok other more = more last h
 read_later (ds ∷ later) last rest ts h ok other more =
     let behind : List ℕ = later_components_text later ++ rest in
     let numeral = first_true (is_numeral ds) (list_all is_numeral later) ok in
     let long : 1 + length ds ≡ length (46 ∷ ds) = omega arith in
-    ap (λ t. tokens_after_class (Some last) 0 (46 ∷ t)) (append_assoc ds (later_components_text later) rest)
+    ap (λ t. tokens_after_class_skipping_bytes (Some last) 0 (46 ∷ t)) (append_assoc ds (later_components_text later) rest)
     ∙ read_token (Some last) (46 ∷ (ds ++ behind)) (46 ∷ ds) behind (component_token ds) (1 + length ds) refl long
     (next_component last (ds ++ behind) h
     ∙ ap later_component_lexeme (run-append is_ascii_digit ds behind (numeral_digits ds numeral) (begins-later is_ascii_digit later rest refl other))

@@ -12,7 +12,7 @@ use Rattle.version_core.specs.declared.token.Class.{Class}
 use Rattle.version_core.specs.declared.token.Class.TheVariants.{Revision, Hash, SuffixNumber, Letter, ZeroComponent, Component}
 use Rattle.version_core.specs.Token.{Token, Lexeme, number_token, text_token, lexeme, stray_lexeme, has_number_length, is_component, is_suffix, is_before_hash, is_before_revision, begins_with_zero, is_hex_digit, leading_digits, leading_hex_digits, leading_letters, number_lexeme, later_component_lexeme, suffix_rank, suffix_lexeme, suffix_lexeme_of_rank, hash_lexeme, revision_lexeme, next_lexeme, lexeme_at}
 use Rattle.version_core.specs.declared.lexeme.Lexeme.{Lexeme as LexemeAt}
-use Rattle.version_core.specs.Order.{is_last_token_class, tokens_after_class}
+use Rattle.version_core.specs.Order.{is_last_token_class, tokens_after_class_skipping_bytes}
 use Rattle.version_core.specs.Reading.{lexeme_view, token_view, unread_len}
 
 -- a lexeme is no longer than its text, and has a byte at least, unless it is the last
@@ -90,14 +90,14 @@ lexeme_at_within None text = number_within text Component 0 (leading_digits text
 lexeme_at_within (Some last) text = next_within last text
 
 -- the bytes that belong to the token before are skipped
-pub tokens_after_class-drop : (last : Option Class) (inside : ℕ) (text : List ℕ) → tokens_after_class last inside text ≡ tokens_after_class last 0 (drop inside text)
-tokens_after_class-drop last zero text = refl
-tokens_after_class-drop last (suc inside) [] = refl
-tokens_after_class-drop last (suc inside) (b ∷ rest) = tokens_after_class-drop last inside rest
+pub tokens_after_class_skipping_bytes-drop : (last : Option Class) (inside : ℕ) (text : List ℕ) → tokens_after_class_skipping_bytes last inside text ≡ tokens_after_class_skipping_bytes last 0 (drop inside text)
+tokens_after_class_skipping_bytes-drop last zero text = refl
+tokens_after_class_skipping_bytes-drop last (suc inside) [] = refl
+tokens_after_class_skipping_bytes-drop last (suc inside) (b ∷ rest) = tokens_after_class_skipping_bytes-drop last inside rest
 
 -- the tokens after a lexeme
 abbrev pub after : List ℕ → Lexeme → List Token
-after text found = cond (is_last_token_class found.token.class) [] (tokens_after_class (Some found.token.class) 0 (drop found.width text))
+after text found = cond (is_last_token_class found.token.class) [] (tokens_after_class_skipping_bytes (Some found.token.class) 0 (drop found.width text))
 
 -- what is at the end is the last
 last_at_end : (last : Option Class) → is_last_token_class (lexeme_at last []).token.class ≡ true
@@ -109,21 +109,21 @@ drop-pred : (n : ℕ) (c : ℕ) (rest : List ℕ) → 0 < n → drop (n - 1) res
 drop-pred zero c rest pos = absurd (omega arith)
 drop-pred (suc n) c rest pos = let e : suc n - 1 ≡ n = omega arith in ap (λ m. drop m rest) e
 
-after_by : (b : Bool) (found : Lexeme) (c : ℕ) (rest : List ℕ) → (b ≡ false → 0 < found.width) → cond b [] (tokens_after_class (Some found.token.class) (found.width - 1) rest) ≡ cond b [] (tokens_after_class (Some found.token.class) 0 (drop found.width (c ∷ rest)))
+after_by : (b : Bool) (found : Lexeme) (c : ℕ) (rest : List ℕ) → (b ≡ false → 0 < found.width) → cond b [] (tokens_after_class_skipping_bytes (Some found.token.class) (found.width - 1) rest) ≡ cond b [] (tokens_after_class_skipping_bytes (Some found.token.class) 0 (drop found.width (c ∷ rest)))
 after_by true found c rest some = refl
 after_by false found c rest some =
-    tokens_after_class-drop (Some found.token.class) (found.width - 1) rest
-    ∙ ap (tokens_after_class (Some found.token.class) 0) (drop-pred found.width c rest (some refl))
+    tokens_after_class_skipping_bytes-drop (Some found.token.class) (found.width - 1) rest
+    ∙ ap (tokens_after_class_skipping_bytes (Some found.token.class) 0) (drop-pred found.width c rest (some refl))
 
 end_by : (b : Bool) (x : Token) (ts : List Token) → b ≡ true → x ∷ [] ≡ x ∷ cond b [] ts
 end_by b x ts h = rw h refl
 
 -- the tokens of a text are its first, and those after that
-pub tokens_after_class-step : (last : Option Class) (text : List ℕ) → tokens_after_class last 0 text ≡ (lexeme_at last text).token ∷ after text (lexeme_at last text)
-tokens_after_class-step last [] =
+pub tokens_after_class_skipping_bytes-step : (last : Option Class) (text : List ℕ) → tokens_after_class_skipping_bytes last 0 text ≡ (lexeme_at last text).token ∷ after text (lexeme_at last text)
+tokens_after_class_skipping_bytes-step last [] =
     let found = lexeme_at last [] in
-    end_by (is_last_token_class found.token.class) found.token (tokens_after_class (Some found.token.class) 0 (drop found.width [])) (last_at_end last)
-tokens_after_class-step last (b ∷ rest) =
+    end_by (is_last_token_class found.token.class) found.token (tokens_after_class_skipping_bytes (Some found.token.class) 0 (drop found.width [])) (last_at_end last)
+tokens_after_class_skipping_bytes-step last (b ∷ rest) =
     let found = lexeme_at last (b ∷ rest) in
     ap (λ ts. found.token ∷ ts) (after_by (is_last_token_class found.token.class) found b rest (lexeme_at_within last (b ∷ rest)).some)
 
@@ -134,23 +134,23 @@ advance_within last text found e =
     let width = ap (λ (l : Lexeme). l.width) e in
     omega (arith, within, width)
 
-behind_at : (class : Class) (text : List ℕ) (advance : ℕ) → tokens_after_class (Some class) 0 (drop (advance + unread_len (Some class) (drop advance text)) text) ≡ tokens_after_class (Some class) (unread_len (Some class) (drop advance text)) (drop advance text)
+behind_at : (class : Class) (text : List ℕ) (advance : ℕ) → tokens_after_class_skipping_bytes (Some class) 0 (drop (advance + unread_len (Some class) (drop advance text)) text) ≡ tokens_after_class_skipping_bytes (Some class) (unread_len (Some class) (drop advance text)) (drop advance text)
 behind_at class text advance =
-    sym (tokens_after_class-drop (Some class) (unread_len (Some class) (drop advance text)) (drop advance text)
-    ∙ ap (tokens_after_class (Some class) 0) (drop-drop (unread_len (Some class) (drop advance text)) advance text))
+    sym (tokens_after_class_skipping_bytes-drop (Some class) (unread_len (Some class) (drop advance text)) (drop advance text)
+    ∙ ap (tokens_after_class_skipping_bytes (Some class) 0) (drop-drop (unread_len (Some class) (drop advance text)) advance text))
 
-left_at : (last : Option Class) (text : List ℕ) (found : LexemeAt) → lexeme_view text found ≡ lexeme_at last text → tokens_after_class last 0 text ≡ token_view found.token ∷ cond (is_last_token_class found.token.class) [] (tokens_after_class (Some found.token.class) (unread_len (Some found.token.class) (drop found.advance text)) (drop found.advance text))
+left_at : (last : Option Class) (text : List ℕ) (found : LexemeAt) → lexeme_view text found ≡ lexeme_at last text → tokens_after_class_skipping_bytes last 0 text ≡ token_view found.token ∷ cond (is_last_token_class found.token.class) [] (tokens_after_class_skipping_bytes (Some found.token.class) (unread_len (Some found.token.class) (drop found.advance text)) (drop found.advance text))
 left_at last text found e =
-    tokens_after_class-step last text
+    tokens_after_class_skipping_bytes-step last text
     ∙ ap (λ (l : Lexeme). l.token ∷ after text l) (sym e)
     ∙ ap (λ ts. token_view found.token ∷ cond (is_last_token_class found.token.class) [] ts) (behind_at found.token.class text found.advance)
 
-pub left_after : (last : Option Class) (rest text behind : List ℕ) (found : LexemeAt) → text ≡ drop (unread_len last rest) rest → lexeme_view text found ≡ lexeme_at last text → behind ≡ drop found.advance text → tokens_after_class last (unread_len last rest) rest ≡ token_view found.token ∷ cond (is_last_token_class found.token.class) [] (tokens_after_class (Some found.token.class) (unread_len (Some found.token.class) behind) behind)
+pub left_after : (last : Option Class) (rest text behind : List ℕ) (found : LexemeAt) → text ≡ drop (unread_len last rest) rest → lexeme_view text found ≡ lexeme_at last text → behind ≡ drop found.advance text → tokens_after_class_skipping_bytes last (unread_len last rest) rest ≡ token_view found.token ∷ cond (is_last_token_class found.token.class) [] (tokens_after_class_skipping_bytes (Some found.token.class) (unread_len (Some found.token.class) behind) behind)
 left_after last rest text behind found here e there =
-    tokens_after_class-drop last (unread_len last rest) rest
-    ∙ ap (tokens_after_class last 0) (sym here)
+    tokens_after_class_skipping_bytes-drop last (unread_len last rest) rest
+    ∙ ap (tokens_after_class_skipping_bytes last 0) (sym here)
     ∙ left_at last text found e
-    ∙ ap (λ b. token_view found.token ∷ cond (is_last_token_class found.token.class) [] (tokens_after_class (Some found.token.class) (unread_len (Some found.token.class) b) b)) (sym there)
+    ∙ ap (λ b. token_view found.token ∷ cond (is_last_token_class found.token.class) [] (tokens_after_class_skipping_bytes (Some found.token.class) (unread_len (Some found.token.class) b) b)) (sym there)
 
 fewer_at : (last : Option Class) (text : List ℕ) (found : LexemeAt) → lexeme_view text found ≡ lexeme_at last text → is_last_token_class found.token.class ≡ false → length (drop (unread_len (Some found.token.class) (drop found.advance text)) (drop found.advance text)) < length text
 fewer_at last text found e h =

@@ -140,6 +140,7 @@ tokens_of parts =
 
 -- a text is spelled after the grammar: some parts of a version spell it
 pub record IsSpelledVersion (text : List ℕ) : Type 0 where
+  -- the parts of the version
   pub parts : Parts
   -- each part follows the grammar
   pub sound : are_version_parts parts ≡ true

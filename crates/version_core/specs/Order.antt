@@ -21,18 +21,19 @@ is_last_token_class class = is_stray_class class
 
 -- the tokens of the rest of a version, after a token of the class `last`; None if the rest is the
 -- whole version. The first `inside` bytes of the rest still belong to the token before
-abbrev pub tokens_after_class : Option Class → ℕ → List ℕ → List Token
-tokens_after_class last inside [] = (lexeme_at last []).token ∷ []
-tokens_after_class last (suc inside) (b ∷ rest) = tokens_after_class last inside rest
-tokens_after_class last zero (b ∷ rest) =
+abbrev pub tokens_after_class_skipping_bytes : Option Class → ℕ → List ℕ → List Token
+tokens_after_class_skipping_bytes last inside [] = (lexeme_at last []).token ∷ []
+tokens_after_class_skipping_bytes last (suc inside) (b ∷ rest) =
+    tokens_after_class_skipping_bytes last inside rest
+tokens_after_class_skipping_bytes last zero (b ∷ rest) =
     let found = lexeme_at last (b ∷ rest) in
     found.token
     ∷ (if is_last_token_class found.token.class then []
-    else tokens_after_class (Some found.token.class) (found.width - 1) rest)
+    else tokens_after_class_skipping_bytes (Some found.token.class) (found.width - 1) rest)
 
 -- the tokens of a text, the end included; at bytes outside the grammar they stop with a stray one
 unfoldable pub tokens : List ℕ → List Token
-tokens text = tokens_after_class None 0 text
+tokens text = tokens_after_class_skipping_bytes None 0 text
 
 -- whether none of the tokens is stray, so that they are those of a version
 abbrev pub are_in_grammar : List Token → Bool

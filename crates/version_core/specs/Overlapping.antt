@@ -2,7 +2,7 @@
 -- `OverlappingVersions` (its row in the README of this crate); what a version is is defined in
 -- `docs/formats.md`, "Versions".
 use Rattle.std.specs.Prelude.{◌≡◌, ℕ, ◌<◌, ◌≤◌, Bool, if◌then◌else◌, List, slice_range, Some}
-use Rattle.version_core.specs.Order.{are_in_grammar, tokens_after_class}
+use Rattle.version_core.specs.Order.{are_in_grammar, tokens_after_class_skipping_bytes}
 use Rattle.version_core.specs.Reading.{is_hash, unread_len}
 use Rattle.version_core.specs.Token.{Lexeme}
 use Rattle.version_core.specs.declared.overlapping.Place.{Place}
@@ -15,7 +15,8 @@ passed_len found = if is_hash found.token.class then 2 else found.width
 -- hash
 abbrev pub is_valid_version_rest : Place → List ℕ → Bool
 is_valid_version_rest place rest =
-    are_in_grammar (tokens_after_class (Some place.class) (unread_len (Some place.class) rest) rest)
+    are_in_grammar (tokens_after_class_skipping_bytes (Some place.class)
+    (unread_len (Some place.class) rest) rest)
 
 -- whether the bytes between a place and an end may be the rest of a version
 abbrev pub can_rest_follow_place : List ℕ → Place → ℕ → Bool
@@ -33,8 +34,11 @@ pub record IsSafeSkip (bytes : List ℕ) (from to : Place) : Type 0 where
 -- a version with this end that is at the first place reaches the second. So does each other version,
 -- unless the second place is the end, which may be within a token of another version
 pub record IsNextPlace (bytes : List ℕ) (end : ℕ) (from to : Place) : Type 0 where
+  -- the second place is after the first
   pub forth : from.at < to.at
+  -- the second place is not after the version's end
   pub within : to.at ≤ end
+  -- the rest of a version can follow at the one place exactly if it can at the other
   pub same : can_rest_follow_place bytes from end ≡ can_rest_follow_place bytes to end
   -- unless the second place is the end, the first leads to it for each end
   pub leads : to.at < end → IsSafeSkip bytes from to

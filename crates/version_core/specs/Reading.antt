@@ -16,7 +16,7 @@ use Rattle.version_core.specs.declared.token.Tokens.{Tokens}
 use Rattle.version_core.specs.declared.lexeme.Lexeme.{Lexeme as LexemeAt}
 use Rattle.version_core.specs.Token.{Token, Lexeme, lexeme, is_hex_digit, leading_hex_digits}
 use Rattle.version_core.specs.Matching.{all_fit}
-use Rattle.version_core.specs.Order.{token_cmp, tokens_after_class}
+use Rattle.version_core.specs.Order.{token_cmp, tokens_after_class_skipping_bytes}
 
 -- the token that a token of the code represents: its text ends before the first byte that is no
 -- hexadecimal digit
@@ -37,7 +37,8 @@ unread_len (Some class) rest = if is_hash class then length (leading_hex_digits 
 
 -- the tokens that a reader has not taken yet
 abbrev pub tokens_left : Tokens → List Token
-tokens_left left = tokens_after_class left.last (unread_len left.last left.rest.now) left.rest.now
+tokens_left left =
+    tokens_after_class_skipping_bytes left.last (unread_len left.last left.rest.now) left.rest.now
 
 -- the lexeme of the code for a token that is no hash: the reader skips all of its bytes at once
 abbrev pub whole_lexeme : LexemeAt → Lexeme
@@ -82,7 +83,9 @@ is_unmarked text = list_all (λ b. not (is_token_mark b)) text
 
 -- the last byte of a text that begins a token wherever it occurs has this index
 pub record IsLastMark (text : List ℕ) (at : ℕ) : Type 0 where
+  -- the byte at this index begins a token
   pub mark : begins_with_mark (drop at text) ≡ true
+  -- no byte after it begins a token wherever it occurs
   pub last : is_unmarked (drop (at + 1) text) ≡ true
 
 -- the most bytes of a version in a row, outside of a hash, that begin no token wherever they occur: the
@@ -96,20 +99,29 @@ HasUnmarkedEnd text = is_unmarked (drop (length text - (MOST_UNMARKED + 1)) text
 
 -- the first `len` bytes of two texts are the same
 pub record AreEqualUpTo (left right : List ℕ) (len : ℕ) : Type 0 where
+  -- each text has at least this many bytes
   pub within : (len ≤ length left) × (len ≤ length right)
+  -- the first bytes are the same in both
   pub same : take len left ≡ take len right
 
 -- two texts are equal up to a place, and the last mark before it is at this offset
 pub record AreEqualUpToMark (left right : List ℕ) (at : ℕ) : Type 0 where
+  -- the length up to which the texts are equal
   pub len : ℕ
+  -- they are equal up to it
   pub equal : AreEqualUpTo left right len
+  -- the last mark before it is at this index
   pub last : IsLastMark (take len left) at
 
 -- two texts are equal up to this offset, and the last mark before it is that of a hash, `~`
 pub record AreEqualUpToPlaceInHash (left right : List ℕ) (len : ℕ) : Type 0 where
+  -- the index of the last mark
   pub at : ℕ
+  -- the texts are equal up to the length `len`
   pub equal : AreEqualUpTo left right len
+  -- the last mark before it is at this index
   pub last : IsLastMark (take len left) at
+  -- the mark is the byte `~`
   pub tilde : slice_index_or left at 0 ≡ 126
 
 -- two texts are equal before the place from which they are read
@@ -122,13 +134,14 @@ AreEqualUpToParting left right (InHash len) = AreEqualUpToPlaceInHash left right
 abbrev pub hash_cmp : List ℕ → List ℕ → Ordering
 hash_cmp left right =
     ordering_then (slice_cmp nat_cmp (leading_hex_digits left) (leading_hex_digits right))
-    (slice_cmp token_cmp (tokens_after_class (Some Hash) (length (leading_hex_digits left)) left)
-    (tokens_after_class (Some Hash) (length (leading_hex_digits right)) right))
+    (slice_cmp token_cmp (tokens_after_class_skipping_bytes (Some Hash)
+    (length (leading_hex_digits left)) left)
+    (tokens_after_class_skipping_bytes (Some Hash) (length (leading_hex_digits right)) right))
 
 -- whether a version matches a wanted one fuzzily, by their rests from a place within the hash of both
 -- on
 abbrev pub hash_fits : List ℕ → List ℕ → Bool
 hash_fits wanted found =
     is_eq (slice_cmp nat_cmp (leading_hex_digits found) (leading_hex_digits wanted))
-    && all_fit (tokens_after_class (Some Hash) (length (leading_hex_digits wanted)) wanted)
-    (tokens_after_class (Some Hash) (length (leading_hex_digits found)) found)
+    && all_fit (tokens_after_class_skipping_bytes (Some Hash) (length (leading_hex_digits wanted)) wanted)
+    (tokens_after_class_skipping_bytes (Some Hash) (length (leading_hex_digits found)) found)

@@ -13,7 +13,9 @@ use crate::token::{Class, Tokens};
 
 /// Whether a version begins with the tokens of the wanted one.
 pub fn is_fuzzy_match(found: &[u8], wanted: &[u8]) -> bool
+    // The version that is tested is valid,
     requires found { IsTrue (is_version found.now) }
+    // and so is the wanted one.
     requires wanted { IsTrue (is_version wanted.now) }
     ensures { result ≡ is_fuzzy_match found.now wanted.now }
 {

@@ -42,8 +42,10 @@ pub fn equal_versions_match_fuzzily()
 
 /// Parts that follow the grammar spell a version, and it is read as the tokens of its parts.
 pub fn spelled_is_read()
+    // The spelling of such parts is a valid version.
     ensures version { (parts : Parts)
         → are_version_parts parts ≡ true → is_version (spelling parts) ≡ true }
+    // The tokens of the spelling are those of the parts.
     ensures tokens { (parts : Parts)
         → are_version_parts parts ≡ true → tokens (spelling parts) ≡ tokens_of parts }
 {}
@@ -56,7 +58,9 @@ pub fn read_is_spelled()
 /// A version begins with a digit, and consists of digits, lower-case letters, `.`, `_`, `~` and
 /// `-`.
 pub fn versions_have_version_bytes()
+    // Each byte of a version is one of these.
     ensures bytes { (text : List ℕ)
         → is_version text ≡ true → list_all is_version_byte text ≡ true }
+    // The first byte of a version is a digit.
     ensures first { (text : List ℕ) → is_version text ≡ true → begins_with_digit text ≡ true }
 {}

@@ -30,6 +30,7 @@ pub struct Lexeme<'a> {
 
 /// The lexeme of a token that is compared by a number; `advance` is how many bytes spell it.
 fn lexeme_of_number<'a>(class: Class, number: u64, advance: usize) -> Lexeme<'a>
+    // The lexeme has a token of this class and number, and this width.
     ensures token { whole_lexeme result ≡ lexeme (number_token class number) advance }
     ensures class { result.token.class ≡ class }
 {
@@ -43,6 +44,7 @@ fn lexeme_of_number<'a>(class: Class, number: u64, advance: usize) -> Lexeme<'a>
 
 /// The lexeme of a token that is compared as text; `advance` is how many bytes its reader skips.
 fn lexeme_of_text(class: Class, text: &[u8], advance: usize) -> Lexeme<'_>
+    // The lexeme has a token of this class and of the hexadecimal digits, and this width.
     ensures token { whole_lexeme result
         ≡ lexeme (text_token class (leading_hex_digits text.now)) advance }
     ensures class { result.token.class ≡ class }
@@ -78,7 +80,9 @@ pub fn lexeme_at<'a>(last: Option<Class>, text: &'a [u8]) -> Lexeme<'a>
 /// The class of the first token of a text, and how many of its bytes are skipped at first: all, but
 /// of a hash only the mark and one digit.
 pub fn first_token(last: Option<Class>, text: &[u8]) -> (Class, usize)
+    // The first part of the result is the class of the next token.
     ensures class { result.0 ≡ (lexeme_at last text.now).token.class }
+    // The second part of the result is how many bytes the token takes.
     ensures len { result.1 ≡ passed_len (lexeme_at last text.now) }
 {
     let lexeme = lexeme_at(last, text);
@@ -111,9 +115,12 @@ fn next_lexeme<'a>(last: Class, text: &'a [u8]) -> Lexeme<'a>
 /// The lexeme of a number; `mark` is how many bytes its mark has: none, `.` or `-r`.
 #[tactic(auto, unfolding(crate::specs::Token::number_lexeme))]
 fn number(class: Class, mark: usize, digits: &[u8]) -> Lexeme<'_>
+    // The bytes are decimal digits.
     requires digits { AreDigits digits.now }
     requires small { mark ≤ 2 }
+    // The token is no hash.
     requires plain { is_hash class ≡ false }
+    // The lexeme is that of a number after its mark (separator).
     ensures token { whole_lexeme result ≡ number_lexeme class mark digits.now }
     ensures plain { is_hash result.token.class ≡ false }
 {
@@ -127,7 +134,9 @@ fn number(class: Class, mark: usize, digits: &[u8]) -> Lexeme<'_>
 /// number.
 #[tactic(auto, using(crate::proofs::Lexemes::component_lexeme_zero), unfolding(crate::specs::Token::later_component_lexeme))]
 fn component(digits: &[u8]) -> Lexeme<'_>
+    // The bytes are decimal digits.
     requires { AreDigits digits.now }
+    // The lexeme is that of a component after the first.
     ensures token { whole_lexeme result ≡ later_component_lexeme digits.now }
     ensures plain { is_hash result.token.class ≡ false }
 {
@@ -146,6 +155,7 @@ fn begins_with_zero(digits: &[u8]) -> bool
 
 /// The lexeme of a suffix, given the word after its mark `_`.
 fn suffix(word: &[u8]) -> Lexeme<'_>
+    // The lexeme is that of a suffix.
     ensures token { whole_lexeme result ≡ suffix_lexeme word.now }
     ensures plain { is_hash result.token.class ≡ false }
 {
@@ -188,6 +198,7 @@ fn suffix_class(rank: u64) -> Class
 /// The lexeme of a hash; the text begins with its mark, `~`.
 #[tactic(auto, unfolding(crate::specs::Token::hash_lexeme))]
 fn hash(text: &[u8]) -> Lexeme<'_>
+    // The text is not empty.
     requires { 0 < length text.now }
     ensures { lexeme_view text.now result ≡ hash_lexeme (leading_hex_digits (drop 1 text.now)) }
 {
@@ -201,6 +212,7 @@ fn hash(text: &[u8]) -> Lexeme<'_>
 /// The lexeme of a revision; the text begins after its `-`.
 #[tactic(auto, unfolding(crate::specs::Token::revision_lexeme))]
 fn revision(text: &[u8]) -> Lexeme<'_>
+    // The lexeme is that of a revision.
     ensures token { whole_lexeme result ≡ revision_lexeme text.now }
     ensures plain { is_hash result.token.class ≡ false }
 {
@@ -212,6 +224,7 @@ fn revision(text: &[u8]) -> Lexeme<'_>
 
 /// The value of decimal digits; 18 of them stay below 2^64.
 fn value_of(digits: &[u8]) -> u64
+    // The bytes are decimal digits.
     requires digits { AreDigits digits.now }
     requires few { length digits.now ≤ MOST_DIGITS }
     ensures { result ≡ digits_value 10 digits.now }
@@ -311,6 +324,7 @@ fn hex_digit_at(text: &[u8], at: usize) -> Option<u8>
 
 /// The text after its first `count` bytes.
 pub fn behind(text: &[u8], count: usize) -> &[u8]
+    // The text has at least so many bytes.
     requires { count ≤ length text.now }
     ensures { result.now ≡ drop count text.now }
 {

@@ -6,7 +6,7 @@
 ghost use Rattle.std.specs.Prelude.{◌≡◌, ◌≤◌, ◌<◌, IsTrue, IfSome, IfNone, Some, length, take, drop};
 ghost use Rattle.std.specs.Cmp.Lexicographic.{slice_cmp};
 ghost use Rattle.version_core.specs.declared.token.Class.TheVariants.{Component};
-ghost use Rattle.version_core.specs.Order.{is_version, token_cmp, tokens_after_class, version_cmp};
+ghost use Rattle.version_core.specs.Order.{is_version, token_cmp, tokens_after_class_skipping_bytes, version_cmp};
 ghost use Rattle.version_core.specs.Reading.{AreEqualUpTo, AreEqualUpToParting, HasUnmarkedEnd, IsLastMark, hash_cmp, is_token_mark, tokens_left};
 
 use crate::lexeme::{behind, compare_hex_digits};
@@ -33,7 +33,9 @@ pub enum Parting {
 
 /// The order of two versions: the first tokens that differ decide.
 pub fn compare(left: &[u8], right: &[u8]) -> Ordering
+    // The first version is valid,
     requires left { IsTrue (is_version left.now) }
+    // and so is the second.
     requires right { IsTrue (is_version right.now) }
     ensures { result ≡ version_cmp left.now right.now }
 {
@@ -48,6 +50,7 @@ pub fn compare(left: &[u8], right: &[u8]) -> Ordering
 
 /// The place from which two versions have to be read. Their common prefix is skipped.
 pub fn parting_of(left: &[u8], right: &[u8]) -> Parting
+    // The first version is valid.
     requires { IsTrue (is_version left.now) }
     ensures { AreEqualUpToParting left.now right.now result }
 {
@@ -64,7 +67,9 @@ pub fn parting_of(left: &[u8], right: &[u8]) -> Parting
 /// Does the same as `parting_of` for two versions with the same first `len` bytes, the last of
 /// which have no mark. These bytes are few, or they end within the hash of each version.
 fn parting_without_mark(left: &[u8], right: &[u8], len: usize) -> Parting
+    // The first version is valid.
     requires version { IsTrue (is_version left.now) }
+    // The first `len` bytes of both versions are equal.
     requires equal { AreEqualUpTo left.now right.now len }
     requires unmarked { HasUnmarkedEnd (take len left.now) }
     ensures { AreEqualUpToParting left.now right.now result }
@@ -77,9 +82,10 @@ fn parting_without_mark(left: &[u8], right: &[u8], len: usize) -> Parting
 
 /// The tokens of a version from a mark on. They do not depend on the token before the mark.
 pub fn tokens_from_mark(text: &[u8], at: usize) -> Tokens<'_>
+    // The offset is within the text.
     requires { at ≤ length text.now }
     ensures { tokens_left result
-        ≡ tokens_after_class (Some Component) 0 (drop at text.now) }
+        ≡ tokens_after_class_skipping_bytes (Some Component) 0 (drop at text.now) }
 {
     Tokens::behind(Class::Component, behind(text, at))
 }

@@ -76,9 +76,13 @@ impl<'a> OverlappingVersions<'a> {
     /// passed it takes one leap per 256 bytes. The first call allocates memory, an eighth of the
     /// size of the bytes.
     pub fn is_version(&mut self, from: usize, end: usize) -> Result<bool, AllocError>
+        // The range does not end before it begins.
         requires order { from ≤ end }
+        // The end is within the bytes.
         requires within { end ≤ length self.old }
+        // On Ok, the result says whether the range is a version.
         ensures value { IfOk result (λ is. is ≡ is_version (slice_range self.old from end)) }
+        // The bytes that are read are unchanged.
         ensures bytes { self.new ≡ self.old }
     {
         self.make_leaps()?;
@@ -90,9 +94,13 @@ impl<'a> OverlappingVersions<'a> {
 
     /// Whether the bytes between a place and an end may be the rest of a version.
     fn is_passed(&mut self, first: Place, end: usize) -> bool
+        // The first place is not after the end.
         requires order { first.at ≤ end }
+        // The end is within the bytes.
         requires within { end ≤ length self.old }
+        // The result says whether the rest up to the end can follow the place in a version.
         ensures value { result ≡ can_rest_follow_place self.old first end }
+        // The bytes that are read are unchanged.
         ensures bytes { self.new ≡ self.old }
     {
         let mut begun = first;
@@ -110,9 +118,13 @@ impl<'a> OverlappingVersions<'a> {
     /// The next place of a version after a place before its end: as far as an earlier version
     /// leads, or else after one token. None if no token of a version follows.
     fn next_place(&self, place: Place, end: usize) -> Option<Place>
+        // Bytes are left between the place and the end.
         requires order { place.at < end }
+        // The end is within the bytes.
         requires within { end ≤ length self.now }
+        // A place that is returned is one to which the first place leads.
         ensures some { IfSome result (IsNextPlace self.now end place) }
+        // Without a place, the rest up to the end cannot follow in a version.
         ensures none { IfNone result (can_rest_follow_place self.now place end ≡ false) }
     {
         match self.leap(place, end) {
@@ -143,6 +155,7 @@ impl<'a> OverlappingVersions<'a> {
     fn pass(&mut self, begun: Place, place: Place) -> Place
         requires { IsSafeSkip self.old begun place }
         ensures leads { IsSafeSkip self.old result place }
+        // The bytes that are read are unchanged.
         ensures bytes { self.new ≡ self.old }
     {
         if place.at / BYTES_PER_LEAP == begun.at / BYTES_PER_LEAP {
@@ -154,6 +167,7 @@ impl<'a> OverlappingVersions<'a> {
 
     /// Records a leap, in place of any other over the same block.
     fn remember(&mut self, from: Place, to: Place)
+        // The leap is safe: a version that is at its first place can go on at its second.
         requires { IsSafeSkip self.old from to }
         ensures { self.new ≡ self.old }
     {
@@ -186,11 +200,15 @@ impl<'a> OverlappingVersions<'a> {
 /// The place after the first token of a version between two offsets; None if no version begins
 /// there.
 fn first_place(bytes: &[u8], from: usize, end: usize) -> Option<Place>
+    // The range does not end before it begins.
     requires order { from ≤ end }
+    // The end is within the bytes.
     requires within { end ≤ length bytes.now }
+    // If a place is returned, the range is a version exactly if its rest can follow the place.
     ensures some { IfSome result (λ place. (place.at ≤ end)
         × (is_version (slice_range bytes.now from end)
         ≡ can_rest_follow_place bytes.now place end)) }
+    // Without a place, the range is no version.
     ensures none { IfNone result (is_version (slice_range bytes.now from end) ≡ false) }
 {
     let (class, len) = first_token(None, &bytes[from..end]);
@@ -205,9 +223,13 @@ fn first_place(bytes: &[u8], from: usize, end: usize) -> Option<Place>
 
 /// The place after the next token, or after some more digits of a hash, at most a block of them.
 fn place_after_lexeme(bytes: &[u8], place: Place, end: usize) -> Option<Place>
+    // Bytes are left between the place and the end.
     requires order { place.at < end }
+    // The end is within the bytes.
     requires within { end ≤ length bytes.now }
+    // A place that is returned is one to which the first place leads.
     ensures some { IfSome result (IsNextPlace bytes.now end place) }
+    // Without a place, the rest up to the end cannot follow in a version.
     ensures none { IfNone result (can_rest_follow_place bytes.now place end ≡ false) }
 {
     let len = (end - place.at).min(BYTES_PER_LEAP);
@@ -233,10 +255,15 @@ fn unread_digits(class: Class, text: &[u8]) -> usize
 
 /// The place after the next token, if no digit of a hash is left before it.
 fn place_after_token(bytes: &[u8], place: Place, end: usize) -> Option<Place>
+    // Bytes are left between the place and the end.
     requires order { place.at < end }
+    // The end is within the bytes.
     requires within { end ≤ length bytes.now }
+    // No digit of a hash is left before the next token.
     requires none { unread_len (Some place.class) (slice_range bytes.now place.at end) ≡ 0 }
+    // A place that is returned is one to which the first place leads.
     ensures some { IfSome result (IsNextPlace bytes.now end place) }
+    // Without a place, the rest up to the end cannot follow in a version.
     ensures none { IfNone result (can_rest_follow_place bytes.now place end ≡ false) }
 {
     let (class, len) = first_token(Some(place.class), &bytes[place.at..end]);

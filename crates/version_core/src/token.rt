@@ -4,7 +4,7 @@
 
 ghost use Rattle.std.specs.Prelude.{◌≡◌, ◌<◌, Some, false, [], ◌∷◌, drop, if◌then◌else◌};
 ghost use Rattle.version_core.specs.Token.{is_before_hash, is_before_revision, is_component, is_suffix};
-ghost use Rattle.version_core.specs.Order.{class_rank, is_last_token_class, token_cmp, tokens, tokens_after_class};
+ghost use Rattle.version_core.specs.Order.{class_rank, is_last_token_class, token_cmp, tokens, tokens_after_class_skipping_bytes};
 ghost use Rattle.version_core.specs.Matching.{fits};
 ghost use Rattle.version_core.specs.Reading.{bytes_left, token_view, tokens_left, unread_len};
 
@@ -147,7 +147,7 @@ impl<'a> Tokens<'a> {
     /// The tokens of the text after a token of some class, or between the digits of a hash.
     pub fn behind(class: Class, rest: &'a [u8]) -> Tokens<'a>
         ensures { tokens_left result
-            ≡ tokens_after_class (Some class) (unread_len
+            ≡ tokens_after_class_skipping_bytes (Some class) (unread_len
             (Some class) rest.entry.now) rest.entry.now }
     {
         Tokens {
@@ -159,9 +159,11 @@ impl<'a> Tokens<'a> {
     /// Takes the next token. No token may be taken after the last one, which is the end or a stray
     /// one.
     pub fn next(&mut self) -> TokenAt<'a>
+        // The tokens that were left are the result and those that are left now.
         ensures tokens { tokens_left self.old
             ≡ token_view result ∷
             (if is_last_token_class result.class then [] else tokens_left self.new) }
+        // Fewer bytes are left than before, so that a loop ends.
         ensures shorter { is_last_token_class result.class ≡ false
             → bytes_left self.new < bytes_left self.old }
     {

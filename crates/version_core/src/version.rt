@@ -95,6 +95,7 @@ impl<'a> Version<'a> {
     /// The version that the text denotes. None if and only if the text is not a version.
     pub fn read(text: &'a [u8]) -> Option<Version<'a>>
         ensures when { is_some result ≡ is_version text.entry.now }
+        // A version that is returned is the given text.
         ensures value { IfSome result (λ version. version ≡ text.entry.now) }
     {
         if is_version(text) {
@@ -106,6 +107,7 @@ impl<'a> Version<'a> {
 
     /// The version of a text that is known to be one; the text is not read again.
     pub fn of(text: &'a [u8]) -> Version<'a>
+        // The text is a valid version.
         requires { IsTrue (is_version text.now) }
         ensures { result ≡ text.entry.now }
     {

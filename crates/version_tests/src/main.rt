@@ -14,28 +14,29 @@ use std::process::ExitCode;
 use versions::{add_operators, match_of, order_of, reads_as_itself};
 use worlds::{add_dependency, add_edits, add_meeting, add_repositories, add_world, is_name};
 
-/// The kinds of questions; the README of this crate has their answers.
+/// The kinds of questions, with what is answered; the README of this crate says more.
 #[derive(Clone, Copy)]
 enum Question {
-    /// `version TEXT`.
+    /// `version TEXT`: whether the text is a version.
     Version,
-    /// `order VERSION VERSION`.
+    /// `order VERSION VERSION`: which of the two versions is less.
     Order,
-    /// `match VERSION BITS WANTED`.
+    /// `match VERSION BITS WANTED`: whether the version matches WANTED with the operator of these
+    /// bits.
     Match,
-    /// `operators`.
+    /// `operators`: the match bits of all operators.
     Operators,
-    /// `dependency TEXT`, `value NAME VERSION MATCH`.
+    /// `dependency TEXT`, `value NAME VERSION MATCH`: the text of the dependency.
     Dependency,
-    /// `meets DEPENDENCY NAME VERSION`.
+    /// `meets DEPENDENCY NAME VERSION`: whether this package meets the dependency.
     Meets,
-    /// `name TEXT`, `package TEXT`.
+    /// `name TEXT`, `package TEXT`: whether the text may name a dependency, or a package.
     Name,
-    /// `world TEXT`.
+    /// `world TEXT`: the text of world as it is written, or its first bad line.
     World,
-    /// `edits WORLD EDIT ..`.
+    /// `edits WORLD EDIT ..`: the results of edits of world.
     Edits,
-    /// `repositories TEXT`.
+    /// `repositories TEXT`: the tags and paths of a list of repositories, or its first bad line.
     Repositories,
 }
 
@@ -56,7 +57,7 @@ const QUESTIONS: [(&[u8], Question); 12] = [
     (b"repositories", Question::Repositories),
 ];
 
-/// The results of the two crates.
+/// The two crates that the questions are about. Nothing is kept from one row to the next.
 #[derive(Drop)]
 struct LowCrates;
 
@@ -86,7 +87,7 @@ impl Subject for LowCrates {
     }
 }
 
-// Answers the rows of standard input.
+// Runs the rows of standard input, and returns the exit status.
 fn main(rt: HostRuntime) -> io::Result<ExitCode> {
     run_program(&rt, rt.alloc(), &mut LowCrates)
 }

@@ -1,12 +1,12 @@
-//! Versions: which texts are versions, their order, the matches of an operator, and the operators.
-//! The rules are in `docs/formats.md`, "Versions".
+//! Answers questions about versions: which texts are versions, their order, and what operators
+//! match. The rules are in `docs/formats.md`, "Versions".
 use base_core::Words;
 use row_lines::{add_number, add_word, number_of, word_at};
 use std::alloc::{AllocError, Global};
 use std::cmp::Ordering;
 use version_core::{Op, Version};
 
-/// Whether a text is a version whose text is the same.
+/// Answers `version TEXT`: whether the text is a version, and the text of this version is the same.
 pub(crate) fn reads_as_itself(text: &[u8]) -> bool {
     match Version::read(text) {
         Some(version) => version.text() == text,
@@ -14,8 +14,8 @@ pub(crate) fn reads_as_itself(text: &[u8]) -> bool {
     }
 }
 
-/// The sign between the two versions of `order A B`; another text if comparing them the other way
-/// round disagrees.
+/// Answers `order A B`: the sign between the two versions, or `no order` if the comparison of B
+/// with A does not give the reverse.
 pub(crate) fn order_of(words: &Words) -> &'static [u8] {
     let (Some(left), Some(right)) = (
         Version::read(word_at(words, 1)),
@@ -34,7 +34,8 @@ pub(crate) fn order_of(words: &Words) -> &'static [u8] {
     }
 }
 
-/// Whether the version A of `match A BITS B` matches B with the operator of these bits.
+/// Answers `match A BITS B`: whether the version A matches the version B with the operator of these
+/// match bits.
 pub(crate) fn match_of(words: &Words) -> &'static [u8] {
     let (Some(found), Some(op), Some(wanted)) = (
         Version::read(word_at(words, 1)),
@@ -50,13 +51,13 @@ pub(crate) fn match_of(words: &Words) -> &'static [u8] {
     }
 }
 
-// The operator with these match bits, as a decimal number.
+// The operator whose match bits are this number, given in digits.
 fn operator_of(bits: &[u8]) -> Option<Op> {
     let bits = u8::try_from(number_of(bits)?).ok()?;
     Op::of(bits)
 }
 
-/// Adds the match bits that are an operator, of all numbers from 0 to 255.
+/// Answers `operators`: the numbers from 0 to 255 that are the match bits of an operator.
 pub(crate) fn add_operators(alloc: Global, answer: &mut Vec<u8>) -> Result<(), AllocError> {
     for bits in 0..=u8::MAX {
         if Op::of(bits).map(|op| op.bits()) == Some(bits) {

@@ -1,6 +1,6 @@
-//! Dependencies, worlds and lists of repositories: texts that are read and written, what meets a
-//! dependency, first bad lines, and edits. The rules are in `docs/formats.md`, "Dependencies",
-//! "World" and "Repositories".
+//! Answers questions about dependencies, worlds and lists of repositories: how texts are read and
+//! written, what meets a dependency, which line is the first bad one, and edits of world. The rules
+//! are in `docs/formats.md`, "Dependencies", "World" and "Repositories".
 
 use base_core::Words;
 use dep_core::{
@@ -11,7 +11,8 @@ use row_lines::{add_number, add_word, add_yes_or_no, number_of, word_at};
 use std::alloc::{AllocError, Global};
 use version_core::Version;
 
-/// Adds the text that a world is written as, or its first bad line.
+/// Answers `world TEXT`: the text of world after it was read and written again, or its first bad
+/// line.
 pub(crate) fn add_world(
     alloc: Global,
     text: &[u8],
@@ -24,15 +25,13 @@ pub(crate) fn add_world(
     }
 }
 
-// Adds the number of the first bad line.
+// Adds to the answer the number of the first bad line.
 fn add_bad_line(alloc: Global, line: u64, answer: &mut Vec<u8>) -> Result<(), AllocError> {
     answer.extend_from_slice(b"line ")?;
     add_number(alloc, answer, u128::from(line))
 }
 
-/// Makes the edits of `edits WORLD EDIT..`, and adds the result of each: `+D` adds a dependency,
-/// `-N` removes the one of this name, `#` counts, `?I` is the one at this index, and `=` is the
-/// text.
+/// Answers `edits WORLD EDIT ..`: makes the edits, and adds the result of each (`add_edit`).
 pub(crate) fn add_edits(
     alloc: Global,
     words: &Words,
@@ -47,8 +46,9 @@ pub(crate) fn add_edits(
     Ok(())
 }
 
-// Makes one edit of world, or adds the answer to a question: `+TEXT` adds, `-NAME` removes, `#`
-// counts, `?INDEX` shows an entry, and `=` the text.
+// Makes one edit of world, or adds to the answer what an edit asks for. `+TEXT` adds a dependency,
+// `-NAME` removes the entry of this name, and the answer is whether there was one. `#` asks for the
+// number of entries, `?INDEX` for an entry, and `=` for the text of world.
 fn add_edit(
     alloc: Global,
     world: &mut World,
@@ -67,7 +67,7 @@ fn add_edit(
     }
 }
 
-// Adds a dependency to world; a text that is no dependency changes nothing.
+// Adds the dependency of a text to world. A text that is no dependency changes nothing.
 fn add_to(world: &mut World, text: &[u8]) -> Result<(), AllocError> {
     match read_dep(text) {
         Some(dep) => world.add(&dep),
@@ -75,13 +75,13 @@ fn add_to(world: &mut World, text: &[u8]) -> Result<(), AllocError> {
     }
 }
 
-// Adds whether there was an entry to remove.
+// Adds to the answer whether there was an entry to remove.
 fn add_removal(was_there: bool, answer: &mut Vec<u8>) -> Result<(), AllocError> {
     add_word(answer, b"")?;
     add_yes_or_no(answer, was_there)
 }
 
-// Adds the entry at a place, counted from 0.
+// Adds to the answer the entry of world with this index, counted from 0, or `none`.
 fn add_entry(
     alloc: Global,
     world: &World,
@@ -98,7 +98,8 @@ fn add_entry(
     }
 }
 
-/// Adds the tags and paths of a list of repositories, or its first bad line.
+/// Answers `repositories TEXT`: the tags and paths of a list of repositories, or its first bad
+/// line.
 pub(crate) fn add_repositories(
     alloc: Global,
     text: &[u8],
@@ -117,7 +118,7 @@ pub(crate) fn add_repositories(
     Ok(())
 }
 
-/// Adds the text of the dependency of `dependency TEXT` or `value NAME VERSION MATCH`.
+/// Answers `dependency TEXT` and `value NAME VERSION MATCH`: the text of the dependency, or `none`.
 pub(crate) fn add_dependency(
     alloc: Global,
     words: &Words,
@@ -129,7 +130,8 @@ pub(crate) fn add_dependency(
     }
 }
 
-// The dependency of a row: of its text, or of the values of a package's field.
+// The dependency of a question: read from a text, or made of the three values that a field of a
+// package has.
 fn dependency_of(words: &Words) -> Option<Dep<'_>> {
     if word_at(words, 0) == b"dependency".as_slice() {
         return read_dep(word_at(words, 1));
@@ -138,8 +140,8 @@ fn dependency_of(words: &Words) -> Option<Dep<'_>> {
     dep_of(word_at(words, 1), word_at(words, 2), matching)
 }
 
-/// Adds whether a package of the name and the version of `meets DEPENDENCY NAME VERSION` meets that
-/// dependency.
+/// Answers `meets DEPENDENCY NAME VERSION`: whether a package with this name and this version meets
+/// the dependency.
 pub(crate) fn add_meeting(words: &Words, answer: &mut Vec<u8>) -> Result<(), AllocError> {
     let version = Version::read(word_at(words, 3));
     match read_dep(word_at(words, 1)) {
@@ -148,8 +150,8 @@ pub(crate) fn add_meeting(words: &Words, answer: &mut Vec<u8>) -> Result<(), All
     }
 }
 
-/// Whether the text of `name TEXT` is the name of a dependency, and that of `package TEXT` the name
-/// of a package.
+/// Answers `name TEXT` and `package TEXT`: whether the text can be the name of a dependency, or the
+/// name of a package.
 pub(crate) fn is_name(words: &Words) -> bool {
     if word_at(words, 0) == b"package".as_slice() {
         return is_package_name(word_at(words, 1));

@@ -16,7 +16,7 @@ use Rattle.words_core.specs.declared.options.Meaning.TheVariants.{Flag as Plain}
 use Rattle.words_core.specs.declared.reading.AppletSite.{AppletSite}
 use Rattle.words_core.specs.declared.reading.OptionState.{OptionState}
 use Rattle.words_core.specs.declared.reading.Start.{Start}
-use Rattle.words_core.specs.Grammar.{applet_site, spelled_command_from_start, spelled_command, command_from_reading_parts, early_flags, option_state_at_start, is_double_dash, is_option, start_of_command_line, operands_of, option_reading, reading_after_applet, words_reading_from_parts, applet_site_of_word, site_after_end, applet_site_from_parts, start_from_parts, start_after_site, start_with_early_flags, command_of_reading, flags_with_meaning, flags_with_option_word, flags_with_option}
+use Rattle.words_core.specs.Grammar.{applet_site, spelled_command_from_start, spelled_command, command_from_reading_parts, flags_with_early_options, option_state_at_start, is_double_dash, is_option, start_of_command_line, operands_of, option_reading, reading_after_applet, words_reading_from_parts, applet_site_of_word, applet_site_after_double_dash, applet_site_from_parts, start_from_parts, start_after_site, start_with_early_flags, command_of_reading, flags_with_meaning, flags_with_option_word, flags_with_option}
 use Rattle.words_core.specs.Kinds.{can_info_kind_follow}
 use Rattle.words_core.specs.Options.{OptionSpec, applets, common_options, early_option_words, is_early_option_word, option_of_word, options_of}
 use Rattle.words_core.specs.Stuck.{is_stuck_by, are_options_of}
@@ -73,7 +73,7 @@ same_option flags more (Some o) (Some v) s h = same_flags flags more o.meaning v
 
 -- options before the applet that are an applet's are those of `add` too
 abbrev IsSuited : Applet → Flags → ℕ → List (List ℕ) → Type 0
-IsSuited applet flags place words = (more : Flags) × (early_flags (options_of applet) flags place words ≡ Ok more)
+IsSuited applet flags place words = (more : Flags) × (flags_with_early_options (options_of applet) flags place words ≡ Ok more)
 
 suited : (applet : Applet) (flags : Flags) (place : ℕ) (words : List (List ℕ)) → list_all (is_as_add applet) early_option_words ≡ true → applet_site place words ≡ Err (place + length words) → IsSuited applet flags place words → IsSuited Add flags place words
 suited applet flags place [] each s f = (flags, refl)
@@ -100,7 +100,7 @@ any_suits : (words : List (List ℕ)) (xs : List Applet) → list_all (λ applet
 any_suits words [] each s h = absurd (false≢true h)
 any_suits words (x ∷ xs) each s h =
     let parts = and_parts (list_all (is_as_add x) early_option_words) (list_all (λ applet. list_all (is_as_add applet) early_option_words) xs) each in
-    elim (early_flags (options_of x) no_flags 1 words) as (λ r. early_flags (options_of x) no_flags 1 words ≡ r → (is_ok r || list_any (are_options_of words) xs) ≡ true → IsSuited Add no_flags 1 words) [
+    elim (flags_with_early_options (options_of x) no_flags 1 words) as (λ r. flags_with_early_options (options_of x) no_flags 1 words ≡ r → (is_ok r || list_any (are_options_of words) xs) ≡ true → IsSuited Add no_flags 1 words) [
       | Ok more ↦ λ f h. suited x no_flags 1 words parts.0 s (more, f)
       | Err at ↦ λ f h. any_suits words xs parts.1 s h
     ] refl h
@@ -108,9 +108,9 @@ any_suits words (x ∷ xs) each s h =
 -- they are those of `add`, or of `del`
 one_suits : (words : List (List ℕ)) → applet_site 1 words ≡ Err (1 + length words) → list_any (are_options_of words) applets ≡ true → IsSuited Add no_flags 1 words ⊎ IsSuited Del no_flags 1 words
 one_suits words s h =
-    elim (early_flags (options_of Add) no_flags 1 words) as (λ r. early_flags (options_of Add) no_flags 1 words ≡ r → (is_ok r || (are_options_of words Del || list_any (are_options_of words) other_applets)) ≡ true → IsSuited Add no_flags 1 words ⊎ IsSuited Del no_flags 1 words) [
+    elim (flags_with_early_options (options_of Add) no_flags 1 words) as (λ r. flags_with_early_options (options_of Add) no_flags 1 words ≡ r → (is_ok r || (are_options_of words Del || list_any (are_options_of words) other_applets)) ≡ true → IsSuited Add no_flags 1 words ⊎ IsSuited Del no_flags 1 words) [
       | Ok more ↦ λ f h. inl (more, f)
-      | Err at ↦ λ f h. elim (early_flags (options_of Del) no_flags 1 words) as (λ r. early_flags (options_of Del) no_flags 1 words ≡ r → (is_ok r || list_any (are_options_of words) other_applets) ≡ true → IsSuited Add no_flags 1 words ⊎ IsSuited Del no_flags 1 words) [
+      | Err at ↦ λ f h. elim (flags_with_early_options (options_of Del) no_flags 1 words) as (λ r. flags_with_early_options (options_of Del) no_flags 1 words ≡ r → (is_ok r || list_any (are_options_of words) other_applets) ≡ true → IsSuited Add no_flags 1 words ⊎ IsSuited Del no_flags 1 words) [
         | Ok more ↦ λ g h. inr (more, g)
         | Err at ↦ λ g h. inl (any_suits words other_applets today s h)
       ] refl h
@@ -126,7 +126,7 @@ one_good state place end = judged_good Del (words_reading_from_parts state (oper
 
 module _ (applet : Applet) (named : List ℕ) (operands : List (List ℕ))
     (here : (place : ℕ) → applet_site place (named ∷ operands) ≡ Ok (applet_site_from_parts false place applet))
-    (after_end : (place : ℕ) → site_after_end place (named ∷ operands) ≡ Ok (applet_site_from_parts true place applet))
+    (after_end : (place : ℕ) → applet_site_after_double_dash place (named ∷ operands) ≡ Ok (applet_site_from_parts true place applet))
     (texts : AreTexts operands) (good : (state : OptionState) (place : ℕ) → IsJudgedGood applet (words_reading_from_parts state (operands_of place operands) None)) where
   abbrev more : List (List ℕ)
   more = named ∷ operands
@@ -135,8 +135,8 @@ module _ (applet : Applet) (named : List ℕ) (operands : List (List ℕ))
   abbrev IsSought : ℕ → List (List ℕ) → Type 0
   IsSought place words = (ended : Bool) × (applet_site place (words ++ more) ≡ Ok (applet_site_from_parts ended (place + length words) applet))
 
-  end_sought : (place : ℕ) (word : List ℕ) (words : List (List ℕ)) → is_double_dash word ≡ true → site_after_end (place + 1) words ≡ Err (place + length (word ∷ words)) → IsSought place (word ∷ words)
-  unfolding site_after_end applet_site_of_word
+  end_sought : (place : ℕ) (word : List ℕ) (words : List (List ℕ)) → is_double_dash word ≡ true → applet_site_after_double_dash (place + 1) words ≡ Err (place + length (word ∷ words)) → IsSought place (word ∷ words)
+  unfolding applet_site_after_double_dash applet_site_of_word
   end_sought place word [] e h = (true, seek_end place word more e ∙ after_end (place + 1))
   end_sought place word (next ∷ words) e h = absurd (let same : place + length (word ∷ (next ∷ words)) ≡ place + 1 = err_here (place + 1) (place + length (word ∷ (next ∷ words))) true next h in omega arith)
 
@@ -178,9 +178,9 @@ module _ (applet : Applet) (named : List ℕ) (operands : List (List ℕ))
       let start : Start = start_from_parts site flags.0 in
       let reading = words_reading_from_parts (option_state_at_start flags.0) (operands_of (1 + length words + 1) operands) None in
       let before : 1 + length words - 1 ≡ length words = omega arith in
-      let early : early_flags (options_of applet) no_flags 1 (take (1 + length words - 1) (words ++ more)) ≡ Ok flags.0 =
-      ap (λ n. early_flags (options_of applet) no_flags 1 (take n (words ++ more))) before
-      ∙ (ap (early_flags (options_of applet) no_flags 1) (take_stays (length words) words more (omega arith) ∙ take_all words) ∙ flags.1) in
+      let early : flags_with_early_options (options_of applet) no_flags 1 (take (1 + length words - 1) (words ++ more)) ≡ Ok flags.0 =
+      ap (λ n. flags_with_early_options (options_of applet) no_flags 1 (take n (words ++ more))) before
+      ∙ (ap (flags_with_early_options (options_of applet) no_flags 1) (take_stays (length words) words more (omega arith) ∙ take_all words) ∙ flags.1) in
       let is : start_of_command_line (words ++ more) ≡ Ok start = ap (start_after_site (words ++ more)) found.1 ∙ ap (start_with_early_flags site) early in (
         more,
         command_from_reading_parts (length (words ++ more) + 1) applet reading,
@@ -191,16 +191,16 @@ add_here : (place : ℕ) → applet_site place (codes "add" ∷ []) ≡ Ok (appl
 unfolding applet_site_of_word
 add_here place = refl
 
-add_after : (place : ℕ) → site_after_end place (codes "add" ∷ []) ≡ Ok (applet_site_from_parts true place Add)
-unfolding applet_site_of_word site_after_end
+add_after : (place : ℕ) → applet_site_after_double_dash place (codes "add" ∷ []) ≡ Ok (applet_site_from_parts true place Add)
+unfolding applet_site_of_word applet_site_after_double_dash
 add_after place = refl
 
 del_here : (place : ℕ) → applet_site place (codes "del" ∷ (codes "a" ∷ [])) ≡ Ok (applet_site_from_parts false place Del)
 unfolding applet_site_of_word
 del_here place = refl
 
-del_after : (place : ℕ) → site_after_end place (codes "del" ∷ (codes "a" ∷ [])) ≡ Ok (applet_site_from_parts true place Del)
-unfolding applet_site_of_word site_after_end
+del_after : (place : ℕ) → applet_site_after_double_dash place (codes "del" ∷ (codes "a" ∷ [])) ≡ Ok (applet_site_from_parts true place Del)
+unfolding applet_site_of_word applet_site_after_double_dash
 del_after place = refl
 
 pub applet_completed : (words : List (List ℕ)) → applet_site 1 words ≡ Err (1 + length words) → list_any (are_options_of words) applets ≡ true → CanBeCompleted words

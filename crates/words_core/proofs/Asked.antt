@@ -15,7 +15,7 @@ use Rattle.words_core.specs.declared.next.NextWord.{NextWord}
 use Rattle.words_core.specs.declared.next.NextWord.TheVariants.{OptionOrCommand, Command as CommandAlone, OptionOrOperand, Value as NextValue, Operand as OperandAlone, Nothing}
 use Rattle.words_core.specs.declared.reading.AppletSite.{AppletSite}
 use Rattle.words_core.specs.declared.reading.OptionState.{OptionState}
-use Rattle.words_core.specs.Grammar.{applet_site, attached_value, is_double_dash, is_option, is_option_or_value, next_word_after_command, next_word_after_option, next_word, next_word_after_words, operands_of, option_name, option_reading, or_err_at, or_stop_at_unread_word, words_reading_from_parts, awaited_rule, value_rule_unless_attached, applet_site_of_word, site_after_end, applet_site_from_parts, can_be_option, state_with_meaning, with_operand, with_option_or_value_word, with_word_if_awaited}
+use Rattle.words_core.specs.Grammar.{applet_site, attached_value, is_double_dash, is_option, is_option_or_value, next_word_after_command, next_word_after_option, next_word, next_word_after_words, operands_of, option_name, option_reading, or_err_at, or_stop_at_unread_word, words_reading_from_parts, awaited_rule, value_rule_unless_attached, applet_site_of_word, applet_site_after_double_dash, applet_site_from_parts, can_be_option, state_with_meaning, with_operand, with_option_or_value_word, with_word_as_option_or_value}
 use Rattle.words_core.specs.Options.{OptionSpec, applet_of, applet_of_help_or_version_option, common_options, early_option_words, is_early_option_word, option_of_word, options_of}
 use Rattle.words_core.specs.Stuck.{have_options_ended}
 use Rattle.words_core.proofs.GoneOn.{none_is, not_option}
@@ -171,8 +171,8 @@ named_site ended place word site h =
       | Some applet ↦ λ (e : Ok (applet_site_from_parts ended place applet) ≡ Ok site). (applet, refl, cc)
     ] h
 
-end_next : (place : ℕ) (word : List ℕ) (words : List (List ℕ)) (site : AppletSite) → is_double_dash word ≡ true → site_after_end (place + 1) words ≡ Ok site → IsNext place (word ∷ words) site
-unfolding site_after_end
+end_next : (place : ℕ) (word : List ℕ) (words : List (List ℕ)) (site : AppletSite) → is_double_dash word ≡ true → applet_site_after_double_dash (place + 1) words ≡ Ok site → IsNext place (word ∷ words) site
+unfolding applet_site_after_double_dash
 end_next place word [] site e h = absurd (cc)
 end_next place word (v ∷ words) site e h =
     let named = named_site true (place + 1) v site h in
@@ -236,7 +236,7 @@ next_taken applet state more place word t w = by_rule state.awaiting refl t w
     options : List OptionSpec
     options = options_of applet
 
-    by_rule : (rule : Option ValueRule) → state.awaiting ≡ rule → (is_some rule || (is_option word && not (is_double_dash word))) ≡ true → with_word_if_awaited options state place word rule ≡ Some more → next_word (next_word_after_option applet rule) word ≡ next_word_after_option applet more.awaiting
+    by_rule : (rule : Option ValueRule) → state.awaiting ≡ rule → (is_some rule || (is_option word && not (is_double_dash word))) ≡ true → with_word_as_option_or_value options state place word rule ≡ Some more → next_word (next_word_after_option applet rule) word ≡ next_word_after_option applet more.awaiting
     by_rule (Some rule) a t h = ap (next_word_after_option applet) (ap (λ (g : OptionState). g.awaiting) (value_says state more place word rule h))
     by_rule None a t h =
         let parts = and_parts (is_option word) (not (is_double_dash word)) t in
@@ -273,4 +273,4 @@ awaited_next applet state place (word ∷ words) rule a u =
 pub asks_now : (applet : Applet) (state : OptionState) (place : ℕ) (word : List ℕ) (after : List (List ℕ)) → HasNoMeaning word → state.awaiting ≡ None → option_reading (options_of applet) state place (word ∷ after) ≡ words_reading_from_parts state [] (Some place)
 asks_now applet state place word after m a =
     step_taken (options_of applet) state place word after None (option_taken state word a m.end m.option)
-    (ap (with_word_if_awaited (options_of applet) state place word) a ∙ rw (m.spelled applet) refl)
+    (ap (with_word_as_option_or_value (options_of applet) state place word) a ∙ rw (m.spelled applet) refl)

@@ -14,10 +14,10 @@ use Rattle.command_core.specs.Sound.{is_valid_command}
 use Rattle.command_core.specs.declared.operands.Operand.{Operand}
 use Rattle.command_core.specs.Operands.{operand_at}
 use Rattle.words_core.specs.declared.reading.AppletSite.{AppletSite}
-use Rattle.words_core.specs.Asked.{IsAskedBy}
+use Rattle.words_core.specs.Asked.{IsHelpOrVersionAskedBy}
 use Rattle.words_core.specs.Grammar.{applet_site, help_or_version_option_at, help_or_version_command, help_or_version_or_err, spelled_command_from_start, command_of, spelled_command, start_of_command_line, next_word_of_command_line, spelled_command_or_help_or_version, can_be_option, help_topic_operands}
 use Rattle.words_core.specs.Kinds.{can_info_kind_follow}
-use Rattle.words_core.specs.Lines.{IsLineOf}
+use Rattle.words_core.specs.Lines.{AreWordsOfCommand}
 use Rattle.words_core.specs.Options.{applet_word, applet_of_help_or_version_option}
 use Rattle.words_core.proofs.Asked.{HasNoMeaning, asking, asks_first}
 use Rattle.words_core.proofs.AskedLines.{HasAsked, IsAskedAfter, asked_after, asked_here, asked_parts}
@@ -98,13 +98,13 @@ asked_first words place applet e parts =
         absurd (let near = bad.0.2 in omega (arith, near, size, low))
     by_after size low (inr fine) at h = fine.0 at h
 
-pub asked_line : (words : List (List ℕ)) (command : CommandLine) → IsAskedAt words command → IsAskedBy words command
-asked_line words command a = subst (λ c. IsAskedBy words c) a.is here
+pub asked_line : (words : List (List ℕ)) (command : CommandLine) → IsAskedAt words command → IsHelpOrVersionAskedBy words command
+asked_line words command a = subst (λ c. IsHelpOrVersionAskedBy words c) a.is here
   where
     parts : HasAsked words a.place a.applet
     parts = asked_parts words a.place a.applet a.asked
 
-    here : IsAskedBy words (help_or_version_command words a.applet)
+    here : IsHelpOrVersionAskedBy words (help_or_version_command words a.applet)
     here = record {
       before = take (a.place - 1) words;
       word = parts.word;
@@ -116,13 +116,13 @@ asked_line words command a = subst (λ c. IsAskedBy words c) a.is here
       is = refl;
     }
 
-pub read_or_asked : (words : List (List ℕ)) (command : CommandLine) → command_of words ≡ Ok command → IsLineOf words command ⊎ IsAskedBy words command
-read_or_asked words command c = elim (line_or_asked words command c) as (λ _. IsLineOf words command ⊎ IsAskedBy words command) [
+pub read_or_asked : (words : List (List ℕ)) (command : CommandLine) → command_of words ≡ Ok command → AreWordsOfCommand words command ⊎ IsHelpOrVersionAskedBy words command
+read_or_asked words command c = elim (line_or_asked words command c) as (λ _. AreWordsOfCommand words command ⊎ IsHelpOrVersionAskedBy words command) [
   | inl e ↦ inl (read_line words command e)
   | inr a ↦ inr (asked_line words command a)
 ]
 
-pub asked_made : (words : List (List ℕ)) (command : CommandLine) → IsAskedBy words command → command_of words ≡ Ok command
+pub asked_made : (words : List (List ℕ)) (command : CommandLine) → IsHelpOrVersionAskedBy words command → command_of words ≡ Ok command
 asked_made words command a = by_after (asked_after a.before a.after a.word (asking a.word command.applet a.asks) a.option)
   where
     all : List (List ℕ)
@@ -134,7 +134,7 @@ asked_made words command a = by_after (asked_after a.before a.after a.word (aski
         asked_command_is words (length a.before + 1) command.applet (ap spelled_command a.whole ∙ fine.1) (ap (λ ws. help_or_version_option_at ws (length a.before + 1)) a.whole ∙ asked_here a.before a.after a.word command.applet a.asks a.option)
         ∙ ap Ok (sym a.is)
 
-pub made_or_asked : (words : List (List ℕ)) (command : CommandLine) → IsLineOf words command ⊎ IsAskedBy words command → command_of words ≡ Ok command
+pub made_or_asked : (words : List (List ℕ)) (command : CommandLine) → AreWordsOfCommand words command ⊎ IsHelpOrVersionAskedBy words command → command_of words ≡ Ok command
 made_or_asked words command (inl line) = line_is words command (made_line words command line)
 made_or_asked words command (inr asked) = asked_made words command asked
 

@@ -16,9 +16,9 @@ use Rattle.words_core.specs.declared.next.NextWord.TheVariants.{OptionOrCommand,
 use Rattle.words_core.specs.declared.reading.AppletSite.{AppletSite}
 use Rattle.words_core.specs.declared.reading.Reading.{Reading}
 use Rattle.words_core.specs.declared.reading.Start.{Start}
-use Rattle.words_core.specs.Grammar.{applet_site, help_or_version_option_at, help_or_version_command, spelled_command_from_start, command_of, is_double_dash, is_option, spelled_command, start_of_command_line, next_word_of_command_line, next_word_after_words, option_reading, reading_after_applet, words_reading_from_parts, refused_operand, site_after_end, start_after_site, can_be_option}
+use Rattle.words_core.specs.Grammar.{applet_site, help_or_version_option_at, help_or_version_command, spelled_command_from_start, command_of, is_double_dash, is_option, spelled_command, start_of_command_line, next_word_of_command_line, next_word_after_words, option_reading, reading_after_applet, words_reading_from_parts, place_of_refused_operand, applet_site_after_double_dash, start_after_site, can_be_option}
 use Rattle.words_core.specs.Options.{OptionSpec, applets, is_early_option_word, options_of}
-use Rattle.words_core.specs.Stuck.{are_stuck, are_stuck_by, awaits_impossible_value, have_options_ended, is_stuck_by, is_required_option_missing, are_options_of}
+use Rattle.words_core.specs.Stuck.{are_words_without_completion, are_stuck_by, awaits_impossible_value, have_options_ended, is_stuck_by, is_required_option_missing, are_options_of}
 use Rattle.words_core.proofs.AppletCompleted.{line_stuck, line_stuck_by, usage_is_first}
 use Rattle.words_core.proofs.Asked.{alone_stays, asking, next_append, next_early, next_end, operand_stays}
 use Rattle.words_core.proofs.AskedLaws.{asked_command_is, asked_made, asked_stays, line_is, offends_unasked, same_fault, unasked_is}
@@ -32,8 +32,8 @@ use Rattle.words_core.proofs.StuckWords.{awaited_whole, stuck_stay, take_more}
 
 -- ---- before the applet
 
-end_here : (place at : ℕ) (word : List ℕ) (left : List (List ℕ)) → site_after_end place (word ∷ left) ≡ Err at → at ≡ place
-unfolding site_after_end
+end_here : (place at : ℕ) (word : List ℕ) (left : List (List ℕ)) → applet_site_after_double_dash place (word ∷ left) ≡ Err at → at ≡ place
+unfolding applet_site_after_double_dash
 end_here place at word left h = err_here place at true word h
 
 -- where no applet was found, `--` says whether an option can follow
@@ -52,7 +52,7 @@ first_next place (word ∷ words) h =
       ] refl
     ] refl
   where
-    alone : (left : List (List ℕ)) → site_after_end (place + 1) left ≡ Err (place + length (word ∷ left)) → next_word_after_words CommandAlone left ≡ CommandAlone
+    alone : (left : List (List ℕ)) → applet_site_after_double_dash (place + 1) left ≡ Err (place + length (word ∷ left)) → next_word_after_words CommandAlone left ≡ CommandAlone
     alone [] e = refl
     alone (v ∷ left) e = absurd (let same : place + length (word ∷ (v ∷ left)) ≡ place + 1 = end_here (place + 1) (place + length (word ∷ (v ∷ left))) v left e in omega arith)
 
@@ -78,8 +78,8 @@ asks_help words e n = (
   }),
 )
 
-pub completed_words : (words : List (List ℕ)) (place : ℕ) → not (are_stuck (take (place - 1) words)) ≡ true → command_of words ≡ Err place → CanBeCommand (take (place - 1) words)
-unfolding are_stuck line_stuck spelled_command
+pub completed_words : (words : List (List ℕ)) (place : ℕ) → not (are_words_without_completion (take (place - 1) words)) ≡ true → command_of words ≡ Err place → CanBeCommand (take (place - 1) words)
+unfolding are_words_without_completion line_stuck spelled_command
 completed_words words place n c =
     elim (command_of before) as (λ r. command_of before ≡ r → not (not (is_ok r) && are_stuck_by before (applet_site 1 before)) ≡ true → CanBeCommand before) [
       | Ok command ↦ λ e n. ([], command, ap command_of (append-nil before) ∙ e)
@@ -170,7 +170,7 @@ module _ (words more : List (List ℕ)) (place : ℕ) (applet : Applet) (offends
   ended start s e l = false≢true (sym (ap (λ n. can_be_option (next_word_after_words n later)) (ended_next words start s e) ∙ ap can_be_option (operand_stays start.applet later)) ∙ option l)
 
   -- what was read of all words offends at the place
-  judged : (start : Start) (at : ℕ) → start_of_command_line words ≡ Ok start → option_or (refused_operand (operand_rule start.applet (reading_after_applet start (words ++ more)).state.flags) (reading_after_applet start (words ++ more)).operands) (reading_after_applet start (words ++ more)).unread ≡ Some at → at ≡ place
+  judged : (start : Start) (at : ℕ) → start_of_command_line words ≡ Ok start → option_or (place_of_refused_operand (operand_rule start.applet (reading_after_applet start (words ++ more)).state.flags) (reading_after_applet start (words ++ more)).operands) (reading_after_applet start (words ++ more)).unread ≡ Some at → at ≡ place
   unfolding spelled_command
   judged start at s first =
       let same : Err at ≡ Err place = sym (ap (spelled_command_from_start (words ++ more)) (start_stays words more start s) ∙ judged_bad start.applet (reading_after_applet start (words ++ more)) (length (words ++ more) + 1) at first) ∙ offends in cc
@@ -202,7 +202,7 @@ module _ (words more : List (List ℕ)) (place : ℕ) (applet : Applet) (offends
       near : (at : ℕ) → reading_after_applet start (words ++ more) ≡ words_reading_from_parts reading.state reading.operands (Some at) → at ≤ end → (p : ℕ) × (p ≡ place) × (p ≤ end)
       near at same h = (
         first.0,
-        judged start first.0 s (ap (λ (r : Reading). option_or (refused_operand (operand_rule start.applet r.state.flags) r.operands) r.unread) same ∙ first.1),
+        judged start first.0 s (ap (λ (r : Reading). option_or (place_of_refused_operand (operand_rule start.applet r.state.flags) r.operands) r.unread) same ∙ first.1),
         omega (arith, first.2),
       )
         where
@@ -212,13 +212,13 @@ module _ (words more : List (List ℕ)) (place : ℕ) (applet : Applet) (offends
           far : AllBetween (start.read + 1) (end + 1) reading.operands
           far = all_wider (start.read + 1) end reading.operands placed
 
-          first : (p : ℕ) × (option_or (refused_operand rule reading.operands) (Some at) ≡ Some p) × (p < end + 1)
+          first : (p : ℕ) × (option_or (place_of_refused_operand rule reading.operands) (Some at) ≡ Some p) × (p < end + 1)
           first = first_near (start.read + 1) (end + 1) rule reading.operands at far wide
 
       stopped : (at : ℕ) → reading.unread ≡ Some at → at < end → reading_after_applet start (words ++ more) ≡ reading → ⊥
       stopped at u h same =
           let first = first_near (start.read + 1) end rule reading.operands at placed h in
-          let is : first.0 ≡ place = judged start first.0 s (ap (λ (r : Reading). option_or (refused_operand (operand_rule start.applet r.state.flags) r.operands) r.unread) same ∙ (ap (option_or (refused_operand rule reading.operands)) u ∙ first.1)) in
+          let is : first.0 ≡ place = judged start first.0 s (ap (λ (r : Reading). option_or (place_of_refused_operand (operand_rule start.applet r.state.flags) r.operands) r.unread) same ∙ (ap (option_or (place_of_refused_operand rule reading.operands)) u ∙ first.1)) in
           let bound = first.2 in
           let start_low = (usage_between (words ++ more) place offends).0 in
           omega (arith, is, bound, l, start_low)
@@ -257,8 +257,8 @@ module _ (words more : List (List ℕ)) (place : ℕ) (applet : Applet) (offends
   none_asks n k (inl less) = false≢true (sym (ap (λ r. not (is_ok r)) (within less)) ∙ n)
   none_asks n k (inr more) = by_site (applet_site 1 words) refl k more
 
-pub stuck_words : (words more : List (List ℕ)) → are_stuck words ≡ true → (place : ℕ) × (command_of (words ++ more) ≡ Err place)
-unfolding are_stuck
+pub stuck_words : (words more : List (List ℕ)) → are_words_without_completion words ≡ true → (place : ℕ) × (command_of (words ++ more) ≡ Err place)
+unfolding are_words_without_completion
 stuck_words words more k =
     let both = and_parts (not (is_ok (command_of words))) (are_stuck_by words (applet_site 1 words)) k in
     let bad = stuck_stay words more both.1 in

@@ -18,7 +18,7 @@ use Rattle.words_core.specs.declared.options.Meaning.{Meaning}
 use Rattle.words_core.specs.declared.options.Meaning.TheVariants.{Flag as Plain, Kind, Value}
 use Rattle.words_core.specs.declared.reading.OptionState.{OptionState}
 use Rattle.words_core.specs.declared.reading.Start.{Start}
-use Rattle.words_core.specs.Grammar.{option_state_at_start, attached_value, is_double_dash, is_option_or_value, operands_of, option_name, option_reading, or_stop_at_unread_word, reading_after_applet, words_reading_from_parts, option_state_from_parts, with_flags_if_some, with_value_or_awaited, flags_with_meaning, state_with_meaning, with_operand, with_value_option, flags_with_option, with_option_word, with_option_value, with_option_or_value_word, with_word_if_awaited}
+use Rattle.words_core.specs.Grammar.{option_state_at_start, attached_value, is_double_dash, is_option_or_value, operands_of, option_name, option_reading, or_stop_at_unread_word, reading_after_applet, words_reading_from_parts, option_state_from_parts, with_flags_if_some, with_value_or_awaited, flags_with_meaning, state_with_meaning, with_operand, with_value_option, flags_with_option, with_option_word, with_option_value, with_option_or_value_word, with_word_as_option_or_value}
 use Rattle.words_core.specs.Options.{OptionSpec, common_options, option_of_word, options_of}
 use Rattle.words_core.specs.Steps.{IsSoundReading}
 use Rattle.words_core.proofs.KindsKept.{IsPlain, find_passes, options_kept, pass_or_none}
@@ -147,7 +147,7 @@ spelled_good applet state more place word good w =
 pub word_good : (applet : Applet) (state more : OptionState) (place : ℕ) (word : List ℕ) → IsGood applet state → with_option_or_value_word (options_of applet) state place word ≡ Some more → IsGood applet more
 word_good applet state more place word good w = by_rule state.awaiting refl w
   where
-    by_rule : (rule : Option ValueRule) → state.awaiting ≡ rule → with_word_if_awaited (options_of applet) state place word rule ≡ Some more → IsGood applet more
+    by_rule : (rule : Option ValueRule) → state.awaiting ≡ rule → with_word_as_option_or_value (options_of applet) state place word rule ≡ Some more → IsGood applet more
     by_rule None a h = spelled_good applet state more place word good h
     by_rule (Some rule) a h =
         let awaited : IsAwaited applet state.values (Some rule) = subst (λ o. IsAwaited applet state.values o) a good.awaiting in

@@ -10,7 +10,7 @@ use Rattle.command_core.specs.Operands.{operand_at}
 use Rattle.words_core.specs.declared.reading.OptionState.{OptionState}
 use Rattle.words_core.specs.declared.reading.Reading.{Reading}
 use Rattle.words_core.specs.declared.reading.Start.{Start}
-use Rattle.words_core.specs.Grammar.{option_state_at_start, attached_value, is_double_dash, is_option, is_option_or_value, operands_of, option_name, option_reading, or_stop_at_unread_word, reading_after_applet, words_reading_from_parts, awaited_rule, value_rule_unless_attached, state_with_meaning, with_operand, with_option_or_value_word, with_word_if_awaited}
+use Rattle.words_core.specs.Grammar.{option_state_at_start, attached_value, is_double_dash, is_option, is_option_or_value, operands_of, option_name, option_reading, or_stop_at_unread_word, reading_after_applet, words_reading_from_parts, awaited_rule, value_rule_unless_attached, state_with_meaning, with_operand, with_option_or_value_word, with_word_as_option_or_value}
 use Rattle.words_core.specs.Options.{OptionSpec, option_of_word, options_of}
 use Rattle.words_core.specs.Stuck.{have_options_ended}
 use Rattle.words_core.proofs.LinesRead.{Says, meaning_says, rule_at_is, value_says}
@@ -72,7 +72,7 @@ ended_after options word words e o = rw e (rw o refl)
 pub ended_taken : (options : List OptionSpec) (state more : OptionState) (place : ℕ) (word : List ℕ) (words : List (List ℕ)) → is_option_or_value state word ≡ true → with_option_or_value_word options state place word ≡ Some more → have_options_ended options state.awaiting (word ∷ words) ≡ have_options_ended options more.awaiting words
 ended_taken options state more place word words t w = by_rule state.awaiting refl t w
   where
-    by_rule : (rule : Option ValueRule) → state.awaiting ≡ rule → (is_some rule || (is_option word && not (is_double_dash word))) ≡ true → with_word_if_awaited options state place word rule ≡ Some more → have_options_ended options rule (word ∷ words) ≡ have_options_ended options more.awaiting words
+    by_rule : (rule : Option ValueRule) → state.awaiting ≡ rule → (is_some rule || (is_option word && not (is_double_dash word))) ≡ true → with_word_as_option_or_value options state place word rule ≡ Some more → have_options_ended options rule (word ∷ words) ≡ have_options_ended options more.awaiting words
     by_rule (Some rule) a t h = ap (λ o. have_options_ended options o words) (ap (λ (g : OptionState). g.awaiting) (value_says state more place word rule h))
     by_rule None a t h =
         let parts = and_parts (is_option word) (not (is_double_dash word)) t in

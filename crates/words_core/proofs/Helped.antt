@@ -3,7 +3,7 @@ use Rattle.std.proofs.Common.{List, Some, [], ap, append-nil, append_assoc, arit
 use Rattle.std.specs.List.{slice_get}
 use Rattle.command_core.specs.declared.operands.Operand.{Operand}
 use Rattle.command_core.specs.declared.command.Applet.{Applet}
-use Rattle.words_core.specs.HelpTexts.{HelpLine, command_column, command_help_line, commands_text, common_option_help, common_options_text, help_line, line_text, lines_text, listed_commands, option_column, purpose, help_topic_of, usage_line, usage_lines_with_first_prefix}
+use Rattle.words_core.specs.HelpTexts.{HelpLine, command_column, command_help_line, commands_text, common_option_help, common_options_text, help_line, help_line_text, help_lines_text, listed_commands, option_column, purpose, help_topic_of, usage_line, synopsis_text_with_first_prefix}
 use Rattle.words_core.specs.Options.{applet_of, applet_word}
 
 drop_all : {X : Type 0} (xs : List X) (i : ℕ) → length xs ≤ i → drop i xs ≡ []
@@ -24,24 +24,24 @@ pub more_text : (old text rest new : List ℕ) → new ≡ old ++ text → old +
 more_text old text rest new e = sym (append_assoc old text rest) ∙ ap (λ t. t ++ rest) (sym e)
 
 -- one more line
-pub lines_left : {X : Type 0} (column : ℕ) (f : X → HelpLine) (xs : List X) (i : ℕ) (d : X) (all text new : List ℕ) → i < length xs → new ≡ text ++ line_text column (f (get_or xs i d)) → all ≡ text ++ lines_text column (map f (drop i xs)) → all ≡ new ++ lines_text column (map f (drop (i + 1) xs))
+pub lines_left : {X : Type 0} (column : ℕ) (f : X → HelpLine) (xs : List X) (i : ℕ) (d : X) (all text new : List ℕ) → i < length xs → new ≡ text ++ help_line_text column (f (get_or xs i d)) → all ≡ text ++ help_lines_text column (map f (drop i xs)) → all ≡ new ++ help_lines_text column (map f (drop (i + 1) xs))
 lines_left column f xs i d all text new l e kept =
     kept
-    ∙ (ap (λ ys. text ++ lines_text column (map f ys)) (drop_at xs i d l)
-    ∙ more_text text (line_text column (f (get_or xs i d))) (lines_text column (map f (drop (i + 1) xs))) new e)
+    ∙ (ap (λ ys. text ++ help_lines_text column (map f ys)) (drop_at xs i d l)
+    ∙ more_text text (help_line_text column (f (get_or xs i d))) (help_lines_text column (map f (drop (i + 1) xs))) new e)
 
-pub lines_done : {X : Type 0} (column : ℕ) (f : X → HelpLine) (xs : List X) (i : ℕ) (text : List ℕ) → length xs ≤ i → text ++ lines_text column (map f (drop i xs)) ≡ text
-lines_done column f xs i text l = ap (λ ys. text ++ lines_text column (map f ys)) (drop_all xs i l) ∙ append-nil text
+pub lines_done : {X : Type 0} (column : ℕ) (f : X → HelpLine) (xs : List X) (i : ℕ) (text : List ℕ) → length xs ≤ i → text ++ help_lines_text column (map f (drop i xs)) ≡ text
+lines_done column f xs i text l = ap (λ ys. text ++ help_lines_text column (map f ys)) (drop_all xs i l) ∙ append-nil text
 
 -- one more line of usage
-pub usage_left : {X : Type 0} (f : X → List ℕ) (xs : List X) (i : ℕ) (d : X) (front all text new : List ℕ) → i < length xs → new ≡ text ++ usage_line front (f (get_or xs i d)) → all ≡ text ++ usage_lines_with_first_prefix front (map f (drop i xs)) → all ≡ new ++ usage_lines_with_first_prefix (codes "       ") (map f (drop (i + 1) xs))
+pub usage_left : {X : Type 0} (f : X → List ℕ) (xs : List X) (i : ℕ) (d : X) (front all text new : List ℕ) → i < length xs → new ≡ text ++ usage_line front (f (get_or xs i d)) → all ≡ text ++ synopsis_text_with_first_prefix front (map f (drop i xs)) → all ≡ new ++ synopsis_text_with_first_prefix (codes "       ") (map f (drop (i + 1) xs))
 usage_left f xs i d front all text new l e kept =
     kept
-    ∙ (ap (λ ys. text ++ usage_lines_with_first_prefix front (map f ys)) (drop_at xs i d l)
-    ∙ more_text text (usage_line front (f (get_or xs i d))) (usage_lines_with_first_prefix (codes "       ") (map f (drop (i + 1) xs))) new e)
+    ∙ (ap (λ ys. text ++ synopsis_text_with_first_prefix front (map f ys)) (drop_at xs i d l)
+    ∙ more_text text (usage_line front (f (get_or xs i d))) (synopsis_text_with_first_prefix (codes "       ") (map f (drop (i + 1) xs))) new e)
 
-pub usage_done : {X : Type 0} (f : X → List ℕ) (xs : List X) (i : ℕ) (front text : List ℕ) → length xs ≤ i → text ++ usage_lines_with_first_prefix front (map f (drop i xs)) ≡ text
-usage_done f xs i front text l = ap (λ ys. text ++ usage_lines_with_first_prefix front (map f ys)) (drop_all xs i l) ∙ append-nil text
+pub usage_done : {X : Type 0} (f : X → List ℕ) (xs : List X) (i : ℕ) (front text : List ℕ) → length xs ≤ i → text ++ synopsis_text_with_first_prefix front (map f (drop i xs)) ≡ text
+usage_done f xs i front text l = ap (λ ys. text ++ synopsis_text_with_first_prefix front (map f ys)) (drop_all xs i l) ∙ append-nil text
 
 -- the operand that is asked about
 pub topic_first : (operands : List Operand) (operand : Operand) → slice_get operands 0 ≡ Some operand → applet_of operand.text ≡ help_topic_of operands
@@ -50,18 +50,18 @@ topic_first (o ∷ operands) operand h = (let same : o ≡ operand = cc in ap (�
 
 -- ---- the parts of a help
 
-pub command_pushed : (column : ℕ) (text new word does : List ℕ) (applet : Applet) → new ≡ text ++ line_text column (help_line word does) → word ≡ applet_word applet → does ≡ purpose applet → new ≡ text ++ line_text column (command_help_line applet)
+pub command_pushed : (column : ℕ) (text new word does : List ℕ) (applet : Applet) → new ≡ text ++ help_line_text column (help_line word does) → word ≡ applet_word applet → does ≡ purpose applet → new ≡ text ++ help_line_text column (command_help_line applet)
 command_pushed column text new word does applet e w p =
-    e ∙ (ap (λ x. text ++ line_text column (help_line x does)) w ∙ ap (λ x. text ++ line_text column (help_line (applet_word applet) x)) p)
+    e ∙ (ap (λ x. text ++ help_line_text column (help_line x does)) w ∙ ap (λ x. text ++ help_line_text column (help_line (applet_word applet) x)) p)
 
-pub commands_are : (old one new : List ℕ) → one ≡ old ++ codes "\nCommands:\n" → new ≡ one ++ lines_text command_column (map command_help_line listed_commands) → new ≡ old ++ commands_text
+pub commands_are : (old one new : List ℕ) → one ≡ old ++ codes "\nCommands:\n" → new ≡ one ++ help_lines_text command_column (map command_help_line listed_commands) → new ≡ old ++ commands_text
 unfolding commands_text
-commands_are old one new a b = b ∙ sym (more_text old (codes "\nCommands:\n") (lines_text command_column (map command_help_line listed_commands)) one a)
+commands_are old one new a b = b ∙ sym (more_text old (codes "\nCommands:\n") (help_lines_text command_column (map command_help_line listed_commands)) one a)
 
-pub common_is : (old one new : List ℕ) (lines : List HelpLine) → one ≡ old ++ codes "\nOptions of every command:\n" → new ≡ one ++ lines_text option_column lines → lines ≡ common_option_help → new ≡ old ++ common_options_text
+pub common_is : (old one new : List ℕ) (lines : List HelpLine) → one ≡ old ++ codes "\nOptions of every command:\n" → new ≡ one ++ help_lines_text option_column lines → lines ≡ common_option_help → new ≡ old ++ common_options_text
 unfolding common_options_text
 common_is old one new lines a b r =
-    b ∙ (ap (λ x. one ++ lines_text option_column x) r ∙ sym (more_text old (codes "\nOptions of every command:\n") (lines_text option_column common_option_help) one a))
+    b ∙ (ap (λ x. one ++ help_lines_text option_column x) r ∙ sym (more_text old (codes "\nOptions of every command:\n") (help_lines_text option_column common_option_help) one a))
 
 -- a text behind others
 pub then_text : (old text more one new : List ℕ) → one ≡ old ++ text → new ≡ one ++ more → new ≡ old ++ (text ++ more)

@@ -19,7 +19,7 @@ use Rattle.command_core.specs.Flags.{has_command_kind_flag, with_flag}
 use Rattle.command_core.specs.Operands.{at_least, exactly, first_refused_operand, is_operand_of_kind}
 use Rattle.words_core.specs.declared.reading.Reading.{Reading}
 use Rattle.words_core.specs.declared.reading.Start.{Start}
-use Rattle.words_core.specs.Grammar.{spelled_command_from_start, spelled_command, command_from_reading_parts, attached_value, start_of_command_line, option_name, option_reading, reading_after_applet, words_reading_from_parts, refused_operand, option_state_from_parts, command_of_reading}
+use Rattle.words_core.specs.Grammar.{spelled_command_from_start, spelled_command, command_from_reading_parts, attached_value, start_of_command_line, option_name, option_reading, reading_after_applet, words_reading_from_parts, place_of_refused_operand, option_state_from_parts, command_of_reading}
 use Rattle.words_core.specs.Kinds.{can_info_kind_follow, can_info_kind_follow_if_started, can_started_words_get_info_kind, is_info_applet}
 use Rattle.words_core.specs.Options.{common_options, options_of}
 use Rattle.words_core.specs.Stuck.{have_options_ended}
@@ -149,7 +149,7 @@ module _ (words rest : List (List ℕ)) (start : Start) (at place : ℕ) (known 
 
   refused : first_refused_operand (at_least 0 PackageName) 0 reading.operands ≡ Some at
   refused =
-      let judged : IsJudgedAt end (option_or (refused_operand (operand_rule Info reading.state.flags) reading.operands) reading.unread) at = judged_at Info reading end at (ap (λ (a : Applet). command_of_reading end a reading) (sym is) ∙ bad) in
+      let judged : IsJudgedAt end (option_or (place_of_refused_operand (operand_rule Info reading.state.flags) reading.operands) reading.unread) at = judged_at Info reading end at (ap (λ (a : Applet). command_of_reading end a reading) (sym is) ∙ bad) in
       elim judged as (λ _. first_refused_operand (at_least 0 PackageName) 0 reading.operands ≡ Some at) [
         | inl first ↦ by_first (first_refused_operand (at_least 0 PackageName) 0 reading.operands) (ap (λ o. option_or (first_refused_operand (at_least 0 PackageName) 0 reading.operands) o) (sym unread) ∙ (ap (λ (r : OperandRule). option_or (first_refused_operand r 0 reading.operands) reading.unread) (sym rule_is) ∙ first))
         | inr none ↦ absurd (omega (arith, none.1))
@@ -166,7 +166,7 @@ module _ (words rest : List (List ℕ)) (start : Start) (at place : ℕ) (known 
     path : first_refused_operand (exactly 1 Path) 0 reading.operands ≡ None
     path =
         let last : ℕ = length (words ++ rest) + 1 in
-        let judged : IsJudgedAt last (option_or (refused_operand (operand_rule Info longer.state.flags) longer.operands) longer.unread) place = judged_at Info longer last place (ap (λ (a : Applet). command_of_reading last a longer) (sym is) ∙ (ap (command_of_reading last start.applet) (sym (goes_on rest)) ∙ later)) in
+        let judged : IsJudgedAt last (option_or (place_of_refused_operand (operand_rule Info longer.state.flags) longer.operands) longer.unread) place = judged_at Info longer last place (ap (λ (a : Applet). command_of_reading last a longer) (sym is) ∙ (ap (command_of_reading last start.applet) (sym (goes_on rest)) ∙ later)) in
         path_of longer.state.flags reading.operands at refused
         (none_before (info_operand_rule longer.state.flags) (start.read + 1) end last place reading.operands (option_reading (options_of start.applet) reading.state end rest).operands longer.unread (from_placed start words low).operands far (omega (arith, all)) judged)
 

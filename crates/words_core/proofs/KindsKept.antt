@@ -18,7 +18,7 @@ use Rattle.words_core.specs.declared.options.Meaning.{Meaning}
 use Rattle.words_core.specs.declared.options.Meaning.TheVariants.{Flag as Plain, Kind, Value}
 use Rattle.words_core.specs.declared.reading.AppletSite.{AppletSite}
 use Rattle.words_core.specs.declared.reading.Start.{Start}
-use Rattle.words_core.specs.Grammar.{applet_site, early_flags, is_double_dash, is_option, start_of_command_line, or_err_at, applet_site_of_word, site_after_end, applet_site_from_parts, start_from_parts, start_after_site, start_with_early_flags, flags_with_meaning, flags_with_option_word, flags_with_option}
+use Rattle.words_core.specs.Grammar.{applet_site, flags_with_early_options, is_double_dash, is_option, start_of_command_line, or_err_at, applet_site_of_word, applet_site_after_double_dash, applet_site_from_parts, start_from_parts, start_after_site, start_with_early_flags, flags_with_meaning, flags_with_option_word, flags_with_option}
 use Rattle.words_core.specs.Options.{OptionSpec, applet_of, common_options, is_early_option_word, option_of_word, options_of}
 
 -- ---- tests on lists
@@ -329,8 +329,8 @@ named_known ended place behind word low l =
       | Some applet ↦ λ e. record { low = low; read = l }
     ] refl
 
-pub after_end_known : (place behind : ℕ) (words : List (List ℕ)) → 1 ≤ place → place + length words ≤ behind → IfOk (site_after_end place words) (λ s. IsSite s behind)
-unfolding site_after_end
+pub after_end_known : (place behind : ℕ) (words : List (List ℕ)) → 1 ≤ place → place + length words ≤ behind → IfOk (applet_site_after_double_dash place words) (λ s. IsSite s behind)
+unfolding applet_site_after_double_dash
 after_end_known place behind [] low l = tt
 after_end_known place behind (word ∷ words) low l = named_known true place behind word low (omega arith)
 
@@ -339,7 +339,7 @@ site_known place behind [] low l = tt
 site_known place behind (word ∷ words) low l =
     let less : place + 1 + length words ≤ behind = omega arith in
     let next : 1 ≤ place + 1 = omega arith in
-    elim (is_double_dash word) as (λ b. IfOk (if b then site_after_end (place + 1) words else if is_option word then (if is_early_option_word word then applet_site (place + 1) words else Err place) else applet_site_of_word false place word) (λ s. IsSite s behind)) [
+    elim (is_double_dash word) as (λ b. IfOk (if b then applet_site_after_double_dash (place + 1) words else if is_option word then (if is_early_option_word word then applet_site (place + 1) words else Err place) else applet_site_of_word false place word) (λ s. IsSite s behind)) [
       | true ↦ after_end_known (place + 1) behind words next less
       | false ↦ elim (is_option word) as (λ b. IfOk (if b then (if is_early_option_word word then applet_site (place + 1) words else Err place) else applet_site_of_word false place word) (λ s. IsSite s behind)) [
         | true ↦ elim (is_early_option_word word) as (λ b. IfOk (if b then applet_site (place + 1) words else Err place) (λ s. IsSite s behind)) [
@@ -350,12 +350,12 @@ site_known place behind (word ∷ words) low l =
       ]
     ]
 
-pub early_kept : (applet : Applet) (flags : Flags) (place : ℕ) (words : List (List ℕ)) → may_have_flags applet flags ≡ true → IfOk (early_flags (options_of applet) flags place words) (λ more. may_have_flags applet more ≡ true)
+pub early_kept : (applet : Applet) (flags : Flags) (place : ℕ) (words : List (List ℕ)) → may_have_flags applet flags ≡ true → IfOk (flags_with_early_options (options_of applet) flags place words) (λ more. may_have_flags applet more ≡ true)
 early_kept applet flags place [] m = m
 early_kept applet flags place (word ∷ words) m =
-    elim (is_double_dash word) as (λ b. IfOk (if b then Ok flags else or_err_at place (λ more. early_flags (options_of applet) more (place + 1) words) (flags_with_option_word (options_of applet) flags word)) (λ more. may_have_flags applet more ≡ true)) [
+    elim (is_double_dash word) as (λ b. IfOk (if b then Ok flags else or_err_at place (λ more. flags_with_early_options (options_of applet) more (place + 1) words) (flags_with_option_word (options_of applet) flags word)) (λ more. may_have_flags applet more ≡ true)) [
       | true ↦ m
-      | false ↦ elim (flags_with_option_word (options_of applet) flags word) as (λ o. flags_with_option_word (options_of applet) flags word ≡ o → IfOk (or_err_at place (λ more. early_flags (options_of applet) more (place + 1) words) o) (λ more. may_have_flags applet more ≡ true)) [
+      | false ↦ elim (flags_with_option_word (options_of applet) flags word) as (λ o. flags_with_option_word (options_of applet) flags word ≡ o → IfOk (or_err_at place (λ more. flags_with_early_options (options_of applet) more (place + 1) words) o) (λ more. may_have_flags applet more ≡ true)) [
         | None ↦ λ e. tt
         | Some more ↦ λ e. early_kept applet more (place + 1) words (option_passes (may_have_flags applet) (options_of applet) flags more word (options_kept applet flags m) e)
       ] refl
@@ -374,17 +374,17 @@ pub record IsStart (words : List (List ℕ)) (start : Start) : Type 0 where
   pub site : AppletSite
   pub found : applet_site 1 words ≡ Ok site
   pub flags : Flags
-  pub early : early_flags (options_of site.applet) no_flags 1 (take (site.read - 1) words) ≡ Ok flags
+  pub early : flags_with_early_options (options_of site.applet) no_flags 1 (take (site.read - 1) words) ≡ Ok flags
   pub same : start_from_parts site flags ≡ start
 
 pub start_parts : (words : List (List ℕ)) (start : Start) → start_of_command_line words ≡ Ok start → IsStart words start
 start_parts words start e =
     elim (applet_site 1 words) as (λ s. applet_site 1 words ≡ s → start_after_site words s ≡ Ok start → IsStart words start) [
       | Err place ↦ λ s (h : Err place ≡ Ok start). absurd (cc)
-      | Ok site ↦ λ s h. by_flags site s (early_flags (options_of site.applet) no_flags 1 (take (site.read - 1) words)) refl h
+      | Ok site ↦ λ s h. by_flags site s (flags_with_early_options (options_of site.applet) no_flags 1 (take (site.read - 1) words)) refl h
     ] refl e
   where
-    by_flags : (site : AppletSite) → applet_site 1 words ≡ Ok site → (f : Result Flags ℕ) → early_flags (options_of site.applet) no_flags 1 (take (site.read - 1) words) ≡ f → start_with_early_flags site f ≡ Ok start → IsStart words start
+    by_flags : (site : AppletSite) → applet_site 1 words ≡ Ok site → (f : Result Flags ℕ) → flags_with_early_options (options_of site.applet) no_flags 1 (take (site.read - 1) words) ≡ f → start_with_early_flags site f ≡ Ok start → IsStart words start
     by_flags site s (Err place) f h = absurd (cc)
     by_flags site s (Ok flags) f h = (let same : start_from_parts site flags ≡ start = cc in record { site = site; found = s; flags = flags; early = f; same = same })
 

@@ -9,13 +9,13 @@ use Rattle.command_core.specs.declared.operands.OperandRule.{OperandRule}
 use Rattle.command_core.specs.Applets.{required_option_letter, operand_rule}
 use Rattle.command_core.specs.Sound.{may_have_flags, value_rules, is_valid_command, are_allowed_operands, is_count_within_limit, are_allowed_values}
 use Rattle.command_core.specs.Command.{CommandLine}
-use Rattle.command_core.specs.Operands.{first_refused_operand, allows_one_more, is_operand_of_kind}
+use Rattle.command_core.specs.Operands.{first_refused_operand, allows_one_more_operand, is_operand_of_kind}
 use Rattle.command_core.specs.Values.{is_required_value_missing}
 use Rattle.words_core.specs.declared.reading.Reading.{Reading}
-use Rattle.words_core.specs.Grammar.{command_of_reading, command_from_reading_parts, lacks_operand, refused_operand}
+use Rattle.words_core.specs.Grammar.{command_of_reading, command_from_reading_parts, lacks_operand, place_of_refused_operand}
 
 -- there is room for one more where as many more fit
-pub room_by : (most : Option ℕ) (before more : ℕ) → is_count_within_limit most (before + (more + 1)) ≡ true → allows_one_more most before ≡ true
+pub room_by : (most : Option ℕ) (before more : ℕ) → is_count_within_limit most (before + (more + 1)) ≡ true → allows_one_more_operand most before ≡ true
 room_by None before more h = refl
 room_by (Some most) before more h = (let fits : before + (more + 1) ≤ most = leb-true (before + (more + 1)) most h in lt-ltb before most (omega arith))
 
@@ -45,7 +45,7 @@ has_parts c h =
 
 -- the operands are taken, and none is lacking
 pub record AreTaken (rule : Option OperandRule) (operands : List Operand) : Type 0 where
-  pub taken : refused_operand rule operands ≡ None
+  pub taken : place_of_refused_operand rule operands ≡ None
   pub enough : lacks_operand rule operands ≡ false
 
 pub operands_taken : (rule : Option OperandRule) (operands : List Operand) → are_allowed_operands rule operands ≡ true → AreTaken rule operands

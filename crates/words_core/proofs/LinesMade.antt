@@ -23,8 +23,8 @@ use Rattle.words_core.specs.declared.reading.AppletSite.{AppletSite}
 use Rattle.words_core.specs.declared.reading.OptionState.{OptionState}
 use Rattle.words_core.specs.declared.reading.Reading.{Reading}
 use Rattle.words_core.specs.declared.reading.Start.{Start}
-use Rattle.words_core.specs.Grammar.{applet_site, spelled_command_from_start, command_from_reading_parts, early_flags, option_state_at_start, attached_value, is_double_dash, is_option, spelled_command, start_of_command_line, operands_of, option_name, option_reading, or_err_at, reading_after_applet, words_reading_from_parts, awaited_rule, value_rule_of_meaning, value_rule_unless_attached, applet_site_of_word, site_after_end, applet_site_from_parts, start_from_parts, start_after_site, start_with_early_flags, option_state_from_parts, command_of_reading, flags_with_meaning, state_with_meaning, flags_with_option_word, flags_with_option, with_option_word, with_word_if_awaited}
-use Rattle.words_core.specs.Lines.{IsLineOf, flags_after, flags_with_held_meaning, operand_words, attached_values, words_that_are_options, may_precede_applet, values_of}
+use Rattle.words_core.specs.Grammar.{applet_site, spelled_command_from_start, command_from_reading_parts, flags_with_early_options, option_state_at_start, attached_value, is_double_dash, is_option, spelled_command, start_of_command_line, operands_of, option_name, option_reading, or_err_at, reading_after_applet, words_reading_from_parts, awaited_rule, value_rule_of_meaning, value_rule_unless_attached, applet_site_of_word, applet_site_after_double_dash, applet_site_from_parts, start_from_parts, start_after_site, start_with_early_flags, option_state_from_parts, command_of_reading, flags_with_meaning, state_with_meaning, flags_with_option_word, flags_with_option, with_option_word, with_word_as_option_or_value}
+use Rattle.words_core.specs.Lines.{AreWordsOfCommand, flags_after, flags_with_held_meaning, operand_words, attached_values, words_that_are_options, may_precede_applet, values_of}
 use Rattle.words_core.specs.Options.{OptionSpec, applet_of, common_options, early_option_words, is_early_option_word, option_of_word, options_of}
 use Rattle.words_core.proofs.GivenKept.{IsOwn, all_own, found_own}
 use Rattle.words_core.proofs.KindsKept.{find_passes}
@@ -60,7 +60,7 @@ made_empty applet state more all place (Some rule) made = absurd (none-some all 
 
 pub made_value : (applet : Applet) (state : OptionState) (more : Flags) (all : List OptionValue) (place : ℕ) (word : List ℕ) (words : List (List ℕ)) (rule : ValueRule) → are_allowed_values (value_rules applet) all ≡ true → ((next : OptionState) (r : Option ValueRule) → IsMade applet next more all (place + 1) words r → ReadsOldOrReplaced applet next more all (place + 1) words r) → IsMade applet state more all place (word ∷ words) (Some rule) → ReadsOldOrReplaced applet state more all place (word ∷ words) (Some rule)
 made_value applet state more all place word words rule are rest made =
-    step_taken options state place word words (Some next) (awaited_taken state word rule made.awaiting) (ap (with_word_if_awaited options state place word) made.awaiting ∙ value_made state place word rule fits)
+    step_taken options state place word words (Some next) (awaited_taken state word rule made.awaiting) (ap (with_word_as_option_or_value options state place word) made.awaiting ∙ value_made state place word rule fits)
     ∙ rest next None (record {
       flags = made.flags;
       values = sym (one_joined state.values v (values_of options None (place + 1) words)) ∙ made.values;
@@ -141,7 +141,7 @@ own_rule applet None (Value rule) r own h = subst (λ (x : ValueRule). rule_for 
 
 pub made_option : (applet : Applet) (state : OptionState) (more : Flags) (all : List OptionValue) (place : ℕ) (word : List ℕ) (words : List (List ℕ)) → may_have_flags applet more ≡ true → are_allowed_values (value_rules applet) all ≡ true → is_double_dash word ≡ false → is_option word ≡ true → ((next : OptionState) (r : Option ValueRule) → IsMade applet next more all (place + 1) words r → ReadsOldOrReplaced applet next more all (place + 1) words r) → IsMade applet state more all place (word ∷ words) None → ReadsOldOrReplaced applet state more all place (word ∷ words) None
 made_option applet state more all place word words m are e o rest made =
-    step_taken options state place word words (Some next) (option_taken state word made.awaiting e o) (ap (with_word_if_awaited options state place word) made.awaiting ∙ spelled)
+    step_taken options state place word words (Some next) (option_taken state word made.awaiting e o) (ap (with_word_as_option_or_value options state place word) made.awaiting ∙ spelled)
     ∙ (rest next (value_rule_unless_attached held (value_rule_of_meaning x.meaning)) (record {
       flags = ap (λ r. flags_after options first.next (words_that_are_options options r words)) (sym awaits) ∙ first.rest;
       values = sym (values_joined state.values (attached_values place (value_rule_of_meaning x.meaning) held) (values_of options (value_rule_unless_attached held (value_rule_of_meaning x.meaning)) (place + 1) words)) ∙ values;
@@ -251,10 +251,10 @@ pub record IsFound (applet : Applet) (flags : Flags) (place : ℕ) (words : List
   pub ended : Bool
   pub is : r ≡ Ok (applet_site_from_parts ended read applet)
   pub more : Flags
-  pub early : early_flags (options_of applet) flags place (take (read - place) words) ≡ Ok more
+  pub early : flags_with_early_options (options_of applet) flags place (take (read - place) words) ≡ Ok more
 
-after_end_found : (place : ℕ) (words : List (List ℕ)) (first : Operand) (rest : List Operand) (applet : Applet) → applet_of first.text ≡ Some applet → operands_of place words ≡ first ∷ rest → (first.place ≡ place) × (site_after_end place words ≡ Ok (applet_site_from_parts true place applet))
-unfolding site_after_end
+after_end_found : (place : ℕ) (words : List (List ℕ)) (first : Operand) (rest : List Operand) (applet : Applet) → applet_of first.text ≡ Some applet → operands_of place words ≡ first ∷ rest → (first.place ≡ place) × (applet_site_after_double_dash place words ≡ Ok (applet_site_from_parts true place applet))
+unfolding applet_site_after_double_dash
 after_end_found place [] first rest applet n h = absurd (cc)
 after_end_found place (word ∷ words) first rest applet n h = (
   sym (ap (λ (x : Operand). x.place) (same_head (operand_at place word) first _ rest h)),
@@ -303,7 +303,7 @@ site_found flags all place (word ∷ words) first rest applet n h early says =
             ended = true;
             is = seek_end place word words e ∙ (found.1 ∙ ap (λ k. Ok (applet_site_from_parts true k applet)) (sym found.0));
             more = flags;
-            early = ap (λ k. early_flags (options_of applet) flags place (take k (word ∷ words))) one ∙ flags_end (options_of applet) flags place word [] e;
+            early = ap (λ k. flags_with_early_options (options_of applet) flags place (take k (word ∷ words))) one ∙ flags_end (options_of applet) flags place word [] e;
           }
       | false ↦ λ e. elim (is_option word) as (λ b. is_option word ≡ b → IsFound applet flags place (word ∷ words) first.place (applet_site place (word ∷ words))) [
         | true ↦ λ o. by_option (λ next h early says. site_found next all (place + 1) words first rest applet n h early says) e o
@@ -315,7 +315,7 @@ site_found flags all place (word ∷ words) first rest applet n h early says =
               ended = false;
               is = seek_here place word words e o ∙ (at_named false place word applet (ap (λ (x : Operand). applet_of x.text) same ∙ n) ∙ ap (λ k. Ok (applet_site_from_parts false k applet)) at);
               more = flags;
-              early = ap (λ k. early_flags (options_of applet) flags place (take k (word ∷ words))) none;
+              early = ap (λ k. flags_with_early_options (options_of applet) flags place (take k (word ∷ words))) none;
             }
       ] refl
     ] refl
@@ -346,7 +346,7 @@ site_found flags all place (word ∷ words) first rest applet n h early says =
           ended = found.ended;
           is = seek_early place word words e o y ∙ found.is;
           more = found.more;
-          early = ap (λ k. early_flags options flags place (take k (word ∷ words))) (sym next)
+          early = ap (λ k. flags_with_early_options options flags place (take k (word ∷ words))) (sym next)
               ∙ (flags_step options flags place word (take (first.place - (place + 1)) words) (Some option.next) e m ∙ found.early);
         }
 
@@ -365,7 +365,7 @@ from_made start more all words f v m are =
       })
     ] f v
 
-pub made_line : (words : List (List ℕ)) (command : CommandLine) → IsLineOf words command → spelled_command words ≡ Ok command
+pub made_line : (words : List (List ℕ)) (command : CommandLine) → AreWordsOfCommand words command → spelled_command words ≡ Ok command
 unfolding spelled_command
 made_line words command line =
     let found = site_found no_flags command.flags 1 words line.applet command.operands command.applet line.names line.free line.early line.flags in

@@ -26,8 +26,8 @@ use Rattle.words_core.specs.declared.reading.AppletSite.{AppletSite}
 use Rattle.words_core.specs.declared.reading.OptionState.{OptionState}
 use Rattle.words_core.specs.declared.reading.Reading.{Reading}
 use Rattle.words_core.specs.declared.reading.Start.{Start}
-use Rattle.words_core.specs.Grammar.{applet_site, spelled_command_from_start, command_from_reading_parts, early_flags, option_state_at_start, attached_value, is_double_dash, is_option, is_option_or_value, lacks_operand, lacks_word, spelled_command, start_of_command_line, operands_of, option_name, option_reading, or_err_at, or_stop_at_unread_word, reading_after_applet, words_reading_from_parts, refused_operand, value_rule_of_word, awaited_rule, value_rule_of_meaning, value_rule_unless_attached, applet_site_of_word, site_after_end, applet_site_from_parts, start_from_parts, option_state_from_parts, unless_refused_at, command_of_reading, with_flags_if_some, with_value_or_awaited, flags_with_meaning, state_with_meaning, with_operand, flags_with_option_word, flags_with_option, with_option_word, with_option_value, with_option_or_value_word, with_word_if_awaited}
-use Rattle.words_core.specs.Lines.{IsLineOf, flags_after, flags_with_held_meaning, operand_words, attached_values, words_that_are_options, may_precede_applet, values_of}
+use Rattle.words_core.specs.Grammar.{applet_site, spelled_command_from_start, command_from_reading_parts, flags_with_early_options, option_state_at_start, attached_value, is_double_dash, is_option, is_option_or_value, lacks_operand, lacks_operand_or_required_value, spelled_command, start_of_command_line, operands_of, option_name, option_reading, or_err_at, or_stop_at_unread_word, reading_after_applet, words_reading_from_parts, place_of_refused_operand, value_rule_of_word, awaited_rule, value_rule_of_meaning, value_rule_unless_attached, applet_site_of_word, applet_site_after_double_dash, applet_site_from_parts, start_from_parts, option_state_from_parts, unless_refused_at, command_of_reading, with_flags_if_some, with_value_or_awaited, flags_with_meaning, state_with_meaning, with_operand, flags_with_option_word, flags_with_option, with_option_word, with_option_value, with_option_or_value_word, with_word_as_option_or_value}
+use Rattle.words_core.specs.Lines.{AreWordsOfCommand, flags_after, flags_with_held_meaning, operand_words, attached_values, words_that_are_options, may_precede_applet, values_of}
 use Rattle.words_core.specs.Options.{OptionSpec, applet_of, early_option_words, is_early_option_word, option_of_word, options_of}
 use Rattle.words_core.specs.Steps.{IsSoundReading}
 use Rattle.words_core.proofs.GivenKept.{from_kept}
@@ -184,7 +184,7 @@ pub whole_value : (options : List OptionSpec) (state : OptionState) (place : ℕ
 whole_value options state place word words rule a rest = by_value (with_option_value state place word rule) refl
   where
     taken : (o : Option OptionState) → with_option_value state place word rule ≡ o → option_reading options state place (word ∷ words) ≡ or_stop_at_unread_word state place (λ m. option_reading options m (place + 1) words) o
-    taken o w = step_taken options state place word words o (awaited_taken state word rule a) (ap (with_word_if_awaited options state place word) a ∙ w)
+    taken o w = step_taken options state place word words o (awaited_taken state word rule a) (ap (with_word_as_option_or_value options state place word) a ∙ w)
 
     free : List Operand
     free = operand_words options None (place + 1) words
@@ -208,7 +208,7 @@ pub whole_option : (options : List OptionSpec) (state : OptionState) (place : �
 whole_option options state place word words a e o rest = by_option (with_option_word options state place word) refl
   where
     taken : (x : Option OptionState) → with_option_word options state place word ≡ x → option_reading options state place (word ∷ words) ≡ or_stop_at_unread_word state place (λ m. option_reading options m (place + 1) words) x
-    taken x w = step_taken options state place word words x (option_taken state word a e o) (ap (with_word_if_awaited options state place word) a ∙ w)
+    taken x w = step_taken options state place word words x (option_taken state word a e o) (ap (with_word_as_option_or_value options state place word) a ∙ w)
 
     by_entry : (more : OptionState) (x : OptionSpec) → option_of_word options (option_name word) ≡ Some x → Says state place (attached_value word) x.meaning more → IsWellFormed (option_reading options more (place + 1) words) (operand_words options None place (word ∷ words)) (flags_after options state.flags (words_that_are_options options None (word ∷ words))) state.values (values_of options None place (word ∷ words))
     by_entry more x is says h =
@@ -303,7 +303,7 @@ pub record IsFrom (flags : Flags) (place : ℕ) (words : List (List ℕ)) (start
 -- .. of a site that was found, where the words before it are options of its applet
 abbrev pub IsFromSite : Flags → ℕ → List (List ℕ) → AppletSite → Type 0
 IsFromSite flags place words site =
-    (more : Flags) → early_flags (options_of site.applet) flags place (take (site.read - place) words) ≡ Ok more → IsFrom flags place words (start_from_parts site more)
+    (more : Flags) → flags_with_early_options (options_of site.applet) flags place (take (site.read - place) words) ≡ Ok more → IsFrom flags place words (start_from_parts site more)
 
 -- the site is no earlier than the words
 named_low : (ended : Bool) (place low : ℕ) (word : List ℕ) → low ≤ place → IfOk (applet_site_of_word ended place word) (λ s. low ≤ s.read)
@@ -314,15 +314,15 @@ named_low ended place low word l =
       | Some applet ↦ l
     ]
 
-end_low : (place : ℕ) (words : List (List ℕ)) → IfOk (site_after_end (place + 1) words) (λ s. place ≤ s.read)
-unfolding site_after_end
+end_low : (place : ℕ) (words : List (List ℕ)) → IfOk (applet_site_after_double_dash (place + 1) words) (λ s. place ≤ s.read)
+unfolding applet_site_after_double_dash
 end_low place [] = tt
 end_low place (word ∷ words) = named_low true (place + 1) place word (omega arith)
 
 pub site_low : (place : ℕ) (words : List (List ℕ)) → IfOk (applet_site place words) (λ s. place ≤ s.read)
 site_low place [] = tt
 site_low place (word ∷ words) =
-    elim (is_double_dash word) as (λ b. IfOk (if b then site_after_end (place + 1) words else if is_option word then (if is_early_option_word word then applet_site (place + 1) words else Err place) else applet_site_of_word false place word) (λ s. place ≤ s.read)) [
+    elim (is_double_dash word) as (λ b. IfOk (if b then applet_site_after_double_dash (place + 1) words else if is_option word then (if is_early_option_word word then applet_site (place + 1) words else Err place) else applet_site_of_word false place word) (λ s. place ≤ s.read)) [
       | true ↦ end_low place words
       | false ↦ elim (is_option word) as (λ b. IfOk (if b then (if is_early_option_word word then applet_site (place + 1) words else Err place) else applet_site_of_word false place word) (λ s. place ≤ s.read)) [
         | true ↦ elim (is_early_option_word word) as (λ b. IfOk (if b then applet_site (place + 1) words else Err place) (λ s. place ≤ s.read)) [
@@ -334,15 +334,15 @@ site_low place (word ∷ words) =
     ]
 
 -- the applet behind `--`
-pub from_end : (flags : Flags) (place : ℕ) (word : List ℕ) (words : List (List ℕ)) → is_double_dash word ≡ true → IfOk (site_after_end (place + 1) words) (λ s. IsFromSite flags place (word ∷ words) s)
-unfolding site_after_end applet_site_of_word
+pub from_end : (flags : Flags) (place : ℕ) (word : List ℕ) (words : List (List ℕ)) → is_double_dash word ≡ true → IfOk (applet_site_after_double_dash (place + 1) words) (λ s. IsFromSite flags place (word ∷ words) s)
+unfolding applet_site_after_double_dash applet_site_of_word
 from_end flags place word [] e = tt
 from_end flags place word (next ∷ words) e =
     elim (applet_of next) as (λ o. applet_of next ≡ o → IfOk (or_err_at (place + 1) (λ applet. Ok (applet_site_from_parts true (place + 1) applet)) o) (λ s. IsFromSite flags place (word ∷ (next ∷ words)) s)) [
       | None ↦ λ n. tt
       | Some applet ↦ λ n more f.
           let one : place + 1 - place ≡ suc 0 = omega arith in
-          let same : Ok flags ≡ Ok more = sym (flags_end (options_of applet) flags place word [] e) ∙ (ap (λ k. early_flags (options_of applet) flags place (take k (word ∷ (next ∷ words)))) (sym one) ∙ f) in
+          let same : Ok flags ≡ Ok more = sym (flags_end (options_of applet) flags place word [] e) ∙ (ap (λ k. flags_with_early_options (options_of applet) flags place (take k (word ∷ (next ∷ words)))) (sym one) ∙ f) in
           let is : flags ≡ more = cc in
           record {
             count = 1;
@@ -364,7 +364,7 @@ from_named flags place word words e o =
       | None ↦ λ n. tt
       | Some applet ↦ λ n more f.
           let none : place - place ≡ 0 = omega arith in
-          let same : Ok flags ≡ Ok more = ap (λ k. early_flags (options_of applet) flags place (take k (word ∷ words))) (sym none) ∙ f in
+          let same : Ok flags ≡ Ok more = ap (λ k. flags_with_early_options (options_of applet) flags place (take k (word ∷ words))) (sym none) ∙ f in
           let is : flags ≡ more = cc in
           record {
             count = 0;
@@ -477,8 +477,8 @@ from_step flags place word words site e o y low rest more f = by_option (flags_w
     next : site.read - place ≡ suc (site.read - (place + 1))
     next = omega (arith, low)
 
-    early : early_flags (options_of site.applet) flags place (word ∷ take (site.read - (place + 1)) words) ≡ Ok more
-    early = ap (λ k. early_flags (options_of site.applet) flags place (take k (word ∷ words))) (sym next) ∙ f
+    early : flags_with_early_options (options_of site.applet) flags place (word ∷ take (site.read - (place + 1)) words) ≡ Ok more
+    early = ap (λ k. flags_with_early_options (options_of site.applet) flags place (take k (word ∷ words))) (sym next) ∙ f
 
     by_option : (m : Option Flags) → flags_with_option_word (options_of site.applet) flags word ≡ m → IsFrom flags place (word ∷ words) (start_from_parts site more)
     by_option None m = absurd (let none : Err place ≡ Ok more = sym (flags_step (options_of site.applet) flags place word (take (site.read - (place + 1)) words) None e m) ∙ early in cc)
@@ -489,8 +489,8 @@ from_step flags place word words site e o y low rest more f = by_option (flags_w
 pub site_from : (place : ℕ) (words : List (List ℕ)) → IfOk (applet_site place words) (λ s. (flags : Flags) → IsFromSite flags place words s)
 site_from place [] = tt
 site_from place (word ∷ words) =
-    elim (is_double_dash word) as (λ b. is_double_dash word ≡ b → IfOk (if b then site_after_end (place + 1) words else if is_option word then (if is_early_option_word word then applet_site (place + 1) words else Err place) else applet_site_of_word false place word) (λ s. (flags : Flags) → IsFromSite flags place (word ∷ words) s)) [
-      | true ↦ λ e. each (site_after_end (place + 1) words) (λ flags. from_end flags place word words e)
+    elim (is_double_dash word) as (λ b. is_double_dash word ≡ b → IfOk (if b then applet_site_after_double_dash (place + 1) words else if is_option word then (if is_early_option_word word then applet_site (place + 1) words else Err place) else applet_site_of_word false place word) (λ s. (flags : Flags) → IsFromSite flags place (word ∷ words) s)) [
+      | true ↦ λ e. each (applet_site_after_double_dash (place + 1) words) (λ flags. from_end flags place word words e)
       | false ↦ λ e. elim (is_option word) as (λ b. is_option word ≡ b → IfOk (if b then (if is_early_option_word word then applet_site (place + 1) words else Err place) else applet_site_of_word false place word) (λ s. (flags : Flags) → IsFromSite flags place (word ∷ words) s)) [
         | true ↦ λ o. elim (is_early_option_word word) as (λ b. is_early_option_word word ≡ b → IfOk (if b then applet_site (place + 1) words else Err place) (λ s. (flags : Flags) → IsFromSite flags place (word ∷ words) s)) [
           | true ↦ λ y. later (applet_site (place + 1) words) (site_low (place + 1) words) (site_from (place + 1) words) e o y
@@ -524,16 +524,16 @@ pub record IsJudged (behind : ℕ) (applet : Applet) (reading : Reading) (comman
 pub judged_good : (behind : ℕ) (applet : Applet) (reading : Reading) (command : CommandLine) → IsSoundReading applet reading → command_of_reading behind applet reading ≡ Ok command → IsJudged behind applet reading command
 unfolding command_of_reading
 judged_good behind applet reading command m j =
-    elim (operand_rule applet reading.state.flags) as (λ r. operand_rule applet reading.state.flags ≡ r → unless_refused_at (option_or (refused_operand r reading.operands) reading.unread) (if lacks_word applet r reading then Err behind else Ok (command_from_reading_parts behind applet reading)) ≡ Ok command → IsJudged behind applet reading command) [
+    elim (operand_rule applet reading.state.flags) as (λ r. operand_rule applet reading.state.flags ≡ r → unless_refused_at (option_or (place_of_refused_operand r reading.operands) reading.unread) (if lacks_operand_or_required_value applet r reading then Err behind else Ok (command_from_reading_parts behind applet reading)) ≡ Ok command → IsJudged behind applet reading command) [
       | None ↦ λ r h. absurd (no_kind reading.unread h)
-      | Some rule ↦ λ r h. by_rule rule r (refused_operand (Some rule) reading.operands) refl reading.unread refl (lacks_word applet (Some rule) reading) refl h
+      | Some rule ↦ λ r h. by_rule rule r (place_of_refused_operand (Some rule) reading.operands) refl reading.unread refl (lacks_operand_or_required_value applet (Some rule) reading) refl h
     ] refl j
   where
     no_kind : (unread : Option ℕ) → unless_refused_at unread (Err behind) ≡ Ok command → ⊥
     no_kind None h = cc
     no_kind (Some place) h = cc
 
-    by_rule : (rule : OperandRule) → operand_rule applet reading.state.flags ≡ Some rule → (refused : Option ℕ) → refused_operand (Some rule) reading.operands ≡ refused → (unread : Option ℕ) → reading.unread ≡ unread → (lacking : Bool) → lacks_word applet (Some rule) reading ≡ lacking → unless_refused_at (option_or refused unread) (if lacking then Err behind else Ok (command_from_reading_parts behind applet reading)) ≡ Ok command → IsJudged behind applet reading command
+    by_rule : (rule : OperandRule) → operand_rule applet reading.state.flags ≡ Some rule → (refused : Option ℕ) → place_of_refused_operand (Some rule) reading.operands ≡ refused → (unread : Option ℕ) → reading.unread ≡ unread → (lacking : Bool) → lacks_operand_or_required_value applet (Some rule) reading ≡ lacking → unless_refused_at (option_or refused unread) (if lacking then Err behind else Ok (command_from_reading_parts behind applet reading)) ≡ Ok command → IsJudged behind applet reading command
     by_rule rule r (Some place) f unread u lacking l h = absurd (cc)
     by_rule rule r None f (Some place) u lacking l h = absurd (cc)
     by_rule rule r None f None u true l h = absurd (cc)
@@ -546,22 +546,22 @@ judged_good behind applet reading command m j =
           sound = taken_sound applet flags reading.operands reading.state.values behind rule m.0 m.1 r f (ltb-false (length reading.operands) rule.least enough.0) enough.1;
         }
 
-pub read_line : (words : List (List ℕ)) (command : CommandLine) → spelled_command words ≡ Ok command → IsLineOf words command
+pub read_line : (words : List (List ℕ)) (command : CommandLine) → spelled_command words ≡ Ok command → AreWordsOfCommand words command
 unfolding spelled_command
 read_line words command c =
-    elim (start_of_command_line words) as (λ s. start_of_command_line words ≡ s → spelled_command_from_start words s ≡ Ok command → IsLineOf words command) [
+    elim (start_of_command_line words) as (λ s. start_of_command_line words ≡ s → spelled_command_from_start words s ≡ Ok command → AreWordsOfCommand words command) [
       | Err place ↦ λ s h. absurd (cc)
       | Ok start ↦ λ s h. by_start start s h
     ] refl c
   where
-    by_start : (start : Start) → start_of_command_line words ≡ Ok start → command_of_reading (length words + 1) start.applet (reading_after_applet start words) ≡ Ok command → IsLineOf words command
+    by_start : (start : Start) → start_of_command_line words ≡ Ok start → command_of_reading (length words + 1) start.applet (reading_after_applet start words) ≡ Ok command → AreWordsOfCommand words command
     by_start start s h =
         let options = options_of start.applet in
         let from : IsFrom no_flags 1 words start = line_from words start s in
         let good = judged_good (length words + 1) start.applet (reading_after_applet start words) command (from_kept start (1 + length words) words (start_known words start s)) h in
         let at : suc from.count ≡ start.read = (let is : start.read ≡ 1 + from.count = from.read in omega arith) in
         let rest = from_whole start words good.whole in
-        subst (λ (x : CommandLine). IsLineOf words x) good.same (record {
+        subst (λ (x : CommandLine). AreWordsOfCommand words x) good.same (record {
           applet = operand_at start.read from.word;
           names = from.names;
           free = from.free ∙ ap (λ os. operand_at start.read from.word ∷ os) (ap (λ n. free_rest start.ended options (start.read + 1) (drop n words)) at ∙ sym rest.0);

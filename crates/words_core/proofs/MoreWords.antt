@@ -21,7 +21,7 @@ use Rattle.command_core.specs.Values.{is_single_and_given}
 use Rattle.words_core.specs.declared.options.Meaning.{Meaning}
 use Rattle.words_core.specs.declared.options.Meaning.TheVariants.{Flag as Plain, Kind, Value}
 use Rattle.words_core.specs.declared.reading.OptionState.{OptionState}
-use Rattle.words_core.specs.Grammar.{attached_value, is_double_dash, is_option_or_value, operands_of, option_name, option_reading, or_stop_at_unread_word, words_reading_from_parts, option_state_from_parts, with_flags_if_some, with_value_or_awaited, flags_with_meaning, state_with_meaning, with_operand, flags_with_option, with_option_or_value_word, with_word_if_awaited}
+use Rattle.words_core.specs.Grammar.{attached_value, is_double_dash, is_option_or_value, operands_of, option_name, option_reading, or_stop_at_unread_word, words_reading_from_parts, option_state_from_parts, with_flags_if_some, with_value_or_awaited, flags_with_meaning, state_with_meaning, with_operand, flags_with_option, with_option_or_value_word, with_word_as_option_or_value}
 use Rattle.words_core.specs.Options.{OptionSpec, common_options, option_of_word, options_of}
 use Rattle.words_core.proofs.KindsKept.{all_from, all_weaken, find_passes, pass_or_none, same_with}
 use Rattle.words_core.proofs.LinesRead.{value_says}
@@ -134,7 +134,7 @@ meaning_passes test state more place None (Kind flag) p h w = flags_pass test st
 pub word_passes : (test : Flags → Bool) (options : List OptionSpec) (state more : OptionState) (place : ℕ) (word : List ℕ) → test state.flags ≡ true → list_all (λ e. pass_or_none test (flags_with_option state.flags e)) options ≡ true → with_option_or_value_word options state place word ≡ Some more → IsPassed test more
 word_passes test options state more place word p each w = by_rule state.awaiting w
   where
-    by_rule : (rule : Option ValueRule) → with_word_if_awaited options state place word rule ≡ Some more → IsPassed test more
+    by_rule : (rule : Option ValueRule) → with_word_as_option_or_value options state place word rule ≡ Some more → IsPassed test more
     by_rule (Some rule) h = subst (λ (g : OptionState). IsPassed test g) (value_says state more place word rule h) p
     by_rule None h =
         option_and_then_some (λ (e : OptionSpec). state_with_meaning state place (attached_value word) e.meaning) (option_of_word options (option_name word)) more h

@@ -12,7 +12,7 @@ use Rattle.words_core.specs.declared.reading.AppletSite.{AppletSite}
 use Rattle.words_core.specs.declared.reading.OptionState.{OptionState}
 use Rattle.words_core.specs.declared.reading.Reading.{Reading}
 use Rattle.words_core.specs.declared.reading.Start.{Start}
-use Rattle.words_core.specs.Grammar.{applet_site, spelled_command_from_start, spelled_command, command_from_reading_parts, option_state_at_start, is_double_dash, is_option, is_option_or_value, lacks_word, start_of_command_line, operands_of, option_reading, or_err_at, or_stop_at_unread_word, reading_after_applet, words_reading_from_parts, reading_at_end_of_words, refused_operand, applet_site_of_word, site_after_end, applet_site_from_parts, unless_refused_at, command_of_reading, with_operand, with_option_or_value_word}
+use Rattle.words_core.specs.Grammar.{applet_site, spelled_command_from_start, spelled_command, command_from_reading_parts, option_state_at_start, is_double_dash, is_option, is_option_or_value, lacks_operand_or_required_value, start_of_command_line, operands_of, option_reading, or_err_at, or_stop_at_unread_word, reading_after_applet, words_reading_from_parts, reading_at_end_of_words, place_of_refused_operand, applet_site_of_word, applet_site_after_double_dash, applet_site_from_parts, unless_refused_at, command_of_reading, with_operand, with_option_or_value_word}
 use Rattle.words_core.specs.Options.{OptionSpec, applet_of, is_early_option_word, options_of}
 use Rattle.words_core.proofs.KindsKept.{IsPlain, start_known}
 use Rattle.words_core.proofs.Sites.{IsForeign, foreign_between, no_start}
@@ -95,7 +95,7 @@ from_placed start words l =
     ]
 
 -- the first that offends, at most behind the words
-pub first_between : (rule : Option OperandRule) (low behind place : ℕ) (reading : Reading) → IsPlaced low behind reading → option_or (refused_operand rule reading.operands) reading.unread ≡ Some place → IsBetween low (behind + 1) place
+pub first_between : (rule : Option OperandRule) (low behind place : ℕ) (reading : Reading) → IsPlaced low behind reading → option_or (place_of_refused_operand rule reading.operands) reading.unread ≡ Some place → IsBetween low (behind + 1) place
 first_between None low behind place reading p h = p.unread place h
 first_between (Some rule) low behind place reading p h =
     elim (first_refused_operand rule 0 reading.operands) as (λ o. first_refused_operand rule 0 reading.operands ≡ o → option_or o reading.unread ≡ Some place → IsBetween low (behind + 1) place) [
@@ -108,22 +108,22 @@ first_between (Some rule) low behind place reading p h =
 abbrev pub IsJudgedAt : ℕ → Option ℕ → ℕ → Type 0
 IsJudgedAt behind first place = (first ≡ Some place) ⊎ ((first ≡ None) × (place ≡ behind))
 
-pub judged_at : (applet : Applet) (reading : Reading) (behind place : ℕ) → command_of_reading behind applet reading ≡ Err place → IsJudgedAt behind (option_or (refused_operand (operand_rule applet reading.state.flags) reading.operands) reading.unread) place
+pub judged_at : (applet : Applet) (reading : Reading) (behind place : ℕ) → command_of_reading behind applet reading ≡ Err place → IsJudgedAt behind (option_or (place_of_refused_operand (operand_rule applet reading.state.flags) reading.operands) reading.unread) place
 unfolding command_of_reading
 judged_at applet reading behind place h =
     let rule = operand_rule applet reading.state.flags in
-    elim (option_or (refused_operand rule reading.operands) reading.unread) as (λ o. unless_refused_at o (if lacks_word applet rule reading then Err behind else Ok (command_from_reading_parts behind applet reading)) ≡ Err place → IsJudgedAt behind o place) [
-      | None ↦ elim (lacks_word applet rule reading) as (λ b. (if b then Err behind else Ok (command_from_reading_parts behind applet reading)) ≡ Err place → IsJudgedAt behind None place) [
+    elim (option_or (place_of_refused_operand rule reading.operands) reading.unread) as (λ o. unless_refused_at o (if lacks_operand_or_required_value applet rule reading then Err behind else Ok (command_from_reading_parts behind applet reading)) ≡ Err place → IsJudgedAt behind o place) [
+      | None ↦ elim (lacks_operand_or_required_value applet rule reading) as (λ b. (if b then Err behind else Ok (command_from_reading_parts behind applet reading)) ≡ Err place → IsJudgedAt behind None place) [
         | true ↦ λ (e : Err behind ≡ Err place). inr (refl, cc)
         | false ↦ λ (e : Ok (command_from_reading_parts behind applet reading) ≡ Err place). absurd (cc)
       ]
       | Some at ↦ λ (e : Err at ≡ Err place). inl cc
     ] h
 
-pub judged_bad : (applet : Applet) (reading : Reading) (behind place : ℕ) → option_or (refused_operand (operand_rule applet reading.state.flags) reading.operands) reading.unread ≡ Some place → command_of_reading behind applet reading ≡ Err place
+pub judged_bad : (applet : Applet) (reading : Reading) (behind place : ℕ) → option_or (place_of_refused_operand (operand_rule applet reading.state.flags) reading.operands) reading.unread ≡ Some place → command_of_reading behind applet reading ≡ Err place
 unfolding command_of_reading
 judged_bad applet reading behind place h =
-    ap (λ o. unless_refused_at o (if lacks_word applet (operand_rule applet reading.state.flags) reading then Err behind else Ok (command_from_reading_parts behind applet reading))) h
+    ap (λ o. unless_refused_at o (if lacks_operand_or_required_value applet (operand_rule applet reading.state.flags) reading then Err behind else Ok (command_from_reading_parts behind applet reading))) h
 
 -- where the search for the applet ends
 abbrev pub IsSearched : ℕ → ℕ → Result AppletSite ℕ → Type 0
@@ -138,8 +138,8 @@ named_searched ended place low behind word h =
       | Some applet ↦ tt
     ]
 
-pub end_searched : (place low behind : ℕ) (words : List (List ℕ)) → IsBetween low behind place → IsSearched low behind (site_after_end place words)
-unfolding site_after_end
+pub end_searched : (place low behind : ℕ) (words : List (List ℕ)) → IsBetween low behind place → IsSearched low behind (applet_site_after_double_dash place words)
+unfolding applet_site_after_double_dash
 end_searched place low behind [] h = h
 end_searched place low behind (word ∷ words) h = named_searched true place low behind word h
 
@@ -148,7 +148,7 @@ site_searched place low behind [] l h = (omega arith, omega arith)
 site_searched place low behind (word ∷ words) l h =
     let less : place + 1 + length words < behind = omega arith in
     let here : IsBetween low behind place = (omega arith, omega arith) in
-    elim (is_double_dash word) as (λ b. IsSearched low behind (if b then site_after_end (place + 1) words else if is_option word then (if is_early_option_word word then applet_site (place + 1) words else Err place) else applet_site_of_word false place word)) [
+    elim (is_double_dash word) as (λ b. IsSearched low behind (if b then applet_site_after_double_dash (place + 1) words else if is_option word then (if is_early_option_word word then applet_site (place + 1) words else Err place) else applet_site_of_word false place word)) [
       | true ↦ end_searched (place + 1) low behind words (omega arith, omega arith)
       | false ↦ elim (is_option word) as (λ b. IsSearched low behind (if b then (if is_early_option_word word then applet_site (place + 1) words else Err place) else applet_site_of_word false place word)) [
         | true ↦ elim (is_early_option_word word) as (λ b. IsSearched low behind (if b then applet_site (place + 1) words else Err place)) [

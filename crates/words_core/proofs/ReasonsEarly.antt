@@ -12,7 +12,7 @@ use Rattle.words_core.specs.declared.options.Meaning.{Meaning}
 use Rattle.words_core.specs.declared.options.Meaning.TheVariants.{Flag as Plain, Kind, Value}
 use Rattle.words_core.specs.declared.reading.AppletSite.{AppletSite}
 use Rattle.words_core.specs.declared.usage.UsageReason.TheVariants.{CommandUnknown, OptionEarly}
-use Rattle.words_core.specs.Grammar.{applet_site, early_flags, is_double_dash, is_option, next_word_of_command_line, next_word, option_name, or_err_at, applet_site_of_word, site_after_end, applet_site_from_parts, flags_with_meaning, flags_with_option_word, flags_with_option}
+use Rattle.words_core.specs.Grammar.{applet_site, flags_with_early_options, is_double_dash, is_option, next_word_of_command_line, next_word, option_name, or_err_at, applet_site_of_word, applet_site_after_double_dash, applet_site_from_parts, flags_with_meaning, flags_with_option_word, flags_with_option}
 use Rattle.words_core.specs.Options.{OptionSpec, applet_of, is_early_option_word, option_of_word, options_of}
 use Rattle.words_core.specs.Reasons.{IsUsageReason}
 use Rattle.words_core.specs.Usage.{command_reason}
@@ -71,8 +71,8 @@ nameless front words word ended place at p h n =
           (subst (λ ws. (next_word_of_command_line ws ≡ CommandAlone) ⊎ ((next_word_of_command_line ws ≡ OptionOrCommand) × (is_option word ≡ false))) (sym (take_front front (word ∷ words))) n);
     }
 
-end_sought : (front words : List (List ℕ)) (at : ℕ) → next_word_of_command_line front ≡ CommandAlone → site_after_end (length front + 1) words ≡ Err at → IsSoughtErr (front ++ words) at
-unfolding site_after_end
+end_sought : (front words : List (List ℕ)) (at : ℕ) → next_word_of_command_line front ≡ CommandAlone → applet_site_after_double_dash (length front + 1) words ≡ Err at → IsSoughtErr (front ++ words) at
+unfolding applet_site_after_double_dash
 end_sought front [] at n h = (let same : length front + 1 ≡ at = cc in inl (sym same ∙ ap (λ ws. length ws + 1) (sym (append-none front))))
 end_sought front (word ∷ words) at n h = inr (inl (nameless front words word true (length front + 1) at refl h (inl n)))
 
@@ -83,7 +83,7 @@ sought_err front (word ∷ words) at n h =
       | true ↦ λ e.
           subst (λ ws. IsSoughtErr ws at) (shifted front words word)
           (end_sought (front ++ (word ∷ [])) words at (next_one front word ∙ (ap (λ x. next_word x word) n ∙ next_end word e))
-          (ap (λ k. site_after_end k words) (longer front word) ∙ (sym (seek_end (length front + 1) word words e) ∙ h)))
+          (ap (λ k. applet_site_after_double_dash k words) (longer front word) ∙ (sym (seek_end (length front + 1) word words e) ∙ h)))
       | false ↦ λ e. elim (is_option word) as (λ b. is_option word ≡ b → IsSoughtErr (front ++ (word ∷ words)) at) [
         | true ↦ λ o. elim (is_early_option_word word) as (λ b. is_early_option_word word ≡ b → IsSoughtErr (front ++ (word ∷ words)) at) [
           | true ↦ λ y.
@@ -131,7 +131,7 @@ pub record IsForeignWord (applet : Applet) (words : List (List ℕ)) (index : �
   pub flags : Flags
   pub refused : flags_with_option_word (options_of applet) flags word ≡ None
 
-pub foreign_word : (flags : Flags) (place at : ℕ) (words : List (List ℕ)) (site : AppletSite) → applet_site place words ≡ Ok site → early_flags (options_of site.applet) flags place (take (site.read - place) words) ≡ Err at → IsForeignWord site.applet words (at - place)
+pub foreign_word : (flags : Flags) (place at : ℕ) (words : List (List ℕ)) (site : AppletSite) → applet_site place words ≡ Ok site → flags_with_early_options (options_of site.applet) flags place (take (site.read - place) words) ≡ Err at → IsForeignWord site.applet words (at - place)
 foreign_word flags place at [] site s f = absurd (cc)
 foreign_word flags place at (word ∷ words) site s f =
     elim (is_double_dash word) as (λ b. is_double_dash word ≡ b → IsForeignWord site.applet (word ∷ words) (at - place)) [
@@ -145,30 +145,30 @@ foreign_word flags place at (word ∷ words) site s f =
             let named = named_site false place word site (sym (seek_here place word words e o) ∙ s) in
             let read : site.read ≡ place = sym (ap (λ (x : AppletSite). x.read) named.2) in
             let none : site.read - place ≡ 0 = omega (arith, read) in
-            let both : Ok flags ≡ Err at = sym (ap (λ k. early_flags (options_of site.applet) flags place (take k (word ∷ words))) none) ∙ f in cc
+            let both : Ok flags ≡ Err at = sym (ap (λ k. flags_with_early_options (options_of site.applet) flags place (take k (word ∷ words))) none) ∙ f in cc
             )
       ] refl
     ] refl
   where
     at_end : is_double_dash word ≡ true → (count : ℕ) → site.read - place ≡ count → ⊥
-    at_end e zero c = (let both : Ok flags ≡ Err at = sym (ap (λ k. early_flags (options_of site.applet) flags place (take k (word ∷ words))) c) ∙ f in cc)
-    at_end e (suc count) c = (let both : Ok flags ≡ Err at = sym (ap (λ k. early_flags (options_of site.applet) flags place (take k (word ∷ words))) c ∙ flags_end (options_of site.applet) flags place word (take count words) e) ∙ f in cc)
+    at_end e zero c = (let both : Ok flags ≡ Err at = sym (ap (λ k. flags_with_early_options (options_of site.applet) flags place (take k (word ∷ words))) c) ∙ f in cc)
+    at_end e (suc count) c = (let both : Ok flags ≡ Err at = sym (ap (λ k. flags_with_early_options (options_of site.applet) flags place (take k (word ∷ words))) c ∙ flags_end (options_of site.applet) flags place word (take count words) e) ∙ f in cc)
 
-    by_flags : is_double_dash word ≡ false → is_early_option_word word ≡ true → applet_site (place + 1) words ≡ Ok site → ((g : Flags) → early_flags (options_of site.applet) g (place + 1) (take (site.read - (place + 1)) words) ≡ Err at → IsForeignWord site.applet words (at - (place + 1))) → (more : Option Flags) → flags_with_option_word (options_of site.applet) flags word ≡ more → IsForeignWord site.applet (word ∷ words) (at - place)
+    by_flags : is_double_dash word ≡ false → is_early_option_word word ≡ true → applet_site (place + 1) words ≡ Ok site → ((g : Flags) → flags_with_early_options (options_of site.applet) g (place + 1) (take (site.read - (place + 1)) words) ≡ Err at → IsForeignWord site.applet words (at - (place + 1))) → (more : Option Flags) → flags_with_option_word (options_of site.applet) flags word ≡ more → IsForeignWord site.applet (word ∷ words) (at - place)
     by_flags e y rest others more m =
         let least : place + 1 ≤ site.read = IfOk-at_ok (λ (x : AppletSite). place + 1 ≤ x.read) rest (site_low (place + 1) words) in
         let next : site.read - place ≡ suc (site.read - (place + 1)) = omega (arith, least) in
-        let read : early_flags (options_of site.applet) flags place (word ∷ take (site.read - (place + 1)) words) ≡ Err at = ap (λ k. early_flags (options_of site.applet) flags place (take k (word ∷ words))) (sym next) ∙ f in
+        let read : flags_with_early_options (options_of site.applet) flags place (word ∷ take (site.read - (place + 1)) words) ≡ Err at = ap (λ k. flags_with_early_options (options_of site.applet) flags place (take k (word ∷ words))) (sym next) ∙ f in
         by_option more m read
       where
-        by_option : (more : Option Flags) → flags_with_option_word (options_of site.applet) flags word ≡ more → early_flags (options_of site.applet) flags place (word ∷ take (site.read - (place + 1)) words) ≡ Err at → IsForeignWord site.applet (word ∷ words) (at - place)
+        by_option : (more : Option Flags) → flags_with_option_word (options_of site.applet) flags word ≡ more → flags_with_early_options (options_of site.applet) flags place (word ∷ take (site.read - (place + 1)) words) ≡ Err at → IsForeignWord site.applet (word ∷ words) (at - place)
         by_option None m read =
             let same : Err place ≡ Err at = sym (flags_step (options_of site.applet) flags place word (take (site.read - (place + 1)) words) None e m) ∙ read in
             let here : place ≡ at = cc in
             let first : 0 ≡ at - place = omega (arith, here) in
             subst (λ i. IsForeignWord site.applet (word ∷ words) i) first (record { word = word; at = refl; early = y; flags = flags; refused = m })
         by_option (Some g) m read =
-            let later : early_flags (options_of site.applet) g (place + 1) (take (site.read - (place + 1)) words) ≡ Err at = sym (flags_step (options_of site.applet) flags place word (take (site.read - (place + 1)) words) (Some g) e m) ∙ read in
+            let later : flags_with_early_options (options_of site.applet) g (place + 1) (take (site.read - (place + 1)) words) ≡ Err at = sym (flags_step (options_of site.applet) flags place word (take (site.read - (place + 1)) words) (Some g) e m) ∙ read in
             let found = others g later in
             let between = flags_between (options_of site.applet) g (place + 1) at (take (site.read - (place + 1)) words) later in
             let index : suc (at - (place + 1)) ≡ at - place = omega (arith, between.0) in

@@ -16,7 +16,7 @@ use Rattle.command_core.specs.declared.values.OptionValue.{OptionValue}
 use Rattle.command_core.specs.declared.values.ValueRule.{ValueRule}
 use Rattle.command_core.specs.Applets.{required_option_letter, operand_rule}
 use Rattle.command_core.specs.Flags.{has_flag, has_command_kind_flag, no_flags, with_flag}
-use Rattle.command_core.specs.Operands.{at_least, first_refused_operand, allows_one_more, is_operand_of_kind, takes}
+use Rattle.command_core.specs.Operands.{at_least, first_refused_operand, allows_one_more_operand, is_operand_of_kind, takes}
 use Rattle.command_core.specs.Values.{excludes, is_excluded_by_earlier_value, is_given, is_single_and_given, is_value_of_kind, is_required_value_missing, option_value_from_place_and_letter}
 use Rattle.words_core.specs.declared.next.NextWord.{NextWord}
 use Rattle.words_core.specs.declared.next.NextWord.TheVariants.{OptionOrCommand, OptionOrOperand, Value as NextValue, Operand as OperandAlone}
@@ -27,7 +27,7 @@ use Rattle.words_core.specs.declared.reading.Reading.{Reading}
 use Rattle.words_core.specs.declared.reading.Start.{Start}
 use Rattle.words_core.specs.declared.usage.UsageReason.{UsageReason}
 use Rattle.words_core.specs.declared.usage.UsageReason.TheVariants.{OptionRepeated, OperandBad, ScriptRepeated, SecondKind, TooManyOperands, ValueBad}
-use Rattle.words_core.specs.Grammar.{applet_site, spelled_command_from_start, command_of, command_from_reading_parts, option_state_at_start, attached_value, is_double_dash, is_option, lacks_operand, lacks_word, spelled_command, start_of_command_line, next_word_of_command_line, next_word_after_option, next_word_after_words, operands_of, option_name, option_reading, reading_after_applet, words_reading_from_parts, refused_operand, value_rule_of_meaning, option_state_from_parts, command_of_reading, with_flags_if_some, state_with_meaning, with_option_value, with_word_if_awaited}
+use Rattle.words_core.specs.Grammar.{applet_site, spelled_command_from_start, command_of, command_from_reading_parts, option_state_at_start, attached_value, is_double_dash, is_option, lacks_operand, lacks_operand_or_required_value, spelled_command, start_of_command_line, next_word_of_command_line, next_word_after_option, next_word_after_words, operands_of, option_name, option_reading, reading_after_applet, words_reading_from_parts, place_of_refused_operand, value_rule_of_meaning, option_state_from_parts, command_of_reading, with_flags_if_some, state_with_meaning, with_option_value, with_word_as_option_or_value}
 use Rattle.words_core.specs.Options.{OptionSpec, option_of_word, options_of}
 use Rattle.words_core.specs.Reasons.{IsUsageReason, IsValueRuleOfWord, HasOptionValue}
 use Rattle.words_core.specs.Usage.{early_reason, end_reason, line_reason, operand_rule_of_words, meaning_reason, missing_reason, operand_reason, option_reason, usage_reason_after_start, repeated_value_reason, usage_reason, value_reason, word_reason}
@@ -185,15 +185,15 @@ module _ (words : List (List ℕ)) (start : Start) (s : start_of_command_line wo
       ∙ (operand_why start.applet (operand_rule_of_words words start) h.word (next_word_of_command_line (take (place - 1) words)) h.next
       ∙ ap (operand_reason h.word) r))
       (elim (is_operand_of_kind rule.kind h.word) as (λ b. is_operand_of_kind rule.kind h.word ≡ b → IsUsageReason (if b then TooManyOperands else OperandBad rule.kind) words place) [
-        | true ↦ λ k. too_many k (allows_one_more rule.most h.count) refl (sym (ap (λ b. allows_one_more rule.most h.count && b) k) ∙ h.refuses)
+        | true ↦ λ k. too_many k (allows_one_more_operand rule.most h.count) refl (sym (ap (λ b. allows_one_more_operand rule.most h.count && b) k) ∙ h.refuses)
         | false ↦ λ k. (h.word, h.at, (start, s, (rule, r, (refl, k))))
       ] refl)
     where
-      by_most : (most : Option ℕ) → rule.most ≡ most → allows_one_more most h.count ≡ false → IsUsageReason TooManyOperands words place
+      by_most : (most : Option ℕ) → rule.most ≡ most → allows_one_more_operand most h.count ≡ false → IsUsageReason TooManyOperands words place
       by_most None m n = absurd (true≢false n)
       by_most (Some most) m n = (let full : most ≤ h.count = ltb-false h.count most n in let less = h.less in (start, s, (rule, r, (most, m, omega (arith, full, less)))))
 
-      too_many : is_operand_of_kind rule.kind h.word ≡ true → (room : Bool) → allows_one_more rule.most h.count ≡ room → (allows_one_more rule.most h.count && true) ≡ false → IsUsageReason TooManyOperands words place
+      too_many : is_operand_of_kind rule.kind h.word ≡ true → (room : Bool) → allows_one_more_operand rule.most h.count ≡ room → (allows_one_more_operand rule.most h.count && true) ≡ false → IsUsageReason TooManyOperands words place
       too_many k true e n = absurd (true≢false (sym (ap (λ b. b && true) e) ∙ n))
       too_many k false e n = by_most rule.most refl e
 
@@ -283,7 +283,7 @@ module _ (words : List (List ℕ)) (start : Start) (s : start_of_command_line wo
       by_option a None o = unknown o
       by_option a (Some option) o =
           meaning_why place u.word option u.at o (attached_value u.word) refl option.meaning refl
-          (sym (ap (with_word_if_awaited (options_of start.applet) (reading_after_applet start words).state place u.word) a
+          (sym (ap (with_word_as_option_or_value (options_of start.applet) (reading_after_applet start words).state place u.word) a
           ∙ ap (option_and_then (λ (e : OptionSpec). state_with_meaning (reading_after_applet start words).state place (attached_value u.word) e.meaning)) o) ∙ u.unread)
 
       by_awaiting : (awaiting : Option ValueRule) → (reading_after_applet start words).state.awaiting ≡ awaiting → IsUsageReason (usage_reason words place) words place
@@ -291,7 +291,7 @@ module _ (words : List (List ℕ)) (start : Start) (s : start_of_command_line wo
           holds place (value_reason rule u.word)
           (word_is place u.word (NextValue start.applet rule) u.at (u.next ∙ ap (next_word_after_option start.applet) a))
           (value_why place u.word rule u.word u.at (inl a) (λ P p. inl (rule, a, p))
-          (inl (no_value rule (sym (ap (with_word_if_awaited (options_of start.applet) (reading_after_applet start words).state place u.word) a) ∙ u.unread))))
+          (inl (no_value rule (sym (ap (with_word_as_option_or_value (options_of start.applet) (reading_after_applet start words).state place u.word) a) ∙ u.unread))))
       by_awaiting None a =
           let option : (is_option u.word && not (is_double_dash u.word)) ≡ true = sym (ap (λ o. is_some o || (is_option u.word && not (is_double_dash u.word))) a) ∙ u.taken in
           holds place (option_reason u.word (option_of_word (options_of start.applet) (option_name u.word)))
@@ -304,7 +304,7 @@ module _ (words : List (List ℕ)) (start : Start) (s : start_of_command_line wo
   unread_why place (inr u) = subst (λ r. IsUsageReason r words place) (sym (end_is place (NextValue start.applet u.rule) u.end u.next)) (u.end, (start, s, ap is_some u.awaits))
 
   -- a word that is missing
-  missing_why : (place : ℕ) → place ≡ length words + 1 → lacks_word start.applet (operand_rule_of_words words start) (reading_after_applet start words) ≡ true → IsUsageReason (missing_reason (required_option_letter start.applet) (operand_rule_of_words words start)) words place
+  missing_why : (place : ℕ) → place ≡ length words + 1 → lacks_operand_or_required_value start.applet (operand_rule_of_words words start) (reading_after_applet start words) ≡ true → IsUsageReason (missing_reason (required_option_letter start.applet) (operand_rule_of_words words start)) words place
   missing_why place e k = by_needed (required_option_letter start.applet) refl
     where
       operands_read : List Operand
@@ -343,7 +343,7 @@ module _ (words : List (List ℕ)) (start : Start) (s : start_of_command_line wo
           (e, (start, s, (letter, n, not_given (is_given letter (reading_after_applet start words).state.values) none)))
       by_needed None n = by_rule n (operand_rule_of_words words start) refl
 
-  lacks_why : (place : ℕ) → place ≡ length words + 1 → (reading_after_applet start words).unread ≡ None → lacks_word start.applet (operand_rule_of_words words start) (reading_after_applet start words) ≡ true → IsUsageReason (usage_reason words place) words place
+  lacks_why : (place : ℕ) → place ≡ length words + 1 → (reading_after_applet start words).unread ≡ None → lacks_operand_or_required_value start.applet (operand_rule_of_words words start) (reading_after_applet start words) ≡ true → IsUsageReason (usage_reason words place) words place
   lacks_why place e u k =
       elim (free u) as (λ _. IsUsageReason (usage_reason words place) words place) [
         | inl n ↦ subst (λ r. IsUsageReason r words place) (sym (end_is place (OperandAlone start.applet) e n)) (missing_why place e k)
@@ -353,20 +353,20 @@ module _ (words : List (List ℕ)) (start : Start) (s : start_of_command_line wo
   -- all that can be judged bad
   judged_why : (place : ℕ) → command_of_reading (length words + 1) start.applet (reading_after_applet start words) ≡ Err place → IsUsageReason (usage_reason words place) words place
   judged_why place h = elim (judged_at start.applet (reading_after_applet start words) (length words + 1) place h) as (λ _. IsUsageReason (usage_reason words place) words place) [
-    | inl first ↦ by_refused (refused_operand (operand_rule_of_words words start) (reading_after_applet start words).operands) refl first
-    | inr last ↦ (let none = both_none (refused_operand (operand_rule_of_words words start) (reading_after_applet start words).operands) (reading_after_applet start words).unread last.0 in
-        lacks_why place last.1 none.1 (lacking none.0 none.1 (lacks_word start.applet (operand_rule_of_words words start) (reading_after_applet start words)) refl))
+    | inl first ↦ by_refused (place_of_refused_operand (operand_rule_of_words words start) (reading_after_applet start words).operands) refl first
+    | inr last ↦ (let none = both_none (place_of_refused_operand (operand_rule_of_words words start) (reading_after_applet start words).operands) (reading_after_applet start words).unread last.0 in
+        lacks_why place last.1 none.1 (lacking none.0 none.1 (lacks_operand_or_required_value start.applet (operand_rule_of_words words start) (reading_after_applet start words)) refl))
   ]
     where
-      by_rule : (rule : Option OperandRule) → operand_rule_of_words words start ≡ rule → refused_operand rule (reading_after_applet start words).operands ≡ Some place → IsUsageReason (usage_reason words place) words place
+      by_rule : (rule : Option OperandRule) → operand_rule_of_words words start ≡ rule → place_of_refused_operand rule (reading_after_applet start words).operands ≡ Some place → IsUsageReason (usage_reason words place) words place
       by_rule None r e = absurd (none-some place e)
       by_rule (Some rule) r e = refused_why place rule r (refused_is start.applet words rule 0 place (reading_after_applet start words).operands operands e)
 
-      by_refused : (o : Option ℕ) → refused_operand (operand_rule_of_words words start) (reading_after_applet start words).operands ≡ o → option_or o (reading_after_applet start words).unread ≡ Some place → IsUsageReason (usage_reason words place) words place
+      by_refused : (o : Option ℕ) → place_of_refused_operand (operand_rule_of_words words start) (reading_after_applet start words).operands ≡ o → option_or o (reading_after_applet start words).unread ≡ Some place → IsUsageReason (usage_reason words place) words place
       by_refused None e f = unread_why place (unread place f)
       by_refused (Some at) e f = by_rule (operand_rule_of_words words start) refl (e ∙ f)
 
-      lacking : refused_operand (operand_rule_of_words words start) (reading_after_applet start words).operands ≡ None → (reading_after_applet start words).unread ≡ None → (b : Bool) → lacks_word start.applet (operand_rule_of_words words start) (reading_after_applet start words) ≡ b → lacks_word start.applet (operand_rule_of_words words start) (reading_after_applet start words) ≡ true
+      lacking : place_of_refused_operand (operand_rule_of_words words start) (reading_after_applet start words).operands ≡ None → (reading_after_applet start words).unread ≡ None → (b : Bool) → lacks_operand_or_required_value start.applet (operand_rule_of_words words start) (reading_after_applet start words) ≡ b → lacks_operand_or_required_value start.applet (operand_rule_of_words words start) (reading_after_applet start words) ≡ true
       lacking r u true k = k
       lacking r u false k = absurd (let good : Ok (command_from_reading_parts (length words + 1) start.applet (reading_after_applet start words)) ≡ Err place = sym (judged_good start.applet (reading_after_applet start words) (length words + 1) r u k) ∙ h in cc)
 

@@ -16,7 +16,7 @@ use Rattle.command_core.specs.Flags.{has_command_kind_flag}
 use Rattle.command_core.specs.Operands.{first_refused_operand}
 use Rattle.words_core.specs.declared.reading.Reading.{Reading}
 use Rattle.words_core.specs.declared.reading.Start.{Start}
-use Rattle.words_core.specs.Grammar.{spelled_command_from_start, command_of_reading, spelled_command, start_of_command_line, operands_of, option_reading, reading_after_applet, refused_operand}
+use Rattle.words_core.specs.Grammar.{spelled_command_from_start, command_of_reading, spelled_command, start_of_command_line, operands_of, option_reading, reading_after_applet, place_of_refused_operand}
 use Rattle.words_core.specs.Kinds.{can_info_kind_follow, can_info_kind_follow_if_started, can_started_words_get_info_kind, is_info_applet}
 use Rattle.words_core.specs.Options.{OptionSpec, options_of}
 use Rattle.words_core.specs.Stuck.{have_options_ended}
@@ -109,7 +109,7 @@ longer_or_same words more start known k = by_going (from_going start words low)
 -- ---- the first that offends
 
 abbrev pub first_of : Applet → Reading → Option ℕ
-first_of applet reading = option_or (refused_operand (operand_rule applet reading.state.flags) reading.operands) reading.unread
+first_of applet reading = option_or (place_of_refused_operand (operand_rule applet reading.state.flags) reading.operands) reading.unread
 
 -- an operand that offends before a place, where no word before it cannot be read
 alone : (end place : ℕ) (o unread : Option ℕ) → IsOpen end unread → place < end → option_or o unread ≡ Some place → o ≡ Some place
@@ -118,12 +118,12 @@ alone end place None unread open_from l h = absurd (omega (arith, open_from plac
 
 first_stays : (applet : Applet) (end : ℕ) (reading longer : Reading) (place : ℕ) → IsLonger applet end reading longer → place < end → first_of applet reading ≡ Some place → first_of applet longer ≡ Some place
 first_stays applet end reading longer place long l h =
-    by_rule (operand_rule applet reading.state.flags) refl (alone end place (refused_operand (operand_rule applet reading.state.flags) reading.operands) reading.unread long.unread l h)
+    by_rule (operand_rule applet reading.state.flags) refl (alone end place (place_of_refused_operand (operand_rule applet reading.state.flags) reading.operands) reading.unread long.unread l h)
   where
-    by_rule : (rule : Option OperandRule) → operand_rule applet reading.state.flags ≡ rule → refused_operand rule reading.operands ≡ Some place → first_of applet longer ≡ Some place
+    by_rule : (rule : Option OperandRule) → operand_rule applet reading.state.flags ≡ rule → place_of_refused_operand rule reading.operands ≡ Some place → first_of applet longer ≡ Some place
     by_rule None r e = absurd (none-some place e)
     by_rule (Some rule) r e =
-        ap (λ o. option_or (refused_operand o longer.operands) longer.unread) (long.rule rule r)
+        ap (λ o. option_or (place_of_refused_operand o longer.operands) longer.unread) (long.rule rule r)
         ∙ ap (λ o. option_or o longer.unread) (ap (first_refused_operand rule 0) long.operands ∙ refused_append rule 0 place reading.operands long.new e)
 
 -- what is said of words is so from where their applet was found

@@ -23,7 +23,7 @@ use Rattle.words_core.specs.declared.reading.AppletSite.{AppletSite}
 use Rattle.words_core.specs.declared.reading.OptionState.{OptionState}
 use Rattle.words_core.specs.declared.reading.Reading.{Reading}
 use Rattle.words_core.specs.declared.reading.Start.{Start}
-use Rattle.words_core.specs.Grammar.{applet_site, spelled_command_from_start, spelled_command, command_from_reading_parts, early_flags, is_double_dash, is_option, lacks_operand, lacks_word, start_of_command_line, option_reading, or_err_at, reading_after_applet, words_reading_from_parts, refused_operand, applet_site_of_word, site_after_end, applet_site_from_parts, start_after_site, start_with_early_flags, option_state_from_parts, unless_refused_at, command_of_reading, with_word_if_awaited}
+use Rattle.words_core.specs.Grammar.{applet_site, spelled_command_from_start, spelled_command, command_from_reading_parts, flags_with_early_options, is_double_dash, is_option, lacks_operand, lacks_operand_or_required_value, start_of_command_line, option_reading, or_err_at, reading_after_applet, words_reading_from_parts, place_of_refused_operand, applet_site_of_word, applet_site_after_double_dash, applet_site_from_parts, start_after_site, start_with_early_flags, option_state_from_parts, unless_refused_at, command_of_reading, with_word_as_option_or_value}
 use Rattle.words_core.specs.Options.{OptionSpec, applet_of, applet_word, applets, is_early_option_word, options_of}
 use Rattle.words_core.specs.Stuck.{are_stuck_by, awaits_impossible_value, has_script, have_options_ended, has_all_possible_values, is_stuck, is_stuck_by, is_required_option_missing, are_options_of}
 use Rattle.words_core.proofs.GoneOn.{IsRemovedPackage, from_going}
@@ -41,14 +41,14 @@ IsBad applet reading = (end : ℕ) → (place : ℕ) × (command_of_reading end 
 pub unread_bad : (applet : Applet) (reading : Reading) (at : ℕ) → reading.unread ≡ Some at → IsBad applet reading
 unfolding command_of_reading
 unread_bad applet reading at u end =
-    let rest = if lacks_word applet (operand_rule applet reading.state.flags) reading then Err end else Ok (command_from_reading_parts end applet reading) in
-    elim (refused_operand (operand_rule applet reading.state.flags) reading.operands) as (λ o. (place : ℕ) × (unless_refused_at (option_or o reading.unread) rest ≡ Err place)) [
+    let rest = if lacks_operand_or_required_value applet (operand_rule applet reading.state.flags) reading then Err end else Ok (command_from_reading_parts end applet reading) in
+    elim (place_of_refused_operand (operand_rule applet reading.state.flags) reading.operands) as (λ o. (place : ℕ) × (unless_refused_at (option_or o reading.unread) rest ≡ Err place)) [
       | None ↦ (at, ap (λ x. unless_refused_at x rest) u)
       | Some place ↦ (place, refl)
     ]
 
 -- nor is what lacks an option
-pub lacks_by_option : (applet : Applet) (reading : Reading) → is_required_option_missing applet reading.state ≡ true → lacks_word applet (operand_rule applet reading.state.flags) reading ≡ true
+pub lacks_by_option : (applet : Applet) (reading : Reading) → is_required_option_missing applet reading.state ≡ true → lacks_operand_or_required_value applet (operand_rule applet reading.state.flags) reading ≡ true
 lacks_by_option applet reading h =
     let needed = is_required_value_missing (required_option_letter applet) reading.state.values in
     elim (operand_rule applet reading.state.flags) as (λ r. (not (is_some r) || needed) ≡ true → (lacks_operand r reading.operands || needed) ≡ true) [
@@ -63,7 +63,7 @@ bad_by (Some at) lacking end command e = (at, refl)
 pub lacking_bad : (applet : Applet) (reading : Reading) → is_required_option_missing applet reading.state ≡ true → IsBad applet reading
 unfolding command_of_reading
 lacking_bad applet reading h end =
-    bad_by (option_or (refused_operand (operand_rule applet reading.state.flags) reading.operands) reading.unread) (lacks_word applet (operand_rule applet reading.state.flags) reading) end (command_from_reading_parts end applet reading) (lacks_by_option applet reading h)
+    bad_by (option_or (place_of_refused_operand (operand_rule applet reading.state.flags) reading.operands) reading.unread) (lacks_operand_or_required_value applet (operand_rule applet reading.state.flags) reading) end (command_from_reading_parts end applet reading) (lacks_by_option applet reading h)
 
 -- a value of an option that can have no value more
 pub both_at : (p q : List ℕ → Bool) (xs : List (List ℕ)) → list_all p xs ≡ true → list_any q xs ≡ true → (x : List ℕ) × (p x ≡ true) × (q x ≡ true)
@@ -93,7 +93,7 @@ awaited_whole options state end rule [] a f = ap (λ o. words_reading_from_parts
 awaited_whole options state end rule (word ∷ words) a f =
     let next : OptionState = option_state_from_parts state.flags (state.values ++ (option_value_from_place_and_letter end rule.letter word ∷ [])) None in
     step_taken options state end word words None (awaited_taken state word rule a)
-    (ap (with_word_if_awaited options state end word) a ∙ ap (λ b. if b then Some next else None) (no_fit rule.letter rule.single rule.kind state.values word f))
+    (ap (with_word_as_option_or_value options state end word) a ∙ ap (λ b. if b then Some next else None) (no_fit rule.letter rule.single rule.kind state.values word f))
 
 pub awaited_unread : (options : List OptionSpec) (state : OptionState) (end : ℕ) (rule : ValueRule) (more : List (List ℕ)) → state.awaiting ≡ Some rule → has_all_possible_values rule.kind rule.letter state.values ≡ true → (option_reading options state end more).unread ≡ Some end
 awaited_unread options state end rule more a f = ap (λ (r : Reading). r.unread) (awaited_whole options state end rule more a f)
@@ -161,8 +161,8 @@ named_later ended place at words more word l =
       | Some applet ↦ λ e. record { word = word; names = e; late = l }
     ] refl
 
-end_later : (place at : ℕ) (words more : List (List ℕ)) (left : List (List ℕ)) → at + length words ≤ place → IfOk (site_after_end place left) (λ s. IsNotFirst words more at s)
-unfolding site_after_end
+end_later : (place at : ℕ) (words more : List (List ℕ)) (left : List (List ℕ)) → at + length words ≤ place → IfOk (applet_site_after_double_dash place left) (λ s. IsNotFirst words more at s)
+unfolding applet_site_after_double_dash
 end_later place at words more [] l = tt
 end_later place at words more (word ∷ left) l = named_later true place at words more word l
 
@@ -170,7 +170,7 @@ any_later : (place at : ℕ) (words more : List (List ℕ)) (left : List (List �
 any_later place at words more [] l = tt
 any_later place at words more (word ∷ left) l =
     let next : at + length words ≤ place + 1 = omega arith in
-    elim (is_double_dash word) as (λ b. IfOk (if b then site_after_end (place + 1) left else if is_option word then (if is_early_option_word word then applet_site (place + 1) left else Err place) else applet_site_of_word false place word) (λ s. IsNotFirst words more at s)) [
+    elim (is_double_dash word) as (λ b. IfOk (if b then applet_site_after_double_dash (place + 1) left else if is_option word then (if is_early_option_word word then applet_site (place + 1) left else Err place) else applet_site_of_word false place word) (λ s. IsNotFirst words more at s)) [
       | true ↦ end_later (place + 1) at words more left next
       | false ↦ elim (is_option word) as (λ b. IfOk (if b then (if is_early_option_word word then applet_site (place + 1) left else Err place) else applet_site_of_word false place word) (λ s. IsNotFirst words more at s)) [
         | true ↦ elim (is_early_option_word word) as (λ b. IfOk (if b then applet_site (place + 1) left else Err place) (λ s. IsNotFirst words more at s)) [
@@ -181,8 +181,8 @@ any_later place at words more (word ∷ left) l =
       ]
     ]
 
-end_site_later : (place : ℕ) (word : List ℕ) (words more : List (List ℕ)) → site_after_end (place + 1) words ≡ Err (place + length (word ∷ words)) → IfOk (site_after_end (place + 1) (words ++ more)) (λ s. IsNotFirst (word ∷ words) more place s)
-unfolding site_after_end
+end_site_later : (place : ℕ) (word : List ℕ) (words more : List (List ℕ)) → applet_site_after_double_dash (place + 1) words ≡ Err (place + length (word ∷ words)) → IfOk (applet_site_after_double_dash (place + 1) (words ++ more)) (λ s. IsNotFirst (word ∷ words) more place s)
+unfolding applet_site_after_double_dash
 end_site_later place word [] more h = end_later (place + 1) place (word ∷ []) more more (omega arith)
 end_site_later place word (next ∷ words) more h =
     absurd (let same : place + length (word ∷ (next ∷ words)) ≡ place + 1 = err_here (place + 1) (place + length (word ∷ (next ∷ words))) true next h in omega arith)
@@ -223,19 +223,19 @@ no_applet_stays words more at s k =
           by_site (applet_site 1 (words ++ more)) refl (site_later 1 words more (s ∙ ap Err end)))
     ]
   where
-    by_flags : (site : AppletSite) → applet_site 1 (words ++ more) ≡ Ok site → (f : Result Flags ℕ) → early_flags (options_of site.applet) no_flags 1 words ≡ f → is_ok f ≡ false → length words ≤ site.read - 1 → (place : ℕ) × (spelled_command_from_start (words ++ more) (start_of_command_line (words ++ more)) ≡ Err place)
+    by_flags : (site : AppletSite) → applet_site 1 (words ++ more) ≡ Ok site → (f : Result Flags ℕ) → flags_with_early_options (options_of site.applet) no_flags 1 words ≡ f → is_ok f ≡ false → length words ≤ site.read - 1 → (place : ℕ) × (spelled_command_from_start (words ++ more) (start_of_command_line (words ++ more)) ≡ Err place)
     by_flags site found (Ok flags) f n l = absurd (true≢false n)
     by_flags site found (Err place) f n l = (
       place,
       ap (λ r. spelled_command_from_start (words ++ more) (start_after_site (words ++ more) r)) found
-          ∙ (ap (λ ws. spelled_command_from_start (words ++ more) (start_with_early_flags site (early_flags (options_of site.applet) no_flags 1 ws))) (take_more (site.read - 1) words more l)
+          ∙ (ap (λ ws. spelled_command_from_start (words ++ more) (start_with_early_flags site (flags_with_early_options (options_of site.applet) no_flags 1 ws))) (take_more (site.read - 1) words more l)
           ∙ ap (λ r. spelled_command_from_start (words ++ more) (start_with_early_flags site r)) (flags_offend (options_of site.applet) no_flags 1 place words (take (site.read - 1 - length words) more) f)),
     )
 
     by_site : (r : Result AppletSite ℕ) → applet_site 1 (words ++ more) ≡ r → IfOk r (λ x. IsNotFirst words more 1 x) → (place : ℕ) × (spelled_command_from_start (words ++ more) (start_of_command_line (words ++ more)) ≡ Err place)
     by_site (Err place) found later = (place, ap (λ r. spelled_command_from_start (words ++ more) (start_after_site (words ++ more) r)) found)
     by_site (Ok site) found later =
-        by_flags site found (early_flags (options_of site.applet) no_flags 1 words) refl
+        by_flags site found (flags_with_early_options (options_of site.applet) no_flags 1 words) refl
         (not_any (are_options_of words) applets (λ applet. bytes_eq (applet_word applet) later.word) site.applet k later.names)
         (omega (arith, later.late))
 

@@ -11,7 +11,7 @@ use Rattle.command_core.specs.Operands.{first_refused_operand, operand_at}
 use Rattle.words_core.specs.declared.reading.OptionState.{OptionState}
 use Rattle.words_core.specs.declared.reading.Reading.{Reading}
 use Rattle.words_core.specs.declared.reading.Start.{Start}
-use Rattle.words_core.specs.Grammar.{spelled_command_from_start, spelled_command, command_from_reading_parts, option_state_at_start, is_double_dash, is_option_or_value, lacks_word, start_of_command_line, operands_of, option_reading, or_stop_at_unread_word, reading_after_applet, words_reading_from_parts, refused_operand, unless_refused_at, command_of_reading, with_operand, with_option_or_value_word}
+use Rattle.words_core.specs.Grammar.{spelled_command_from_start, spelled_command, command_from_reading_parts, option_state_at_start, is_double_dash, is_option_or_value, lacks_operand_or_required_value, start_of_command_line, operands_of, option_reading, or_stop_at_unread_word, reading_after_applet, words_reading_from_parts, place_of_refused_operand, unless_refused_at, command_of_reading, with_operand, with_option_or_value_word}
 use Rattle.words_core.specs.Kinds.{can_info_kind_follow, can_started_words_get_info_kind}
 use Rattle.words_core.specs.Options.{OptionSpec, options_of}
 use Rattle.words_core.proofs.KindsKept.{IsPlain, start_known}
@@ -84,12 +84,12 @@ IsGood applet reading = (rule : OperandRule) × (operand_rule applet reading.sta
 pub good_of : (applet : Applet) (reading : Reading) (behind : ℕ) (command : CommandLine) → command_of_reading behind applet reading ≡ Ok command → IsGood applet reading
 unfolding command_of_reading
 good_of applet reading behind command h =
-    elim (operand_rule applet reading.state.flags) as (λ r. operand_rule applet reading.state.flags ≡ r → unless_refused_at (option_or (refused_operand r reading.operands) reading.unread) (if lacks_word applet r reading then Err behind else Ok (command_from_reading_parts behind applet reading)) ≡ Ok command → IsGood applet reading) [
+    elim (operand_rule applet reading.state.flags) as (λ r. operand_rule applet reading.state.flags ≡ r → unless_refused_at (option_or (place_of_refused_operand r reading.operands) reading.unread) (if lacks_operand_or_required_value applet r reading then Err behind else Ok (command_from_reading_parts behind applet reading)) ≡ Ok command → IsGood applet reading) [
       | None ↦ λ r. elim reading.unread as (λ u. unless_refused_at (option_or None u) (Err behind) ≡ Ok command → IsGood applet reading) [
         | None ↦ λ (e : Err behind ≡ Ok command). absurd (cc)
         | Some at ↦ λ (e : Err at ≡ Ok command). absurd (cc)
       ]
-      | Some rule ↦ λ r. elim (option_or (first_refused_operand rule 0 reading.operands) reading.unread) as (λ o. option_or (first_refused_operand rule 0 reading.operands) reading.unread ≡ o → unless_refused_at o (if lacks_word applet (Some rule) reading then Err behind else Ok (command_from_reading_parts behind applet reading)) ≡ Ok command → IsGood applet reading) [
+      | Some rule ↦ λ r. elim (option_or (first_refused_operand rule 0 reading.operands) reading.unread) as (λ o. option_or (first_refused_operand rule 0 reading.operands) reading.unread ≡ o → unless_refused_at o (if lacks_operand_or_required_value applet (Some rule) reading then Err behind else Ok (command_from_reading_parts behind applet reading)) ≡ Ok command → IsGood applet reading) [
         | None ↦ λ o e. (let both = both_none (first_refused_operand rule 0 reading.operands) reading.unread o in (rule, r, both.0, both.1))
         | Some at ↦ λ o (e : Err at ≡ Ok command). absurd (cc)
       ] refl
@@ -111,7 +111,7 @@ offends_after words more command place k c h =
           | inr long ↦ long.rule rule r
         ]
 
-    by_first : (start : Start) → IsPlain start (1 + length words) → can_started_words_get_info_kind words start ≡ false → IsGood start.applet (reading_after_applet start words) → option_or (refused_operand (operand_rule start.applet (reading_after_applet start (words ++ more)).state.flags) (reading_after_applet start (words ++ more)).operands) (reading_after_applet start (words ++ more)).unread ≡ Some place → length words < place
+    by_first : (start : Start) → IsPlain start (1 + length words) → can_started_words_get_info_kind words start ≡ false → IsGood start.applet (reading_after_applet start words) → option_or (place_of_refused_operand (operand_rule start.applet (reading_after_applet start (words ++ more)).state.flags) (reading_after_applet start (words ++ more)).operands) (reading_after_applet start (words ++ more)).unread ≡ Some place → length words < place
     by_first start known fixed good first =
         let low : start.read ≤ length words = omega (arith, known.read) in
         let longer = reading_after_applet start (words ++ more) in
@@ -122,7 +122,7 @@ offends_after words more command place k c h =
         elim (first_refused_operand good.0 (0 + length (reading_after_applet start words).operands) add.new) as (λ o. first_refused_operand good.0 (0 + length (reading_after_applet start words).operands) add.new ≡ o → option_or o longer.unread ≡ Some place → length words < place) [
           | None ↦ λ f e. (let behind : length words + 1 ≤ place = add.unread good.3 place e in omega arith)
           | Some at ↦ λ f (e : Some at ≡ Some place). (let is = refused_between good.0 (0 + length (reading_after_applet start words).operands) (length words + 1) (length words + 1 + length more) place add.new add.placed (f ∙ e) in omega (arith, is.0))
-        ] refl (ap (λ o. option_or o longer.unread) (sym refused) ∙ (ap (λ r. option_or (refused_operand r longer.operands) longer.unread) (sym rule_is) ∙ first))
+        ] refl (ap (λ o. option_or o longer.unread) (sym refused) ∙ (ap (λ r. option_or (place_of_refused_operand r longer.operands) longer.unread) (sym rule_is) ∙ first))
 
     by_start : (start : Start) → start_of_command_line words ≡ Ok start → command_of_reading (length words + 1) start.applet (reading_after_applet start words) ≡ Ok command → length words < place
     by_start start s e =

@@ -12,7 +12,7 @@ use Rattle.command_core.specs.declared.values.OptionValue.{OptionValue}
 use Rattle.command_core.specs.Applets.{required_option_letter, operand_rule}
 use Rattle.command_core.specs.Sound.{may_have_flags, value_rules, is_valid_command, are_allowed_operands, is_count_within_limit, are_allowed_values}
 use Rattle.command_core.specs.Command.{command_from_parts}
-use Rattle.command_core.specs.Operands.{first_refused_operand, allows_one_more, is_operand_of_kind, takes}
+use Rattle.command_core.specs.Operands.{first_refused_operand, allows_one_more_operand, is_operand_of_kind, takes}
 use Rattle.command_core.specs.Values.{is_given, is_required_value_missing}
 
 -- operands that are taken are of the rule's kind
@@ -21,7 +21,7 @@ all_of_kind rule before [] h = refl
 all_of_kind rule before (o ∷ os) h =
     elim (takes rule before o.text) as (λ b. takes rule before o.text ≡ b → (if b then first_refused_operand rule (before + 1) os else Some o.place) ≡ None → list_all (λ (x : Operand). is_operand_of_kind rule.kind x.text) (o ∷ os) ≡ true) [
       | true ↦ λ t (rest : first_refused_operand rule (before + 1) os ≡ None).
-          and_from (is_operand_of_kind rule.kind o.text) _ (and_parts (allows_one_more rule.most before) (is_operand_of_kind rule.kind o.text) t).1 (all_of_kind rule (before + 1) os rest)
+          and_from (is_operand_of_kind rule.kind o.text) _ (and_parts (allows_one_more_operand rule.most before) (is_operand_of_kind rule.kind o.text) t).1 (all_of_kind rule (before + 1) os rest)
       | false ↦ λ t (here : Some o.place ≡ None). absurd (none-some o.place (sym here))
     ] refl h
 
@@ -31,7 +31,7 @@ no_more rule most before [] r l h = omega arith
 no_more rule most before (o ∷ os) r l h =
     elim (takes rule before o.text) as (λ b. takes rule before o.text ≡ b → (if b then first_refused_operand rule (before + 1) os else Some o.place) ≡ None → before + length (o ∷ os) ≤ most) [
       | true ↦ λ t (rest : first_refused_operand rule (before + 1) os ≡ None).
-          let room : allows_one_more (Some most) before ≡ true = ap (λ m. allows_one_more m before) (sym r) ∙ (and_parts (allows_one_more rule.most before) (is_operand_of_kind rule.kind o.text) t).0 in
+          let room : allows_one_more_operand (Some most) before ≡ true = ap (λ m. allows_one_more_operand m before) (sym r) ∙ (and_parts (allows_one_more_operand rule.most before) (is_operand_of_kind rule.kind o.text) t).0 in
           let below : before < most = ltb-true before most room in
           let more : before + 1 ≤ most = omega arith in
           let fits : before + 1 + length os ≤ most = no_more rule most (before + 1) os r more rest in

@@ -33,7 +33,7 @@ use Rattle.command_core.specs.Values.{excludes, is_excluded_by_earlier_value, is
 use Rattle.words_core.specs.declared.reading.OptionState.{OptionState}
 use Rattle.words_core.specs.declared.reading.Reading.{Reading}
 use Rattle.words_core.specs.declared.reading.Start.{Start}
-use Rattle.words_core.specs.Grammar.{spelled_command_from_start, spelled_command, command_from_reading_parts, attached_value, lacks_word, start_of_command_line, operands_of, option_name, option_reading, reading_after_applet, words_reading_from_parts, refused_operand, option_state_from_parts, command_of_reading, with_operand, with_word_if_awaited}
+use Rattle.words_core.specs.Grammar.{spelled_command_from_start, spelled_command, command_from_reading_parts, attached_value, lacks_operand_or_required_value, start_of_command_line, operands_of, option_name, option_reading, reading_after_applet, words_reading_from_parts, place_of_refused_operand, option_state_from_parts, command_of_reading, with_operand, with_word_as_option_or_value}
 use Rattle.words_core.specs.Options.{OptionSpec, common_options, options_of}
 use Rattle.words_core.specs.Stuck.{awaits_impossible_value, has_script, have_options_ended, has_all_possible_values, is_stuck, is_required_option_missing}
 use Rattle.words_core.proofs.GivenKept.{from_kept}
@@ -60,7 +60,7 @@ pub one_more : (os : List Operand) (o : Operand) → nat_lt (length (os ++ (o �
 one_more [] o = refl
 one_more (p ∷ os) o = le-ltb (length (p ∷ (os ++ (o ∷ [])))) 1 (omega arith)
 
-pub judged_good : (applet : Applet) (reading : Reading) (end : ℕ) → refused_operand (operand_rule applet reading.state.flags) reading.operands ≡ None → reading.unread ≡ None → lacks_word applet (operand_rule applet reading.state.flags) reading ≡ false → command_of_reading end applet reading ≡ Ok (command_from_reading_parts end applet reading)
+pub judged_good : (applet : Applet) (reading : Reading) (end : ℕ) → place_of_refused_operand (operand_rule applet reading.state.flags) reading.operands ≡ None → reading.unread ≡ None → lacks_operand_or_required_value applet (operand_rule applet reading.state.flags) reading ≡ false → command_of_reading end applet reading ≡ Ok (command_from_reading_parts end applet reading)
 unfolding command_of_reading
 judged_good applet reading end taken u enough = rw taken (rw u (rw enough refl))
 
@@ -188,7 +188,7 @@ wanted_fit rule os p h = by_most rule.most refl
         le-leb (length os + (rule.least - length os)) most (omega arith)
 
 -- where no option is lacking, operands complete what was read
-pub can_have_texts : (applet : Applet) (state : OptionState) (os : List Operand) (at : ℕ) → is_required_option_missing applet state ≡ false → refused_operand (operand_rule applet state.flags) os ≡ None → CanHaveTexts applet state os at
+pub can_have_texts : (applet : Applet) (state : OptionState) (os : List Operand) (at : ℕ) → is_required_option_missing applet state ≡ false → place_of_refused_operand (operand_rule applet state.flags) os ≡ None → CanHaveTexts applet state os at
 can_have_texts applet state os at k h = by_rule (operand_rule applet state.flags) refl k h
   where
     wanted_fit_at : (rule : OperandRule) (os : List Operand) → operand_rule applet state.flags ≡ Some rule → first_refused_operand rule 0 os ≡ None → is_count_within_limit rule.most (0 + length os + (rule.least - length os)) ≡ true
@@ -196,7 +196,7 @@ can_have_texts applet state os at k h = by_rule (operand_rule applet state.flags
         let same : 0 + length os + (rule.least - length os) ≡ length os + (rule.least - length os) = omega arith in
         ap (is_count_within_limit rule.most) same ∙ wanted_fit rule os (rule_possible applet state.flags rule r) h
 
-    by_rule : (o : Option OperandRule) → operand_rule applet state.flags ≡ o → (not (is_some o) || is_required_value_missing (required_option_letter applet) state.values) ≡ false → refused_operand o os ≡ None → CanHaveTexts applet state os at
+    by_rule : (o : Option OperandRule) → operand_rule applet state.flags ≡ o → (not (is_some o) || is_required_value_missing (required_option_letter applet) state.values) ≡ false → place_of_refused_operand o os ≡ None → CanHaveTexts applet state os at
     by_rule None r k h = absurd (true≢false k)
     by_rule (Some rule) r k h =
         let count : ℕ = rule.least - length os in
@@ -210,8 +210,8 @@ can_have_texts applet state os at k h = by_rule (operand_rule applet state.flags
           texts,
           samples_read rule.kind count,
           λ end. judged_good applet reading end
-              (ap (λ o. refused_operand o reading.operands) r ∙ taken) refl
-              (ap (λ o. lacks_word applet o reading) r ∙ or_from (nat_lt (length reading.operands) rule.least) (is_required_value_missing (required_option_letter applet) state.values) (le-ltb (length reading.operands) rule.least enough) k),
+              (ap (λ o. place_of_refused_operand o reading.operands) r ∙ taken) refl
+              (ap (λ o. lacks_operand_or_required_value applet o reading) r ∙ or_from (nat_lt (length reading.operands) rule.least) (is_required_value_missing (required_option_letter applet) state.values) (le-ltb (length reading.operands) rule.least enough) k),
         )
 
 -- ---- values that can follow
@@ -266,7 +266,7 @@ pub value_read : (options : List OptionSpec) (state : OptionState) (at : ℕ) (t
 value_read options state at text rule more a f =
     let next : OptionState = option_state_from_parts state.flags (state.values ++ (option_value_from_place_and_letter at rule.letter text ∷ [])) None in
     step_taken options state at text more (Some next) (awaited_taken state text rule a)
-    (ap (with_word_if_awaited options state at text) a ∙ ap (λ b. if b then Some next else None) f)
+    (ap (with_word_as_option_or_value options state at text) a ∙ ap (λ b. if b then Some next else None) f)
 
 -- ---- options that can follow
 
@@ -315,7 +315,7 @@ texts_taken before [] = refl
 texts_taken before (o ∷ os) = texts_taken (before + 1) os
 
 -- where an option is lacking, it completes what was read
-pub options_follow : (applet : Applet) (flags : Flags) (values : List OptionValue) (os : List Operand) (at : ℕ) → may_have_flags applet flags ≡ true → is_required_option_missing applet (option_state_from_parts flags values None) ≡ true → refused_operand (operand_rule applet flags) os ≡ None → CanGoOn applet flags values os at
+pub options_follow : (applet : Applet) (flags : Flags) (values : List OptionValue) (os : List Operand) (at : ℕ) → may_have_flags applet flags ≡ true → is_required_option_missing applet (option_state_from_parts flags values None) ≡ true → place_of_refused_operand (operand_rule applet flags) os ≡ None → CanGoOn applet flags values os at
 unfolding common_options options_of option_name attached_value
 options_follow Mkndx flags values os at m k h =
     let more : List OptionValue = values ++ (option_value_from_place_and_letter (at + 1) OUTPUT (codes "a") ∷ []) in
@@ -347,7 +347,7 @@ options_follow Version flags values os at m k h =
     no_kind flags n = by_flags flags.test flags.check n
 options_follow applet flags values os at m k h = absurd (false≢true k)
 
-pub can_go_on : (applet : Applet) (flags : Flags) (values : List OptionValue) (os : List Operand) (at : ℕ) → may_have_flags applet flags ≡ true → refused_operand (operand_rule applet flags) os ≡ None → CanGoOn applet flags values os at
+pub can_go_on : (applet : Applet) (flags : Flags) (values : List OptionValue) (os : List Operand) (at : ℕ) → may_have_flags applet flags ≡ true → place_of_refused_operand (operand_rule applet flags) os ≡ None → CanGoOn applet flags values os at
 can_go_on applet flags values os at m h =
     elim (is_required_option_missing applet (option_state_from_parts flags values None)) as (λ b. is_required_option_missing applet (option_state_from_parts flags values None) ≡ b → CanGoOn applet flags values os at) [
       | true ↦ λ k. options_follow applet flags values os at m k h
@@ -361,7 +361,7 @@ abbrev pub CanBeCompleted : List (List ℕ) → Type 0
 CanBeCompleted words = (more : List (List ℕ)) × (command : CommandLine) × (spelled_command (words ++ more) ≡ Ok command)
 
 -- no operand offends where words offend at their end
-pub none_refused : (rule : Option OperandRule) (low end : ℕ) (operands : List Operand) (unread : Option ℕ) → AllBetween low end operands → IsJudgedAt end (option_or (refused_operand rule operands) unread) end → refused_operand rule operands ≡ None
+pub none_refused : (rule : Option OperandRule) (low end : ℕ) (operands : List Operand) (unread : Option ℕ) → AllBetween low end operands → IsJudgedAt end (option_or (place_of_refused_operand rule operands) unread) end → place_of_refused_operand rule operands ≡ None
 none_refused None low end operands unread p j = refl
 none_refused (Some rule) low end operands unread p j =
     elim (first_refused_operand rule 0 operands) as (λ o. first_refused_operand rule 0 operands ≡ o → IsJudgedAt end (option_or o unread) end → o ≡ None) [
@@ -373,7 +373,7 @@ none_refused (Some rule) low end operands unread p j =
     ] refl j
 
 -- a word that cannot be read offends before their end
-pub not_stopped : (rule : Option OperandRule) (end at : ℕ) (operands : List Operand) (unread : Option ℕ) → refused_operand rule operands ≡ None → unread ≡ Some at → at < end → IsJudgedAt end (option_or (refused_operand rule operands) unread) end → ⊥
+pub not_stopped : (rule : Option OperandRule) (end at : ℕ) (operands : List Operand) (unread : Option ℕ) → place_of_refused_operand rule operands ≡ None → unread ≡ Some at → at < end → IsJudgedAt end (option_or (place_of_refused_operand rule operands) unread) end → ⊥
 not_stopped rule end at operands unread r u l j =
     elim (subst (λ o. IsJudgedAt end o end) (ap (λ o. option_or o unread) r ∙ u) j) as (λ _. ⊥) [
       | inl e ↦ (let same : at ≡ end = same_Some at end e in omega arith)
@@ -409,10 +409,10 @@ completed_from words start k s h = by_going (from_going start words low)
     own : may_have_flags start.applet reading.state.flags ≡ true
     own = (from_kept start (1 + length words) words known).0
 
-    at_end : IsJudgedAt end (option_or (refused_operand (operand_rule start.applet reading.state.flags) reading.operands) reading.unread) end
+    at_end : IsJudgedAt end (option_or (place_of_refused_operand (operand_rule start.applet reading.state.flags) reading.operands) reading.unread) end
     at_end = judged_at start.applet reading end end h
 
-    taken : refused_operand (operand_rule start.applet reading.state.flags) reading.operands ≡ None
+    taken : place_of_refused_operand (operand_rule start.applet reading.state.flags) reading.operands ≡ None
     taken = none_refused (operand_rule start.applet reading.state.flags) (start.read + 1) end reading.operands reading.unread (from_placed start words low).operands at_end
 
     free : ((ended && is_required_option_missing start.applet reading.state) ≡ false) × (awaits_impossible_value reading.state.awaiting reading.state.values ≡ false)

@@ -8,7 +8,7 @@ use Rattle.words_core.specs.Options.{applet_of_help_or_version_option}
 
 -- a word asks for a command: an option can be there, and no word before it is wrong. What follows the
 -- word does not matter
-pub record IsAskedBy (words : List (List ℕ)) (command : CommandLine) : Type 0 where
+pub record IsHelpOrVersionAskedBy (words : List (List ℕ)) (command : CommandLine) : Type 0 where
   pub before : List (List ℕ)
   pub word : List ℕ
   pub after : List (List ℕ)

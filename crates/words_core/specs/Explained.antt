@@ -19,10 +19,11 @@ is_help_of line option =
     bytes_eq (take (length (spelled_option option)) line.subject) (spelled_option option)
 
 -- whether lines of help are about options, one each in the same order
-abbrev pub are_help_of : List HelpLine → List OptionSpec → Bool
-are_help_of [] [] = true
-are_help_of (line ∷ lines) (option ∷ options) = is_help_of line option && are_help_of lines options
-are_help_of lines options = false
+abbrev pub are_help_lines_of_options : List HelpLine → List OptionSpec → Bool
+are_help_lines_of_options [] [] = true
+are_help_lines_of_options (line ∷ lines) (option ∷ options) =
+    is_help_of line option && are_help_lines_of_options lines options
+are_help_lines_of_options lines options = false
 
 -- `--help` and `--version`, as lines of help spell them. The flag in each is a placeholder: *is_help_of*
 -- does not look at it
@@ -32,7 +33,7 @@ help_and_version_options =
     ∷ (flag_option_of_long_and_short (codes "--version") (codes "-V") AllowUntrusted ∷ [])
 
 -- whether the word of each of some applets is that of a command that help lists
-abbrev pub are_listed : List Applet → Bool
-are_listed applets =
+abbrev pub are_applets_listed_in_help : List Applet → Bool
+are_applets_listed_in_help applets =
     list_all (λ applet.
     list_any (λ one. bytes_eq (applet_word one) (applet_word applet)) listed_commands) applets

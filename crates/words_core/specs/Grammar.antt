@@ -92,27 +92,27 @@ applet_site_of_word ended place word =
 
 -- the site of the applet that the first of these words names, after `--`; `place` is the place of that
 -- word
-unfoldable pub site_after_end : ℕ → List (List ℕ) → Result AppletSite ℕ
-site_after_end place [] = Err place
-site_after_end place (word ∷ words) = applet_site_of_word true place word
+unfoldable pub applet_site_after_double_dash : ℕ → List (List ℕ) → Result AppletSite ℕ
+applet_site_after_double_dash place [] = Err place
+applet_site_after_double_dash place (word ∷ words) = applet_site_of_word true place word
 
 -- the site of the applet in the words from a place on, or the first wrong place: only some options and
 -- `--` may precede the applet
 abbrev pub applet_site : ℕ → List (List ℕ) → Result AppletSite ℕ
 applet_site place [] = Err place
 applet_site place (word ∷ words) =
-    if is_double_dash word then site_after_end (place + 1) words else
+    if is_double_dash word then applet_site_after_double_dash (place + 1) words else
     if is_option word then (if is_early_option_word word then applet_site
     (place + 1) words else Err place) else
     applet_site_of_word false place word
 
 -- the flags of the words before the applet, from a place on, or the first wrong place: each word is an
 -- option of the applet, up to `--`
-abbrev pub early_flags : List OptionSpec → Flags → ℕ → List (List ℕ) → Result Flags ℕ
-early_flags options flags place [] = Ok flags
-early_flags options flags place (word ∷ words) =
+abbrev pub flags_with_early_options : List OptionSpec → Flags → ℕ → List (List ℕ) → Result Flags ℕ
+flags_with_early_options options flags place [] = Ok flags
+flags_with_early_options options flags place (word ∷ words) =
     if is_double_dash word then Ok flags else
-    or_err_at place (λ more. early_flags options more (place + 1) words)
+    or_err_at place (λ more. flags_with_early_options options more (place + 1) words)
     (flags_with_option_word options flags word)
 
 -- the start of a command line: its applet, the applet's place, and the flags before it
@@ -130,7 +130,7 @@ abbrev pub start_after_site : List (List ℕ) → Result AppletSite ℕ → Resu
 start_after_site words (Err place) = Err place
 start_after_site words (Ok site) =
     start_with_early_flags site
-    (early_flags (options_of site.applet) no_flags 1 (take (site.read - 1) words))
+    (flags_with_early_options (options_of site.applet) no_flags 1 (take (site.read - 1) words))
 
 -- the start of a command line, or the first place that offends before the applet or is it
 abbrev pub start_of_command_line : List (List ℕ) → Result Start ℕ
@@ -194,16 +194,16 @@ is_option_or_value state word = is_some state.awaiting || (is_option word && not
 
 -- a state with the word at a place, by the option whose value is awaited, if one is: the word is its
 -- value, and otherwise an option; None if it cannot be read
-abbrev pub with_word_if_awaited : List OptionSpec → OptionState → ℕ → List ℕ → Option ValueRule
+abbrev pub with_word_as_option_or_value : List OptionSpec → OptionState → ℕ → List ℕ → Option ValueRule
     → Option OptionState
-with_word_if_awaited options state place word None = with_option_word options state place word
-with_word_if_awaited options state place word (Some rule) = with_option_value state place word rule
+with_word_as_option_or_value options state place word None = with_option_word options state place word
+with_word_as_option_or_value options state place word (Some rule) = with_option_value state place word rule
 
 -- a state with the word at a place, which is the value that the state awaits, or an option; None if it
 -- cannot be read
 abbrev pub with_option_or_value_word : List OptionSpec → OptionState → ℕ → List ℕ → Option OptionState
 with_option_or_value_word options state place word =
-    with_word_if_awaited options state place word state.awaiting
+    with_word_as_option_or_value options state place word state.awaiting
 
 -- ---- after the applet
 
@@ -257,9 +257,9 @@ reading_after_applet start words =
 
 -- the place of the first operand that the rule does not take. There is no rule if the flag is missing
 -- that selects the kind of the command: then no operand is wrong, and the place after the last word is
-abbrev pub refused_operand : Option OperandRule → List Operand → Option ℕ
-refused_operand None operands = None
-refused_operand (Some rule) operands = first_refused_operand rule 0 operands
+abbrev pub place_of_refused_operand : Option OperandRule → List Operand → Option ℕ
+place_of_refused_operand None operands = None
+place_of_refused_operand (Some rule) operands = first_refused_operand rule 0 operands
 
 -- whether too few operands were given, or the flag is missing that selects the kind of the command
 abbrev pub lacks_operand : Option OperandRule → List Operand → Bool
@@ -268,8 +268,8 @@ lacks_operand (Some rule) operands = nat_lt (length operands) rule.least
 
 -- whether a word is missing: an operand, the flag that selects the kind, or the option that the applet
 -- needs
-abbrev pub lacks_word : Applet → Option OperandRule → Reading → Bool
-lacks_word applet rule reading =
+abbrev pub lacks_operand_or_required_value : Applet → Option OperandRule → Reading → Bool
+lacks_operand_or_required_value applet rule reading =
     lacks_operand rule reading.operands
     || is_required_value_missing (required_option_letter applet) reading.state.values
 
@@ -288,8 +288,8 @@ unless_refused_at (Some place) otherwise = Err place
 unfoldable pub command_of_reading : ℕ → Applet → Reading → Result CommandLine ℕ
 command_of_reading behind applet reading =
     let rule = operand_rule applet reading.state.flags in
-    unless_refused_at (option_or (refused_operand rule reading.operands) reading.unread)
-    (if lacks_word applet rule reading then Err behind else Ok
+    unless_refused_at (option_or (place_of_refused_operand rule reading.operands) reading.unread)
+    (if lacks_operand_or_required_value applet rule reading then Err behind else Ok
     (command_from_reading_parts behind applet reading))
 
 -- the command of the words, by the start that was found in them; or the first place that offends

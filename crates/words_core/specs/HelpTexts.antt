@@ -36,19 +36,19 @@ abbrev pub padding_to_column : ℕ → List ℕ → List ℕ
 padding_to_column column subject = take (column - length subject) spaces
 
 -- a line of help as it is printed: explanations begin in one column
-abbrev pub line_text : ℕ → HelpLine → List ℕ
-line_text column line =
+abbrev pub help_line_text : ℕ → HelpLine → List ℕ
+help_line_text column line =
     codes "  " ++ line.subject ++ padding_to_column column line.subject ++ line.text ++ codes "\n"
 
 -- lines of help, one after another
-abbrev pub lines_text : ℕ → List HelpLine → List ℕ
-lines_text column [] = []
-lines_text column (line ∷ lines) = line_text column line ++ lines_text column lines
+abbrev pub help_lines_text : ℕ → List HelpLine → List ℕ
+help_lines_text column [] = []
+help_lines_text column (line ∷ lines) = help_line_text column line ++ help_lines_text column lines
 
 -- lines of help under a heading; nothing if there are none
 abbrev pub section_text : List ℕ → ℕ → List HelpLine → List ℕ
 section_text heading column [] = []
-section_text heading column lines = heading ++ lines_text column lines
+section_text heading column lines = heading ++ help_lines_text column lines
 
 -- the column at which the explanations of commands begin
 abbrev pub command_column : ℕ
@@ -221,19 +221,19 @@ abbrev pub usage_line : List ℕ → List ℕ → List ℕ
 usage_line prefix line = prefix ++ line ++ codes "\n"
 
 -- how a command is called, a line each: the first one after this prefix, the others after seven spaces
-abbrev pub usage_lines_with_first_prefix : List ℕ → List (List ℕ) → List ℕ
-usage_lines_with_first_prefix prefix [] = []
-usage_lines_with_first_prefix prefix (line ∷ lines) =
-    usage_line prefix line ++ usage_lines_with_first_prefix (codes "       ")
+abbrev pub synopsis_text_with_first_prefix : List ℕ → List (List ℕ) → List ℕ
+synopsis_text_with_first_prefix prefix [] = []
+synopsis_text_with_first_prefix prefix (line ∷ lines) =
+    usage_line prefix line ++ synopsis_text_with_first_prefix (codes "       ")
     lines
 
 -- the help of a command
 abbrev pub command_help : Applet → List ℕ
 command_help applet =
-    usage_lines_with_first_prefix (codes "usage: ") (synopsis applet)
+    synopsis_text_with_first_prefix (codes "usage: ") (synopsis applet)
     ++ codes "\n" ++ purpose applet ++ codes "\n"
-    ++ codes "\nOptions:\n" ++ lines_text option_column (option_help applet)
-    ++ lines_text option_column common_option_help
+    ++ codes "\nOptions:\n" ++ help_lines_text option_column (option_help applet)
+    ++ help_lines_text option_column common_option_help
     ++ section_text (codes "\nFields that -I takes:\n") option_column (field_help applet)
     ++ section_text (codes "\nOperands:\n") option_column (operand_help applet)
     ++ codes "\nManual page: apk(8)\n"
@@ -257,11 +257,12 @@ command_help_line applet = help_line (applet_word applet) (purpose applet)
 -- the commands, and what each does
 unfoldable pub commands_text : List ℕ
 commands_text =
-    codes "\nCommands:\n" ++ lines_text command_column (map command_help_line listed_commands)
+    codes "\nCommands:\n" ++ help_lines_text command_column (map command_help_line listed_commands)
 
 -- the options of every command
 unfoldable pub common_options_text : List ℕ
-common_options_text = codes "\nOptions of every command:\n" ++ lines_text option_column common_option_help
+common_options_text =
+    codes "\nOptions of every command:\n" ++ help_lines_text option_column common_option_help
 
 -- where paths begin, how a package is installed, and where to read on
 unfoldable pub first_steps_text : List ℕ

@@ -86,7 +86,7 @@ may_precede_applet word = is_double_dash word || is_early_option_word word
 
 -- Words are a command: the first that is neither option nor value names the applet, the others are the
 -- operands, and the options are ones of the applet. Those before it are ones that may precede it.
-pub record IsLineOf (words : List (List ℕ)) (command : CommandLine) : Type 0 where
+pub record AreWordsOfCommand (words : List (List ℕ)) (command : CommandLine) : Type 0 where
   pub applet : Operand
   pub names : applet_of applet.text ≡ Some command.applet
   pub free : operand_words (options_of command.applet) None 1 words ≡ applet ∷ command.operands

@@ -16,14 +16,14 @@ use Rattle.command_core.specs.Values.{is_required_value_missing, script_type, sc
 use Rattle.words_core.specs.declared.reading.AppletSite.{AppletSite}
 use Rattle.words_core.specs.declared.reading.OptionState.{OptionState}
 use Rattle.words_core.specs.declared.reading.Start.{Start}
-use Rattle.words_core.specs.Grammar.{applet_site, command_of, early_flags, is_double_dash, is_option, reading_after_applet, awaited_rule, start_after_site}
+use Rattle.words_core.specs.Grammar.{applet_site, command_of, flags_with_early_options, is_double_dash, is_option, reading_after_applet, awaited_rule, start_after_site}
 use Rattle.words_core.specs.Options.{OptionSpec, applets, options_of}
 
 -- ---- before the applet
 
 -- whether the words before an applet are its own options
 abbrev pub are_options_of : List (List ℕ) → Applet → Bool
-are_options_of words applet = is_ok (early_flags (options_of applet) no_flags 1 words)
+are_options_of words applet = is_ok (flags_with_early_options (options_of applet) no_flags 1 words)
 
 -- ---- after the applet
 
@@ -81,6 +81,6 @@ are_stuck_by words (Err place) = list_any is_double_dash words && not (list_any 
 are_stuck_by words (Ok site) = is_stuck_by words (start_after_site words (Ok site))
 
 -- whether words are stuck: they are no command, and no words after them make them one
-unfoldable pub are_stuck : List (List ℕ) → Bool
-are_stuck words =
+unfoldable pub are_words_without_completion : List (List ℕ) → Bool
+are_words_without_completion words =
     not (is_ok (command_of words)) && are_stuck_by words (applet_site 1 words)

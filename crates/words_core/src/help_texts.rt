@@ -1,7 +1,7 @@
 //! The texts of `--help` and `--version`, put together from the rows of `help_rows`. The texts are
 //! shown in `docs/commands.md`, "Help".
 ghost use Rattle.std.specs.Prelude.{◌≡◌, ◌≤◌, ◌++◌, IfOk, OnOk, codes, map};
-ghost use Rattle.words_core.specs.HelpTexts.{command_help, command_help_line, commands_text, common_options_text, first_steps_text, help_text, line_text, lines_text, program_help, program_usage, section_text, padding_to_column, help_topic_of, usage_line, usage_lines_with_first_prefix, version_line};
+ghost use Rattle.words_core.specs.HelpTexts.{command_help, command_help_line, commands_text, common_options_text, first_steps_text, help_text, help_line_text, help_lines_text, program_help, program_usage, section_text, padding_to_column, help_topic_of, usage_line, synopsis_text_with_first_prefix, version_line};
 ghost use Rattle.words_core.specs.Rows.{help_row_line};
 
 use crate::help_rows::{
@@ -89,7 +89,7 @@ fn push_commands(text: &mut Vec<u8>) -> Result<(), AllocError>
 // Adds a line for each command.
 fn push_command_lines(text: &mut Vec<u8>, commands: &[Applet]) -> Result<(), AllocError>
     ensures { OnOk result (text.new.items
-        ≡ text.old.items ++ lines_text COMMAND_COLUMN (map command_help_line commands.now)) }
+        ≡ text.old.items ++ help_lines_text COMMAND_COLUMN (map command_help_line commands.now)) }
 {
     for i in 0..commands.len() {
         let row = HelpRow {
@@ -144,7 +144,7 @@ fn push_command_help(text: &mut Vec<u8>, applet: Applet) -> Result<(), AllocErro
 // Adds how a command is called, a line each.
 fn push_usage(text: &mut Vec<u8>, lines: &[&[u8]]) -> Result<(), AllocError>
     ensures { OnOk result (text.new.items ≡ text.old.items
-        ++ usage_lines_with_first_prefix (codes "usage: ") (map (λ line. line.now) lines.now)) }
+        ++ synopsis_text_with_first_prefix (codes "usage: ") (map (λ line. line.now) lines.now)) }
 {
     let mut front = b"usage: ";
     for i in 0..lines.len() {
@@ -178,7 +178,7 @@ fn push_section(text: &mut Vec<u8>, heading: &[u8], rows: &[HelpRow]) -> Result<
 // Adds lines of options or operands.
 fn push_lines(text: &mut Vec<u8>, rows: &[HelpRow]) -> Result<(), AllocError>
     ensures { OnOk result (text.new.items ≡ text.old.items
-        ++ lines_text OPTION_COLUMN (map help_row_line rows.now)) }
+        ++ help_lines_text OPTION_COLUMN (map help_row_line rows.now)) }
 {
     for i in 0..rows.len() {
         push_line(text, OPTION_COLUMN, &rows[i])?;
@@ -190,7 +190,7 @@ fn push_lines(text: &mut Vec<u8>, rows: &[HelpRow]) -> Result<(), AllocError>
 fn push_line(text: &mut Vec<u8>, column: usize, row: &HelpRow) -> Result<(), AllocError>
     requires { column ≤ OPTION_COLUMN }
     ensures { OnOk result (text.new.items
-        ≡ text.old.items ++ line_text column (help_row_line row.now)) }
+        ≡ text.old.items ++ help_line_text column (help_row_line row.now)) }
 {
     text.extend_from_slice(b"  ")?;
     text.extend_from_slice(row.subject)?;

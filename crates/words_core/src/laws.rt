@@ -4,30 +4,31 @@ ghost use Rattle.std.specs.Prelude.{◌≡◌, ◌≤◌, ◌<◌, ◌+◌, ◌-
 ghost use Rattle.std.specs.List.{list_all};
 ghost use Rattle.command_core.specs.Command.{CommandLine};
 ghost use Rattle.command_core.specs.declared.command.Applet.{Applet};
-ghost use Rattle.words_core.specs.Asked.{IsAskedBy};
+ghost use Rattle.words_core.specs.Asked.{IsHelpOrVersionAskedBy};
 ghost use Rattle.words_core.specs.Grammar.{command_of};
 ghost use Rattle.words_core.specs.Kinds.{can_info_kind_follow};
-ghost use Rattle.words_core.specs.Lines.{IsLineOf};
+ghost use Rattle.words_core.specs.Lines.{AreWordsOfCommand};
 ghost use Rattle.words_core.specs.Options.{applets, common_options, own_options};
-ghost use Rattle.words_core.specs.Explained.{are_help_of, are_listed, help_and_version_options};
+ghost use Rattle.words_core.specs.Explained.{are_help_lines_of_options, are_applets_listed_in_help, help_and_version_options};
 ghost use Rattle.words_core.specs.HelpTexts.{common_option_help, option_help};
 ghost use Rattle.words_core.specs.Reasons.{IsUsageReason};
 ghost use Rattle.words_core.specs.Rows.{has_letter_of_short_word};
 ghost use Rattle.words_core.specs.Usage.{usage_reason};
-ghost use Rattle.words_core.specs.Stuck.{are_stuck};
+ghost use Rattle.words_core.specs.Stuck.{are_words_without_completion};
 
 /// If a command is read from words, the words are that command: its applet, its operands and its
 /// options, and nothing else; or a word of them asks for it.
 pub fn read_words_are_a_command()
     ensures { (words : List (List ℕ)) (command : CommandLine) → command_of words ≡ Ok command →
-        IsLineOf words command ⊎ IsAskedBy words command }
+        AreWordsOfCommand words command ⊎ IsHelpOrVersionAskedBy words command }
 {}
 
 /// If words are a command, it is read from them, wherever its options are; the same holds of words
 /// that ask for one.
 pub fn commands_are_read()
     ensures { (words : List (List ℕ)) (command : CommandLine) →
-        IsLineOf words command ⊎ IsAskedBy words command → command_of words ≡ Ok command }
+        AreWordsOfCommand words command ⊎ IsHelpOrVersionAskedBy words command
+        → command_of words ≡ Ok command }
 {}
 
 /// A usage error is at a word, or after the last one if a word is missing.
@@ -50,14 +51,15 @@ pub fn words_offend_whatever_follows()
 /// Or `mkpkg` awaits one more script and has one of each of the seven types.
 pub fn words_before_a_usage_error_can_be_completed()
     ensures { (words : List (List ℕ)) (place : ℕ) →
-        IsTrue (not (are_stuck (take (place - 1) words))) → command_of words ≡ Err place →
+        IsTrue (not (are_words_without_completion (take (place - 1) words))) → command_of words
+        ≡ Err place →
         (more : List (List ℕ)) × (command : CommandLine)
         × (command_of (take (place - 1) words ++ more) ≡ Ok command) }
 {}
 
 /// Stuck words are no command, whatever follows.
 pub fn stuck_words_are_no_command()
-    ensures { (words more : List (List ℕ)) → IsTrue (are_stuck words) →
+    ensures { (words more : List (List ℕ)) → IsTrue (are_words_without_completion words) →
         (place : ℕ) × (command_of (words ++ more) ≡ Err place) }
 {}
 
@@ -85,9 +87,10 @@ pub fn a_reason_is_so()
 /// The help of a command explains each option of it, in the order of the table of options, and
 /// nothing else.
 pub fn help_explains_each_option()
-    ensures own { (applet : Applet) → IsTrue (are_help_of (option_help applet) (own_options
+    ensures own { (applet : Applet)
+        → IsTrue (are_help_lines_of_options (option_help applet) (own_options
         applet)) }
-    ensures common { IsTrue (are_help_of common_option_help (common_options
+    ensures common { IsTrue (are_help_lines_of_options common_option_help (common_options
         ++ help_and_version_options)) }
-    ensures listed { IsTrue (are_listed applets) }
+    ensures listed { IsTrue (are_applets_listed_in_help applets) }
 {}

@@ -6,7 +6,7 @@ ghost use Rattle.std.specs.Option.{option_map};
 ghost use Rattle.command_core.specs.Applets.{required_option_letter};
 ghost use Rattle.command_core.specs.Flags.{no_flags};
 ghost use Rattle.command_core.specs.Values.{is_required_value_missing};
-ghost use Rattle.words_core.specs.Grammar.{applet_site, early_flags, option_state_at_start, is_option, is_option_or_value, start_of_command_line, operands_of, option_reading, reading_after_applet, words_reading_from_parts, reading_at_end_of_words, applet_site_of_word, site_after_end, with_flags_if_some, flags_with_meaning, state_with_meaning, with_value_option, with_option_word, with_option_value, with_option_or_value_word};
+ghost use Rattle.words_core.specs.Grammar.{applet_site, flags_with_early_options, option_state_at_start, is_option, is_option_or_value, start_of_command_line, operands_of, option_reading, reading_after_applet, words_reading_from_parts, reading_at_end_of_words, applet_site_of_word, applet_site_after_double_dash, with_flags_if_some, flags_with_meaning, state_with_meaning, with_value_option, with_option_word, with_option_value, with_option_or_value_word};
 ghost use Rattle.words_core.specs.Options.{options_of};
 ghost use Rattle.words_core.specs.Steps.{IsReadingStep};
 
@@ -80,10 +80,10 @@ pub(crate) fn find_applet(words: &Words) -> Result<AppletSite, u32>
 }
 
 // The applet that the first word after `--` names. The first `before` words end with `--`.
-#[tactic(auto, unfolding(crate::specs::Grammar::site_after_end), using(crate::proofs::OneMore::left_at))]
+#[tactic(auto, unfolding(crate::specs::Grammar::applet_site_after_double_dash), using(crate::proofs::OneMore::left_at))]
 fn applet_after_end(words: &Words, before: usize) -> Result<AppletSite, u32>
     requires { before ≤ length words.now }
-    ensures { result ≡ site_after_end (before + 1) (drop before words.now) }
+    ensures { result ≡ applet_site_after_double_dash (before + 1) (drop before words.now) }
 {
     if before == words.len() {
         return Err(place_after_word(before));
@@ -113,7 +113,8 @@ fn read_early(words: &Words, site: &AppletSite) -> Result<Flags, u32>
     requires high { site.now.read ≤ length words.now }
     requires few { length words.now < MOST_PLACES }
     ensures { result
-        ≡ early_flags (options_of site.now.applet) no_flags 1 (take (site.now.read - 1) words.now) }
+        ≡ flags_with_early_options (options_of site.now.applet) no_flags 1 (take
+        (site.now.read - 1) words.now) }
 {
     let mut flags = Flags::none();
     for i in 0..site.read - 1 {

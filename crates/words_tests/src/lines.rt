@@ -1,5 +1,6 @@
-//! Command lines: which are a command, the parts of such a command, and the first wrong word
-//! otherwise. The rules are in `docs/commands.md`, "Words".
+//! Command lines: which are a command, the parts of such a command, and the first wrong word of any
+//! other line. The rules are in `docs/commands.md`, "Words". The position of a word is counted from
+//! 1.
 use base_core::Words;
 use command_core::{Applet, Command, Flag, OperandKind, OptionValue, ValueKind};
 use row_lines::{add_number, add_word, number_of, value_named, word_at};
@@ -7,11 +8,11 @@ use std::alloc::{AllocError, Global};
 use tree_memory::MemorySink;
 use words_core::{WordsFault, explain_usage, help, read_words, version_line};
 
-/// The most words that a row's line may have.
+/// The most words that the command line of a row may have.
 const MOST_WORDS: usize = 100_000;
 
-/// Adds 0 if the words are a command, and otherwise the place of the first wrong word, and the line
-/// with the reason.
+/// Answers `line WORD ..`: adds 0 if the words are a command, and otherwise the position of the
+/// first wrong word, and the error line with the reason.
 pub(crate) fn add_place(
     alloc: Global,
     line: &Words,
@@ -27,7 +28,7 @@ pub(crate) fn add_place(
     }
 }
 
-/// Adds the line with the reason of a usage error at a place.
+/// Adds the error line for a wrong word at this position.
 fn add_reason(
     alloc: Global,
     line: &Words,
@@ -41,7 +42,8 @@ fn add_reason(
     add_word(answer, page.bytes())
 }
 
-/// Adds what is printed if the words ask for help or for the version of the program.
+/// Answers `asked WORD ..`: adds what is printed if the words ask for help or for the version of
+/// the program, and else `none`.
 pub(crate) fn add_asked(
     alloc: Global,
     line: &Words,
@@ -57,36 +59,37 @@ pub(crate) fn add_asked(
     }
 }
 
-/// Adds the first wrong place in the words after the number of `N WORD WORD ..`, of which the
-/// second is repeated that many times, and how many operands a command of them has.
-pub(crate) fn add_many(
+/// Answers `many N WORD WORD ..`: the second WORD is repeated N times. Adds 0 and the number of
+/// operands if the words are a command, and otherwise what `add_place` adds.
+pub(crate) fn add_repeated(
     alloc: Global,
     words: &Words,
     answer: &mut Vec<u8>,
 ) -> Result<(), AllocError> {
-    let many = many_words(alloc, words)?;
-    add_place(alloc, &many, answer)?;
-    match command_of(alloc, &many)? {
+    let line = repeated_words(alloc, words)?;
+    add_place(alloc, &line, answer)?;
+    match command_of(alloc, &line)? {
         Some(command) => add_next(alloc, command.operands().len() as u128, answer),
         None => Ok(()),
     }
 }
 
-/// The words after the first one, of which the second is repeated as often as the first one says.
-fn many_words(alloc: Global, words: &Words) -> Result<Words, AllocError> {
+/// The command line of `N WORD WORD ..`: the words after N, of which the second is repeated N
+/// times.
+fn repeated_words(alloc: Global, words: &Words) -> Result<Words, AllocError> {
     let times = number_of(word_at(words, 0)).and_then(|times| usize::try_from(times).ok());
-    let mut many = Words::new(alloc);
+    let mut line = Words::new(alloc);
     for i in 1..words.len() {
         if i == 2 {
-            push_times(&mut many, words.word(i), times.unwrap_or(0))?;
+            push_times(&mut line, words.word(i), times.unwrap_or(0))?;
         } else {
-            push_times(&mut many, words.word(i), 1)?;
+            push_times(&mut line, words.word(i), 1)?;
         }
     }
-    Ok(many)
+    Ok(line)
 }
 
-/// Adds a word this many times, as far as they fit into a command line.
+/// Adds a word this many times, but no more than `MOST_WORDS` words in all.
 fn push_times(words: &mut Words, word: &[u8], times: usize) -> Result<(), AllocError> {
     for _ in 0..times {
         if words.len() < MOST_WORDS {
@@ -96,7 +99,7 @@ fn push_times(words: &mut Words, word: &[u8], times: usize) -> Result<(), AllocE
     Ok(())
 }
 
-/// The command of a line; none if it is no command.
+/// The command that the words of a line are; None if they are no command.
 fn command_of(alloc: Global, line: &Words) -> Result<Option<Command>, AllocError> {
     match read_words(alloc, line) {
         Ok(command) => Ok(Some(command)),
@@ -105,8 +108,9 @@ fn command_of(alloc: Global, line: &Words) -> Result<Option<Command>, AllocError
     }
 }
 
-/// Adds the applet of a command, its options without a value, the place after its words, how many
-/// operands it has, and the place and the text of each up to a hundred.
+/// Answers `command WORD ..`: adds the applet of the command, its options without a value, the
+/// position after its last word, and how many operands it has. Then adds the position and the text
+/// of each of the first 100 operands.
 pub(crate) fn add_command(
     alloc: Global,
     line: &Words,
@@ -117,11 +121,12 @@ pub(crate) fn add_command(
     };
     add_applet(&command, answer)?;
     add_flags(&command, answer)?;
+    // The position after the last word.
     add_next(alloc, u128::from(command.behind()), answer)?;
     add_operands(alloc, &command, answer)
 }
 
-/// The applets, by their words.
+/// The applets, and the words that name them.
 #[rattlefmt::skip]
 const APPLETS: [(Applet, &[u8]); 19] = [
     (Applet::Add, b"add"),
@@ -145,7 +150,7 @@ const APPLETS: [(Applet, &[u8]); 19] = [
     (Applet::ProgramVersion, b"--version"),
 ];
 
-/// Adds the applet's word.
+/// Adds the word of the command's applet.
 fn add_applet(command: &Command, answer: &mut Vec<u8>) -> Result<(), AllocError> {
     for (applet, word) in &APPLETS {
         if *applet == command.applet() {
@@ -155,7 +160,7 @@ fn add_applet(command: &Command, answer: &mut Vec<u8>) -> Result<(), AllocError>
     Ok(())
 }
 
-/// The options without a value, by their words.
+/// The options without a value (flags), and their words.
 #[rattlefmt::skip]
 const FLAGS: [(Flag, &[u8]); 11] = [
     (Flag::AllowUntrusted, b"--allow-untrusted"),
@@ -171,7 +176,7 @@ const FLAGS: [(Flag, &[u8]); 11] = [
     (Flag::Check, b"--check"),
 ];
 
-/// Adds the words of the flags that are given, in the order of the table.
+/// Adds the words of the options without a value that are given, in the order of `FLAGS`.
 fn add_flags(command: &Command, answer: &mut Vec<u8>) -> Result<(), AllocError> {
     for (flag, word) in &FLAGS {
         if command.flags().has(*flag) {
@@ -187,7 +192,7 @@ fn add_next(alloc: Global, number: u128, answer: &mut Vec<u8>) -> Result<(), All
     add_number(alloc, answer, number)
 }
 
-/// Adds how many operands there are, and of the first 100 the place and the text.
+/// Adds how many operands a command has, and the position and the text of each of the first 100.
 fn add_operands(alloc: Global, command: &Command, answer: &mut Vec<u8>) -> Result<(), AllocError> {
     let operands = command.operands();
     add_next(alloc, operands.len() as u128, answer)?;
@@ -198,7 +203,8 @@ fn add_operands(alloc: Global, command: &Command, answer: &mut Vec<u8>) -> Resul
     Ok(())
 }
 
-/// Adds of each value its place, its option's letter, the type of a script, and its text.
+/// Answers `values WORD ..`: adds of each value of an option its position, the option's letter, for
+/// `-s` the script's type, and its text.
 pub(crate) fn add_values(
     alloc: Global,
     line: &Words,
@@ -213,8 +219,8 @@ pub(crate) fn add_values(
     Ok(())
 }
 
-/// Adds a value of an option: its place, the option's letter, for `-s` the script's type, and the
-/// text.
+/// Adds a value of an option: its position, the option's letter, for `-s` the script's type, and
+/// the text.
 fn add_value(alloc: Global, value: &OptionValue, answer: &mut Vec<u8>) -> Result<(), AllocError> {
     add_next(alloc, u128::from(value.place), answer)?;
     add_word(answer, &[value.letter])?;
@@ -224,7 +230,8 @@ fn add_value(alloc: Global, value: &OptionValue, answer: &mut Vec<u8>) -> Result
     add_word(answer, value.text.as_bytes())
 }
 
-/// Adds each letter for which a value is given, and the place of the first such value.
+/// Answers `letters WORD ..`: adds each letter of an option for which a value is given, and the
+/// position of the first such value.
 pub(crate) fn add_letters(
     alloc: Global,
     line: &Words,
@@ -243,7 +250,7 @@ pub(crate) fn add_letters(
     Ok(())
 }
 
-// The words for the kinds of values.
+// The words of rows for the kinds of values of options.
 #[rattlefmt::skip]
 const VALUE_KINDS: [(&[u8], ValueKind); 6] = [
     (b"any", ValueKind::Any),
@@ -262,7 +269,7 @@ pub(crate) fn is_value(words: &Words) -> bool {
     }
 }
 
-// The words for the kinds of operands.
+// The words of rows for the kinds of operands.
 #[rattlefmt::skip]
 const OPERAND_KINDS: [(&[u8], OperandKind); 8] = [
     (b"file", OperandKind::File),

@@ -8,7 +8,7 @@ mod texts;
 
 use base_core::Words;
 use lines::{
-    add_asked, add_command, add_letters, add_many, add_place, add_values, is_operand, is_value,
+    add_asked, add_command, add_letters, add_place, add_repeated, add_values, is_operand, is_value,
 };
 use row_lines::{Subject, add_yes_or_no, run_program, value_named, word_at, words_behind};
 use std::alloc::{AllocError, Global};
@@ -19,33 +19,33 @@ use texts::{add_refusal, add_report};
 /// The questions; the README of this crate has the answer to each.
 #[derive(Clone, Copy)]
 enum Question {
-    /// `line WORD ..`.
+    /// `line WORD ..`: whether the words are a command, or the first wrong word.
     Line,
-    /// `many N WORD WORD ..`.
-    Many,
-    /// `asked WORD ..`.
+    /// `many N WORD WORD ..`: as `line`, for a line whose second word is repeated N times.
+    RepeatedWord,
+    /// `asked WORD ..`: what is printed for help, or for the version of the program.
     Asked,
-    /// `command WORD ..`.
+    /// `command WORD ..`: the applet, the options without a value, and the operands.
     Command,
-    /// `values WORD ..`.
+    /// `values WORD ..`: the values of options.
     Values,
-    /// `letters WORD ..`.
+    /// `letters WORD ..`: the letters of the options that have a value.
     Letters,
-    /// `value KIND TEXT`.
+    /// `value KIND TEXT`: whether TEXT is a value of this kind.
     Value,
-    /// `operand KIND TEXT`.
+    /// `operand KIND TEXT`: whether TEXT is an operand of this kind.
     Operand,
-    /// `refusal NAME FIELD ..`.
+    /// `refusal NAME FIELD ..`: the error line of a refusal.
     Refusal,
-    /// `report WORD ..`.
+    /// `report WORD ..`: the text of a report.
     Report,
 }
 
-// The words that questions begin with.
+// The first word of each question.
 #[rattlefmt::skip]
 const QUESTIONS: [(&[u8], Question); 10] = [
     (b"line", Question::Line),
-    (b"many", Question::Many),
+    (b"many", Question::RepeatedWord),
     (b"asked", Question::Asked),
     (b"command", Question::Command),
     (b"values", Question::Values),
@@ -56,7 +56,7 @@ const QUESTIONS: [(&[u8], Question); 10] = [
     (b"report", Question::Report),
 ];
 
-/// The answers of the three crates.
+/// The subject of the rows. It keeps nothing from one row to the next.
 #[derive(Drop)]
 struct CommandLines;
 
@@ -71,10 +71,11 @@ impl Subject for CommandLines {
         let Some(question) = value_named(&QUESTIONS, word_at(words, 0)) else {
             return answer.extend_from_slice(b"no question");
         };
+        // The words after the first one, which names the question.
         let rest = words_behind(alloc, words, 1)?;
         match question {
             Question::Line => add_place(alloc, &rest, answer),
-            Question::Many => add_many(alloc, &rest, answer),
+            Question::RepeatedWord => add_repeated(alloc, &rest, answer),
             Question::Asked => add_asked(alloc, &rest, answer),
             Question::Command => add_command(alloc, &rest, answer),
             Question::Values => add_values(alloc, &rest, answer),

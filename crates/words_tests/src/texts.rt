@@ -1,12 +1,13 @@
-//! The lines of refusals and causes, and reports. The lines are in `docs/commands.md`, "Error
-//! lines".
+//! The error lines of refusals with their causes, and the texts of reports. The lines are in
+//! `docs/commands.md`, "Error lines".
 use base_core::{Cause, Digest, Name, Text, Words};
 use report_core::{Refusal, Report, write_error};
 use row_lines::{number_of, value_named, word_at, words_behind};
 use std::alloc::{AllocError, Global};
 use tree_memory::MemorySink;
 
-/// Adds the pieces of a report, one after another: a word of digits is a number, another is text.
+/// Answers `report WORD ..`: adds a report made of these words, one after another. A word of digits
+/// is a number in it, another one is text.
 pub(crate) fn add_report(
     alloc: Global,
     words: &Words,
@@ -22,7 +23,8 @@ pub(crate) fn add_report(
     answer.extend_from_slice(report.bytes())
 }
 
-/// Adds the line of a refusal: its name, and its fields in order.
+/// Answers `refusal NAME FIELD ..`: adds the error line of the refusal with this name and these
+/// fields.
 pub(crate) fn add_refusal(
     alloc: Global,
     words: &Words,
@@ -38,7 +40,7 @@ pub(crate) fn add_refusal(
     answer.extend_from_slice(page.bytes())
 }
 
-/// A refusal's variant, which a row names.
+/// The variant of a refusal, which a row names.
 #[derive(Clone, Copy)]
 enum Named {
     Usage,
@@ -98,7 +100,8 @@ const REFUSALS: [(&[u8], Named); 25] = [
     (b"owned", Named::Owned),
 ];
 
-/// The refusal that the words of a row name; none if they name none.
+/// The refusal that the words of a row describe, its name and its fields; None if they describe
+/// none.
 fn refusal_of(alloc: Global, words: &Words) -> Result<Option<Refusal>, AllocError> {
     let Some(named) = value_named(&REFUSALS, word_at(words, 0)) else {
         return Ok(None);
@@ -110,14 +113,15 @@ fn refusal_of(alloc: Global, words: &Words) -> Result<Option<Refusal>, AllocErro
         Named::PackageMissing | Named::PackageBad | Named::PackageDiffers => {
             refusal_of_package(alloc, named, words)
         }
-        Named::ScriptNeeded | Named::TriggerNeeded => refusal_without_leave(alloc, named, words),
+        Named::ScriptNeeded | Named::TriggerNeeded => refusal_of_script(alloc, named, words),
         Named::Reserved | Named::PathClash | Named::Owned => refusal_of_path(alloc, named, words),
         _ => Ok(refusal_with_numbers(named, words)),
     }
 }
 
-/// A refusal whose fields are numbers, if there are any.
+/// A refusal that has only numbers as fields, or no fields; None for another refusal.
 fn refusal_with_numbers(named: Named, words: &Words) -> Option<Refusal> {
+    // The first field, as a number of 64 bits or as the position of an argument.
     let number = long_at(words, 1);
     let place = int_at(words, 1);
     let refusal = match named {
@@ -142,17 +146,18 @@ fn refusal_with_numbers(named: Named, words: &Words) -> Option<Refusal> {
     Some(refusal)
 }
 
-/// A refusal for a cause.
+/// A refusal with a cause; None if the words after its other fields are no cause.
 fn refusal_with_cause(
     alloc: Global,
     named: Named,
     words: &Words,
 ) -> Result<Option<Refusal>, AllocError> {
-    let behind = match named {
+    // The index of the word that names the cause.
+    let cause_index = match named {
         Named::FileBad | Named::IndexBad => 2,
         _ => 1,
     };
-    let rest = words_behind(alloc, words, behind)?;
+    let rest = words_behind(alloc, words, cause_index)?;
     let Some(cause) = cause_of(&rest) else {
         return Ok(None);
     };
@@ -166,7 +171,8 @@ fn refusal_with_cause(
     }))
 }
 
-/// The refusal of a package's file, by its words; none if its cause is none.
+/// The refusal of a package's file, by the words of a row; None if it is bad, and the words name no
+/// cause.
 fn refusal_of_package(
     alloc: Global,
     named: Named,
@@ -193,7 +199,7 @@ fn refusal_of_package(
 }
 
 /// The refusal of a script or a trigger that would run without `--no-scripts`.
-fn refusal_without_leave(
+fn refusal_of_script(
     alloc: Global,
     named: Named,
     words: &Words,
@@ -206,7 +212,8 @@ fn refusal_without_leave(
     }))
 }
 
-/// The refusal of a path: a reserved one, a folder of another file, or one that two packages have.
+/// The refusal of a path that is reserved, that is a folder of another file, or that two packages
+/// list.
 fn refusal_of_path(
     alloc: Global,
     named: Named,
@@ -229,7 +236,7 @@ fn refusal_of_path(
     }
 }
 
-/// A cause's variant, which a row names.
+/// The variant of a cause, which a row names.
 #[derive(Clone, Copy)]
 enum NamedCause {
     NotAdb,
@@ -269,8 +276,9 @@ const CAUSES: [(&[u8], NamedCause); 15] = [
     (b"data-order", NamedCause::DataOrder),
 ];
 
-/// The cause of these words: its name, and its fields in order.
+/// The cause that these words describe: its name, and its fields in order. None if there is none.
 fn cause_of(words: &Words) -> Option<Cause> {
+    // The first field, as a number of 64, of 32 or of 16 bits.
     let long = long_at(words, 1);
     let int = int_at(words, 1);
     let place = short_at(words, 1);
@@ -304,7 +312,8 @@ fn cause_of(words: &Words) -> Option<Cause> {
     Some(cause)
 }
 
-/// The cause that a file has another digest: two digests of 20, 32 or 64 bytes.
+/// The cause that a file has another digest than the expected one. Each digest has 20, 32 or 64
+/// bytes; None for another length.
 fn hashes_differ(wanted: &[u8], found: &[u8]) -> Option<Cause> {
     Some(Cause::HashDiffers {
         wanted: digest_of(wanted)?,
@@ -328,19 +337,19 @@ fn digest_of(bytes: &[u8]) -> Option<Digest> {
     }
 }
 
-/// The number of the word at a place; 0 if it is none.
+/// The number that the word at an index is; 0 if it is no number of 64 bits.
 fn long_at(words: &Words, i: usize) -> u64 {
     number_of(word_at(words, i))
         .and_then(|number| u64::try_from(number).ok())
         .unwrap_or(0)
 }
 
-/// The number of 32 bits of the word at a place; 0 if it is none.
+/// The number that the word at an index is; 0 if it is no number of 32 bits.
 fn int_at(words: &Words, i: usize) -> u32 {
     u32::try_from(long_at(words, i)).unwrap_or(0)
 }
 
-/// The number of 16 bits of the word at a place; 0 if it is none.
+/// The number that the word at an index is; 0 if it is no number of 16 bits.
 fn short_at(words: &Words, i: usize) -> u16 {
     u16::try_from(long_at(words, i)).unwrap_or(0)
 }

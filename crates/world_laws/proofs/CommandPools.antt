@@ -16,7 +16,7 @@ use Rattle.engine_core.specs.candidate_core.Rank.{SealedPool, UpgradedNames, sea
 use Rattle.engine_core.specs.candidate_core.declared.candidate_list.TheConstants.{MOST_CANDIDATES}
 use Rattle.engine_core.specs.change_inputs.Candidates.{candidates_of_repositories_from, candidates_of, installed_candidate, root_pool}
 use Rattle.engine_core.specs.change_inputs.Chains.{and_then, unless_cause}
-use Rattle.engine_core.specs.change_inputs.Indexes.{index_file, index_files_from, index_in_file, indexes_in_files}
+use Rattle.engine_core.specs.change_inputs.Indexes.{file_or_index_missing, index_files_from, index_in_file, indexes_in_files}
 use Rattle.engine_core.specs.change_inputs.Inputs.{Inputs, first_index_read_number, index_reads_from, indexes_of, inputs_from_parts, inputs_of, root_for}
 use Rattle.command_core.specs.Command.{CommandLine}
 use Rattle.dep_core.specs.Repositories.{Repository}
@@ -69,7 +69,7 @@ module _ (read : Reads) where
 
       by_read : (file : Option (List ℕ)) → read n x.path ≡ file
           → ((others : List (List ℕ)) (rest : List Plain) → index_files_from (number + 1) (index_reads_from read (suc n) rs) ≡ Ok others → indexes_in_files (number + 1) others ≡ Ok rest → AreValues (suc n) rs rest)
-          → and_then (index_file number file) (λ file. and_then (index_files_from (number + 1) (index_reads_from read (suc n) rs)) (λ files. Ok (file ∷ files))) ≡ Ok files → AreValues n (x ∷ rs) values
+          → and_then (file_or_index_missing number file) (λ file. and_then (index_files_from (number + 1) (index_reads_from read (suc n) rs)) (λ files. Ok (file ∷ files))) ≡ Ok files → AreValues n (x ∷ rs) values
       by_read None here rest_of k = absurd (cc (k))
       by_read (Some file) here rest_of k =
           let others = and_then_ok (index_files_from (number + 1) (index_reads_from read (suc n) rs)) (λ files. Ok (file ∷ files)) files k in

@@ -14,7 +14,7 @@ use Rattle.command_core.specs.declared.command.Applet.{Applet}
 use Rattle.command_core.specs.declared.command.Applet.TheVariants as Applets
 use Rattle.command_core.specs.declared.operands.Operand.{Operand}
 use Rattle.dep_core.specs.Dependency.{Dependency}
-use Rattle.engine_core.specs.Changed.{InputsAndReplacement, selected_by, selected_for, selected_of_inputs}
+use Rattle.engine_core.specs.Changed.{InputsAndReplacement, selected_from_pool_by_choice, selected_from_reads_by_choice, selected_from_inputs_by_choice}
 use Rattle.engine_core.specs.Choice.{IsChoiceFrom}
 use Rattle.engine_core.specs.Selecting.{pool_of_inputs, pool_of_command, replacement_of_choice}
 use Rattle.engine_core.specs.Wishes.{names_to_reinstall, names_to_upgrade, operand_texts, unknown_operand_place, unless_unknown_operand}
@@ -23,7 +23,7 @@ use Rattle.engine_core.specs.package_changes.Placed.{candidates_at}
 use Rattle.report_core.specs.declared.refusal.Refusal.{Refusal}
 use Rattle.engine_core.specs.search_tables.Selection.{IsFirstPreferredSelection}
 use Rattle.world_laws.specs.CommandPool.{IsCommandPool, IsToUpgrade}
-use Rattle.world_laws.specs.SatisfiedWorld.{IsNeeded, SatisfyWorld}
+use Rattle.world_laws.specs.SatisfiedWorld.{IsNeededByWorldOrPackages, SatisfyWorld}
 use Rattle.world_laws.proofs.CommandPools.{candidates_are, root_pool_is}
 use Rattle.world_laws.proofs.InstalledCounted.{any_in, in_any}
 use Rattle.world_laws.proofs.NextNeeds.{next}
@@ -88,7 +88,7 @@ module _ (command : CommandLine) (read : Reads) where
     pub world : pool.world ≡ s.inputs.root.new_world
 
   taken_by : (inputs : Inputs) (pool : SealedPool) (place : Option ℕ) (chosen : Option (List ℕ)) (s : InputsAndReplacement) → pool_of_inputs command inputs ≡ Ok pool
-      → IsChoiceFrom (Ok pool) chosen → unless_unknown_operand place (selected_by command inputs pool chosen) ≡ Ok s → IsTaken s
+      → IsChoiceFrom (Ok pool) chosen → unless_unknown_operand place (selected_from_pool_by_choice command inputs pool chosen) ≡ Ok s → IsTaken s
   taken_by inputs pool (Some place) chosen s is choice e = absurd (cc (e))
   taken_by inputs pool None None s is choice e = absurd (cc (e))
   taken_by inputs pool None (Some trace) s is choice e =
@@ -104,14 +104,14 @@ module _ (command : CommandLine) (read : Reads) where
         world = ap (λ (p : SealedPool). p.world) root.is;
       })
 
-  taken : (chosen : Option (List ℕ)) (s : InputsAndReplacement) → IsChoiceFrom (pool_of_command command read) chosen → selected_for command read chosen ≡ Ok s → IsTaken s
+  taken : (chosen : Option (List ℕ)) (s : InputsAndReplacement) → IsChoiceFrom (pool_of_command command read) chosen → selected_from_reads_by_choice command read chosen ≡ Ok s → IsTaken s
   taken chosen s choice e =
-      let inputs = and_then_ok (inputs_of command read) (selected_of_inputs command chosen) s e in
-      let pool = and_then_ok (pool_of_inputs command inputs.0) (λ pool. unless_unknown_operand (unknown_operand_place command.applet inputs.0 command.operands) (selected_by command inputs.0 pool chosen)) s inputs.2 in
+      let inputs = and_then_ok (inputs_of command read) (selected_from_inputs_by_choice command chosen) s e in
+      let pool = and_then_ok (pool_of_inputs command inputs.0) (λ pool. unless_unknown_operand (unknown_operand_place command.applet inputs.0 command.operands) (selected_from_pool_by_choice command inputs.0 pool chosen)) s inputs.2 in
       let is : pool_of_command command read ≡ Ok pool.0 = ap (λ (r : Result Inputs Refusal). and_then r (pool_of_inputs command)) inputs.1 ∙ pool.1 in
       taken_by inputs.0 pool.0 (unknown_operand_place command.applet inputs.0 command.operands) chosen s pool.1 (subst (λ (r : Result SealedPool Refusal). IsChoiceFrom r chosen) is choice) pool.2
 
-  pub satisfies : (chosen : Option (List ℕ)) (s : InputsAndReplacement) → IsChoiceFrom (pool_of_command command read) chosen → selected_for command read chosen ≡ Ok s
+  pub satisfies : (chosen : Option (List ℕ)) (s : InputsAndReplacement) → IsChoiceFrom (pool_of_command command read) chosen → selected_from_reads_by_choice command read chosen ≡ Ok s
       → SatisfyWorld (candidates_of s.inputs) s.inputs.root.new_world s.replacement.selected
   satisfies chosen s choice e =
       let t = taken chosen s choice e in
@@ -120,12 +120,12 @@ module _ (command : CommandLine) (read : Reads) where
       (subst (λ (w : List Dependency). SatisfyWorld (candidates_of s.inputs) w (candidates_at t.pool t.trace)) t.world
       (subst (λ (cs : List Candidate). SatisfyWorld cs t.pool.world (candidates_at t.pool t.trace)) t.candidates done))
 
-  pub each_needed : (chosen : Option (List ℕ)) (s : InputsAndReplacement) (c : Candidate) → IsChoiceFrom (pool_of_command command read) chosen → selected_for command read chosen ≡ Ok s → IsIn c s.replacement.selected
-      → IsNeeded (candidates_of s.inputs) s.inputs.root.new_world s.replacement.selected c
+  pub each_needed : (chosen : Option (List ℕ)) (s : InputsAndReplacement) (c : Candidate) → IsChoiceFrom (pool_of_command command read) chosen → selected_from_reads_by_choice command read chosen ≡ Ok s → IsIn c s.replacement.selected
+      → IsNeededByWorldOrPackages (candidates_of s.inputs) s.inputs.root.new_world s.replacement.selected c
   each_needed chosen s c choice e here =
       let t = taken chosen s choice e in
       let at : IsIn c (candidates_at t.pool t.trace) = subst (IsIn c) (sym t.selected) here in
-      let done : IsNeeded t.pool.candidates t.pool.world (candidates_at t.pool t.trace) c = needed t.pool t.trace t.first.satisfies (next t.pool) t.first.walked c at in
-      subst (λ (l : List Candidate). IsNeeded (candidates_of s.inputs) s.inputs.root.new_world l c) t.selected
-      (subst (λ (w : List Dependency). IsNeeded (candidates_of s.inputs) w (candidates_at t.pool t.trace) c) t.world
-      (subst (λ (cs : List Candidate). IsNeeded cs t.pool.world (candidates_at t.pool t.trace) c) t.candidates done))
+      let done : IsNeededByWorldOrPackages t.pool.candidates t.pool.world (candidates_at t.pool t.trace) c = needed t.pool t.trace t.first.satisfies (next t.pool) t.first.walked c at in
+      subst (λ (l : List Candidate). IsNeededByWorldOrPackages (candidates_of s.inputs) s.inputs.root.new_world l c) t.selected
+      (subst (λ (w : List Dependency). IsNeededByWorldOrPackages (candidates_of s.inputs) w (candidates_at t.pool t.trace) c) t.world
+      (subst (λ (cs : List Candidate). IsNeededByWorldOrPackages cs t.pool.world (candidates_at t.pool t.trace) c) t.candidates done))

@@ -14,13 +14,13 @@ use Rattle.command_core.specs.declared.command.Applet.TheVariants as Applets
 use Rattle.command_core.specs.declared.operands.Operand.{Operand}
 use Rattle.dep_core.specs.Dependency.{Dependency}
 use Rattle.dep_core.specs.Reading.{dependency_of}
-use Rattle.dep_core.specs.World.{IsWorld, is_in_order, with_entry, without_name}
+use Rattle.dep_core.specs.World.{IsWorld, is_in_order, world_with_dependency_set, world_without_name}
 use Rattle.dep_core.proofs.ReadOut.{read-out}
-use Rattle.dep_core.proofs.Worlds.{IsWorld-with_entry, IsWorld-without, cmp-equal, is_behind}
+use Rattle.dep_core.proofs.Worlds.{IsWorld-world_with_dependency_set, IsWorld-without, cmp-equal, is_behind}
 use Rattle.dep_core.proofs.Places.{in_order}
 use Rattle.base_core.specs.ByteOrder.{bytes_cmp}
 use Rattle.base_core.proofs.Orderings.{is_less, names_total}
-use Rattle.world_laws.specs.NewWorld.{IsWorldAfterAdd, IsWorldAfterDel, HasRequestedEntries, IsAddedDependency, IsDependencyOfNoOperand, IsNoOperand}
+use Rattle.world_laws.specs.NewWorld.{IsWorldAfterAdd, IsWorldAfterDel, IsWorldAfterApplet, IsAddedDependency, IsDependencyOfNoOperand, IsNoOperand}
 
 -- ---- order
 
@@ -69,12 +69,12 @@ tail_in_order e rest h = (and_parts (list_all (is_behind e.name) rest) (is_in_or
 abbrev pub IsNewOr : Dependency → List Dependency → Dependency → Type 0
 IsNewOr d w x = (x ≡ d) ⊎ (IsIn x w × (x.name ≢ d.name))
 
-pub entry_to : (d : Dependency) (w : List Dependency) (x : Dependency) → is_in_order w ≡ true → IsIn x (with_entry d w) → IsNewOr d w x
+pub entry_to : (d : Dependency) (w : List Dependency) (x : Dependency) → is_in_order w ≡ true → IsIn x (world_with_dependency_set d w) → IsNewOr d w x
 entry_to d [] x h (inl is) = inl is
 entry_to d [] x h (inr none) = absurd none
 entry_to d (e ∷ rest) x h here = by (bytes_cmp d.name e.name) refl here (entry_to d rest x (tail_in_order e rest h))
   where
-    by : (o : Ordering) → bytes_cmp d.name e.name ≡ o → IsIn x (match_ordering o (d ∷ (e ∷ rest)) (d ∷ rest) (e ∷ with_entry d rest)) → (IsIn x (with_entry d rest) → IsNewOr d rest x) → IsNewOr d (e ∷ rest) x
+    by : (o : Ordering) → bytes_cmp d.name e.name ≡ o → IsIn x (match_ordering o (d ∷ (e ∷ rest)) (d ∷ rest) (e ∷ world_with_dependency_set d rest)) → (IsIn x (world_with_dependency_set d rest) → IsNewOr d rest x) → IsNewOr d (e ∷ rest) x
     by Less c (inl is) more = inl is
     by Less c (inr stood) more = inr (stood, before_other d.name e rest x c h stood)
     by Equal c (inl is) more = inl is
@@ -86,12 +86,12 @@ entry_to d (e ∷ rest) x h here = by (bytes_cmp d.name e.name) refl here (entry
       | inr stood ↦ inr (inr stood.0, stood.1)
     ]
 
-pub entry_from : (d : Dependency) (w : List Dependency) (x : Dependency) → IsNewOr d w x → IsIn x (with_entry d w)
+pub entry_from : (d : Dependency) (w : List Dependency) (x : Dependency) → IsNewOr d w x → IsIn x (world_with_dependency_set d w)
 entry_from d [] x (inl is) = inl is
 entry_from d [] x (inr stood) = absurd stood.0
 entry_from d (e ∷ rest) x here = by (bytes_cmp d.name e.name) refl here (entry_from d rest x)
   where
-    by : (o : Ordering) → bytes_cmp d.name e.name ≡ o → IsNewOr d (e ∷ rest) x → (IsNewOr d rest x → IsIn x (with_entry d rest)) → IsIn x (match_ordering o (d ∷ (e ∷ rest)) (d ∷ rest) (e ∷ with_entry d rest))
+    by : (o : Ordering) → bytes_cmp d.name e.name ≡ o → IsNewOr d (e ∷ rest) x → (IsNewOr d rest x → IsIn x (world_with_dependency_set d rest)) → IsIn x (match_ordering o (d ∷ (e ∷ rest)) (d ∷ rest) (e ∷ world_with_dependency_set d rest))
     by Less c (inl is) more = inl is
     by Less c (inr stood) more = inr stood.0
     by Equal c (inl is) more = inl is
@@ -106,20 +106,20 @@ entry_from d (e ∷ rest) x here = by (bytes_cmp d.name e.name) refl here (entry
 name_test : (name : List ℕ) → Dependency → Bool
 name_test name d = not (bytes_eq d.name name)
 
-pub left_to : (name : List ℕ) (w : List Dependency) (x : Dependency) → IsIn x (without_name name w) → IsIn x w × (name ≢ x.name)
+pub left_to : (name : List ℕ) (w : List Dependency) (x : Dependency) → IsIn x (world_without_name name w) → IsIn x w × (name ≢ x.name)
 left_to name [] x here = absurd here
 left_to name (e ∷ rest) x here = by (bytes_eq e.name name) refl here (left_to name rest x)
   where
-    by : (b : Bool) → bytes_eq e.name name ≡ b → IsIn x (cond (not b) (e ∷ without_name name rest) (without_name name rest)) → (IsIn x (without_name name rest) → IsIn x rest × (name ≢ x.name)) → IsIn x (e ∷ rest) × (name ≢ x.name)
+    by : (b : Bool) → bytes_eq e.name name ≡ b → IsIn x (cond (not b) (e ∷ world_without_name name rest) (world_without_name name rest)) → (IsIn x (world_without_name name rest) → IsIn x rest × (name ≢ x.name)) → IsIn x (e ∷ rest) × (name ≢ x.name)
     by true t here more = let further = more here in (inr further.0, further.1)
     by false t (inl is) more = (inl is, λ same. absurd (true≢false (sym ((bytes_eq-Decides e.name name).1 (ap (λ (f : Dependency). f.name) (sym is) ∙ sym same)) ∙ t)))
     by false t (inr here) more = let further = more here in (inr further.0, further.1)
 
-pub left_from : (name : List ℕ) (w : List Dependency) (x : Dependency) → IsIn x w → name ≢ x.name → IsIn x (without_name name w)
+pub left_from : (name : List ℕ) (w : List Dependency) (x : Dependency) → IsIn x w → name ≢ x.name → IsIn x (world_without_name name w)
 left_from name [] x here other = absurd here
 left_from name (e ∷ rest) x here other = by (bytes_eq e.name name) refl here (λ more. left_from name rest x more other)
   where
-    by : (b : Bool) → bytes_eq e.name name ≡ b → IsIn x (e ∷ rest) → (IsIn x rest → IsIn x (without_name name rest)) → IsIn x (cond (not b) (e ∷ without_name name rest) (without_name name rest))
+    by : (b : Bool) → bytes_eq e.name name ≡ b → IsIn x (e ∷ rest) → (IsIn x rest → IsIn x (world_without_name name rest)) → IsIn x (cond (not b) (e ∷ world_without_name name rest) (world_without_name name rest))
     by true t (inl is) more = absurd (other (sym ((bytes_eq-Decides e.name name).0 t) ∙ ap (λ (f : Dependency). f.name) (sym is)))
     by true t (inr here) more = more here
     by false t (inl is) more = inl is
@@ -165,7 +165,7 @@ abbrev StandsAfter : List Operand → List Dependency → Dependency → Type 0
 StandsAfter os w x = AddedIn os x ⊎ (IsIn x w × IsDependencyOfNoOperand x.name os)
 
 abbrev put_in : Option Dependency → List Dependency → List Dependency
-put_in said w = option_map_or (λ d. with_entry d w) said w
+put_in said w = option_map_or (λ d. world_with_dependency_set d w) said w
 
 said_by : (o p : Operand) (d : Dependency) (said : Option Dependency) → dependency_of o.text ≡ said → p ≡ o → dependency_of p.text ≡ Some d → said ≡ Some d
 said_by o p d said e at says = sym e ∙ (ap (λ (q : Operand). dependency_of q.text) (sym at) ∙ says)
@@ -176,7 +176,7 @@ none_more o os name said e first none p d (inr behind) says = none p d behind sa
 
 is_put : (o : Operand) (w : List Dependency) → IsWorld w → (said : Option Dependency) → dependency_of o.text ≡ said → IsWorld (put_in said w)
 is_put o w h None e = h
-is_put o w h (Some d) e = IsWorld-with_entry d w (read-out o.text d e).0 h
+is_put o w h (Some d) e = IsWorld-world_with_dependency_set d w (read-out o.text d e).0 h
 
 pub world_added : (os : List Operand) (w : List Dependency) → IsWorld w → IsWorld (world_with_operands os w)
 world_added [] w h = h
@@ -222,12 +222,12 @@ stands_from (o ∷ os) w x here = by (dependency_of o.text) refl here (λ said. 
 
 pub world_left : (os : List Operand) (w : List Dependency) → IsWorld w → IsWorld (world_without_operands os w)
 world_left [] w h = h
-world_left (o ∷ os) w h = world_left os (without_name o.text w) (IsWorld-without o.text w h)
+world_left (o ∷ os) w h = world_left os (world_without_name o.text w) (IsWorld-without o.text w h)
 
 others_to : (os : List Operand) (w : List Dependency) (x : Dependency) → IsIn x (world_without_operands os w) → IsIn x w × IsNoOperand x.name os
 others_to [] w x here = (here, λ p none. absurd none)
 others_to (o ∷ os) w x here =
-    let further = others_to os (without_name o.text w) x here in
+    let further = others_to os (world_without_name o.text w) x here in
     let stood = left_to o.text w x further.0 in
     (stood.0, none stood.1 further.1)
   where
@@ -238,7 +238,7 @@ others_to (o ∷ os) w x here =
 others_from : (os : List Operand) (w : List Dependency) (x : Dependency) → IsIn x w → IsNoOperand x.name os → IsIn x (world_without_operands os w)
 others_from [] w x stood none = stood
 others_from (o ∷ os) w x stood none =
-    others_from os (without_name o.text w) x (left_from o.text w x stood (none o (inl refl))) (λ p behind. none p (inr behind))
+    others_from os (world_without_name o.text w) x (left_from o.text w x stood (none o (inl refl))) (λ p behind. none p (inr behind))
 
 -- ---- each applet
 
@@ -263,7 +263,7 @@ holds_others os w h = record {
   entries = λ d. (λ here. others_to os w d here, λ stood. others_from os w d stood.0 stood.1);
 }
 
-pub holds_asked : (applet : Applet) (os : List Operand) (w : List Dependency) → IsWorld w → HasRequestedEntries applet os w (new_world applet os w)
+pub holds_asked : (applet : Applet) (os : List Operand) (w : List Dependency) → IsWorld w → IsWorldAfterApplet applet os w (new_world applet os w)
 holds_asked Applets.Add os w h = holds_added os w h
 holds_asked Applets.Del os w h = holds_others os w h
 holds_asked other os w h = refl

@@ -11,7 +11,7 @@ use Rattle.base_core.proofs.Orderings.{names_total}
 use Rattle.engine_core.specs.candidate_core.Candidates.{Candidate, Need, entry, named, has_usable_install_if}
 use Rattle.engine_core.specs.candidate_core.Options.{IsIn}
 use Rattle.engine_core.specs.candidate_core.Rank.{SealedPool, meets_at}
-use Rattle.engine_core.specs.search_tables.Selection.{depends_at, install_if_applies, is_met, is_unmet, least_name, lesser_name, names_by_install_if, next_need, positive_needs, raised_needs}
+use Rattle.engine_core.specs.search_tables.Selection.{depends_at, install_if_applies, is_met, is_unmet, least_name, lesser_name, names_by_install_if, next_need, positive_needs, needs_of_world_and_chosen}
 use Rattle.engine_core.proofs.search_tables.PoolFacts.{any_in, filter_in, in_filter, in_map, least_in, least_none, map_in, in_any}
 use Rattle.world_laws.specs.NextNeed.{AreMetByChoices, AreDependenciesOfEachMet, IsAskedByInstallIf, IsFirstOfChoices, IsFirstUnmet, IsMetByChoice, IsNextNeedOrNone}
 
@@ -248,4 +248,4 @@ module _ (pool : SealedPool) (chosen : List ℕ) where
 
   pub next : IsNextNeedOrNone pool chosen (next_need pool chosen)
   unfolding next_need
-  next = by_raised (find test (raised_needs pool chosen)) (split pool.world (raised chosen)) (choices chosen)
+  next = by_raised (find test (needs_of_world_and_chosen pool chosen)) (split pool.world (raised chosen)) (choices chosen)

@@ -7,7 +7,7 @@ use Rattle.command_core.specs.declared.operands.Operand.{Operand}
 use Rattle.dep_core.specs.Dependency.{Dependency}
 use Rattle.dep_core.specs.World.{IsWorld, is_in_order}
 use Rattle.dep_core.proofs.Places.{in_order}
-use Rattle.world_laws.specs.NewWorld.{HasRequestedEntries}
+use Rattle.world_laws.specs.NewWorld.{IsWorldAfterApplet}
 use Rattle.world_laws.proofs.NewWorlds.{after_other, other_less, tail_in_order, behind_first}
 
 AllOf : List Dependency → List Dependency → Type 0
@@ -42,7 +42,7 @@ unfolding AllOf
 by_entries IsOne a b h k f g =
     same_entries a b (in_order a h) (in_order b k) (λ d here. (g d).1 ((f d).0 here)) (λ d here. (f d).1 ((g d).0 here))
 
-pub one_world : (applet : Applet) (os : List Operand) (w a b : List Dependency) → HasRequestedEntries applet os w a → HasRequestedEntries applet os w b → a ≡ b
+pub one_world : (applet : Applet) (os : List Operand) (w a b : List Dependency) → IsWorldAfterApplet applet os w a → IsWorldAfterApplet applet os w b → a ≡ b
 one_world Applets.Add os w a b f g = by_entries _ a b f.world g.world f.entries g.entries
 one_world Applets.Del os w a b f g = by_entries _ a b f.world g.world f.entries g.entries
 one_world other os w a b f g = f ∙ sym g

@@ -6,14 +6,14 @@ use Rattle.std.specs.List.{filter, filter_map, list_all}
 use Rattle.std.proofs.lemmas.Bool.{and_from, and_parts, eqb-false, eqb-true, not_from_false}
 use Rattle.std.proofs.lemmas.Slice.Eq.{bytes_eq-Decides}
 use Rattle.dep_core.specs.Dependency.{Dependency}
-use Rattle.engine_core.specs.candidate_core.Candidates.{Candidate, Need, entry, named, has_usable_install_if, is_allowed, is_barred_by, is_eligible, meets_dependency, meets_need, occupies_name}
+use Rattle.engine_core.specs.candidate_core.Candidates.{Candidate, Need, entry, named, has_usable_install_if, is_allowed_by_tags_of_world, is_barred_by_world, is_eligible, meets_dependency, meets_need, occupies_name}
 use Rattle.engine_core.specs.candidate_core.Options.{IsIn}
 use Rattle.engine_core.specs.candidate_core.Rank.{SealedPool, candidate_at, candidate_at_passes, meets_at}
 use Rattle.engine_core.specs.package_changes.Placed.{candidates_at}
 use Rattle.engine_core.specs.search_tables.Selection.{IsBestMember, IsSatisfying, IsRestOfWalk, conflicts_with, depends_at, install_if_applies, is_met, names_by_install_if, next_need, positive_needs}
 use Rattle.engine_core.proofs.search_tables.PoolFacts.{any_in, in_filter, in_map}
 use Rattle.world_laws.specs.NextNeed.{IsFirstUnmet, IsMetByChoice, IsNextNeedOrNone}
-use Rattle.world_laws.specs.SatisfiedWorld.{InstallIfApplies, IsNeeded, IsMetByOne, MeetsOneDependency, SatisfyWorld}
+use Rattle.world_laws.specs.SatisfiedWorld.{InstallIfApplies, IsNeededByWorldOrPackages, IsMetByOne, MeetsOneDependency, SatisfyWorld}
 use Rattle.world_laws.proofs.InstalledCounted.{in_append, in_right}
 use Rattle.world_laws.proofs.InstalledCounted as Lists
 
@@ -84,12 +84,12 @@ module _ (pool : SealedPool) (trace : List ℕ) (are : IsSatisfying pool trace) 
       sym (test_at pool (is_eligible pool.world) place.0 c place.2) ∙ are.eligible place.0 place.1
 
   not_barred : (c : Candidate) (d : Dependency) → IsIn c packages → IsIn d pool.world → d.conflict ≡ true → meets_dependency d c ≡ false
-  not_barred c d here among on = by (meets_dependency d c) refl (is_barred_by pool.world c) refl
+  not_barred c d here among on = by (meets_dependency d c) refl (is_barred_by_world pool.world c) refl
     where
-      by : (t : Bool) → meets_dependency d c ≡ t → (b : Bool) → is_barred_by pool.world c ≡ b → t ≡ false
+      by : (t : Bool) → meets_dependency d c ≡ t → (b : Bool) → is_barred_by_world pool.world c ≡ b → t ≡ false
       by false e b f = refl
       by true e true f =
-          let parts = and_parts (is_allowed pool.world c) (not (is_barred_by pool.world c)) (eligible c here) in
+          let parts = and_parts (is_allowed_by_tags_of_world pool.world c) (not (is_barred_by_world pool.world c)) (eligible c here) in
           let bad : not true ≡ true = sym (ap not f) ∙ parts.1 in
           absurd (true≢false (sym bad))
       by true e false f =
@@ -142,7 +142,7 @@ module _ (pool : SealedPool) (trace : List ℕ) (are : IsSatisfying pool trace) 
   pub satisfied : SatisfyWorld pool.candidates pool.world packages
   satisfied = record {
     are_candidates = λ c here. (let place = in_at pool trace c here in at_is_in pool.candidates place.0 c place.2);
-    allowed = λ c here. (and_parts (is_allowed pool.world c) (not (is_barred_by pool.world c)) (eligible c here)).0;
+    allowed = λ c here. (and_parts (is_allowed_by_tags_of_world pool.world c) (not (is_barred_by_world pool.world c)) (eligible c here)).0;
     not_barred = not_barred;
     world_met = λ d here off. one_met d (are.world_met (entry d) (as_need d pool.world here off));
     depends_met = λ c d here among off. (let place = in_at pool trace c here in
@@ -167,7 +167,7 @@ module _ (pool : SealedPool) (trace : List ℕ) (are : IsSatisfying pool trace) 
   unmet_in chosen deps d f = subst (IsIn d) (sym f.located) (in_right d f.front (d ∷ f.behind) (inl refl))
 
   -- a choice for the next need behind some choices
-  needed_next : (chosen : List ℕ) (need : Need) (c : Candidate) → AreOfTrace chosen → IsNextNeedOrNone pool chosen (Some need) → meets_need need c ≡ true → IsNeeded pool.candidates pool.world packages c
+  needed_next : (chosen : List ℕ) (need : Need) (c : Candidate) → AreOfTrace chosen → IsNextNeedOrNone pool chosen (Some need) → meets_need need c ≡ true → IsNeededByWorldOrPackages pool.candidates pool.world packages c
   needed_next chosen (entry d) c of_trace (inl f) meets = inl (d, unmet_in chosen pool.world d f, f.positive, meets)
   needed_next chosen (entry d) c of_trace (inr f) meets =
       let choice_in : IsIn f.1.choice chosen = subst (IsIn f.1.choice) (sym f.1.located) (in_right f.1.choice f.1.front (f.1.choice ∷ f.1.behind) (inl refl)) in
@@ -193,7 +193,7 @@ module _ (pool : SealedPool) (trace : List ℕ) (are : IsSatisfying pool trace) 
       | inr behind ↦ elim behind [ inl is ↦ subst (λ (x : ℕ). IsIn x trace) (sym is) here | inr none ↦ absurd none ]
     ]
 
-    needed_from : (chosen rest : List ℕ) → AreOfTrace chosen → IsRestOfWalk pool trace chosen rest → (place : ℕ) (c : Candidate) → IsIn place rest → candidate_at pool place ≡ Some c → IsNeeded pool.candidates pool.world packages c
+    needed_from : (chosen rest : List ℕ) → AreOfTrace chosen → IsRestOfWalk pool trace chosen rest → (place : ℕ) (c : Candidate) → IsIn place rest → candidate_at pool place ≡ Some c → IsNeededByWorldOrPackages pool.candidates pool.world packages c
     needed_from chosen [] of_trace walk place c here e = absurd here
     needed_from chosen (p ∷ rest) of_trace walk place c (inl is) e =
         let best : IsBestMember pool trace walk.0 p = walk.2 in
@@ -203,5 +203,5 @@ module _ (pool : SealedPool) (trace : List ℕ) (are : IsSatisfying pool trace) 
         let best : IsBestMember pool trace walk.0 p = walk.2 in
         needed_from (chosen ++ p ∷ []) rest (more_of chosen p of_trace best.0) walk.3 place c behind e
 
-    pub needed : IsRestOfWalk pool trace [] trace → (c : Candidate) → IsIn c packages → IsNeeded pool.candidates pool.world packages c
+    pub needed : IsRestOfWalk pool trace [] trace → (c : Candidate) → IsIn c packages → IsNeededByWorldOrPackages pool.candidates pool.world packages c
     needed walk c here = let place = in_at pool trace c here in needed_from [] trace (λ x none. absurd none) walk place.0 c place.1 place.2

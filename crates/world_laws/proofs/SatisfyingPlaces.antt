@@ -6,7 +6,7 @@ use Rattle.std.proofs.lemmas.Bool.{and_from, and_parts, or_left, not-true, not_f
 use Rattle.std.proofs.lemmas.Slice.Eq.{bytes_eq-Decides}
 use Rattle.base_core.proofs.AtName.{own_name}
 use Rattle.dep_core.specs.Dependency.{Dependency}
-use Rattle.engine_core.specs.candidate_core.Candidates.{Candidate, Need, entry, is_name_occupied_by_provides_entry, named, has_usable_install_if, is_allowed, is_barred_by, is_eligible, meets_dependency, meets_need, occupies_name}
+use Rattle.engine_core.specs.candidate_core.Candidates.{Candidate, Need, entry, is_name_occupied_by_provides_entry, named, has_usable_install_if, is_allowed_by_tags_of_world, is_barred_by_world, is_eligible, meets_dependency, meets_need, occupies_name}
 use Rattle.engine_core.specs.candidate_core.Options.{IsIn}
 use Rattle.engine_core.specs.candidate_core.Rank.{SealedPool, candidate_at, candidate_at_passes, is_eligible_at, meets_at}
 use Rattle.engine_core.proofs.candidate_core.Places.{place_of}
@@ -125,7 +125,7 @@ module _ (pool : SealedPool) (packages : List Candidate) (are : SatisfyWorld poo
         let q = p.each place here in
         need_met q.0.depends need (λ d among off. are.depends_met q.0 d q.1 among off) (subst (λ (deps : List Dependency). IsIn need (positive_needs deps)) (depends_of place q.0 q.2) at)
 
-    barred_by_none : (c : Candidate) → IsIn c packages → is_barred_by pool.world c ≡ false
+    barred_by_none : (c : Candidate) → IsIn c packages → is_barred_by_world pool.world c ≡ false
     barred_by_none c here = no_any (λ (d : Dependency). d.conflict && meets_dependency d c) pool.world (λ d at. by d at (d.conflict) refl)
       where
         by : (d : Dependency) → IsIn d pool.world → (t : Bool) → d.conflict ≡ t → (d.conflict && meets_dependency d c) ≡ false
@@ -135,7 +135,7 @@ module _ (pool : SealedPool) (packages : List Candidate) (are : SatisfyWorld poo
     eligible : (place : ℕ) → IsIn place places → is_eligible_at pool place ≡ true
     eligible place here =
         let q = p.each place here in
-        test_at pool (is_eligible pool.world) place q.0 q.2 ∙ and_from (is_allowed pool.world q.0) (not (is_barred_by pool.world q.0)) (are.allowed q.0 q.1) (not_from_false (is_barred_by pool.world q.0) (barred_by_none q.0 q.1))
+        test_at pool (is_eligible pool.world) place q.0 q.2 ∙ and_from (is_allowed_by_tags_of_world pool.world q.0) (not (is_barred_by_world pool.world q.0)) (are.allowed q.0 q.1) (not_from_false (is_barred_by_world pool.world q.0) (barred_by_none q.0 q.1))
 
     same_place : (a b : ℕ) (c other : Candidate) → IsIn a places → IsIn b places → candidate_at pool a ≡ Some c → candidate_at pool b ≡ Some other → other ≡ c → a ≡ b
     same_place a b c other here there e f same = p.one a b c here there e (f ∙ ap Some same)

@@ -11,7 +11,7 @@ use Rattle.engine_core.specs.change_outcome.ChangeOutcome.{ChangeDone, ChangeWis
 use Rattle.engine_core.specs.change_outcome.ConfigurationLines.{configuration_lines}
 use Rattle.engine_core.specs.change_outcome.Triggers.{trigger_lines}
 use Rattle.command_core.specs.Command.{CommandLine}
-use Rattle.engine_core.specs.Changed.{InputsAndReplacement, change_of_selected, change_of_command, selected_for, simulated_change}
+use Rattle.engine_core.specs.Changed.{InputsAndReplacement, change_of_selected, change_of_command, selected_from_reads_by_choice, simulated_change}
 use Rattle.engine_core.specs.Choice.{IsChoiceFrom}
 use Rattle.engine_core.specs.Selecting.{pool_of_command}
 use Rattle.engine_core.specs.Wishes.{wishes_of}
@@ -53,7 +53,7 @@ abbrev pub IsOneChoice : Type 0
 IsOneChoice = (pool : Result SealedPool Refusal) (a b : Option (List ℕ)) → IsChoiceFrom pool a → IsChoiceFrom pool b → a ≡ b
 
 -- both commands select alike
-selects_alike : (command : CommandLine) (read : Reads) (chosen : Option (List ℕ)) → selected_for (with_simulation command) read chosen ≡ selected_for command read chosen
+selects_alike : (command : CommandLine) (read : Reads) (chosen : Option (List ℕ)) → selected_from_reads_by_choice (with_simulation command) read chosen ≡ selected_from_reads_by_choice command read chosen
 unfolding inputs_of
 selects_alike command read chosen = refl
 
@@ -83,9 +83,9 @@ module _ (one : IsOneChoice) (command : CommandLine) (read : Reads) (files : Fil
       → change_of_command (with_simulation command) read files expected other ≡ Ok simulation → change_of_command command read files chosen clash ≡ Ok done → IsReportPredicted simulation.report done.report
   unfolding change_of_command
   foretold known simulation done real a b e d =
-      let first = and_then_ok (selected_for (with_simulation command) read expected) (change_of_selected (with_simulation command) read files other) simulation e in
-      let second = and_then_ok (selected_for command read chosen) (change_of_selected command read files clash) done d in
-      let both : Ok first.0 ≡ Ok second.0 = sym first.1 ∙ (selects_alike command read expected ∙ (ap (selected_for command read) (chosen_alike a b) ∙ second.1)) in
+      let first = and_then_ok (selected_from_reads_by_choice (with_simulation command) read expected) (change_of_selected (with_simulation command) read files other) simulation e in
+      let second = and_then_ok (selected_from_reads_by_choice command read chosen) (change_of_selected command read files clash) done d in
+      let both : Ok first.0 ≡ Ok second.0 = sym first.1 ∙ (selects_alike command read expected ∙ (ap (selected_from_reads_by_choice command read) (chosen_alike a b) ∙ second.1)) in
       let same : first.0 ≡ second.0 = cc in
       by_selected known command read files other clash second.0 simulation done real
       (subst (λ (s : InputsAndReplacement). change_of_selected (with_simulation command) read files other s ≡ Ok simulation) same first.2) second.2
@@ -99,5 +99,5 @@ module _ (one : IsOneChoice) (command : CommandLine) (read : Reads) (files : Fil
       → change_of_command (with_simulation command) read files expected other ≡ Err refusal → change_of_command command read files chosen clash ≡ Err refusal
   unfolding change_of_command
   refused_alike refusal a b e =
-      refused_both (selected_for (with_simulation command) read expected) (selected_for command read chosen)
-      (selects_alike command read expected ∙ ap (selected_for command read) (chosen_alike a b)) refusal e
+      refused_both (selected_from_reads_by_choice (with_simulation command) read expected) (selected_from_reads_by_choice command read chosen)
+      (selects_alike command read expected ∙ ap (selected_from_reads_by_choice command read) (chosen_alike a b)) refusal e

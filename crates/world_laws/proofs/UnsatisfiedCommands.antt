@@ -7,16 +7,16 @@ use Rattle.engine_core.specs.candidate_core.declared.candidate_list.TheConstants
 use Rattle.engine_core.specs.adb_schema.Soundness.{container_fault_except_contents, payload_in, root_value}
 use Rattle.adb_view.specs.declared.tables.Which.TheVariants.{Idb, Index}
 use Rattle.engine_core.specs.change_inputs.Candidates.{candidates_of, root_pool}
-use Rattle.engine_core.specs.change_inputs.Chains.{and_then, refused_as, unless_cause}
+use Rattle.engine_core.specs.change_inputs.Chains.{and_then, with_error_as_refusal, unless_cause}
 use Rattle.engine_core.specs.change_inputs.Database.{payload_database, root_database}
-use Rattle.engine_core.specs.change_inputs.Indexes.{index_file, index_files_from, index_in_file, indexes_in_files}
+use Rattle.engine_core.specs.change_inputs.Indexes.{file_or_index_missing, index_files_from, index_in_file, indexes_in_files}
 use Rattle.engine_core.specs.change_inputs.Inputs.{Inputs, database_read_number, first_index_read_number, index_reads_from, inputs_of, repositories_read_number, root_for, text_database_read_number, world_read_number}
-use Rattle.engine_core.specs.change_inputs.Repositories.{if_untrusted_allowed, root_repositories}
+use Rattle.engine_core.specs.change_inputs.Repositories.{repositories_if_untrusted_allowed, root_repositories}
 use Rattle.engine_core.specs.change_inputs.World.{root_world, found_text_or_empty}
 use Rattle.command_core.specs.Command.{CommandLine}
 use Rattle.dep_core.specs.Repositories.{Repository, repositories_of}
 use Rattle.dep_core.specs.World.{world_of}
-use Rattle.engine_core.specs.Changed.{selected_by, selected_for, selected_of_inputs}
+use Rattle.engine_core.specs.Changed.{selected_from_pool_by_choice, selected_from_reads_by_choice, selected_from_inputs_by_choice}
 use Rattle.engine_core.specs.Choice.{IsPreferredChoice, IsChoiceFrom}
 use Rattle.engine_core.specs.Selecting.{pool_of_inputs, pool_of_command}
 use Rattle.engine_core.specs.Wishes.{names_to_upgrade, unknown_operand_place, unless_unknown_operand}
@@ -56,7 +56,7 @@ chain : {A B : Type 0} (a : Result A Refusal) (next : A → Result B Refusal) �
 chain (Ok x) next first rest e = rest x e
 chain (Err refusal) next first rest e = let same : refusal ≡ Unsatisfied = cc in first (ap (λ r. Err r) same)
 
-as_other : {A E : Type 0} (refusal : E → Refusal) (a : Result A E) → ((e : E) → refusal e ≡ Unsatisfied → ⊥) → IsOther (refused_as refusal a)
+as_other : {A E : Type 0} (refusal : E → Refusal) (a : Result A E) → ((e : E) → refusal e ≡ Unsatisfied → ⊥) → IsOther (with_error_as_refusal refusal a)
 as_other refusal (Ok a) other e = cc (e)
 as_other refusal (Err x) other e = let same : refusal x ≡ Unsatisfied = cc in other x same
 
@@ -76,22 +76,22 @@ database_other may_begin None (Some text) = payload_other (payload_of_text text)
 database_other true None None = λ e. cc (e)
 database_other false None None = λ e. cc (e)
 
-trusted_other : (is_allowed : Bool) (repositories : List Repository) → IsOther (if_untrusted_allowed is_allowed repositories)
-trusted_other is_allowed [] e = cc (e)
+trusted_other : (is_allowed_by_tags_of_world : Bool) (repositories : List Repository) → IsOther (repositories_if_untrusted_allowed is_allowed_by_tags_of_world repositories)
+trusted_other is_allowed_by_tags_of_world [] e = cc (e)
 trusted_other true (repository ∷ others) e = cc (e)
 trusted_other false (repository ∷ others) e = cc (e)
 
-repositories_other : (is_allowed : Bool) (text : List ℕ) → IsOther (root_repositories is_allowed text)
-repositories_other is_allowed text = chain (refused_as RepositoriesBad (repositories_of text)) (if_untrusted_allowed is_allowed) (as_other RepositoriesBad (repositories_of text) (λ n e. cc (e))) (trusted_other is_allowed)
+repositories_other : (is_allowed_by_tags_of_world : Bool) (text : List ℕ) → IsOther (root_repositories is_allowed_by_tags_of_world text)
+repositories_other is_allowed_by_tags_of_world text = chain (with_error_as_refusal RepositoriesBad (repositories_of text)) (repositories_if_untrusted_allowed is_allowed_by_tags_of_world) (as_other RepositoriesBad (repositories_of text) (λ n e. cc (e))) (trusted_other is_allowed_by_tags_of_world)
 
-file_other : (n : ℕ) (found : Option (List ℕ)) → IsOther (index_file n found)
+file_other : (n : ℕ) (found : Option (List ℕ)) → IsOther (file_or_index_missing n found)
 file_other n None e = cc (e)
 file_other n (Some file) e = cc (e)
 
 files_other : (n : ℕ) (found : List (Option (List ℕ))) → IsOther (index_files_from n found)
 files_other n [] = λ e. cc (e)
 files_other n (f ∷ found) =
-    chain (index_file n f) (λ file. and_then (index_files_from (n + 1) found) (λ files. Ok (file ∷ files))) (file_other n f)
+    chain (file_or_index_missing n f) (λ file. and_then (index_files_from (n + 1) found) (λ files. Ok (file ∷ files))) (file_other n f)
     (λ file. chain (index_files_from (n + 1) found) (λ files. Ok (file ∷ files)) (files_other (n + 1) found) (λ files e. cc (e)))
 
 indexes_other : (n : ℕ) (files : List (List ℕ)) → IsOther (indexes_in_files n files)
@@ -134,37 +134,37 @@ module _ (command : CommandLine) (read : Reads) where
   abbrev HasNone : Type 0
   HasNone = (inputs : Inputs) × (inputs_of command read ≡ Ok inputs) × IsUnsatisfiable (candidates_of inputs) inputs.root.new_world
 
-  pub refused : (chosen : Option (List ℕ)) → IsChoiceFrom (pool_of_command command read) chosen → selected_for command read chosen ≡ Err Unsatisfied → HasNone
+  pub refused : (chosen : Option (List ℕ)) → IsChoiceFrom (pool_of_command command read) chosen → selected_from_reads_by_choice command read chosen ≡ Err Unsatisfied → HasNone
   refused chosen choice e = by (inputs_of command read) refl choice e
     where
       by_chosen : (inputs : Inputs) → inputs_of command read ≡ Ok inputs → (pool : SealedPool) → pool_of_inputs command inputs ≡ Ok pool → (place : Option ℕ) (chosen : Option (List ℕ)) → IsPreferredChoice pool chosen
-          → unless_unknown_operand place (selected_by command inputs pool chosen) ≡ Err Unsatisfied → HasNone
+          → unless_unknown_operand place (selected_from_pool_by_choice command inputs pool chosen) ≡ Err Unsatisfied → HasNone
       by_chosen inputs is pool made (Some place) chosen choice e = absurd (cc (e))
       by_chosen inputs is pool made None (Some trace) choice e = absurd (cc (e))
       by_chosen inputs is pool made None None choice e = (inputs, is, (none_of_inputs inputs (names_to_upgrade command.applet command.operands) pool made).0 choice)
 
       by_pool : (inputs : Inputs) → inputs_of command read ≡ Ok inputs → (made : Result SealedPool Refusal) → pool_of_inputs command inputs ≡ made → IsChoiceFrom made chosen
-          → and_then made (λ pool. unless_unknown_operand (unknown_operand_place command.applet inputs command.operands) (selected_by command inputs pool chosen)) ≡ Err Unsatisfied → HasNone
+          → and_then made (λ pool. unless_unknown_operand (unknown_operand_place command.applet inputs command.operands) (selected_from_pool_by_choice command inputs pool chosen)) ≡ Err Unsatisfied → HasNone
       by_pool inputs is (Err refusal) made choice e = let same : refusal ≡ Unsatisfied = cc in absurd (pool_other inputs (made ∙ ap (λ r. Err r) same))
       by_pool inputs is (Ok pool) made choice e = by_chosen inputs is pool made (unknown_operand_place command.applet inputs command.operands) chosen choice e
 
-      by : (r : Result Inputs Refusal) → inputs_of command read ≡ r → IsChoiceFrom (and_then r (pool_of_inputs command)) chosen → and_then r (selected_of_inputs command chosen) ≡ Err Unsatisfied → HasNone
+      by : (r : Result Inputs Refusal) → inputs_of command read ≡ r → IsChoiceFrom (and_then r (pool_of_inputs command)) chosen → and_then r (selected_from_inputs_by_choice command chosen) ≡ Err Unsatisfied → HasNone
       by (Err refusal) is choice e = let same : refusal ≡ Unsatisfied = cc in absurd (inputs_other (is ∙ ap (λ r. Err r) same))
       by (Ok inputs) is choice e = by_pool inputs is (pool_of_inputs command inputs) refl choice e
 
   pub refuses : (chosen : Option (List ℕ)) (inputs : Inputs) (pool : SealedPool) → IsChoiceFrom (pool_of_command command read) chosen → inputs_of command read ≡ Ok inputs → pool_of_command command read ≡ Ok pool
-      → unknown_operand_place command.applet inputs command.operands ≡ None → IsUnsatisfiable (candidates_of inputs) inputs.root.new_world → selected_for command read chosen ≡ Err Unsatisfied
+      → unknown_operand_place command.applet inputs command.operands ≡ None → IsUnsatisfiable (candidates_of inputs) inputs.root.new_world → selected_from_reads_by_choice command read chosen ≡ Err Unsatisfied
   refuses chosen inputs pool choice e f known none = by chosen (subst (λ (r : Result SealedPool Refusal). IsChoiceFrom r chosen) f choice) refl
     where
       made : pool_of_inputs command inputs ≡ Ok pool
       made = sym (ap (λ (r : Result Inputs Refusal). and_then r (pool_of_inputs command)) e) ∙ f
 
-      read_so : (taken : Option (List ℕ)) → selected_for command read taken ≡ selected_by command inputs pool taken
+      read_so : (taken : Option (List ℕ)) → selected_from_reads_by_choice command read taken ≡ selected_from_pool_by_choice command inputs pool taken
       read_so taken =
-          ap (λ (r : Result Inputs Refusal). and_then r (selected_of_inputs command taken)) e
-          ∙ (ap (λ (r : Result SealedPool Refusal). and_then r (λ p. unless_unknown_operand (unknown_operand_place command.applet inputs command.operands) (selected_by command inputs p taken))) made
-          ∙ ap (λ (o : Option ℕ). unless_unknown_operand o (selected_by command inputs pool taken)) known)
+          ap (λ (r : Result Inputs Refusal). and_then r (selected_from_inputs_by_choice command taken)) e
+          ∙ (ap (λ (r : Result SealedPool Refusal). and_then r (λ p. unless_unknown_operand (unknown_operand_place command.applet inputs command.operands) (selected_from_pool_by_choice command inputs p taken))) made
+          ∙ ap (λ (o : Option ℕ). unless_unknown_operand o (selected_from_pool_by_choice command inputs pool taken)) known)
 
-      by : (taken : Option (List ℕ)) → IsPreferredChoice pool taken → chosen ≡ taken → selected_for command read chosen ≡ Err Unsatisfied
-      by None choice same = ap (selected_for command read) same ∙ read_so None
+      by : (taken : Option (List ℕ)) → IsPreferredChoice pool taken → chosen ≡ taken → selected_from_reads_by_choice command read chosen ≡ Err Unsatisfied
+      by None choice same = ap (selected_from_reads_by_choice command read) same ∙ read_so None
       by (Some trace) choice same = absurd ((none_for inputs pool e f).1 none trace choice.satisfies)

@@ -23,17 +23,22 @@ IsDependencyOfNoOperand name operands = (o : Operand) (d : Dependency) → IsIn 
 
 -- an operand is this dependency, and none after it has the same name
 pub record IsAddedDependency (operands : List Operand) (d : Dependency) : Type 0 where
+  -- the operands before it, the operand, and those after it
   pub front : List Operand
   pub operand : Operand
   pub behind : List Operand
   pub located : operands ≡ front ++ operand ∷ behind
+  -- the text of the operand is this dependency
   pub says : dependency_of operand.text ≡ Some d
+  -- no operand after it is a dependency of the same name
   pub last : IsDependencyOfNoOperand d.name behind
 
 -- world after `add`: an entry is one of the operands, or it was there before and no operand has its
 -- name
 pub record IsWorldAfterAdd (operands : List Operand) (before after : List Dependency) : Type 0 where
+  -- the entries are dependencies in byte order of their names, each name once
   pub world : IsWorld after
+  -- an entry is that of an operand, or it was there before and no operand has its name
   pub entries : (d : Dependency) → IsIn d after
       ↔ (IsAddedDependency operands d ⊎ (IsIn d before × IsDependencyOfNoOperand d.name operands))
 
@@ -45,22 +50,26 @@ IsNoOperand name operands = (o : Operand) → IsIn o operands → o.text ≢ nam
 
 -- world after `del`: an entry was there before, and no operand is its name
 pub record IsWorldAfterDel (operands : List Operand) (before after : List Dependency) : Type 0 where
+  -- the entries are dependencies in byte order of their names, each name once
   pub world : IsWorld after
+  -- an entry was there before, and no operand is its name
   pub entries : (d : Dependency) → IsIn d after ↔ (IsIn d before × IsNoOperand d.name operands)
 
 -- ---- each applet
 
 -- world after a command, by its applet; all except `add` and `del` leave world unchanged
-abbrev pub HasRequestedEntries :
+abbrev pub IsWorldAfterApplet :
     Applet → List Operand → List Dependency → List Dependency → Type 0
-HasRequestedEntries Add operands before after = IsWorldAfterAdd operands before after
-HasRequestedEntries Del operands before after = IsWorldAfterDel operands before after
-HasRequestedEntries applet operands before after = after ≡ before
+IsWorldAfterApplet Add operands before after = IsWorldAfterAdd operands before after
+IsWorldAfterApplet Del operands before after = IsWorldAfterDel operands before after
+IsWorldAfterApplet applet operands before after = after ≡ before
 
 -- ---- among what a change reads of a root
 
 -- among what a change reads of a root, world before is that of its file, with an absent file read as
 -- empty, and the new one holds what the command asks for
-pub record IsReadWorld (command : CommandLine) (read : Reads) (root : Root) : Type 0 where
+pub record HasReadAndRequestedWorld (command : CommandLine) (read : Reads) (root : Root) : Type 0 where
+  -- world before the command is that of its file
   pub file : world_of (unwrap_or (read world_read_number world_name) []) ≡ Ok root.world
-  pub asked : HasRequestedEntries command.applet command.operands root.world root.new_world
+  -- the new world has what the command asks for
+  pub asked : IsWorldAfterApplet command.applet command.operands root.world root.new_world

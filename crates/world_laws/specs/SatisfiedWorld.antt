@@ -3,7 +3,7 @@
 -- is taken", the end of its second paragraph.
 use Rattle.std.specs.Prelude.{◌≡◌, ◌⊎◌, ◌↔◌, ℕ, true, false, List}
 use Rattle.engine_core.specs.adb_fields.FirstPair.{IsIn}
-use Rattle.engine_core.specs.candidate_core.Candidates.{Candidate, has_usable_install_if, is_allowed, meets_dependency, occupies_name}
+use Rattle.engine_core.specs.candidate_core.Candidates.{Candidate, has_usable_install_if, is_allowed_by_tags_of_world, meets_dependency, occupies_name}
 use Rattle.dep_core.specs.Dependency.{Dependency}
 
 -- ---- world
@@ -17,8 +17,11 @@ IsMetByOne packages d =
 -- entry by entry; it is not empty and has no conflict
 pub record InstallIfApplies (candidates : List Candidate) (world : List Dependency)
     (packages : List Candidate) (c : Candidate) : Type 0 where
+  -- the candidate is one of these
   pub is_candidate : IsIn c candidates
+  -- it may be selected, and its install-if is not empty and has no conflict
   pub usable : has_usable_install_if world c ≡ true
+  -- one of the packages meets each entry of its install-if
   pub met : (d : Dependency) → IsIn d c.install_if → IsMetByOne packages d
 
 -- packages satisfy world, among the candidates that there are
@@ -26,11 +29,14 @@ pub record SatisfyWorld (candidates : List Candidate) (world : List Dependency)
     (packages : List Candidate) : Type 0 where
   -- each is a candidate, is allowed, and meets no conflict of world
   pub are_candidates : (c : Candidate) → IsIn c packages → IsIn c candidates
-  pub allowed : (c : Candidate) → IsIn c packages → is_allowed world c ≡ true
+  -- each package is installed, or from a repository whose packages world allows
+  pub allowed : (c : Candidate) → IsIn c packages → is_allowed_by_tags_of_world world c ≡ true
+  -- no package meets a conflict of world
   pub not_barred : (c : Candidate) (d : Dependency) → IsIn c packages → IsIn d world
       → d.conflict ≡ true → meets_dependency d c ≡ false
   -- 1: what world and the packages depend on is met
   pub world_met : (d : Dependency) → IsIn d world → d.conflict ≡ false → IsMetByOne packages d
+  -- a package meets each dependency of a package that is no conflict
   pub depends_met : (c : Candidate) (d : Dependency) → IsIn c packages → IsIn d c.depends
       → d.conflict ≡ false → IsMetByOne packages d
   -- 2: no conflict of a package is met by another
@@ -63,9 +69,9 @@ MeetsOneDependency deps c =
 
 -- a package is needed: it meets an entry of world or a dependency of one of the packages, or it has the
 -- name of a candidate whose install-if applies
-abbrev pub IsNeeded :
+abbrev pub IsNeededByWorldOrPackages :
     List Candidate → List Dependency → List Candidate → Candidate → Type 0
-IsNeeded candidates world packages c =
+IsNeededByWorldOrPackages candidates world packages c =
     MeetsOneDependency world c
     ⊎ (((other : Candidate) × IsIn other packages × MeetsOneDependency other.depends c)
     ⊎ ((other : Candidate) × InstallIfApplies candidates world packages other

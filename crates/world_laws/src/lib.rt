@@ -18,7 +18,7 @@ ghost use Rattle.base_core.specs.Files.{Files};
 ghost use Rattle.engine_core.specs.change_files.FileChange.{FileChange};
 ghost use Rattle.engine_core.specs.change_outcome.ChangeOutcome.{ChangeDone, ChangeWishes, change_report};
 ghost use Rattle.command_core.specs.Command.{CommandLine};
-ghost use Rattle.engine_core.specs.Changed.{InputsAndReplacement, change_of_command, selected_for};
+ghost use Rattle.engine_core.specs.Changed.{InputsAndReplacement, change_of_command, selected_from_reads_by_choice};
 ghost use Rattle.engine_core.specs.Choice.{IsPreferredChoice, IsChoiceFrom};
 ghost use Rattle.engine_core.specs.Selecting.{pool_of_command};
 ghost use Rattle.engine_core.specs.Wishes.{unknown_operand_place};
@@ -38,8 +38,8 @@ ghost use Rattle.command_core.specs.declared.operands.Operand.{Operand};
 ghost use Rattle.dep_core.specs.Dependency.{Dependency};
 ghost use Rattle.dep_core.specs.World.{IsWorld};
 ghost use Rattle.world_laws.specs.CommandPool.{IsCommandPool};
-ghost use Rattle.world_laws.specs.NewWorld.{HasRequestedEntries, IsReadWorld};
-ghost use Rattle.world_laws.specs.SatisfiedWorld.{AreSamePackages, IsNeeded, SatisfyWorld};
+ghost use Rattle.world_laws.specs.NewWorld.{IsWorldAfterApplet, HasReadAndRequestedWorld};
+ghost use Rattle.world_laws.specs.SatisfiedWorld.{AreSamePackages, IsNeededByWorldOrPackages, SatisfyWorld};
 ghost use Rattle.world_laws.specs.SatisfiedWorld.{IsUnsatisfiable};
 
 use engine_core::{a_change_that_is_made_passes_each_test, a_choice_is_unique};
@@ -49,10 +49,10 @@ use engine_core::{a_change_that_is_made_passes_each_test, a_choice_is_unique};
 /// the names, in byte order, that a candidate's install-if asks for. There is none if all are met,
 /// and never more than one.
 pub fn the_next_need_is_the_first_that_is_unmet()
-    // The search takes this as its next need.
+    // The next need of the search (*next_need*) is this one.
     ensures next { (pool : SealedPool) (chosen : List ℕ)
         → IsNextNeedOrNone pool chosen (next_need pool chosen) }
-    // There is only one.
+    // After the same choices there is only one next need.
     ensures one { (pool : SealedPool) (chosen : List ℕ) (need other : Option Need)
         → IsNextNeedOrNone pool chosen need → IsNextNeedOrNone pool chosen other → need ≡ other }
 {}
@@ -62,7 +62,7 @@ pub fn the_next_need_is_the_first_that_is_unmet()
 /// same bytes. The same holds of a command with and without `--simulate`, over the same reads and
 /// files.
 pub fn a_simulation_predicts_the_change()
-    // Of the two reports, by one replacement.
+    // The reports of a simulated change and of the same change, with one and the same replacement.
     ensures reports { (r : Replacement) (wishes : ChangeWishes) (change : FileChange)
         (files : Files)
         → IsReportPredicted (simulated_report r wishes.to_remove)
@@ -77,12 +77,15 @@ pub fn a_simulation_predicts_the_change()
         → change_of_command command read files chosen clash ≡ Ok done
         → IsReportPredicted simulation.report done.report }
 {
+    // Laws that the proof needs; they have no effect at run time.
     a_change_that_is_made_passes_each_test();
     a_choice_is_unique();
 }
 
 /// If a simulation is refused, the command without `--simulate` is refused in the same way.
 pub fn a_refused_simulation_refuses_the_change()
+    // `expected` is the selection of the simulation, and `other` its first clash; `chosen` and
+    // `clash` are those of the command without `--simulate`.
     ensures { (command : CommandLine) (read : Reads) (files : Files)
         (expected chosen : Option (List ℕ)) (other clash : Option NamePair) (refusal : Refusal)
         → IsChoiceFrom (pool_of_command (with_simulation command) read) expected
@@ -90,6 +93,7 @@ pub fn a_refused_simulation_refuses_the_change()
         → change_of_command (with_simulation command) read files expected other ≡ Err refusal
         → change_of_command command read files chosen clash ≡ Err refusal }
 {
+    // A law that the proof needs; it has no effect at run time.
     a_choice_is_unique();
 }
 
@@ -97,17 +101,17 @@ pub fn a_refused_simulation_refuses_the_change()
 /// names. After `del` it has the entries of all names except the operands. Any other command leaves
 /// it. Exactly one world holds what was asked. The same holds of what a change reads of a root.
 pub fn the_new_world_has_what_was_asked()
-    // Of any world.
+    // The new world of a command, whichever world was before.
     ensures world { (applet : Applet) (operands : List Operand) (world : List Dependency)
         → IsWorld world
-        → HasRequestedEntries applet operands world (new_world applet operands world) }
-    // Of what a change reads of a root.
+        → IsWorldAfterApplet applet operands world (new_world applet operands world) }
+    // The new world among what a change reads of a root.
     ensures read { (command : CommandLine) (read : Reads) (inputs : Inputs)
-        → inputs_of command read ≡ Ok inputs → IsReadWorld command read inputs.root }
-    // Exactly one world holds it.
+        → inputs_of command read ≡ Ok inputs → HasReadAndRequestedWorld command read inputs.root }
+    // Exactly one world has the requested entries.
     ensures one { (applet : Applet) (operands : List Operand) (world after other : List Dependency)
-        → HasRequestedEntries applet operands world after
-        → HasRequestedEntries applet operands world other → after ≡ other }
+        → IsWorldAfterApplet applet operands world after
+        → IsWorldAfterApplet applet operands world other → after ≡ other }
 {}
 
 /// A command chooses from the packages of all indexes, and the installed packages that no index
@@ -121,17 +125,18 @@ pub fn a_command_chooses_from_its_indexes_and_its_database()
 /// The packages that a command selects satisfy the new world, and each of them is needed: by world,
 /// by one that depends on it, or by an install-if.
 pub fn the_selected_packages_satisfy_the_new_world()
-    // They satisfy it.
+    // The selected packages satisfy the new world.
     ensures satisfied { (command : CommandLine) (read : Reads) (chosen : Option (List ℕ))
         (s : InputsAndReplacement) → IsChoiceFrom (pool_of_command command read) chosen
-        → selected_for command read chosen ≡ Ok s
+        → selected_from_reads_by_choice command read chosen ≡ Ok s
         → SatisfyWorld (candidates_of s.inputs) s.inputs.root.new_world s.replacement.selected }
-    // Each is needed.
+    // Each selected package is needed.
     ensures needed { (command : CommandLine) (read : Reads) (chosen : Option (List ℕ))
         (s : InputsAndReplacement) (c : Candidate)
         → IsChoiceFrom (pool_of_command command read) chosen
-        → selected_for command read chosen ≡ Ok s → IsIn c s.replacement.selected
-        → IsNeeded (candidates_of s.inputs) s.inputs.root.new_world s.replacement.selected c }
+        → selected_from_reads_by_choice command read chosen ≡ Ok s → IsIn c s.replacement.selected
+        → IsNeededByWorldOrPackages
+        (candidates_of s.inputs) s.inputs.root.new_world s.replacement.selected c }
 {}
 
 /// A selection of places satisfies world exactly if packages do in a reader's words. So a command
@@ -153,14 +158,15 @@ pub fn a_selection_satisfies_world_exactly_if_packages_do()
     // If it is refused as unsatisfied, no packages satisfy its new world.
     ensures refused { (command : CommandLine) (read : Reads) (chosen : Option (List ℕ))
         → IsChoiceFrom (pool_of_command command read) chosen
-        → selected_for command read chosen ≡ Err Unsatisfied
+        → selected_from_reads_by_choice command read chosen ≡ Err Unsatisfied
         → (inputs : Inputs) × (inputs_of command read ≡ Ok inputs)
         × IsUnsatisfiable (candidates_of inputs) inputs.root.new_world }
-    // If no packages do, it is refused so, unless an earlier test refuses it.
+    // If no packages satisfy its new world, the command is refused as unsatisfied, unless an
+    // earlier test refuses it.
     ensures refuses { (command : CommandLine) (read : Reads) (chosen : Option (List ℕ))
         (inputs : Inputs) (pool : SealedPool) → IsChoiceFrom (pool_of_command command read) chosen
         → inputs_of command read ≡ Ok inputs → pool_of_command command read ≡ Ok pool
         → unknown_operand_place command.applet inputs command.operands ≡ None
         → IsUnsatisfiable (candidates_of inputs) inputs.root.new_world
-        → selected_for command read chosen ≡ Err Unsatisfied }
+        → selected_from_reads_by_choice command read chosen ≡ Err Unsatisfied }
 {}

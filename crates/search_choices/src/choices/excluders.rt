@@ -36,6 +36,8 @@ impl<'p> Choices<'p> {
         requires within { id < length (pool_of self.now).candidates }
         requires once { IsIn id (choices_of self.now) → ⊥ }
         requires matches { AreMatchesAmong (pool_of self.now).candidates matches.old }
+        // None: no choice and the candidate exclude each other. Otherwise: a choice that excludes
+        // it.
         ensures found { IfOk result (λ found. MatchOption found
             ((k : ℕ) → IsIn k (choices_of self.now) →
             exclude_each_other (pool_of self.now) k id ≡ false)
@@ -61,6 +63,8 @@ impl<'p> Choices<'p> {
         requires choices { HasConflictsOfChoices self.now }
         requires candidate { IsUnchosenCandidate self.now id details.now }
         requires matches { AreMatchesAmong (pool_of self.now).candidates matches.old }
+        // None: neither an entry of the candidate's provides nor a conflict of the candidate has a
+        // choice that excludes it.
         ensures { FindsExcluder self.now id
             (((p : Dependency) → IsIn p details.now.provides →
             p.conflict ≡ false → IsNotExcludedAt (pool_of self.now)
@@ -105,6 +109,8 @@ impl<'p> Choices<'p> {
 
     // A choice that occupies a name, if `is_occupied`.
     fn occupant_at(&self, name: &[u8], is_occupied: bool) -> Option<CandId>
+        // None: no choice occupies the name, or `is_occupied` is false. Otherwise: a choice that
+        // does.
         ensures { MatchOption result (is_occupied ≡ true → (k : ℕ) →
             IsIn k (choices_of self.now)
             → candidate_at_passes (pool_of self.now) (occupies_name name.now) k
@@ -128,6 +134,7 @@ impl<'p> Choices<'p> {
         requires choices { HasConflictsOfChoices self.now }
         requires candidate { IsUnchosenCandidate self.now id details.now }
         requires matches { AreMatchesAmong (pool_of self.now).candidates matches.old }
+        // None: no choice excludes the candidate for a name that it provides.
         ensures { FindsExcluder self.now id
             ((p : Dependency) → IsIn p details.now.provides →
             p.conflict ≡ false → IsNotExcludedAt (pool_of self.now)
@@ -159,6 +166,7 @@ impl<'p> Choices<'p> {
         requires candidate { IsUnchosenCandidate self.now id details.now }
         requires provided { IsIn (dependency entry.now) details.now.provides }
         requires matches { AreMatchesAmong (pool_of self.now).candidates matches.old }
+        // None: no choice excludes the candidate for the name of this entry.
         ensures { FindsExcluder self.now id
             ((dependency entry.now).conflict ≡ false →
             IsNotExcludedAt (pool_of self.now) (choices_of self.now) details.now
@@ -180,6 +188,7 @@ impl<'p> Choices<'p> {
     ) -> Result<Option<CandId>, AllocError>
         requires candidate { IsUnchosenCandidate self.now id details.now }
         requires matches { AreMatchesAmong (pool_of self.now).candidates matches.old }
+        // None: no choice meets a conflict of the candidate.
         ensures { FindsExcluder self.now id
             ((d : Dependency) → IsIn d details.now.depends →
             d.conflict ≡ true → is_met (pool_of self.now) (choices_of self.now) (entry d) ≡ false)
@@ -208,6 +217,7 @@ impl<'p> Choices<'p> {
         requires candidate { IsUnchosenCandidate self.now id details.now }
         requires depends { slice_get details.now.depends index ≡ Some (dependency dep.now) }
         requires matches { AreMatchesAmong (pool_of self.now).candidates matches.old }
+        // None: the dependency is no conflict, or no choice meets it.
         ensures { FindsExcluder self.now id
             ((dependency dep.now).conflict ≡ true →
             is_met (pool_of self.now) (choices_of self.now) (entry (dependency dep.now)) ≡ false)

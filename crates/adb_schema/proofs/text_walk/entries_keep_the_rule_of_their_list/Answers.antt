@@ -1,5 +1,5 @@
 use Rattle.adb_view.specs.Values.{entries_in}
-use Rattle.adb_schema.specs.SoundValues.{IsNameAllowedInIntent, IsSoundDependency, IsSoundFileOf, IsSoundFolder, IsSoundInformation, IsSoundPackage}
+use Rattle.adb_schema.specs.SoundValues.{IsNameAllowedInIntent, IsSoundDependency, IsSoundFileInFolder, IsSoundFolder, IsSoundInformation, IsSoundPackage}
 use Rattle.adb_schema.proofs.SoundLeaves.{each_at}
 use Rattle.adb_schema.proofs.text_walk.entries_keep_the_rule_of_their_list.Goals as goal
 
@@ -7,7 +7,7 @@ pub returns : goal.returns
 returns c = record {
   dependency = λ list i. each_at IsSoundDependency (entries_in list) i;
   information = λ root list i. each_at (IsSoundInformation root) (entries_in list) i;
-  file = λ root folder list i. each_at (IsSoundFileOf root folder) (entries_in list) i;
+  file = λ root folder list i. each_at (IsSoundFileInFolder root folder) (entries_in list) i;
   folder = λ root list i. each_at (IsSoundFolder root) (entries_in list) i;
   «package» = λ root list i. each_at (IsSoundPackage root) (entries_in list) i;
   change_name = λ list i. each_at IsNameAllowedInIntent (entries_in list) i;

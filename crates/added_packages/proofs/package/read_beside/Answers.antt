@@ -1,6 +1,6 @@
 use Rattle.std.proofs.Common.{◌≡◌, ◌∙◌, [], Ok, Err, ap, sym}
 use Rattle.change_outcome.specs.change_inputs.Faults.{IsRefusedOf}
-use Rattle.change_outcome.specs.PackageFiles.{unless_different}
+use Rattle.change_outcome.specs.PackageFiles.{package_unless_other_than_candidate}
 use Rattle.change_outcome.specs.candidate_core.Values.{candidate_value}
 use Rattle.added_packages.specs.Arrivals.{IsPackageRead}
 use Rattle.added_packages.specs.NameReads.{package_of_candidate_by_path}
@@ -29,14 +29,14 @@ pub returns-in_err-test_as_indexed-in-Sound-clause-found : goal.returns-in_err-t
 returns-in_err-test_as_indexed-in-Sound-clause-found g c =
     let h = g.T.Tree.history c.args.tree.now in
     let s = sound_read h c.args.path.now (candidate_value c.args.c.now) _ c.in-Sound.pkg c.in-Sound.is c.in_ok-read_package.ensures.read in
-    test_refused {U = Unit {0}} (λ _. s.coming) (IsPackageRead h) h (package_of_candidate_by_path (candidate_value c.args.c.now) c.args.path.now) (package_of_candidate_by_path (candidate_value c.args.c.now) c.args.path.now) _ (unless_different (candidate_value c.args.c.now) s.coming) c.from_residual-in_err-test_as_indexed-in-Sound.result _
+    test_refused {U = Unit {0}} (λ _. s.coming) (IsPackageRead h) h (package_of_candidate_by_path (candidate_value c.args.c.now) c.args.path.now) (package_of_candidate_by_path (candidate_value c.args.c.now) c.args.path.now) _ (package_unless_other_than_candidate (candidate_value c.args.c.now) s.coming) c.from_residual-in_err-test_as_indexed-in-Sound.result _
     c.from_residual-in_err-test_as_indexed-in-Sound.ensures.1 s.by (c.in_err-test_as_indexed-in-Sound.ensures s.coming s.value s.id)
     (λ read n refusal is test. is ∙ test)
 
 pub returns-in_err-test_as_indexed-in-Sound-clause-tree : goal.returns-in_err-test_as_indexed-in-Sound-clause-tree
 returns-in_err-test_as_indexed-in-Sound-clause-tree g c =
     let s = sound_read (g.T.Tree.history c.args.tree.now) c.args.path.now (candidate_value c.args.c.now) _ c.in-Sound.pkg c.in-Sound.is c.in_ok-read_package.ensures.read in
-    then_refused {U = Unit {0}} (λ _. s.coming) (unless_different (candidate_value c.args.c.now) s.coming) _ _ _ _ _ _ _ _ c.from_residual-in_err-test_as_indexed-in-Sound.ensures.1
+    then_refused {U = Unit {0}} (λ _. s.coming) (package_unless_other_than_candidate (candidate_value c.args.c.now) s.coming) _ _ _ _ _ _ _ _ c.from_residual-in_err-test_as_indexed-in-Sound.ensures.1
     (c.in_err-test_as_indexed-in-Sound.ensures s.coming s.value s.id) c.in_ok-read_package.ensures.tree
 
 pub returns-in_ok-test_as_indexed-in-Sound-clause-found : goal.returns-in_ok-test_as_indexed-in-Sound-clause-found

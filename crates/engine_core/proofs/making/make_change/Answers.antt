@@ -1,6 +1,6 @@
 use Rattle.std.proofs.Common.{◌≡◌, ◌∙◌, sym, subst, Ok, Result}
 use Rattle.change_report.specs.change_outcome.ChangeOutcome.{ChangeDone}
-use Rattle.engine_core.specs.ChangeRun.{CarriesOut}
+use Rattle.engine_core.specs.ChangeRun.{IsEndOfRunOfWantedChange}
 use Rattle.engine_core.specs.Runs.{IsRunCounted, IsRunOnSelection}
 use Rattle.engine_core.specs.SelectionSeen.{selection_seen}
 use Rattle.report_core.specs.declared.refusal.Refusal.{Refusal}
@@ -111,7 +111,7 @@ returns-clause-run g c =
     arrived_run s c.requires.real _ _ _ _ (only_read _ _ _ _ _ _ c.in_ok-packages.ensures.tree) c.requires.database c.requires.root c.in_ok-packages.packages c.in_ok-packages.ensures.found _ _ c.commit.result
     (λ are. plan_run c.packages_that_were_read_are_those_found.ensures _ _ _ _ (only_read _ _ _ _ _ _ c.in_ok-plan.ensures.tree) c.in_ok-packages.packages p c.in_ok-plan.ensures.plan c.in_ok-packages.ensures.found.read _ are _ _ c.commit.result
     (λ files planned.
-    subst (λ (w : Result ChangeDone Refusal). CarriesOut (Ok c.in_ok-packages.ensures.found.is.0) w (g.T.Tree.history c.plan_change.new.tree) (g.T.Tree.history c.commit.new.tree) (g.T.Tree.counts c.plan_change.new.tree) (g.T.Tree.counts c.commit.new.tree) c.commit.result)
+    subst (λ (w : Result ChangeDone Refusal). IsEndOfRunOfWantedChange (Ok c.in_ok-packages.ensures.found.is.0) w (g.T.Tree.history c.plan_change.new.tree) (g.T.Tree.history c.commit.new.tree) (g.T.Tree.counts c.plan_change.new.tree) (g.T.Tree.counts c.commit.new.tree) c.commit.result)
     (sym (entry_fits _ p _ files planned c.in_ok-records.records c.in_ok-records.ensures.told c.in_ok-records.ensures.records c.in_ok-rendered.rendered c.in_ok-rendered.ensures.rendered))
     (c.commit.ensures.comes (record {
       found = c.in_ok-packages.ensures.found.is.0;

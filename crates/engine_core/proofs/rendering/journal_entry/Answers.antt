@@ -4,7 +4,7 @@ use Rattle.added_packages.specs.adb_write.Canonical.{overflow_of}
 use Rattle.change_report.specs.change_files.PlanLists.{sorted_distinct_names}
 use Rattle.change_report.specs.change_inputs.Answers.{Agrees}
 use Rattle.change_report.specs.change_outcome.ChangeOutcome.{name_if_needed, unless_overflow}
-use Rattle.change_report.specs.journal_core.Staged.{Staging, new_stage}
+use Rattle.change_report.specs.journal_core.Staged.{Staging, new_stage_of_removals_and_writes}
 use Rattle.change_report.specs.journal_intent.IntentValue.{intent_of_lists, value_of_intent}
 use Rattle.change_report.specs.own_core.Planned.{IsUnreservedName}
 use Rattle.root_names.specs.RootNames.{text_database_name}
@@ -59,7 +59,7 @@ pub returns-clause-stage : goal.returns-clause-stage
 returns-clause-stage c =
     let removed : c.in_ok-removals.removals ≡ removals_of_plan c.args.plan.now = c.in_ok-removals.ensures ∙ (λ i. sorted_distinct_names (c.removals.ensures i ++ name_if_needed (c.is_from_text.ensures i) text_database_name)) in (
       not_idle c.in_ok-removals.removals c.in_ok-names.names (removals_of_plan c.args.plan.now) (map name_of_write c.args.writes.now) c.is_idle.result false removed c.in_ok-names.ensures c.is_idle.ensures c.if-is_idle.false,
-      c.in_ok-stage.ensures.stage ∙ (λ i. new_stage (removed i) (c.in_ok-names.ensures i)),
+      c.in_ok-stage.ensures.stage ∙ (λ i. new_stage_of_removals_and_writes (removed i) (c.in_ok-names.ensures i)),
     )
 
 pub returns-clause-told : goal.returns-clause-told

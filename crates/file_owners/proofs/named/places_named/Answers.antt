@@ -12,7 +12,7 @@ use Rattle.adb_view.specs.Entries.{array_entries}
 use Rattle.adb_view.specs.Plain.{Plain}
 use Rattle.adb_view.specs.Shaped.{Each}
 use Rattle.db_core.specs.Seen.{members_of}
-use Rattle.file_owners.specs.Replaces.{replaces_entry_names}
+use Rattle.file_owners.specs.Replaces.{does_replaces_entry_name_package}
 use Rattle.file_owners.proofs.NamedPlaces.{in_order}
 use Rattle.file_owners.proofs.named.places_named.Goals as goal
 
@@ -23,7 +23,7 @@ returns c =
     ap (λ a. array_at (payload_of a) (Kinds.Obj Tables.Dep) ws) c.adb.ensures
     ∙ (c.replaced_entries.ensures.value ∙ ap (λ info. entry_in info 16) c.info-info.ensures) in
     in_order (members_of c.args.members.now) (package_value c.args.pkg.now) c.in_ok-places.places.items _ c.in_ok-sort.ensures.permutation c.in_ok-sort.ensures.sorted
-    (λ y m g. c.in_ok-places.ensures y m g ∙ ap (λ v. list_any (λ entry. replaces_entry_names entry m.pkg) (list_of (entries_in v))) same)
+    (λ y m g. c.in_ok-places.ensures y m g ∙ ap (λ v. list_any (λ entry. does_replaces_entry_name_package entry m.pkg) (list_of (entries_in v))) same)
 
 pub places_in-requires-clause-texts : goal.places_in-requires-clause-texts
 places_in-requires-clause-texts c =

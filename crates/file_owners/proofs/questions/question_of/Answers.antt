@@ -7,7 +7,7 @@ use Rattle.adb_view.specs.Adb.{payload_of}
 use Rattle.adb_view.specs.Plain.{Plain}
 use Rattle.db_core.specs.Members.{Member, is_found_place, member_name}
 use Rattle.db_core.specs.Seen.{members_of}
-use Rattle.file_owners.specs.Replaces.{replaces_entry_names}
+use Rattle.file_owners.specs.Replaces.{does_replaces_entry_name_package}
 use Rattle.file_owners.proofs.NamedPlaces.{none_found}
 use Rattle.file_owners.proofs.AskedQuestions.{found_asks, named_so}
 use Rattle.file_owners.proofs.questions.question_of.Goals as goal
@@ -21,7 +21,7 @@ returns-in-None-clause-asked c =
 pub returns-in-Some-clause-asked : goal.returns-in-Some-clause-asked
 returns-in-Some-clause-asked c = λ y m g.
     let value : Plain = value_at (payload_of c.args.adb) (Kinds.Obj Tables.Dep) c.args.entry in
-    ap (λ (k : ℕ). (k == y) && replaces_entry_names value m.pkg) c.place_of.ensures
+    ap (λ (k : ℕ). (k == y) && does_replaces_entry_name_package value m.pkg) c.place_of.ensures
     ∙ found_asks value (members_of c.args.members.now) c.in-Some.place
     (λ i m h. c.in-Some.ensures.found i m h ∙ ap (bytes_eq (member_name m)) (c.name.ensures ∙ ap (λ (v : Plain). text_in (entry_in v 0)) c.of-view.ensures)) y m g
 

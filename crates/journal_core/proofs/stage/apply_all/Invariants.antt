@@ -2,7 +2,7 @@ use Rattle.std.proofs.Common.{◌≡◌, ◌≤◌, ◌-◌, true}
 use Rattle.base_core.specs.Calls.{IfObservable}
 use Rattle.base_core.specs.Crash.{Since}
 use Rattle.base_core.specs.Faults.{CountsOnlyRise, CountsNoNewFault}
-use Rattle.journal_core.specs.Kept.{KeepsIntent}
+use Rattle.journal_core.specs.Kept.{KeepsIntentWhileStageShrinks}
 use Rattle.journal_core.specs.Staged.{action_count}
 use Rattle.journal_core.proofs.OldOrNew.{BytesOn}
 use Rattle.journal_core.proofs.Rowing.{ActsOn, Proper, ReadsOn, Rowed}
@@ -18,7 +18,7 @@ invariant-loop-stage g l =
     × CountsOnlyRise (g.T.Tree.counts l.fn.tree) (g.T.Tree.counts l.tree)
     × CountsNoNewFault (g.T.Tree.counts l.fn.tree) (g.T.Tree.counts l.tree)
     × ReadsOn l.fn.stage (g.T.Tree.history l.fn.tree) (g.T.Tree.history l.tree)
-    × IfObservable (g.T.Tree.history l.fn.tree) (λ v. Since (KeepsIntent v) (g.T.Tree.history l.fn.tree) (g.T.Tree.history l.tree))
+    × IfObservable (g.T.Tree.history l.fn.tree) (λ v. Since (KeepsIntentWhileStageShrinks v) (g.T.Tree.history l.fn.tree) (g.T.Tree.history l.tree))
     × BytesOn l.fn.stage (g.T.Tree.history l.fn.tree) (g.T.Tree.history l.tree)
 
 abbrev pub decreases-loop-stage : goal.decreases-loop-stage

@@ -1,9 +1,9 @@
 use Rattle.std.proofs.Common.{◌∙◌, Some, ap, arith, refl}
 use Rattle.adb_sound.specs.adb_schema.declared.read.TheConstants.{INTENT_WORD}
-use Rattle.adb_sound.specs.Root.{IsRootOf}
+use Rattle.adb_sound.specs.Root.{IsValidRootValueOfTable}
 use Rattle.adb_view.specs.declared.tables.Which.TheVariants as Tables
 use Rattle.adb_sound.specs.adb_write.Canonical.{overflow_of}
-use Rattle.adb_sound.specs.adb_write.Size.{size_of, value_count}
+use Rattle.adb_sound.specs.adb_write.Size.{payload_size_of, value_count}
 use Rattle.journal_intent.specs.IntentValue.{intent_of_lists, value_of_intent}
 use Rattle.journal_intent.proofs.Limits.{fits_of, few_of}
 use Rattle.journal_intent.proofs.Sound.{header_is, intent_read, not_package}
@@ -16,7 +16,7 @@ returns-clause-read c = λ removals writes names none.
     let normal = value_normal removals writes in
     let over = c.a_value_overflows_exactly_past_a_limit.ensures v normal in
     let fits = fits_of _ _ _ none over in
-    let root : IsRootOf Tables.Intent v = record {
+    let root : IsValidRootValueOfTable Tables.Intent v = record {
       normal = normal;
       shaped = value_shape removals writes;
       fits = fits;
@@ -33,6 +33,6 @@ pub returns-clause-few : goal.returns-clause-few
 returns-clause-few c = λ removals writes none.
     let v = value_of_intent (intent_of_lists removals writes) in
     let over = c.a_value_overflows_exactly_past_a_limit.ensures v (value_normal removals writes) in
-    let most = few_of (overflow_of v) (size_of v) (value_count v) none over in
+    let most = few_of (overflow_of v) (payload_size_of v) (value_count v) none over in
     let names = names_few removals writes in
     omega (arith, most, names)

@@ -10,7 +10,7 @@ use Rattle.journal_staging.specs.Sources.{EachMayDenote}
 use Rattle.journal_staging.specs.declared.writes.StageFault.TheVariants.{Bad, Disk}
 use Rattle.journal_staging.proofs.Carried.{carried, carried_from, carried_on, of_each, where_seen}
 use Rattle.journal_staging.proofs.OneFile.{same_fault, if_disk, not_ok, on_err}
-use Rattle.journal_commit.specs.Asked.{HasAcceptedTargets}
+use Rattle.journal_commit.specs.Asked.{RecoveryChangesOnlyAcceptedNames}
 use Rattle.journal_commit.specs.StageRun.{IsRunOfStagedChange, IsStagedChangeComplete, IsStagingRun}
 use Rattle.journal_commit.proofs.Asked.{change_promises, staging_promises}
 use Rattle.journal_staging.proofs.carrying.carry_out.Goals as goal
@@ -147,13 +147,13 @@ returns-clause-cut_off g c = of_each (g.T.Tree.history c.args.tree.now) _ (λ v 
 pub returns-in_err-stage_each-clause-promised : goal.returns-in_err-stage_each-clause-promised
 returns-in_err-stage_each-clause-promised g c =
     carried_from c.a_new_stage_is_staging.ensures (g.T.Tree.history c.args.tree.now) (g.T.Tree.history c.check_targets.new.tree) c.args.stage.now _ _ c.requires.new c.check_targets.ensures.tree.same
-    (λ v. Since (HasAcceptedTargets g.T.Tree.accepts (files_of v)) (g.T.Tree.history c.args.tree.now) (g.T.Tree.history c.stage_each.new.tree))
+    (λ v. Since (RecoveryChangesOnlyAcceptedNames g.T.Tree.accepts (files_of v)) (g.T.Tree.history c.args.tree.now) (g.T.Tree.history c.stage_each.new.tree))
     (λ v unread empty staging. staging_promises g.T.Tree.accepts v unread empty _ _ (c.in_err-stage_each.ensures.run v (g.T.Tree.history c.args.tree.now) staging))
 
 pub returns-in_err-carry_through-clause-promised : goal.returns-in_err-carry_through-clause-promised
 returns-in_err-carry_through-clause-promised g c =
     carried_from c.a_new_stage_is_staging.ensures (g.T.Tree.history c.args.tree.now) (g.T.Tree.history c.check_targets.new.tree) c.args.stage.now _ _ c.requires.new c.check_targets.ensures.tree.same
-    (λ v. Since (HasAcceptedTargets g.T.Tree.accepts (files_of v)) (g.T.Tree.history c.args.tree.now) (g.T.Tree.history c.carry_through.new.tree))
+    (λ v. Since (RecoveryChangesOnlyAcceptedNames g.T.Tree.accepts (files_of v)) (g.T.Tree.history c.args.tree.now) (g.T.Tree.history c.carry_through.new.tree))
     (λ v unread empty staging.
     let found = c.in_ok-stage_each.ensures.listed v (g.T.Tree.history c.args.tree.now) staging in
     change_promises g.T.Tree.accepts v unread empty c.args.stage.now.intent found.0 c.names_are_free.ensures.free c.in_ok-check_targets.ensures.accepted _ _
@@ -163,7 +163,7 @@ returns-in_err-carry_through-clause-promised g c =
 pub returns-clause-promised : goal.returns-clause-promised
 returns-clause-promised g c =
     carried_from c.a_new_stage_is_staging.ensures (g.T.Tree.history c.args.tree.now) (g.T.Tree.history c.check_targets.new.tree) c.args.stage.now _ _ c.requires.new c.check_targets.ensures.tree.same
-    (λ v. Since (HasAcceptedTargets g.T.Tree.accepts (files_of v)) (g.T.Tree.history c.args.tree.now) (g.T.Tree.history c.carry_through.new.tree))
+    (λ v. Since (RecoveryChangesOnlyAcceptedNames g.T.Tree.accepts (files_of v)) (g.T.Tree.history c.args.tree.now) (g.T.Tree.history c.carry_through.new.tree))
     (λ v unread empty staging.
     let found = c.in_ok-stage_each.ensures.listed v (g.T.Tree.history c.args.tree.now) staging in
     change_promises g.T.Tree.accepts v unread empty c.args.stage.now.intent found.0 c.names_are_free.ensures.free c.in_ok-check_targets.ensures.accepted _ _

@@ -6,11 +6,11 @@ use Rattle.make_laws.proofs.MadeFrom.{made_from, scripts_are}
 use Rattle.make_laws.proofs.ScriptsGiven.{scripts_given}
 use Rattle.make_laws.specs.MadePackages.{package_in_container}
 use Rattle.make_laws.specs.NamedFields.{field_named}
-use Rattle.make_laws.specs.ScriptFiles.{IsScriptGiven}
+use Rattle.make_laws.specs.ScriptFiles.{IsScriptOfOptionsOrNull}
 use Rattle.make_laws.proofs.packages.a_made_package_has_its_scripts.Goals as goal
 
 pub returns : goal.returns
 returns c = λ command names read bytes type made one.
     let m = made_from c.a_made_package_is_read_back.ensures command names read bytes made in
-    subst (IsScriptGiven read (values_of_letter SCRIPT command.values) type) (sym (ap (field_named Scripts type) (scripts_are command names read (package_in_container bytes) m)))
+    subst (IsScriptOfOptionsOrNull read (values_of_letter SCRIPT command.values) type) (sym (ap (field_named Scripts type) (scripts_are command names read (package_in_container bytes) m)))
     (scripts_given read (values_of_letter SCRIPT command.values) m.scripts type m.scripts_read one)

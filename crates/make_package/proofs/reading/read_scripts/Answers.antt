@@ -2,7 +2,7 @@ use Rattle.command_core.specs.declared.values.TheConstants.{SCRIPT}
 use Rattle.std.proofs.Common.{◌≡◌, ◌≤◌, ◌∙◌, ap, sym, length, take_all, List, arith, rules}
 use Rattle.command_core.specs.declared.values.OptionValue.{OptionValue}
 use Rattle.make_package.specs.Scripts.{AreScripts}
-use Rattle.package_files.specs.Sources.{values_of_letter, script_at, scripts_from}
+use Rattle.package_files.specs.Sources.{values_of_letter, script_at, scripts_from_read}
 use Rattle.make_package.proofs.MadeParts.{script_name, script_there}
 use Rattle.make_package.proofs.MadeRuns.{one_read, script_own, scripts_go_on, scripts_none, scripts_same, scripts_stop}
 use Rattle.package_files.proofs.ReadLemmas.{so_far_none, explained, explained_as, same_fault, memory_fault, told_as}
@@ -53,4 +53,4 @@ pub returns-clause-read : goal.returns-clause-read
 returns-clause-read g c = λ n.
     let le : length c.args.values.now ≤ c.loop-i.i = omega arith in
     explained_as _ _ _ (c.loop-i.invariant.so_far n)
-    (λ read e. (e.0, ap (λ (vs : List OptionValue). scripts_from read n (values_of_letter SCRIPT vs)) (sym (take_all c.loop-i.i c.args.values.now le)) ∙ e.1, e.2))
+    (λ read e. (e.0, ap (λ (vs : List OptionValue). scripts_from_read read n (values_of_letter SCRIPT vs)) (sym (take_all c.loop-i.i c.args.values.now le)) ∙ e.1, e.2))

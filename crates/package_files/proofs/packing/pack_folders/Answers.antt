@@ -2,7 +2,7 @@ use Rattle.std.proofs.Common.{◌∙◌, ◌+◌, ◌<◌, ◌≤◌, ap, sym, l
 use Rattle.package_files.specs.Folders.{FolderListing}
 use Rattle.package_files.specs.BorrowedNames.{listings_of}
 use Rattle.package_files.specs.Packed.{IsPackedFolder, ArePackedFolders, IsPacking}
-use Rattle.package_files.specs.Sources.{source_folder_read_at, source_folders_from}
+use Rattle.package_files.specs.Sources.{source_folder_read_at, source_folders_at_place_from_read}
 use Rattle.package_files.proofs.ReadLemmas.{so_far_none, explained, explained_as, same_fault, memory_fault, told_as}
 use Rattle.package_files.proofs.PackLemmas.{folder_own, folders_none, folders_packed_more, folder_count_more, folders_go_on, folders_stop, listed_here, listed_within, listed_whole, reads_in, now_of}
 use Rattle.package_files.proofs.packing.pack_folders.Goals as goal
@@ -53,4 +53,4 @@ pub returns-clause-read : goal.returns-clause-read
 returns-clause-read g c = λ n.
     let le : length c.args.folders.now ≤ c.loop-i.i = omega arith in
     explained_as _ _ _ (c.loop-i.invariant.so_far n)
-    (λ read e. (e.0, ap (source_folders_from c.args.place read n) (sym (listed_whole c.args.folders.now c.args.files.now c.loop-i.i c.requires le)) ∙ e.1, e.2))
+    (λ read e. (e.0, ap (source_folders_at_place_from_read c.args.place read n) (sym (listed_whole c.args.folders.now c.args.files.now c.loop-i.i c.requires le)) ∙ e.1, e.2))

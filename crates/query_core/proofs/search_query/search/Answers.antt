@@ -4,7 +4,7 @@ use Rattle.std.specs.List.{filter_map, flat_map}
 use Rattle.base_core.specs.Sorted.{sorted_by}
 use Rattle.pool_core.proofs.candidate_core.Steps.{if_ok}
 use Rattle.query_core.specs.Lines.{line_in_form}
-use Rattle.query_core.specs.Order.{query_cmp}
+use Rattle.query_core.specs.Order.{candidate_places_cmp}
 use Rattle.query_core.specs.Search.{is_search_candidate}
 use Rattle.query_core.specs.declared.candidates.LineForm.TheVariants.{Short}
 use Rattle.query_core.proofs.SelectedPlaces.{places_within}
@@ -17,4 +17,4 @@ report-requires c =
 pub returns : goal.returns
 returns c =
     let cs = c.args.pool.now.candidates in
-    if_ok c.report.result _ _ (λ r e. e ∙ ap (λ (ps : List ℕ). flat_map (line_in_form Short) (filter_map (slice_get cs) (sorted_by (query_cmp cs) ps))) (c.deref.ensures.value ∙ c.in_ok-places.ensures)) c.report.ensures
+    if_ok c.report.result _ _ (λ r e. e ∙ ap (λ (ps : List ℕ). flat_map (line_in_form Short) (filter_map (slice_get cs) (sorted_by (candidate_places_cmp cs) ps))) (c.deref.ensures.value ∙ c.in_ok-places.ensures)) c.report.ensures

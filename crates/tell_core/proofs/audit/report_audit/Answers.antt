@@ -1,5 +1,5 @@
 use Rattle.change_inputs.proofs.Explained.{as_before}
-use Rattle.change_inputs.specs.Answers.{AgreesUnlessDisk}
+use Rattle.change_inputs.specs.Answers.{AgreesUnlessDiskOrMemory}
 use Rattle.change_inputs.specs.Inputs.{database_for}
 use Rattle.change_inputs.specs.Seen.{installed_seen}
 use Rattle.tell_core.proofs.AuditSteps.{audit_read}
@@ -14,4 +14,4 @@ returns-in_err-installed-clause-told g c =
 pub returns-clause-told : goal.returns-clause-told
 returns-clause-told g c =
     audit_read c.audits_depend_on_their_own_reads.ensures _ c.args.command.now c.audit_installed.result c.in_ok-installed.installed c.in_ok-installed.ensures.found
-    (as_before _ _ (λ read. AgreesUnlessDisk (λ done. done) c.audit_installed.result (audit_of read (installed_seen c.in_ok-installed.installed))) c.in_ok-installed.ensures.tree.same c.audit_installed.ensures.told)
+    (as_before _ _ (λ read. AgreesUnlessDiskOrMemory (λ done. done) c.audit_installed.result (audit_of read (installed_seen c.in_ok-installed.installed))) c.in_ok-installed.ensures.tree.same c.audit_installed.ensures.told)

@@ -3,14 +3,14 @@ use Rattle.std.specs.Ordering.{is_eq, nat_cmp}
 use Rattle.std.specs.Cmp.Lexicographic.{slice_cmp}
 use Rattle.version_core.specs.declared.token.Class.TheVariants.{Hash}
 use Rattle.version_core.specs.Matching.{all_fit}
-use Rattle.version_core.specs.Order.{tokens_after_class}
+use Rattle.version_core.specs.Order.{tokens_after_class_skipping_bytes}
 use Rattle.version_core.specs.Token.{leading_hex_digits}
 use Rattle.version_core.proofs.Orders.{not_equal, tied}
 use Rattle.version_core.proofs.fuzzy.fits_within_hash.Goals as goal
 
 abbrev fit_after : List ℕ → List ℕ → Bool
 fit_after wanted found =
-    all_fit (tokens_after_class (Some Hash) (length (leading_hex_digits wanted)) wanted) (tokens_after_class (Some Hash) (length (leading_hex_digits found)) found)
+    all_fit (tokens_after_class_skipping_bytes (Some Hash) (length (leading_hex_digits wanted)) wanted) (tokens_after_class_skipping_bytes (Some Hash) (length (leading_hex_digits found)) found)
 
 pub returns-then-is_ne : goal.returns-then-is_ne
 returns-then-is_ne c =

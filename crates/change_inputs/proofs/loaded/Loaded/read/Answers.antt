@@ -1,5 +1,5 @@
 use Rattle.change_inputs.proofs.Explained.{as_before, explained_failure, root_as_now}
-use Rattle.change_inputs.specs.Answers.{AgreesUnlessDisk}
+use Rattle.change_inputs.specs.Answers.{AgreesUnlessDiskOrMemory}
 use Rattle.change_inputs.specs.Inputs.{inputs_of}
 use Rattle.change_inputs.specs.Seen.{inputs_seen}
 use Rattle.change_inputs.proofs.loaded.Loaded.read.Goals as goal
@@ -11,4 +11,4 @@ pub returns-in_err-files-clause-found : goal.returns-in_err-files-clause-found
 returns-in_err-files-clause-found g c = explained_failure inputs_seen _ c.args.command.now c.from_residual.result _ c.from_residual.ensures.1 c.in_err-files.ensures.failed
 
 pub returns-clause-found : goal.returns-clause-found
-returns-clause-found g c = as_before _ _ (λ read. AgreesUnlessDisk inputs_seen c.of_files.result (inputs_of c.args.command.now read)) c.in_ok-files.ensures.tree.same c.of_files.ensures.found
+returns-clause-found g c = as_before _ _ (λ read. AgreesUnlessDiskOrMemory inputs_seen c.of_files.result (inputs_of c.args.command.now read)) c.in_ok-files.ensures.tree.same c.of_files.ensures.found

@@ -8,7 +8,7 @@ use Rattle.adb_fields.specs.Repeated.{repeated_pair_in_one_list, name_of, files_
 use Rattle.adb_fields.specs.NamedTexts.{plains_at}
 use Rattle.adb_view.specs.declared.tables.Kind.TheVariants as Kinds
 use Rattle.adb_view.specs.declared.tables.Which.TheVariants as Tables
-use Rattle.adb_fields.proofs.repeated.file_twice.Given as goal
+use Rattle.adb_fields.proofs.repeated.repeated_file_name_in_folder.Given as goal
 
 abbrev pub invariant-loop-i : goal.invariant-loop-i
 invariant-loop-i l = record {

@@ -9,7 +9,7 @@ use Rattle.adb_fields.specs.declared.pairs.Pair.{Pair}
 use Rattle.adb_view.specs.declared.tables.Kind.TheVariants as Kinds
 use Rattle.adb_view.specs.declared.tables.Which.TheVariants as Tables
 use Rattle.adb_fields.proofs.FirstKinds.{one_first, no_first, several_each}
-use Rattle.adb_fields.proofs.repeated.file_twice.Goals as goal
+use Rattle.adb_fields.proofs.repeated.repeated_file_name_in_folder.Goals as goal
 
 pub loop-i-preserved : goal.loop-i-preserved
 loop-i-preserved c =

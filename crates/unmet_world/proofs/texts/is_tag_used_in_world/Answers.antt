@@ -4,7 +4,7 @@ use Rattle.std.specs.Str.{bytes_eq}
 use Rattle.dep_core.specs.Dependency.{Dependency}
 use Rattle.dep_core.specs.Meets.{dependency}
 use Rattle.search_tables.proofs.candidate_core.LoopTests.{any_at, none_next}
-use Rattle.unmet_world.proofs.texts.uses_tag.Goals as goal
+use Rattle.unmet_world.proofs.texts.is_tag_used_in_world.Goals as goal
 
 pub returns-then-has_tag : goal.returns-then-has_tag
 returns-then-has_tag c =
