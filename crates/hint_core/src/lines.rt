@@ -10,16 +10,6 @@ use adb_view::{FieldName, Which};
 use itoa::Buffer;
 use std::alloc::{AllocError, Global};
 
-// What follows a word that names no file, a path that no package owns, and wrong information of a
-// package.
-const ABSENT_FILE_END: &[u8] =
-    b"; its path must be that of a file below this folder, and not of a folder";
-
-const UNOWNED_END: &[u8] = b"; no installed package owns this path";
-
-const INFORMATION_END: &[u8] =
-    b"; the field or its value is invalid, or the field was given before; see apk mkpkg --help";
-
 /// The lines of hints.
 pub fn hint_lines(alloc: Global, hints: &Hints) -> Result<Vec<u8>, AllocError>
     ensures { IfOk result (λ lines. lines.items ≡ hint_lines hints.now) }
@@ -37,13 +27,13 @@ fn push_hint(alloc: Global, lines: &mut Vec<u8>, hint: &Hint) -> Result<(), Allo
     match hint {
         Hint::Word { place, word } => push_word(alloc, lines, *place, word.as_bytes(), b""),
         Hint::AbsentFile { place, word } => {
-            push_word(alloc, lines, *place, word.as_bytes(), ABSENT_FILE_END)
+            push_word(alloc, lines, *place, word.as_bytes(), absent_file_end())
         }
         Hint::Unowned { place, word } => {
-            push_word(alloc, lines, *place, word.as_bytes(), UNOWNED_END)
+            push_word(alloc, lines, *place, word.as_bytes(), unowned_end())
         }
         Hint::Information { place, word } => {
-            push_word(alloc, lines, *place, word.as_bytes(), INFORMATION_END)
+            push_word(alloc, lines, *place, word.as_bytes(), information_end())
         }
         Hint::Missing { place } => push_missing(lines, *place),
         Hint::Repository { number, line, path } => {
@@ -150,6 +140,27 @@ fn push_word(
             b"\n",
         ],
     )
+}
+
+// What follows a word that names no file.
+fn absent_file_end() -> &'static [u8]
+    ensures { result.now ≡ absent_file_end }
+{
+    b"; its path must be that of a file below this folder, and not of a folder"
+}
+
+// What follows a path that no package owns.
+fn unowned_end() -> &'static [u8]
+    ensures { result.now ≡ unowned_end }
+{
+    b"; no installed package owns this path"
+}
+
+// What follows wrong information of a package.
+fn information_end() -> &'static [u8]
+    ensures { result.now ≡ information_end }
+{
+    b"; the field or its value is invalid, or the field was given before; see apk mkpkg --help"
 }
 
 // Adds the line that says that information of a package is missing.

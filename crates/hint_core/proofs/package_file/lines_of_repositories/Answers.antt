@@ -7,6 +7,6 @@ returns-clause-lines g c = (
   c.in_ok-each.each.items,
   c.in_ok-each.ensures.lines,
   c.in_ok-extend_from_slice.ensures.items
-      ∙ (ap (λ (l : List ℕ). l ++ c.deref.result.now) (c.in_ok-from_slice.ensures ∙ c.no_index_line.ensures)
+      ∙ (ap (λ (l : List ℕ). l ++ c.deref.result.now) (c.in_ok-lines.ensures.items ∙ c.no_index_line.ensures)
       ∙ ap (λ (l : List ℕ). no_index_line c.args.repositories.now ++ l) c.deref.ensures.value),
 )
