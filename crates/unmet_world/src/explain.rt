@@ -46,7 +46,7 @@ pub fn explain_selection<T: Tree, S: Sink>(
     write_lines(&text, sink)
 }
 
-// The explanation of a command's words.
+// The explanation for a command line; empty if its words are no command that changes packages.
 fn explanation_for<T: Tree>(
     alloc: Global,
     words: &Words,
@@ -99,7 +99,7 @@ fn explanation_of_change<T: Tree>(
     explanation_of_read(alloc, &read)
 }
 
-// The explanation by what was read of a root; empty if the root is refused now.
+// The explanation by the result of reading a root; empty if the root is refused now.
 fn explanation_of_read(alloc: Global, read: &Result<Loaded, Refused>) -> Result<Vec<u8>, TreeFault>
     ensures text { IfOk result (λ text. ExplainsResult read.now text.items) }
     // The tree failed exactly if the reading did.
@@ -114,7 +114,8 @@ fn explanation_of_read(alloc: Global, read: &Result<Loaded, Refused>) -> Result<
     }
 }
 
-// The explanation of what was read of a root; empty if there are too many candidates.
+// The explanation of the new world of a command, by what was read of the root; empty if there are
+// too many candidates for a pool.
 fn explanation_of_loaded(alloc: Global, loaded: &Loaded) -> Result<Vec<u8>, AllocError>
     ensures { IfOk result (λ text. ExplainsInputs (inputs_seen loaded.now) text.items) }
 {
@@ -131,7 +132,8 @@ fn explanation_of_loaded(alloc: Global, loaded: &Loaded) -> Result<Vec<u8>, Allo
     }
 }
 
-// The explanation of the world of a pool, of which the file of world lists some entries.
+// The explanation of the world of a pool, and the line that says that there is no repository, if
+// there is none. `listed` has the entries of the file of world.
 fn explanation_of_pool(
     alloc: Global,
     pool: &Sealed<'_>,
@@ -139,6 +141,7 @@ fn explanation_of_pool(
     listed: &World,
     repositories: &Repos,
 ) -> Result<Vec<u8>, AllocError>
+    // The world is the one with which the pool was sealed.
     requires { world.now ≡ pool.now.world }
     ensures { IfOk result (λ text.
         ExplainsPool listed.now repositories.now pool.now text.items) }
