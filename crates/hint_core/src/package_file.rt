@@ -69,7 +69,7 @@ fn lines_of_words<T: Tree>(
     lines_of_refusal(alloc, refusal, tree)
 }
 
-// The lines on the file of the package that a refusal names, if it names one.
+// The lines on the file of the package that a refusal names; none if it names none.
 fn lines_of_refusal<T: Tree>(
     alloc: Global,
     refusal: &Refusal,
@@ -100,7 +100,8 @@ fn lines_of_refusal<T: Tree>(
     }
 }
 
-// The lines on the file of a package, by the file that names the repositories.
+// The lines on the file of the package with this name and version, by the list of repositories that
+// is read.
 fn lines_of_package<T: Tree>(
     alloc: Global,
     name: &[u8],
@@ -120,7 +121,8 @@ fn lines_of_package<T: Tree>(
     lines_by_text(alloc, name, version, refusal, text_of_found(&found), tree)
 }
 
-// The lines on the file of a package, given the text that names the repositories.
+// The lines on the file of a package, by the text of the list of repositories; none if a line of
+// this list is bad.
 fn lines_by_text<T: Tree>(
     alloc: Global,
     name: &[u8],
@@ -143,7 +145,8 @@ fn lines_by_text<T: Tree>(
     }
 }
 
-// The lines on the file of a package, by the repositories.
+// The lines on the file of a package, by the repositories; before them the line that says that
+// there is no repository, if there is none.
 fn lines_of_repositories<T: Tree>(
     alloc: Global,
     name: &[u8],
@@ -174,7 +177,8 @@ pub fn no_index_line(repositories: &Repos) -> &'static [u8]
     }
 }
 
-// The lines on the file of a package, repository by repository.
+// The lines on the file of a package beside the index of each repository, one repository after
+// another.
 fn lines_beside_each<T: Tree>(
     alloc: Global,
     name: &[u8],
@@ -196,7 +200,8 @@ fn lines_beside_each<T: Tree>(
     Ok(lines)
 }
 
-// The lines on the file of a package beside an index.
+// The lines on the file of a package beside an index: where it is looked for, and which of its
+// files the positions are that the refusal names.
 fn lines_beside<T: Tree>(
     alloc: Global,
     name: &[u8],
@@ -218,7 +223,7 @@ fn lines_beside<T: Tree>(
     Ok(lines)
 }
 
-// Adds the line that says where the package's file is, beside an index.
+// Adds the line that says where the file of a package is looked for, beside an index.
 fn push_package_file_line(
     alloc: Global,
     lines: &mut Vec<u8>,
@@ -246,7 +251,7 @@ fn push_package_file_line(
     )
 }
 
-// The text that shows a package.
+// The name and version of a package, as lines show them.
 fn shown_package(alloc: Global, name: &[u8], version: &[u8]) -> Result<Vec<u8>, AllocError>
     ensures { IfOk result (λ text.
         text.items ≡ printed_text (name_dash_version name.now version.now)) }
@@ -257,7 +262,7 @@ fn shown_package(alloc: Global, name: &[u8], version: &[u8]) -> Result<Vec<u8>, 
     printed(alloc, &package)
 }
 
-// The text that shows the path of a package's file beside an index.
+// The path of a package's file beside an index, as lines show it, in full length.
 fn shown_path(
     alloc: Global,
     index: &Name,
