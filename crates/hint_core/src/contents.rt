@@ -74,6 +74,7 @@ fn contents_lines<T: Tree>(
 ) -> Result<Vec<u8>, TreeFault>
     ensures lines { IfOk result (λ lines.
         ExplainsContents words.now refusal.now (T.history tree.old) lines.items) }
+    // The tree is only read.
     ensures tree { OnlyReads TreeFault.Disk (T.history tree.old) (T.history tree.new)
         (T.counts tree.old) (T.counts tree.new) result }
 {
@@ -127,6 +128,7 @@ pub(crate) fn lines_of_contents<T: Tree>(
     ensures lines { IfOk result (λ lines.
         ExplainsMixedUp name.now (mixed_up_positions refusal.now)
         (T.history tree.old) lines.items) }
+    // The tree is only read.
     ensures tree { OnlyReads TreeFault.Disk (T.history tree.old) (T.history tree.new)
         (T.counts tree.old) (T.counts tree.new) result }
 {
@@ -162,6 +164,7 @@ fn mixed_up_lines<T: Tree>(
 ) -> Result<Vec<u8>, TreeFault>
     ensures lines { IfOk result (λ lines.
         ExplainsMixedUp name.now mixed (T.history tree.old) lines.items) }
+    // The tree is only read.
     ensures tree { OnlyReads TreeFault.Disk (T.history tree.old) (T.history tree.new)
         (T.counts tree.old) (T.counts tree.new) result }
 {
@@ -180,6 +183,7 @@ fn lines_if_file<T: Tree>(
 ) -> Result<Vec<u8>, TreeFault>
     ensures lines { IfOk result (λ lines.
         ExplainsFile name.now mixed.now (T.history tree.old) lines.items) }
+    // The tree is only read.
     ensures tree { OnlyReads TreeFault.Disk (T.history tree.old) (T.history tree.new)
         (T.counts tree.old) (T.counts tree.new) result }
 {
@@ -199,6 +203,7 @@ fn file_lines<T: Tree>(
 ) -> Result<Vec<u8>, TreeFault>
     ensures lines { IfOk result (λ lines.
         ExplainsFile (Some name.now) mixed.now (T.history tree.old) lines.items) }
+    // The tree is only read.
     ensures tree { OnlyReads TreeFault.Disk (T.history tree.old) (T.history tree.new)
         (T.counts tree.old) (T.counts tree.new) result }
 {

@@ -60,6 +60,7 @@ fn lines_of_words<T: Tree>(
 ) -> Result<Vec<u8>, TreeFault>
     ensures lines { IfOk result (λ lines.
         ExplainsPackageFile words.now refusal.now (T.history tree.old) lines.items) }
+    // The tree is only read.
     ensures tree { OnlyReads TreeFault.Disk (T.history tree.old) (T.history tree.new)
         (T.counts tree.old) (T.counts tree.new) result }
 {
@@ -77,6 +78,7 @@ fn lines_of_refusal<T: Tree>(
 ) -> Result<Vec<u8>, TreeFault>
     ensures lines { IfOk result (λ lines.
         ExplainsPackageRefusal refusal.now (T.history tree.old) lines.items) }
+    // The tree is only read.
     ensures tree { OnlyReads TreeFault.Disk (T.history tree.old) (T.history tree.new)
         (T.counts tree.old) (T.counts tree.new) result }
 {
@@ -111,6 +113,7 @@ fn lines_of_package<T: Tree>(
 ) -> Result<Vec<u8>, TreeFault>
     ensures lines { IfOk result (λ lines.
         ExplainsPackage name.now version.now refusal.now (T.history tree.old) lines.items) }
+    // The tree is only read.
     ensures tree { OnlyReads TreeFault.Disk (T.history tree.old) (T.history tree.new)
         (T.counts tree.old) (T.counts tree.new) result }
 {
@@ -133,6 +136,7 @@ fn lines_by_text<T: Tree>(
 ) -> Result<Vec<u8>, TreeFault>
     ensures lines { IfOk result (λ lines. ExplainsByText name.now version.now refusal.now
         (repositories_of text.now) (T.history tree.old) lines.items) }
+    // The tree is only read.
     ensures tree { OnlyReads TreeFault.Disk (T.history tree.old) (T.history tree.new)
         (T.counts tree.old) (T.counts tree.new) result }
 {
@@ -157,6 +161,7 @@ fn lines_of_repositories<T: Tree>(
 ) -> Result<Vec<u8>, TreeFault>
     ensures lines { IfOk result (λ lines. ExplainsRepositories name.now version.now refusal.now
         (T.history tree.old) repositories.now lines.items) }
+    // The tree is only read.
     ensures tree { OnlyReads TreeFault.Disk (T.history tree.old) (T.history tree.new)
         (T.counts tree.old) (T.counts tree.new) result }
 {
@@ -189,6 +194,7 @@ fn lines_beside_each<T: Tree>(
 ) -> Result<Vec<u8>, TreeFault>
     ensures lines { IfOk result (λ lines. ExplainsEach name.now version.now refusal.now
         (T.history tree.old) repositories.now lines.items) }
+    // The tree is only read.
     ensures tree { OnlyReads TreeFault.Disk (T.history tree.old) (T.history tree.new)
         (T.counts tree.old) (T.counts tree.new) result }
 {
@@ -212,6 +218,7 @@ fn lines_beside<T: Tree>(
 ) -> Result<Vec<u8>, TreeFault>
     ensures lines { IfOk result (λ lines. ExplainsBeside name.now version.now refusal.now
         (T.history tree.old) index.now lines.items) }
+    // The tree is only read.
     ensures tree { OnlyReads TreeFault.Disk (T.history tree.old) (T.history tree.new)
         (T.counts tree.old) (T.counts tree.new) result }
 {

@@ -142,6 +142,7 @@ fn read_subject<T: Tree>(
 ) -> Result<Option<Vec<u8>>, TreeFault>
     ensures found { IfOk result (λ found.
         IsFoundForSubject (T.history tree.old) subject (bytes_in found)) }
+    // The tree is only read.
     ensures tree { OnlyReads TreeFault.Disk (T.history tree.old) (T.history tree.new)
         (T.counts tree.old) (T.counts tree.new) result }
 {

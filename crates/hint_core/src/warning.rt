@@ -60,6 +60,7 @@ pub fn write_lines<S: Sink>(lines: &[u8], sink: &mut S) -> Result<(), HintFault>
 fn warnings<T: Tree>(alloc: Global, words: &Words, tree: &mut T) -> Result<Vec<u8>, TreeFault>
     ensures lines { IfOk result (λ lines.
         Warns (command_of words.now) (T.history tree.old) lines.items) }
+    // The tree is only read.
     ensures tree { OnlyReads TreeFault.Disk (T.history tree.old) (T.history tree.new)
         (T.counts tree.old) (T.counts tree.new) result }
 {
@@ -78,6 +79,7 @@ fn warnings_of<T: Tree>(
 ) -> Result<Vec<u8>, TreeFault>
     ensures lines { IfOk result (λ lines.
         WarnsForApplet command.now.applet command.now (T.history tree.old) lines.items) }
+    // The tree is only read.
     ensures tree { OnlyReads TreeFault.Disk (T.history tree.old) (T.history tree.new)
         (T.counts tree.old) (T.counts tree.new) result }
 {
@@ -108,6 +110,7 @@ fn folder_warning<T: Tree>(
     ensures lines { IfOk result (λ lines.
         WarnsIfGiven (option_map (λ name. name.now) folder.entry)
         (T.history tree.old) lines.items) }
+    // The tree is only read.
     ensures tree { OnlyReads TreeFault.Disk (T.history tree.old) (T.history tree.new)
         (T.counts tree.old) (T.counts tree.new) result }
 {
@@ -121,6 +124,7 @@ fn folder_warning<T: Tree>(
 fn warning_below<T: Tree>(alloc: Global, folder: &Name, tree: &mut T) -> Result<Vec<u8>, TreeFault>
     ensures lines { IfOk result (λ lines.
         IfObservable (T.history tree.old) (WarnsOfFolder folder.now lines.items)) }
+    // The tree is only read.
     ensures tree { OnlyReads TreeFault.Disk (T.history tree.old) (T.history tree.new)
         (T.counts tree.old) (T.counts tree.new) result }
 {
@@ -152,6 +156,7 @@ fn tag_warnings<T: Tree>(
 ) -> Result<Vec<u8>, TreeFault>
     ensures lines { IfOk result (λ lines.
         IfObservable (T.history tree.old) (WarnsOfTags operands.now lines.items)) }
+    // The tree is only read.
     ensures tree { OnlyReads TreeFault.Disk (T.history tree.old) (T.history tree.new)
         (T.counts tree.old) (T.counts tree.new) result }
 {

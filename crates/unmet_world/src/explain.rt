@@ -54,6 +54,7 @@ fn explanation_for<T: Tree>(
 ) -> Result<Vec<u8>, TreeFault>
     ensures text { IfOk result (λ text.
         ExplainsCommandLine (command_of words.now) (T.history tree.old) text.items) }
+    // The tree is only read.
     ensures tree { OnlyReads TreeFault.Disk (T.history tree.old) (T.history tree.new)
         (T.counts tree.old) (T.counts tree.new) result }
 {
@@ -73,6 +74,7 @@ fn explanation_of_command<T: Tree>(
 ) -> Result<Vec<u8>, TreeFault>
     ensures text { IfOk result (λ text.
         ExplainsForApplet command.now.applet command.now (T.history tree.old) text.items) }
+    // The tree is only read.
     ensures tree { OnlyReads TreeFault.Disk (T.history tree.old) (T.history tree.new)
         (T.counts tree.old) (T.counts tree.new) result }
 {
@@ -92,6 +94,7 @@ fn explanation_of_change<T: Tree>(
 ) -> Result<Vec<u8>, TreeFault>
     ensures text { IfOk result (λ text.
         ExplainsChange command.now (T.history tree.old) text.items) }
+    // The tree is only read.
     ensures tree { OnlyReads TreeFault.Disk (T.history tree.old) (T.history tree.new)
         (T.counts tree.old) (T.counts tree.new) result }
 {

@@ -90,14 +90,14 @@ unfoldable pub applet_site_of_word : Bool → ℕ → List ℕ → Result Applet
 applet_site_of_word ended place word =
     or_err_at place (λ applet. Ok (applet_site_from_parts ended place applet)) (applet_of word)
 
--- the site of the applet that the first of these words names, after `--`; `place` is the place of that
+-- the site of the applet that the first of these words, which follow `--`, names; `place` is the place of this first
 -- word
 unfoldable pub applet_site_after_double_dash : ℕ → List (List ℕ) → Result AppletSite ℕ
 applet_site_after_double_dash place [] = Err place
 applet_site_after_double_dash place (word ∷ words) = applet_site_of_word true place word
 
--- the site of the applet in the words from a place on, or the first wrong place: only some options and
--- `--` may precede the applet
+-- the site of the applet in these words, of which the first is at `place`; or the first wrong place: only some options
+-- and `--` may precede the applet
 abbrev pub applet_site : ℕ → List (List ℕ) → Result AppletSite ℕ
 applet_site place [] = Err place
 applet_site place (word ∷ words) =
@@ -263,8 +263,8 @@ reading_after_applet start words =
 
 -- ---- the command, or the first wrong place
 
--- the place of the first operand that the rule does not take. There is no rule if the flag is missing
--- that selects the kind of the command: then no operand is wrong, and the place after the last word is
+-- the place of the first operand that the rule does not take. Without a rule, since the flag is missing that selects
+-- the kind of the command, no operand is wrong
 abbrev pub place_of_refused_operand : Option OperandRule → List Operand → Option ℕ
 place_of_refused_operand None operands = None
 place_of_refused_operand (Some rule) operands = first_refused_operand rule 0 operands
@@ -287,7 +287,7 @@ abbrev pub command_from_reading_parts : ℕ → Applet → Reading → CommandLi
 command_from_reading_parts behind applet reading =
     command_from_parts applet reading.state.flags reading.operands reading.state.values behind
 
--- a refusal at a wrong place, if there is one, and otherwise this result
+-- an error at the wrong place, if there is one, and otherwise this result
 abbrev pub unless_refused_at : Option ℕ → Result CommandLine ℕ → Result CommandLine ℕ
 unless_refused_at None otherwise = otherwise
 unless_refused_at (Some place) otherwise = Err place
@@ -342,12 +342,13 @@ abbrev pub next_word_after_option : Applet → Option ValueRule → NextWord
 next_word_after_option applet None = OptionOrOperand applet
 next_word_after_option applet (Some rule) = NextValue applet rule
 
--- what the word after the command can be, by the applet that the command names, if it names one
+-- what the word after the command can be: `next` says so for the applet that the command names; nothing can follow if
+-- it names none
 abbrev pub next_word_after_command : (Applet → NextWord) → Option Applet → NextWord
 next_word_after_command next None = Nothing
 next_word_after_command next (Some applet) = next applet
 
--- what the word after this one can be, by what this word itself could be
+-- what the word after `word` can be, by what `word` itself could be (the first argument)
 abbrev pub next_word : NextWord → List ℕ → NextWord
 next_word OptionOrCommand word =
     if is_double_dash word then CommandAlone else
@@ -371,7 +372,7 @@ next_word_after_words next (word ∷ words) = next_word_after_words (next_word n
 abbrev pub next_word_of_command_line : List (List ℕ) → NextWord
 next_word_of_command_line words = next_word_after_words OptionOrCommand words
 
--- whether an option can be the next word
+-- whether the next word can be an option
 abbrev pub can_be_option : NextWord → Bool
 can_be_option OptionOrCommand = true
 can_be_option (OptionOrOperand applet) = true

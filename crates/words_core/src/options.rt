@@ -106,7 +106,7 @@ const PURGE_ROW: OptionRow = OptionRow {
     meaning: Meaning::Flag(Flag::Purge),
 };
 
-// The option of `mkpkg` and `mkndx` that names their output.
+// The option of `mkpkg` and `mkndx` that names their output; it may be given once.
 const OUTPUT_ROW: OptionRow = OptionRow {
     long: b"--output",
     short: b"-o",
@@ -117,7 +117,8 @@ const OUTPUT_ROW: OptionRow = OptionRow {
     }),
 };
 
-// The option of `mkpkg` and `mkndx` that says how their output is compressed.
+// The option of `mkpkg` and `mkndx` that says how their output is compressed, of which only `none`
+// is allowed; it may be given once.
 const COMPRESSION_ROW: OptionRow = OptionRow {
     long: b"--compression",
     short: b"-c",
@@ -161,6 +162,7 @@ static VERSION_KINDS: [OptionRow; 2] = [
 
 // The options of `mkpkg`.
 static MKPKG: [OptionRow; 6] = [
+    // May be given often, with any text: a field of the package.
     OptionRow {
         long: b"--info",
         short: b"-I",
@@ -170,6 +172,7 @@ static MKPKG: [OptionRow; 6] = [
             kind: ValueKind::Any,
         }),
     },
+    // May be given once for each type of script.
     OptionRow {
         long: b"--script",
         short: b"-s",
@@ -179,6 +182,7 @@ static MKPKG: [OptionRow; 6] = [
             kind: ValueKind::Script,
         }),
     },
+    // May be given often; its value is not empty.
     OptionRow {
         long: b"--trigger",
         short: b"-t",
@@ -188,6 +192,7 @@ static MKPKG: [OptionRow; 6] = [
             kind: ValueKind::Nonempty,
         }),
     },
+    // May be given once; its value names a folder.
     OptionRow {
         long: b"--files",
         short: b"-F",
@@ -203,6 +208,7 @@ static MKPKG: [OptionRow; 6] = [
 
 // The options of `mkndx`.
 static MKNDX: [OptionRow; 3] = [
+    // May be given once, with any text: the description of the index.
     OptionRow {
         long: b"--description",
         short: b"-d",
