@@ -279,7 +279,7 @@ impl Model for Command {
 }
 
 impl Command {
-    /// The command with these parts.
+    /// The command with these parts; `behind` is the place after its last word.
     pub fn of(
         applet: Applet,
         flags: Flags,
@@ -287,6 +287,7 @@ impl Command {
         values: Values,
         behind: u32,
     ) -> Command
+        // The applet may have these flags, operands and values, and none is missing.
         requires { IsTrue (is_valid_command
             (command_from_parts applet flags operands values behind)) }
         ensures { result ≡ command_from_parts applet flags operands values behind }

@@ -199,6 +199,7 @@ impl Operands {
     /// Adds the argument at a place of the command line as an operand. A call that fails changes
     /// nothing.
     pub fn push(&mut self, place: u32, word: &[u8]) -> Result<(), AllocError>
+        // The operand is added at the end.
         ensures ok { OnOk result (self.new ≡ self.old ++ operand_at place word.now ∷ []) }
         ensures err { OnErr result (self.new ≡ self.old) }
     {

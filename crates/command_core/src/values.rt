@@ -156,6 +156,7 @@ impl Values {
     /// Adds a value of the option with a letter, which is in the word at a place. A call that fails
     /// changes nothing.
     pub fn push(&mut self, place: u32, letter: u8, text: &[u8]) -> Result<(), AllocError>
+        // The value is added at the end.
         ensures ok { OnOk result (self.new ≡ self.old
             ++ option_value_from_place_and_letter place letter text.now ∷ []) }
         ensures err { OnErr result (self.new ≡ self.old) }

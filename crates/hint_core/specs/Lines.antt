@@ -136,7 +136,7 @@ abbrev pub unknown_schema_line : List ℕ
 unknown_schema_line = texts_joined
     (codes "apk: by its schema, the file is nothing that apk reads\n" ∷ [])
 
--- the line that says how one of two packages gets a path that both list
+-- the line that says what to do if two packages list a path
 abbrev pub shared_path_line : List ℕ
 shared_path_line = texts_joined
     (codes "apk: to have both, make one of them again with mkpkg -I replaces:NAME-OF-THE-OTHER, "

@@ -320,6 +320,7 @@ fn push_path(
 {
     let shown_name = printed(alloc, name)?;
     let shown_path = printed(alloc, path)?;
+    // The decimal digits of the two positions.
     let mut folder = Buffer::new();
     let mut file = Buffer::new();
     push_texts(
@@ -349,6 +350,7 @@ fn push_no_file(
         ++ file_line name.now position None) }
 {
     let shown = printed(alloc, name)?;
+    // The decimal digits of the two positions.
     let mut folder = Buffer::new();
     let mut file = Buffer::new();
     push_texts(

@@ -38,7 +38,9 @@ fn cause_hint(refusal: &Refusal) -> Hint
     ensures { result ≡ cause_hint refusal.now }
 {
     match refusal {
+        // The journal entry and the database are no files that can be copied or made again.
         Refusal::IntentBad { cause } | Refusal::DatabaseBad { cause } => hint_of_cause(*cause),
+        // The file that a word names, an index or a package can be.
         Refusal::FileBad { place: _, cause }
         | Refusal::IndexBad {
             repository: _,
@@ -58,7 +60,9 @@ fn file_cause_hint(cause: Cause) -> Hint
     ensures { result ≡ file_cause_hint cause }
 {
     match cause {
+        // The file has another format.
         Cause::NotAdb | Cause::Compressed => Hint::Foreign,
+        // The file ends too early, or has other contents than it lists.
         Cause::Truncated { at: _ }
         | Cause::DataSize {
             wanted: _,
@@ -101,6 +105,7 @@ fn subject_hint(
     match subject {
         Subject::Word { place } => word_hint(alloc, place, word_at(words, place)),
         Subject::AbsentFile { place } => absent_file_hint(alloc, place, word_at(words, place)),
+        // The word is a path if the words ask for its owner, and else the name of a package.
         Subject::NotInstalled { place } => {
             let is_owner_asked = asks_for_owner(alloc, words)?;
             not_installed_hint(alloc, is_owner_asked, place, word_at(words, place))
@@ -108,6 +113,7 @@ fn subject_hint(
         Subject::Information { place } => information_hint(alloc, place, word_at(words, place)),
         Subject::Repository { number } => repository_hint(alloc, number, found),
         Subject::Line { file, line } => line_hint(alloc, file, line, found),
+        // The database is in the container if that was found, and else in the text.
         Subject::Database => Ok(Hint::Database {
             is_container: found.is_some(),
         }),

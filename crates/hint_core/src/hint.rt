@@ -145,12 +145,14 @@ pub(crate) fn subject_of(refusal: &Refusal) -> Subject
 {
     match refusal {
         Refusal::IntentBad { cause: _ } => Subject::Journal,
+        // Refusals with the place of a word.
         Refusal::FileMissing { place } => Subject::AbsentFile { place: *place },
         Refusal::FileBad { place, cause: _ } => Subject::Word { place: *place },
         Refusal::TextBad { place, line: _ } => Subject::Word { place: *place },
         Refusal::VersionBad { place } => Subject::Word { place: *place },
         Refusal::NotInstalled { place } => Subject::NotInstalled { place: *place },
         Refusal::InfoBad { place } => Subject::Information { place: *place },
+        // Refusals of the index of a repository.
         Refusal::IndexMissing { repository } => Subject::Repository {
             number: *repository,
         },
@@ -160,6 +162,7 @@ pub(crate) fn subject_of(refusal: &Refusal) -> Subject
         } => Subject::Repository {
             number: *repository,
         },
+        // Refusals of a line of a file.
         Refusal::WorldBad { line } => Subject::Line {
             file: HintFile::World,
             line: *line,
@@ -170,6 +173,7 @@ pub(crate) fn subject_of(refusal: &Refusal) -> Subject
         },
         Refusal::NoDatabase => Subject::AbsentDatabase,
         Refusal::Untrusted => Subject::Untrusted,
+        // Refusals of the file of a package.
         Refusal::PackageMissing {
             name: _,
             version: _,
@@ -187,6 +191,7 @@ pub(crate) fn subject_of(refusal: &Refusal) -> Subject
             second: _,
         } => Subject::SharedPath,
         Refusal::DatabaseBad { cause } => database_subject(*cause),
+        // Other refusals name nothing that a hint explains.
         _ => Subject::Nothing,
     }
 }

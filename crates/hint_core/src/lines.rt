@@ -25,6 +25,7 @@ fn push_hint(alloc: Global, lines: &mut Vec<u8>, hint: &Hint) -> Result<(), Allo
     ensures { OnOk result (lines.new.items ≡ lines.old.items ++ hint_line hint.now) }
 {
     match hint {
+        // Hints on the word at a place.
         Hint::Word { place, word } => push_word(alloc, lines, *place, word.as_bytes(), b""),
         Hint::AbsentFile { place, word } => {
             push_word(alloc, lines, *place, word.as_bytes(), absent_file_end())
@@ -36,6 +37,7 @@ fn push_hint(alloc: Global, lines: &mut Vec<u8>, hint: &Hint) -> Result<(), Allo
             push_word(alloc, lines, *place, word.as_bytes(), information_end())
         }
         Hint::Missing { place } => push_missing(lines, *place),
+        // Hints on files of the root.
         Hint::Repository { number, line, path } => {
             push_repository(alloc, lines, *number, *line, path.as_bytes())
         }
@@ -48,6 +50,7 @@ fn push_hint(alloc: Global, lines: &mut Vec<u8>, hint: &Hint) -> Result<(), Allo
                 b"; restore it, or read IF THE DATABASE IS DAMAGED in apk(8)\n",
             ],
         ),
+        // Hints on what to do.
         Hint::AbsentDatabase => push_texts(
             lines,
             &[
@@ -89,6 +92,7 @@ fn push_hint(alloc: Global, lines: &mut Vec<u8>, hint: &Hint) -> Result<(), Allo
                 b"apk mkndx, or put the listed file there\n",
             ],
         ),
+        // Hints on the cause of a refusal.
         Hint::Damaged => push_texts(
             lines,
             &[b"apk: the file may be damaged; copy it again, or make it again\n"],

@@ -42,6 +42,7 @@ fn table_numbered(number: u16) -> Option<Which>
 fn field_hint_in_table(place: u16, table: Which) -> Hint
     ensures { result ≡ field_hint_in_table place table }
 {
+    // The number of the field in its table, counted from 1.
     let number = usize::from(place % 100);
     if number == 0 {
         return Hint::Nothing;

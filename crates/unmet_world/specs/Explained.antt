@@ -35,8 +35,8 @@ abbrev pub ExplainsIfPool :
 ExplainsIfPool listed repositories (Ok pool) text = ExplainsPool listed repositories pool text
 ExplainsIfPool listed repositories (Err refusal) text = text ≡ []
 
--- a text explains the world that a command asks for, by what was read of a root. Which names the command
--- upgrades makes no difference
+-- a text explains why no selection satisfies the new world of a command, by what was read of the root. Which packages
+-- the command upgrades makes no difference
 abbrev pub ExplainsInputs : Inputs → List ℕ → Type 0
 ExplainsInputs inputs text =
     ExplainsIfPool inputs.root.world inputs.root.repositories (root_pool inputs no_names) text
@@ -54,7 +54,8 @@ abbrev pub ExplainsIfRead : Result Inputs Refusal → List ℕ → Type 0
 ExplainsIfRead (Ok inputs) text = ExplainsInputs inputs text
 ExplainsIfRead (Err refusal) text = text ≡ []
 
--- a text explains the world that a command asks for, by what is read of the root
+-- a text explains why no selection satisfies the new world of a command, by some reads. If the history of the tree is
+-- observable, these are reads of the tree
 abbrev pub ExplainsChange : CommandLine → List TreeState → List ℕ → Type 0
 ExplainsChange command history text =
     IsExplainedBySomeReads history (λ read. ExplainsIfRead (inputs_of command read) text)

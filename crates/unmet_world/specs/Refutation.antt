@@ -14,7 +14,7 @@ use Rattle.unmet_world.specs.declared.refutation.Step.{Step}
 use Rattle.unmet_world.specs.declared.refutation.Step.TheVariants.{Broken, Excluded, Sure}
 use Rattle.unmet_world.specs.declared.refutation.Refutation.{Refutation}
 
--- ---- what is wanted
+-- ---- wanted dependencies
 
 -- the dependencies of an owner (world, or the candidate at a place), conflicts too
 abbrev pub dependencies_of_owner : SealedPool → Owner → List Dependency

@@ -122,6 +122,7 @@ fn explanation_of_read(alloc: Global, read: &Result<Loaded, Refused>) -> Result<
 fn explanation_of_loaded(alloc: Global, loaded: &Loaded) -> Result<Vec<u8>, AllocError>
     ensures { IfOk result (λ text. ExplainsInputs (inputs_seen loaded.now) text.items) }
 {
+    // Which packages are upgraded makes no difference to the explanation.
     match loaded.pool(alloc, Upgrade::Nothing) {
         Ok(pool) => explanation_of_pool(
             alloc,

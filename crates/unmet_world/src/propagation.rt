@@ -126,6 +126,7 @@ impl<'p> Propagation<'p> {
         pool: &'p Sealed<'p>,
         world: &'p World,
     ) -> Result<Propagation<'p>, AllocError> {
+        // Nothing is known of any candidate.
         let mut known = Vec::with_capacity(alloc, pool.len())?;
         for _ in 0..pool.len() {
             known.push(NOTHING)?;
@@ -223,6 +224,7 @@ impl<'p> Propagation<'p> {
         if self.listed.len() >= MOST_LOOKED_AT {
             return Ok(());
         }
+        // The index that the dependency gets in `open`.
         let open = self.open.len();
         let left = self.list_all(open, &options)?;
         self.open.push(Open { want, left })?;
@@ -249,6 +251,7 @@ impl<'p> Propagation<'p> {
     // whether the candidate is not ruled out.
     fn list(&mut self, open: usize, id: CandId) -> Result<bool, AllocError> {
         let mut known = self.known_of(id);
+        // The index that the new entry gets in `listed`.
         let place = self.listed.len();
         self.listed.push(Listed {
             open,
@@ -371,10 +374,12 @@ impl<'p> Propagation<'p> {
         let Some(details) = self.pool.at(id) else {
             return Ok(());
         };
+        // The index in `open` of the first dependency that is listed now.
         let first = self.open.len();
         self.want_all(id, &details.depends())?;
         let mut known = self.known_of(id);
         known.is_expanded = true;
+        // Its dependencies are the entries of `open` from `first` on.
         known.first = first;
         known.end = self.open.len();
         self.set_known(id, known);

@@ -105,15 +105,19 @@ impl Checked {
         match step {
             Step::Broken { id, index } => {
                 let owner = Owner::Package(id);
+                // All that meet this dependency of the candidate must be ruled out.
                 is_met_only_by(alloc, pool, world, Want { owner, index }, &None, &self.out)
             }
             Step::Excluded { id, by } => {
+                // The candidate that excludes it must be sure.
                 if !self.sure.has(candidate(by)) {
                     return Ok(false);
                 }
                 Ok(exclude_each_other(pool, candidate(by), candidate(id)))
             }
             Step::Sure { id, want } => {
+                // Each satisfying selection must meet the dependency, and all other options be
+                // ruled out.
                 if !self.is_sure(want.owner) {
                     return Ok(false);
                 }
@@ -151,6 +155,7 @@ pub fn is_refutation(
 {
     let mut checked = Checked::new(alloc);
     let mut left = refutation.steps.len();
+    // From the last step in the list to the first: each must follow from those checked so far.
     while left > 0 {
         left -= 1;
         let step = step_at(refutation, left);
@@ -159,6 +164,7 @@ pub fn is_refutation(
         }
         checked.add(step)?;
     }
+    // The end must be a dependency of a sure owner that only ruled-out candidates meet.
     let end = refutation.end;
     if !checked.is_sure(end.owner) {
         return Ok(false);

@@ -34,6 +34,7 @@ fn differ_by_one(text: &[u8], other: &[u8]) -> bool
 
 // Whether two texts are the same without the first byte of one of them, or of both.
 fn is_same_after_first(text: &[u8], other: &[u8]) -> bool
+    // Both texts have a first byte.
     requires text { 0 < length text.now }
     requires other { 0 < length other.now }
     ensures { result ≡ is_same_after_first text.now other.now }

@@ -39,7 +39,7 @@ common_options =
     flag_option_of_long_and_short (codes "--allow-untrusted") [] AllowUntrusted ∷
     (flag_option_of_long_and_short (codes "--no-scripts") [] NoScripts ∷ [])
 
--- `--initdb`: a database is begun if there is none
+-- `--initdb`: the command makes a database if there is none
 abbrev pub initdb_option : OptionSpec
 initdb_option = flag_option_of_long_and_short (codes "--initdb") [] Initdb
 

@@ -134,8 +134,10 @@ fn push_command_help(text: &mut Vec<u8>, applet: Applet) -> Result<(), AllocErro
     text.extend_from_slice(purpose(applet))?;
     text.extend_from_slice(b"\n")?;
     text.extend_from_slice(b"\nOptions:\n")?;
+    // First the options that the command has besides the common ones.
     push_lines(text, option_help(applet))?;
     push_lines(text, common_option_help())?;
+    // Only `mkpkg` has fields, and some commands have no operands.
     push_section(text, b"\nFields that -I takes:\n", field_help(applet))?;
     push_section(text, b"\nOperands:\n", operand_help(applet))?;
     text.extend_from_slice(b"\nManual page: apk(8)\n")?;

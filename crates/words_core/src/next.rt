@@ -34,6 +34,7 @@ impl NextWord {
     {
         match self {
             NextWord::OptionOrCommand => after_start(word),
+            // The command follows `--`, so that only operands can follow it.
             NextWord::Command => match applet_of(word) {
                 Some(applet) => NextWord::Operand(applet),
                 None => NextWord::Nothing,

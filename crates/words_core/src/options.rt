@@ -85,7 +85,7 @@ static COMMON: [OptionRow; 2] = [
     },
 ];
 
-// The option of `add` that begins a database if there is none.
+// The option of `add` that makes a database if there is none.
 const INITDB_ROW: OptionRow = OptionRow {
     long: b"--initdb",
     short: b"",

@@ -73,6 +73,7 @@ pub(crate) fn find_applet(words: &Words) -> Result<AppletSite, u32>
             return applet_after_end(words, i + 1);
         }
         if !is_option(word) {
+            // The first word that is no option must name the applet.
             return applet_at(word, false, i);
         }
         if !is_early_option_word(word) {
@@ -130,6 +131,7 @@ fn read_early(words: &Words, site: &AppletSite) -> Result<Flags, u32>
         if is_double_dash(word) {
             return Ok(flags);
         }
+        // The word must be an option of this applet that takes no value.
         match flags_with_option_word(flags, option_of_word(site.applet, word)) {
             Some(more) => flags = more,
             None => return Err(place_after_word(i)),
@@ -223,6 +225,7 @@ impl OptionState {
     {
         match meaning {
             Meaning::Value(rule) => self.read_rule(place, held, rule),
+            // A flag takes no value.
             Meaning::Flag(_) | Meaning::Kind(_) if held.is_some() => Ok(false),
             Meaning::Flag(_) | Meaning::Kind(_) => Ok(self.read_flag(meaning)),
         }
@@ -276,6 +279,7 @@ impl OptionState {
         if !rule.kind.has(text) {
             return Ok(false);
         }
+        // For example, a script of this type was given before.
         if self.values.exclude(rule, text) {
             return Ok(false);
         }
@@ -363,6 +367,7 @@ fn read_options(alloc: Global, words: &Words, start: &Start) -> Result<Reading, 
     let mut operands = Operands::new(alloc);
     for i in start.read..words.len() {
         let word = words.word(i);
+        // The word is an option, or the value that an option awaits.
         if state.expects(word) {
             if state.read_word(start.applet, place_after_word(i), word)? {
                 continue;
@@ -370,9 +375,11 @@ fn read_options(alloc: Global, words: &Words, start: &Start) -> Result<Reading, 
             return Ok(Reading::up_to(place_after_word(i), state, operands));
         }
         if is_double_dash(word) {
+            // All words after it are operands.
             add_operands(&mut operands, words, i + 1)?;
             return Ok(Reading::whole(state, operands));
         }
+        // Each other word is an operand.
         operands.push(place_after_word(i), word)?;
     }
     Ok(Reading::ended(place_after_word(words.len()), state, operands))

@@ -293,9 +293,11 @@ fn flags_behind(words: &Words, start: &Start) -> Flags
         if is_double_dash(word) {
             return flags;
         }
+        // The word is an operand.
         if !is_option(word) {
             continue;
         }
+        // An option that cannot be read ends the reading.
         match flags_with_held_meaning(start.applet, flags, word) {
             Some(more) => flags = more,
             None => return flags,

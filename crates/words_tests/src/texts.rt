@@ -181,6 +181,7 @@ fn refusal_of_package(
     named: Named,
     words: &Words,
 ) -> Result<Option<Refusal>, AllocError> {
+    // The words after the version are a cause, or the three fields of `package-differs`.
     let cause = cause_of(&words_behind(alloc, words, 3)?);
     let name = Text::of(alloc, word_at(words, 1))?;
     let version = Text::of(alloc, word_at(words, 2))?;
@@ -233,6 +234,7 @@ fn refusal_of_path(
             first: Text::of(alloc, word_at(words, 2))?,
             second: Text::of(alloc, word_at(words, 3))?,
         })),
+        // A clash has a second path.
         _ => match Name::read(alloc, word_at(words, 2))? {
             Some(other) => Ok(Some(Refusal::PathClash { path, other })),
             None => Ok(None),
