@@ -1,5 +1,5 @@
 -- What a refusal is about, and what its numbers stand for. In all definitions, `words` are all words of the command
--- line, and `found` has the bytes of the file that the refusal is about, if it is about one and the file was found. The
+-- line. `found` has the bytes of the file that the refusal is about, if it is about one and this file was found. The
 -- rules are in `docs/commands.md`, "Hints".
 use Rattle.std.specs.Prelude.{ℕ, ◌-◌, ◌/◌, ◌%◌, ◌==◌, Bool, true, false, if◌then◌else◌, List, Option, Some, None, is_some, Result, Ok, Err}
 use Rattle.std.specs.List.{slice_get}

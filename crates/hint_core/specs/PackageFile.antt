@@ -27,8 +27,8 @@ package_file_line name version index = texts_joined
     ∷ (codes " is looked for at " ∷ (printed_bytes (package_path index name version)
     ∷ (codes ", beside " ∷ (printed_text index ∷ (codes "\n" ∷ [])))))))
 
--- these lines say where the file of the package is looked for beside an index, and which of its files the positions are
--- that the refusal names, if it names any
+-- these lines say where the file of the package is looked for beside an index. If the refusal names positions of files,
+-- the lines also say which files of the package these are
 abbrev pub ExplainsBeside :
     List ℕ → List ℕ → Refusal → List TreeState → List ℕ → List ℕ → Type 0
 ExplainsBeside name version refusal history index lines =

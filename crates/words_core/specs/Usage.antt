@@ -81,8 +81,8 @@ abbrev pub end_reason : Applet → Option OperandRule → NextWord → UsageReas
 end_reason applet rule (NextValue other value) = ValueMissing
 end_reason applet rule next = missing_reason (required_option_letter applet) rule
 
--- why a place after the command is wrong, by the rule of the operands, by what the word there could have been, and by
--- the word there, if there is one
+-- why a place after the command is wrong: by the wrong word there, or by what is missing if no word is there. The rule
+-- is that of the operands, and `next` is what the word could have been
 abbrev pub line_reason : Applet → Option OperandRule → NextWord → Option (List ℕ) → UsageReason
 line_reason applet rule next None = end_reason applet rule next
 line_reason applet rule next (Some word) = word_reason rule word next

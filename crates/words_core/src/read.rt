@@ -41,9 +41,9 @@ impl From<AllocError> for WordsFault {
 ///
 /// # Errors
 ///
-/// `Usage` is returned exactly if the words are no command, with the place of the first wrong word,
-/// or the place after the last word if a word is missing. `Memory` is returned only if an applet
-/// was found, with its own options before it.
+/// `Usage` is returned exactly if the words are no command. Its place is that of the first wrong
+/// word, or the place after the last word if a word is missing. `Memory` is returned only if an
+/// applet was found, with its own options before it.
 #[tactic(auto, using(crate::proofs::AskedLaws::line_is))]
 pub fn read_words(alloc: Global, words: &Words) -> Result<Command, WordsFault>
     ensures ok { IfOk result (λ command. command_of words.now ≡ Ok command) }
