@@ -117,8 +117,9 @@ fn file_name_of_word(alloc: Global, words: &Words, place: u32) -> Result<Option<
     }
 }
 
-/// The lines on the positions that the cause of a refusal names, for the package under a name. There
-/// is none without a name, without positions, or if a test of the front or of the values fails.
+/// The lines on the positions that the cause of a refusal names, for the package file under a name.
+/// There is none without a name, without positions, or if a test of the front or of the values
+/// fails.
 pub(crate) fn lines_of_contents<T: Tree>(
     alloc: Global,
     name: &Option<Name>,

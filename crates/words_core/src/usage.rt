@@ -43,13 +43,13 @@ pub enum UsageReason {
     ValueGiven,
     /// The words end where the value of an option is awaited.
     ValueMissing,
-    /// The word is or holds a value that is not of the kind that its option takes, which is given.
+    /// The word is or holds a value of an option, and the value is not of this kind, as it must be.
     ValueBad(ValueKind),
     /// A script of the same type was given before.
     ScriptRepeated,
     /// The command takes no further operand.
     TooManyOperands,
-    /// The word is an operand that is not of the kind that the command takes, which is given.
+    /// The word is an operand of the command, and is not of this kind, as it must be.
     OperandBad(OperandKind),
     /// An operand of this kind is missing.
     OperandMissing(OperandKind),
