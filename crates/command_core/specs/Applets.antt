@@ -16,24 +16,24 @@ required_option_letter applet = None
 
 -- ---- operands
 
--- the operands of `info`: one path with the flag `--who-owns`, one or more packages with another flag
--- of its own, and any number of packages without one
+-- the rule of the operands of `info`: one path with `--who-owns`, one or more names of packages with one of its other
+-- flags, and any number of names without a flag of its own
 abbrev pub info_operand_rule : Flags → OperandRule
 info_operand_rule flags =
     if flags.who_owns then exactly 1 Path else
     if flags.installed || flags.contents || flags.depends then at_least 1 PackageName else
     at_least 0 PackageName
 
--- the operands of `version`: two texts to compare, or one or more to check; None if the flag is missing
--- that selects one of the two
+-- the rule of the operands of `version`: exactly two texts with `--test`, one text or more with `--check`; None if
+-- neither flag is given
 abbrev pub version_operand_rule : Flags → Option OperandRule
 version_operand_rule flags =
     if flags.test then Some (exactly 2 Any) else
     if flags.check then Some (at_least 1 Any) else
     None
 
--- the operands of an applet under its flags; None if the flag is missing that selects the kind of the
--- command
+-- the rule of the operands that an applet takes under some flags. None if no flag selects the kind of the command,
+-- which only `version` needs
 abbrev pub operand_rule : Applet → Flags → Option OperandRule
 operand_rule Add flags = Some (at_least 0 Dependency)
 operand_rule Del flags = Some (at_least 1 DependencyName)

@@ -19,7 +19,7 @@ pub record CommandLine : Type 0 where
   -- the place after the last argument, counted from 1
   pub behind : ℕ
 
--- a command by its parts
+-- the command line with these parts; `behind` is the place after its last word, counted from 1
 abbrev pub command_from_parts : Applet → Flags → List Operand → List OptionValue → ℕ → CommandLine
 command_from_parts applet flags operands values behind =
     record { applet = applet; flags = flags; operands = operands; values = values; behind = behind }

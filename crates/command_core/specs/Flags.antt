@@ -22,7 +22,7 @@ no_flags = record {
   check = false;
 }
 
--- whether the flag is given
+-- whether a flag is among the flags that were given
 abbrev pub has_flag : Flag → Flags → Bool
 has_flag AllowUntrusted flags = flags.allow_untrusted
 has_flag NoScripts flags = flags.no_scripts
@@ -50,7 +50,8 @@ with_flag WhoOwns flags = record flags { who_owns = true }
 with_flag Test flags = record flags { test = true }
 with_flag Check flags = record flags { check = true }
 
--- the flags that select the kind of a command: those of `info`, of `list`, and of `version`
+-- the flags of which each selects the kind of a command (which of its tasks it does): those of `info`, of `list`, and
+-- of `version`
 abbrev pub kinds : List Flag
 kinds = Installed ∷ (Contents ∷ (Depends ∷ (WhoOwns ∷ (Test ∷ (Check ∷ [])))))
 

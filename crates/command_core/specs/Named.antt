@@ -9,11 +9,11 @@ use Rattle.command_core.specs.declared.values.TheConstants.{SCRIPT}
 use Rattle.command_core.specs.Files.{is_file_argument, without_dot_slash}
 use Rattle.command_core.specs.Values.{script_file}
 
--- the name of the file that a text names; None if it names none
+-- the name of the file that a text names, without one leading `./`; None if the text can name no file
 abbrev pub file_name : List ℕ → Option (List ℕ)
 file_name text = if is_file_argument text then Some (without_dot_slash text) else None
 
--- the name of the file that an operand is, without a leading `./`
+-- the name of the file that an operand names: its text without one leading `./`
 abbrev pub operand_file : Operand → List ℕ
 operand_file operand = without_dot_slash operand.text
 
@@ -21,11 +21,11 @@ operand_file operand = without_dot_slash operand.text
 abbrev pub are_files : List Operand → Bool
 are_files operands = list_all (λ (o : Operand). is_file_argument o.text) operands
 
--- the part of a value of the option with this letter that may name a file: the part of a script after
--- the first `:`, and all of any other value
+-- the part of an option's value that may name a file, by the letter of the option: in a value TYPE:FILE of `--script`
+-- the part after the first `:`, in a value of another option the whole text
 abbrev pub file_part_of_value : ℕ → List ℕ → List ℕ
 file_part_of_value letter text = if letter == SCRIPT then script_file text else text
 
--- the name of the file in a value; None if there is none
+-- the name of the file in an option's value; None if the value can name no file
 abbrev pub file_in : OptionValue → Option (List ℕ)
 file_in v = file_name (file_part_of_value v.letter v.text)

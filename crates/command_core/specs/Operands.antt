@@ -19,7 +19,7 @@ operand_at place word = record { place = place; text = word }
 
 -- ---- kinds
 
--- whether a zero (48) precedes other bytes
+-- whether a text begins with a zero (the byte 48) and goes on after it
 abbrev pub has_superfluous_leading_zero : List ℕ → Bool
 has_superfluous_leading_zero [] = false
 has_superfluous_leading_zero (d ∷ ds) = (d == 48) && nat_lt 0 (length ds)
@@ -72,11 +72,12 @@ abbrev pub allows_one_more_operand : Option ℕ → ℕ → Bool
 allows_one_more_operand None before = true
 allows_one_more_operand (Some most) before = nat_lt before most
 
--- whether a rule takes a text as an operand, by how many operands precede it
+-- whether a rule takes a text as an operand, if `before` operands precede it
 abbrev pub takes : OperandRule → ℕ → List ℕ → Bool
 takes rule before text = allows_one_more_operand rule.most before && is_operand_of_kind rule.kind text
 
--- the place of the first operand that a rule does not take, if this many precede it
+-- the place of the first of these operands that a rule does not take; `before` operands precede the list. None if the
+-- rule takes all of them
 abbrev pub first_refused_operand : OperandRule → ℕ → List Operand → Option ℕ
 first_refused_operand rule before [] = None
 first_refused_operand rule before (operand ∷ operands) =

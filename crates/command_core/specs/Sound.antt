@@ -25,7 +25,7 @@ all_flags =
     AllowUntrusted ∷ (NoScripts ∷ (Initdb ∷ (Simulate ∷ (Purge ∷
     (Installed ∷ (Contents ∷ (Depends ∷ (WhoOwns ∷ (Test ∷ (Check ∷ []))))))))))
 
--- whether at most one of these flags was given
+-- whether at most one flag of a list is among `flags`, the flags that were given
 abbrev pub has_at_most_one : List Flag → Flags → Bool
 has_at_most_one [] flags = true
 has_at_most_one (flag ∷ others) flags =
@@ -37,7 +37,7 @@ abbrev pub are_flags_allowed : Flags → Flags → Bool
 are_flags_allowed allowed flags =
     list_all (λ flag. not (has_flag flag flags) || has_flag flag allowed) all_flags
 
--- the flags that every applet with a word may have
+-- the flags of every applet that a word of the command line can name; `Help` and `ProgramVersion` have none
 abbrev pub common_flags : Flags
 common_flags = with_flag AllowUntrusted (with_flag NoScripts no_flags)
 
@@ -55,20 +55,20 @@ allowed_flags Help = no_flags
 allowed_flags ProgramVersion = no_flags
 allowed_flags applet = common_flags
 
--- whether an applet may have some flags: each is one of its own, and at most one selects the kind of
--- the command
+-- whether an applet may have the flags that were given: each is allowed for the applet, and at most one selects the
+-- kind of the command
 abbrev pub may_have_flags : Applet → Flags → Bool
 may_have_flags applet flags = are_flags_allowed (allowed_flags applet) flags && has_at_most_one kinds flags
 
 -- ---- operands
 
--- whether a number of operands is no more than the most that a rule takes
+-- whether a number of operands is no more than the most that a rule takes (None: no limit)
 abbrev pub is_count_within_limit : Option ℕ → ℕ → Bool
 is_count_within_limit None count = true
 is_count_within_limit (Some most) count = nat_le count most
 
--- whether operands are those of an applet: each of its kind, and as many as it takes. An applet without
--- its kind has none
+-- whether a rule allows these operands: each is of the rule's kind, and their number is within its limits. None: the
+-- command lacks the flag that selects its kind, and not even an empty list is allowed
 abbrev pub are_allowed_operands : Option OperandRule → List Operand → Bool
 are_allowed_operands None operands = false
 are_allowed_operands (Some rule) operands =
@@ -85,7 +85,7 @@ value_rules Mkpkg =
 value_rules Mkndx = description_rule ∷ (output_rule ∷ (compression_rule ∷ []))
 value_rules applet = []
 
--- the rule of the option with a letter, if it is among some rules
+-- the rule of the option with this letter, if it is among some rules
 abbrev pub rule_for : List ValueRule → ℕ → Option ValueRule
 rule_for rules letter = find (λ (rule : ValueRule). rule.letter == letter) rules
 
@@ -94,7 +94,8 @@ abbrev pub is_allowed_value : Option ValueRule → List ℕ → Bool
 is_allowed_value None text = false
 is_allowed_value (Some rule) text = is_value_of_kind rule.kind text
 
--- whether two values of one option exclude each other, by the option's rule; None: there is no such option
+-- whether two values of one option exclude each other, by the option's rule: all values of an option that may be given
+-- once do. None: there is no such option
 abbrev pub are_exclusive_values : Option ValueRule → List ℕ → List ℕ → Bool
 are_exclusive_values None a b = false
 are_exclusive_values (Some rule) a b = rule.single || excludes rule.kind a b
@@ -105,7 +106,8 @@ abbrev pub may_both_be_given : List ValueRule → OptionValue → OptionValue �
 may_both_be_given rules a b =
     not ((a.letter == b.letter) && are_exclusive_values (rule_for rules a.letter) a.text b.text)
 
--- whether each value is one of an option with one of these rules, and no two of them exclude each other
+-- whether each value is allowed by the rule of its option, which is among these rules, and no two values exclude each
+-- other
 abbrev pub are_allowed_values : List ValueRule → List OptionValue → Bool
 are_allowed_values rules [] = true
 are_allowed_values rules (v ∷ vs) =
@@ -121,6 +123,6 @@ is_valid_command c =
     && are_allowed_values (value_rules c.applet) c.values
     && not (is_required_value_missing (required_option_letter c.applet) c.values)
 
--- a command line is a command
+-- a command line is valid: its applet may have its flags, operands and values, and none is missing
 abbrev pub IsValidCommand : CommandLine → Type 0
 IsValidCommand command = IsTrue (is_valid_command command)

@@ -31,7 +31,7 @@ script_types =
     codes "trigger" ∷ (codes "pre-install" ∷ (codes "post-install" ∷ (codes "pre-deinstall" ∷
     (codes "post-deinstall" ∷ (codes "pre-upgrade" ∷ (codes "post-upgrade" ∷ []))))))
 
--- the byte between the type of a script and its file
+-- the byte `:`, which separates the type of a script from its file
 abbrev pub colon : ℕ
 colon = 58
 
@@ -43,7 +43,7 @@ script_type text = before_first (λ b. b == colon) text
 abbrev pub script_file : List ℕ → List ℕ
 script_file text = after_first (λ b. b == colon) text
 
--- whether a text is TYPE:FILE
+-- whether a text is TYPE:FILE: a type of a script, and a text that can name a file
 abbrev pub is_script_argument : List ℕ → Bool
 is_script_argument text =
     list_any (λ t. bytes_eq t (script_type text)) script_types && is_file_argument (script_file text)
@@ -59,7 +59,8 @@ is_value_of_kind Output text = is_output_argument text
 is_value_of_kind Uncompressed text = bytes_eq text (codes "none")
 is_value_of_kind Script text = is_script_argument text
 
--- whether two values of an option of some kind exclude each other: of scripts, those of one type do
+-- whether two values of one option, whose values are of this kind, exclude each other: two scripts of one type do, and
+-- no other values
 abbrev pub excludes : ValueKind → List ℕ → List ℕ → Bool
 excludes Script a b = bytes_eq (script_type a) (script_type b)
 excludes kind a b = false
@@ -78,11 +79,11 @@ script_rule = record { letter = SCRIPT; single = false; kind = Script }
 abbrev pub trigger_rule : ValueRule
 trigger_rule = record { letter = TRIGGER; single = false; kind = Nonempty }
 
--- the rule of `-F`: it names a folder, once
+-- the rule of `-F`: its value names a folder, and it may be given once
 abbrev pub files_rule : ValueRule
 files_rule = record { letter = FILES; single = true; kind = File }
 
--- the rule of `-o`: it names the file that is made, once
+-- the rule of `-o`: its value names the file that is made, and it may be given once
 abbrev pub output_rule : ValueRule
 output_rule = record { letter = OUTPUT; single = true; kind = Output }
 
@@ -90,21 +91,21 @@ output_rule = record { letter = OUTPUT; single = true; kind = Output }
 abbrev pub compression_rule : ValueRule
 compression_rule = record { letter = COMPRESSION; single = true; kind = Uncompressed }
 
--- the rule of `-d`: it gives an index its description, once
+-- the rule of `-d`: its value is the description of an index, and it may be given once
 abbrev pub description_rule : ValueRule
 description_rule = record { letter = DESCRIPTION; single = true; kind = Any }
 
--- whether an option may not be given again: it may be given once, and has a value
+-- whether the option with this rule may not be given again: it may be given once, and has one of `values`
 abbrev pub is_single_and_given : ValueRule → List OptionValue → Bool
 is_single_and_given rule values = rule.single && is_given rule.letter values
 
--- whether an earlier value of the option excludes this text
+-- whether one of the earlier values (`values`) is of the option with this rule, and excludes `text` as a further value
 abbrev pub is_excluded_by_earlier_value : ValueRule → List ℕ → List OptionValue → Bool
 is_excluded_by_earlier_value rule text values =
     list_any (λ (v : OptionValue). (v.letter == rule.letter) && excludes rule.kind v.text text)
     values
 
--- whether the option that must have a value, if there is one, has none
+-- whether an option is required (its letter is given) and has none of `values`
 abbrev pub is_required_value_missing : Option ℕ → List OptionValue → Bool
 is_required_value_missing None values = false
 is_required_value_missing (Some letter) values = not (is_given letter values)

@@ -19,7 +19,7 @@ pub enum Applet {
     Del,
     /// Bring packages to the versions that are preferred.
     Upgrade,
-    /// Reinstall packages as they are.
+    /// Install packages again, in their installed versions.
     Fix,
     /// Print which packages are installed, or what they have.
     Info,
@@ -93,14 +93,14 @@ pub struct Flags {
     pub simulate: bool,
     /// `--purge` of `del`: changed configuration files are removed too.
     pub purge: bool,
-    /// `--installed` of `info`: which of the packages are installed; of `list`: only packages that
-    /// are installed.
+    /// `--installed` of `info`: which of the named packages are installed is printed; of `list`:
+    /// only packages that are installed are listed.
     pub installed: bool,
-    /// `--contents` of `info`: the paths of the packages.
+    /// `--contents` of `info`: the paths of the files of the packages are printed.
     pub contents: bool,
-    /// `--depends` of `info`: what the packages depend on.
+    /// `--depends` of `info`: what the packages depend on is printed.
     pub depends: bool,
-    /// `--who-owns` of `info`: which package a path is of.
+    /// `--who-owns` of `info`: which package owns a path is printed.
     pub who_owns: bool,
     /// `--test` of `version`: two versions are compared.
     pub test: bool,
@@ -147,8 +147,8 @@ impl Flags {
         }
     }
 
-    /// Whether a flag was given that selects the kind of the command: one of `info`, of `list`, or
-    /// of `version`.
+    /// Whether a flag was given that selects the kind of the command (which of its tasks it does):
+    /// one of `info`, of `list`, or of `version`.
     pub fn has_command_kind_flag(&self) -> bool
         ensures { result ≡ has_command_kind_flag self.now }
     {
@@ -158,7 +158,7 @@ impl Flags {
         self.test || self.check
     }
 
-    /// These flags and one more.
+    /// These flags, with `flag` given too.
     pub fn with(mut self, flag: Flag) -> Flags
         ensures { result ≡ with_flag flag self }
     {
@@ -180,7 +180,8 @@ impl Flags {
 }
 
 impl Applet {
-    /// The letter of the option with a value that the applet requires, if there is one.
+    /// The letter of the option with a value that the applet requires, if there is one. Only
+    /// `mkndx` requires one, `--output`.
     pub fn required_option_letter(self) -> Option<u8>
         ensures { result ≡ required_option_letter self }
     {
@@ -190,8 +191,8 @@ impl Applet {
         }
     }
 
-    /// Which operands the applet takes under some flags. None: the flag is missing that selects the
-    /// kind of the command.
+    /// The rule of the operands that the applet takes under some flags. None: no flag selects the
+    /// kind of the command, which only `version` needs.
     pub fn operands(self, flags: Flags) -> Option<OperandRule>
         ensures { result ≡ operand_rule self flags }
     {
@@ -219,7 +220,7 @@ impl Applet {
     }
 }
 
-// The operands of `info` under some flags.
+// The rule of the operands of `info` under some flags.
 fn info_operand_rule(flags: Flags) -> OperandRule
     ensures { result ≡ info_operand_rule flags }
 {
@@ -232,7 +233,8 @@ fn info_operand_rule(flags: Flags) -> OperandRule
     OperandRule::at_least(0, OperandKind::PackageName)
 }
 
-// The operands of `version` under some flags, one of which selects the kind of the command.
+// The rule of the operands of `version`, by the flag that selects its kind. None if neither
+// `--test` nor `--check` is given.
 fn version_operand_rule(flags: Flags) -> Option<OperandRule>
     ensures { result ≡ version_operand_rule flags }
 {
@@ -277,7 +279,7 @@ impl Model for Command {
 }
 
 impl Command {
-    /// The command with these parts.
+    /// The command with these parts; `behind` is the place after its last word.
     pub fn of(
         applet: Applet,
         flags: Flags,
@@ -285,6 +287,7 @@ impl Command {
         values: Values,
         behind: u32,
     ) -> Command
+        // The applet may have these flags, operands and values, and none is missing.
         requires { IsTrue (is_valid_command
             (command_from_parts applet flags operands values behind)) }
         ensures { result ≡ command_from_parts applet flags operands values behind }
@@ -298,7 +301,8 @@ impl Command {
         }
     }
 
-    /// The applet that the first operand names.
+    /// What the command does: the applet that the command line names, or the one that `--help` or
+    /// `--version` asks for.
     pub fn applet(&self) -> Applet
         ensures value { result ≡ self.now.applet }
         // The command obeys the rules of its applet.
@@ -325,7 +329,7 @@ impl Command {
         &self.operands
     }
 
-    /// The values that its options were given.
+    /// The values that options of the command were given.
     pub fn values(&self) -> &Values
         ensures value { result.now ≡ self.now.values }
         // The command obeys the rules of its applet.

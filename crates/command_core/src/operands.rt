@@ -1,6 +1,6 @@
-//! Operands: which an applet takes, those that a command has, and the properties of every command's
-//! files and of the option that it needs. The rules are in `docs/commands.md`, "Words", and for
-//! each applet in the section with its name.
+//! Operands of a command line: the rule that says which operands an applet takes, the list of those
+//! that a command has, and laws on the operands and option values of every valid command. The rules
+//! are in `docs/commands.md`, "Words", and for each applet in the section with its name.
 
 ghost use Rattle.std.specs.Prelude.{◌≡◌, ◌<◌, ◌==◌, ◌++◌, ◌∷◌, [], IfOk, IsTrue, None, OnErr, OnOk, Some, length, slice_get, ℕ};
 ghost use Rattle.std.specs.Option.{option_map};
@@ -21,7 +21,7 @@ use dep_core::{is_dep_name, is_package_name, read_dep};
 use std::alloc::{AllocError, Global};
 use std::marker::Model;
 
-/// Which texts may be an operand.
+/// The kind of text that an operand has to be.
 #[derive(Clone, Copy)]
 pub enum OperandKind {
     /// A file, as a path below the root, after one optional `./`.
@@ -60,7 +60,7 @@ impl OperandKind {
     }
 }
 
-/// Which operands an applet takes, and how many.
+/// The rule of the operands of an applet: their kind, and how many there may be.
 #[derive(Clone, Copy)]
 pub struct OperandRule {
     /// The kind of text that each operand has to be.
@@ -105,8 +105,8 @@ impl OperandRule {
         }
     }
 
-    /// The place, counted from 1, of the first operand that the rule does not take, because of its
-    /// kind or because too many precede it.
+    /// The place, counted from 1, of the first operand that the rule does not take: its text is not
+    /// of the rule's kind, or too many operands precede it.
     pub fn first_refused_operand(&self, operands: &Operands) -> Option<u32>
         ensures { result ≡ first_refused_operand self.now 0 operands.now }
     {
@@ -119,7 +119,7 @@ impl OperandRule {
         None
     }
 
-    // Whether the rule takes a text as an operand, by how many operands precede it.
+    // Whether the rule takes a text as an operand, if `before` operands precede it.
     fn takes(&self, before: usize, text: &[u8]) -> bool
         ensures { result ≡ takes self.now before text.now }
     {
@@ -129,7 +129,7 @@ impl OperandRule {
         self.kind.has(text)
     }
 
-    // Whether one more operand is allowed, given how many precede it.
+    // Whether the rule allows one more operand after `before` operands.
     fn allows_one_more_operand(&self, before: usize) -> bool
         ensures { result ≡ allows_one_more_operand self.now.most before }
     {
@@ -154,7 +154,8 @@ pub struct Operand {
 struct OperandEntry {
     /// The operand.
     operand: Operand,
-    // Read when the operand is added, so that lending it allocates no memory.
+    // The name of the file. It is read when the operand is added, so that lending it allocates no
+    // memory.
     file: Option<Name>,
 }
 
@@ -175,8 +176,10 @@ impl Model for Operands {
 
     ghost Value = { List Operand };
 
+    // The operands, without the names of files.
     ghost view = { λ operands. map (λ (e : OperandEntry). e.operand) operands.entries.items };
 
+    // The name stored beside each operand is that of the file that the operand's text names.
     ghost invariant = { λ operands.
         map (λ (e : OperandEntry). e.file) operands.entries.items
         ≡ map (λ (e : OperandEntry). file_name e.operand.text) operands.entries.items };
@@ -196,6 +199,7 @@ impl Operands {
     /// Adds the argument at a place of the command line as an operand. A call that fails changes
     /// nothing.
     pub fn push(&mut self, place: u32, word: &[u8]) -> Result<(), AllocError>
+        // The operand is added at the end.
         ensures ok { OnOk result (self.new ≡ self.old ++ operand_at place word.now ∷ []) }
         ensures err { OnErr result (self.new ≡ self.old) }
     {
@@ -230,10 +234,10 @@ impl Operands {
         &self.entries[i].operand
     }
 
-    /// The name that the operand with this index is, without one leading `./`. The operands are
-    /// files.
+    /// The name of the file that the operand with this index names, without one leading `./`.
     pub fn file(&self, i: usize) -> &Name
         requires here { i < length self.now }
+        // Each operand can name a file.
         requires files { IsTrue (are_files self.now) }
         ensures { option_map operand_file (slice_get self.now i) ≡ Some result.now }
     {
@@ -245,11 +249,13 @@ impl Operands {
     }
 }
 
-/// The operands of a command are allowed for its applet, and so are the values of its options; the
-/// option that it needs is given.
+/// A law: the operands of a valid command are allowed for its applet under its flags, and the
+/// values of its options for its applet. The option that the applet requires is given.
 pub fn a_command_has_what_its_applet_may_have()
+    // The number of operands, and the kind of each, are those that the applet takes.
     ensures operands { (c : CommandLine) → IsValidCommand c →
         IsTrue (are_allowed_operands (operand_rule c.applet c.flags) c.operands) }
+    // Each value is one that its option may have, and no two values exclude each other.
     ensures values { (c : CommandLine) → IsValidCommand c →
         IsTrue (are_allowed_values (value_rules c.applet) c.values) }
     // The option that the applet requires is given.
@@ -257,22 +263,24 @@ pub fn a_command_has_what_its_applet_may_have()
         required_option_letter c.applet ≡ Some letter → IsTrue (is_given letter c.values) }
 {}
 
-/// If the applet takes files, the operands are files.
+/// A law: if the applet takes files as operands, each operand of a valid command can name a file.
 pub fn file_operands_are_files()
     ensures { (c : CommandLine) (rule : OperandRule) → IsValidCommand c →
         operand_rule c.applet c.flags ≡ Some rule → rule.kind ≡ OperandKind.File →
         IsTrue (are_files c.operands) }
 {}
 
-/// Each value is one of its option's kind: that of `--output` is a file of at most 1,016 bytes,
-/// that of `--files` a file, and each of `--script` is TYPE:FILE.
+/// A law: each value of a valid command is of its option's kind. That of `--output` is a path of at
+/// most 1,016 bytes, that of `--files` a path, and each of `--script` is TYPE:FILE.
 pub fn values_are_of_their_kind()
     // Each value is one that its option may have.
     ensures each { (c : CommandLine) (i : ℕ) (v : OptionValue) → IsValidCommand c →
         slice_get c.values i ≡ Some v →
         IsTrue (is_allowed_value (rule_for (value_rules c.applet) v.letter) v.text) }
+    // The first value of `--output` can name a file that is to be written.
     ensures output { (c : CommandLine) (v : OptionValue) → IsValidCommand c →
         first_value OUTPUT c.values ≡ Some v → IsTrue (is_output_argument v.text) }
+    // The first value of `--files` can name a folder.
     ensures folder { (c : CommandLine) (v : OptionValue) → IsValidCommand c →
         first_value FILES c.values ≡ Some v → IsTrue (is_file_argument v.text) }
     // Each value of `--script` is TYPE:FILE.

@@ -44,21 +44,24 @@ pub fn without_dot_slash(text: &[u8]) -> &[u8]
     }
 }
 
-/// Whether a text is a file: a path below the root, after one optional `./`.
+/// Whether a text can name a file: after one optional `./` it is a valid path below the root.
+/// Whether the file exists does not matter.
 pub(crate) fn is_file_argument(text: &[u8]) -> bool
     ensures { result ≡ is_file_argument text.now }
 {
     is_name(without_dot_slash(text))
 }
 
-/// The name that a text is, without one leading `./`. None if it is no file.
+/// The name of the file that a text names: the text without one leading `./`. None if that is no
+/// valid name.
 pub(crate) fn read_file(alloc: Global, text: &[u8]) -> Result<Option<Name>, AllocError>
     ensures { IfOk result (λ file. file ≡ file_name text.now) }
 {
     Name::read(alloc, without_dot_slash(text))
 }
 
-/// Whether a text is a file that may be written: its path has at most 1,016 bytes.
+/// Whether a text can name a file that is to be written: its path, without one leading `./`, has at
+/// most 1,016 bytes.
 pub(crate) fn is_output_argument(text: &[u8]) -> bool
     ensures { result ≡ is_output_argument text.now }
 {
@@ -119,7 +122,7 @@ pub(crate) fn script_file(text: &[u8]) -> &[u8]
     }
 }
 
-// The index of the first `:`.
+// The index of the first `:` in TYPE:FILE, which separates the type of a script from its file.
 fn colon(text: &[u8]) -> Option<usize>
     ensures { result ≡ position (λ b. b == colon) text.now }
 {
@@ -136,7 +139,7 @@ pub(crate) fn is_pattern(text: &[u8]) -> bool
     are_visible(text)
 }
 
-/// Whether all bytes are visible ASCII characters.
+/// Whether all bytes of a text are visible ASCII characters.
 fn are_visible(text: &[u8]) -> bool
     ensures { result ≡ list_all is_ascii_graphic text.now }
 {
@@ -151,6 +154,7 @@ pub(crate) fn is_demo_number(text: &[u8]) -> bool
     if !is_decimal(text) {
         return false;
     }
+    // All bytes are digits here, so `parse` fails only for a number of more than 32 bits.
     match str::from_utf8(text) {
         Ok(digits) => match digits.parse::<u32>() {
             Ok(number) => 0 < number && number <= LARGEST_DEMO,
@@ -170,7 +174,7 @@ pub fn is_decimal(text: &[u8]) -> bool
     are_digits(text)
 }
 
-/// Whether a number has a zero in front of other digits.
+/// Whether a text begins with a zero and goes on after it.
 fn has_superfluous_leading_zero(text: &[u8]) -> bool
     ensures { result ≡ has_superfluous_leading_zero text.now }
 {
@@ -180,7 +184,7 @@ fn has_superfluous_leading_zero(text: &[u8]) -> bool
     }
 }
 
-/// Whether all bytes are decimal digits.
+/// Whether all bytes of a text are decimal digits.
 fn are_digits(text: &[u8]) -> bool
     ensures { result ≡ list_all is_ascii_digit text.now }
 {

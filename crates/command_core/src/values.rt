@@ -29,10 +29,10 @@ pub const SCRIPT: u8 = b's';
 /// The letter of `--trigger`.
 pub const TRIGGER: u8 = b't';
 
-/// Which values an option has.
+/// The rule of an option with values: which values it may have, and whether only once.
 #[derive(Clone, Copy)]
 pub struct ValueRule {
-    /// The letter of the option's short word.
+    /// The letter of the option's short word, under which its values are stored.
     pub letter: u8,
     /// Whether the option may be given only once.
     pub single: bool,
@@ -73,7 +73,8 @@ impl ValueKind {
         }
     }
 
-    /// Whether two values of one option exclude each other: of scripts, those of one type do.
+    /// Whether two values of one option, whose kind this is, exclude each other. Two scripts of one
+    /// type do, and no other values.
     pub fn excludes(self, a: &[u8], b: &[u8]) -> bool
         ensures { result ≡ excludes self a.now b.now }
     {
@@ -155,6 +156,7 @@ impl Values {
     /// Adds a value of the option with a letter, which is in the word at a place. A call that fails
     /// changes nothing.
     pub fn push(&mut self, place: u32, letter: u8, text: &[u8]) -> Result<(), AllocError>
+        // The value is added at the end.
         ensures ok { OnOk result (self.new ≡ self.old
             ++ option_value_from_place_and_letter place letter text.now ∷ []) }
         ensures err { OnErr result (self.new ≡ self.old) }
@@ -189,7 +191,8 @@ impl Values {
         rule.single && self.is_given(rule.letter)
     }
 
-    /// Whether an earlier value of the option excludes this text.
+    /// Whether a value in this list is of the option with this rule, and excludes `text` as a
+    /// further value of it.
     pub fn exclude(&self, rule: ValueRule, text: &[u8]) -> bool
         ensures { result ≡ is_excluded_by_earlier_value rule text.now self.now }
     {
@@ -251,6 +254,7 @@ impl Values {
     /// The name of the file that `--script` was given by the value with this index, without one
     /// leading `./`.
     pub fn script_file(&self, i: usize) -> &Name
+        // The list has a value with this index.
         requires here { i < length self.now }
         // The value is one of `--script`, and has a file.
         requires script { IfSome (slice_get self.now i)
@@ -269,6 +273,7 @@ impl Values {
     fn first_entry(&self, letter: u8) -> Option<&ValueEntry>
         ensures value { option_map (λ entry. entry.now.value) result
             ≡ first_value letter self.entry.now }
+        // The stored name is that of the file in this value.
         ensures file { IfSome result (λ entry. entry.now.file ≡ file_in entry.now.value) }
     {
         self.entries
@@ -277,7 +282,8 @@ impl Values {
     }
 }
 
-// The name of the file in a value of the option with a letter, if there is one.
+// The name of the file in a value of the option with a letter, if there is one. In a value of
+// `--script`, TYPE:FILE, the file is after the first `:`.
 fn read_value_file(alloc: Global, letter: u8, text: &[u8]) -> Result<Option<Name>, AllocError>
     ensures { IfOk result (λ file. file ≡ file_name (file_part_of_value letter text.now)) }
 {

@@ -35,8 +35,8 @@ impl Program for Apk {
         status(&apk(alloc, words, tree, out, err))
     }
 
-    /// Recovers a tree by `apk info`, which recovers and then only reads. A refusal is no failure
-    /// here: there may be no database.
+    /// Recovers a tree by `apk info`, which recovers and then only reads. Returns whether the run
+    /// succeeded or was refused: a refusal is no failure here, since there may be no database.
     fn recover(&self, alloc: Global, tree: &mut MemoryTree) -> bool {
         let mut words = Words::new(alloc);
         if words.push(b"info").is_err() {
@@ -47,7 +47,7 @@ impl Program for Apk {
         self.run(alloc, &words, tree, &mut out, &mut err) <= REFUSED
     }
 
-    /// The container that is written of a dump text, or None if the text is no dump text.
+    /// The container that `gen_` makes of a dump text, or None if the text is no dump text.
     fn container_of(&self, alloc: Global, text: &[u8]) -> Result<Option<Vec<u8>>, AllocError> {
         match gen_(alloc, text) {
             Ok(bytes) => Ok(Some(bytes)),

@@ -1,5 +1,6 @@
--- What a refusal is about, and what its numbers stand for. The rules are in `docs/commands.md`,
--- "Hints".
+-- What a refusal is about, and what its numbers stand for. In all definitions, `words` are all words of the command
+-- line. `found` has the bytes of the file that the refusal is about, if it is about one and this file was found. The
+-- rules are in `docs/commands.md`, "Hints".
 use Rattle.std.specs.Prelude.{ℕ, ◌-◌, ◌/◌, ◌%◌, ◌==◌, Bool, true, false, if◌then◌else◌, List, Option, Some, None, is_some, Result, Ok, Err}
 use Rattle.std.specs.List.{slice_get}
 use Rattle.adb_view.specs.Schema.{table}
@@ -35,27 +36,27 @@ abbrev pub has_refusals_of_its_own : Applet → Bool
 has_refusals_of_its_own Demo = false
 has_refusals_of_its_own applet = true
 
--- whether refusals are explained: those of a command that are about its own words
+-- whether hints explain the refusals of a command line: it is a command whose refusals are about its own words
 abbrev pub is_explained : Result CommandLine ℕ → Bool
 is_explained (Ok command) = has_refusals_of_its_own command.applet
 is_explained (Err place) = false
 
--- whether a command installs packages again
+-- whether the applet is `fix`, which installs packages again
 abbrev pub is_fix_applet : Applet → Bool
 is_fix_applet Fix = true
 is_fix_applet applet = false
 
--- whether a command line does so
+-- whether a command line is a command with the applet `fix`
 abbrev pub is_fix : Result CommandLine ℕ → Bool
 is_fix (Ok command) = is_fix_applet command.applet
 is_fix (Err place) = false
 
--- whether a command line asks which package owns a path
+-- whether a command line is a command that asks which package owns a path
 abbrev pub asks_for_owner : Result CommandLine ℕ → Bool
 asks_for_owner (Ok command) = command.flags.who_owns
 asks_for_owner (Err place) = false
 
--- what the refusal of a database is about: a line of a text, or else the database
+-- what the refusal of a database for this cause is about: a line of the text database, or else the database
 abbrev pub database_subject : Cause → Subject
 database_subject (TextLine line) = Line Files.TextDatabase line
 database_subject cause = Database
@@ -81,13 +82,13 @@ subject_of (Owned path first second) = SharedPath
 subject_of (DatabaseBad cause) = database_subject cause
 subject_of refusal = Nothing
 
--- the name of a file of which refusals name lines
+-- the name of a file of which refusals report lines by their numbers
 abbrev pub hint_file_name : HintFile → List ℕ
 hint_file_name Files.World = world_name
 hint_file_name Files.Repositories = repositories_name
 hint_file_name Files.TextDatabase = text_database_name
 
--- the name of the file that a refusal is about, if there is one
+-- the name of the file that a refusal with this subject is about, if it is about one
 abbrev pub subject_file : Subject → Option (List ℕ)
 subject_file (Repository number) = Some repositories_name
 subject_file (Line file line) = Some (hint_file_name file)
@@ -112,27 +113,28 @@ cause_place cause = None
 
 -- ---- the hint on what a refusal is about
 
--- the word at a place, if there is one
+-- the hint on the word at a place; none if there is no such word
 abbrev pub word_hint : ℕ → Option (List ℕ) → Hint
 word_hint place (Some word) = Hinted.Word place word
 word_hint place None = Hinted.Nothing
 
--- the word at a place, which names no file
+-- the hint that the word at a place names no file; none if there is no such word
 abbrev pub absent_file_hint : ℕ → Option (List ℕ) → Hint
 absent_file_hint place (Some word) = Hinted.AbsentFile place word
 absent_file_hint place None = Hinted.Nothing
 
--- the word at a place, which is a path that no package owns
+-- the hint that the word at a place is a path that no package owns; none if there is no such word
 abbrev pub unowned_hint : ℕ → Option (List ℕ) → Hint
 unowned_hint place (Some word) = Hinted.Unowned place word
 unowned_hint place None = Hinted.Nothing
 
--- the word at a place, which names a package that is not installed, or such a path
+-- the hint that the word at a place is a path that no package owns, if the words ask for an owner (true); otherwise
+-- that it names a package that is not installed
 abbrev pub not_installed_hint : Bool → ℕ → Option (List ℕ) → Hint
 not_installed_hint true place word = unowned_hint place word
 not_installed_hint false place word = word_hint place word
 
--- the word at a place, or that information of a package is missing there
+-- the hint that the word at a place is no valid information of a package; without a word, that information is missing
 abbrev pub information_hint : ℕ → Option (List ℕ) → Hint
 information_hint place (Some word) = Hinted.Information place word
 information_hint place None = Hinted.Missing place
@@ -142,7 +144,7 @@ abbrev pub repository_hint_if_found : ℕ → Option RepositoryLine → Hint
 repository_hint_if_found number (Some found) = Hinted.Repository number found.line found.path
 repository_hint_if_found number None = Hinted.Nothing
 
--- the index of a repository, by the text that names the repositories
+-- the hint on the repository with a number, by the text of the list of repositories; none if it is not found
 abbrev pub repository_hint : ℕ → Option (List ℕ) → Hint
 repository_hint number (Some text) =
     repository_hint_if_found number (repository_at number 1 (lines_of text))
@@ -153,22 +155,23 @@ abbrev pub line_hint_if_found : HintFile → ℕ → Option (List ℕ) → Hint
 line_hint_if_found file line (Some text) = Hinted.Line file line text
 line_hint_if_found file line None = Hinted.Nothing
 
--- a line of a file, counted from 1, by the file's text
+-- the hint on the line with a number, counted from 1, by the text of its file; none if it is not found
 abbrev pub line_hint : HintFile → ℕ → Option (List ℕ) → Hint
 line_hint file line (Some text) = line_hint_if_found file line (slice_get (lines_of text) (line - 1))
 line_hint file line None = Hinted.Nothing
 
--- there is no database, unless one is found
+-- the hint that there is no database; none if a database is found now (true)
 abbrev pub absent_database_hint : Bool → Hint
 absent_database_hint true = Hinted.Nothing
 absent_database_hint false = Hinted.AbsentDatabase
 
--- only `fix` needs an index that lists the installed package
+-- the hint on the absent file of a package; only `fix` (true) gets one, since it needs an index that lists the
+-- installed package
 abbrev pub absent_package_hint : Bool → Hint
 absent_package_hint true = Hinted.AbsentPackage
 absent_package_hint false = Hinted.Nothing
 
--- what a refusal is about, given the words and the file that it is about
+-- the hint on what a refusal is about
 abbrev pub subject_hint : List (List ℕ) → Option (List ℕ) → Subject → Hint
 subject_hint words found (Word place) = word_hint place (slice_get words (place - 1))
 subject_hint words found (Information place) = information_hint place (slice_get words (place - 1))
@@ -188,7 +191,7 @@ subject_hint words found Nothing = Hinted.Nothing
 
 -- ---- the field at a place
 
--- the table of a number, if there is one
+-- the table with a number, as in `docs/formats.md`, "Schemas"; None if no table has it
 abbrev pub table_numbered : ℕ → Option Which
 table_numbered number =
     if number == 1 then Some Tables.Dep else
@@ -207,18 +210,19 @@ abbrev pub field_hint_if_found : ℕ → Which → Option Field → Hint
 field_hint_if_found place which (Some field) = Hinted.Field place which field.name
 field_hint_if_found place which None = Hinted.Nothing
 
--- the field of a table at a place; fields count from 1
+-- the hint on the field at a place, which is in this table; the field's number, counted from 1, is the rest of the
+-- place after division by 100
 abbrev pub field_hint_in_table : ℕ → Which → Hint
 field_hint_in_table place which =
     if place % 100 == 0 then Hinted.Nothing else
     field_hint_if_found place which (slice_get (table which) (place % 100 - 1))
 
--- the field of a table that was found, at a place
+-- the hint on the field at a place, by the table with the number that the place has, if there is one
 abbrev pub field_hint : ℕ → Option Which → Hint
 field_hint place (Some which) = field_hint_in_table place which
 field_hint place None = Hinted.Nothing
 
--- the field at a place: 100 times the number of its table plus its own
+-- the hint on the field at a place: 100 times the number of its table plus its own
 abbrev pub place_hint : ℕ → Hint
 place_hint place = field_hint place (table_numbered (place / 100))
 
@@ -229,20 +233,20 @@ abbrev pub schema_hint_if_found : Option Which → Hint
 schema_hint_if_found (Some which) = Hinted.Schema which
 schema_hint_if_found None = Hinted.UnknownSchema
 
--- the table at the root of a container with a schema, if it is one of the four
+-- the hint on a schema: the table at the root of a container with this schema, if it is one of the four
 abbrev pub schema_hint : ℕ → Hint
 schema_hint schema = schema_hint_if_found (table_of_schema schema)
 
 -- ---- the number of a cause
 
--- what the number of a cause stands for: a field, or a schema
+-- the hint on the number that a cause names: a field, or a schema; otherwise none
 abbrev pub hint_of_cause : Cause → Hint
 hint_of_cause (BadText place) = place_hint place
 hint_of_cause (Repeated place first second) = place_hint place
 hint_of_cause (WrongSchema schema) = schema_hint schema
 hint_of_cause cause = Hinted.Nothing
 
--- what a cause says of a file that can be copied or made again
+-- the hint on the cause for which a file was refused that can be copied or made again
 abbrev pub file_cause_hint : Cause → Hint
 file_cause_hint NotAdb = Hinted.Foreign
 file_cause_hint Compressed = Hinted.Foreign
@@ -251,7 +255,7 @@ file_cause_hint (DataSize wanted found) = Hinted.Damaged
 file_cause_hint (HashDiffers wanted found) = Hinted.Damaged
 file_cause_hint cause = hint_of_cause cause
 
--- what the cause of a refusal says, if it has one
+-- the hint on the cause of a refusal; none if it has no cause
 abbrev pub cause_hint : Refusal → Hint
 cause_hint (IntentBad cause) = hint_of_cause cause
 cause_hint (DatabaseBad cause) = hint_of_cause cause
@@ -262,7 +266,7 @@ cause_hint refusal = Hinted.Nothing
 
 -- ---- all hints of a refusal
 
--- the hints of a refusal, given the words and the file that it is about
+-- the hints of a refusal of the command line `words`: on what it is about, and on its cause
 abbrev pub hints_of : List (List ℕ) → Refusal → Option (List ℕ) → Hints
 hints_of words refusal found = record {
   subject = subject_hint words found (subject_of refusal);

@@ -1,5 +1,6 @@
--- The file of a package that a refusal names. The rules are in `docs/commands.md`, "Hints"; where a
--- change looks for the file is in "`add` and `del`" there, what is read.
+-- The file of a package that a refusal names: where it is looked for, and which of its files are mixed up. In all
+-- definitions `name` and `version` are those of this package. The rules are in `docs/commands.md`, "Hints"; where a
+-- change looks for the file is in "`add` and `del`" there, part "What is read".
 use Rattle.std.specs.Prelude.{◌≡◌, ℕ, Bool, true, false, List, [], ◌∷◌, ◌++◌, codes, Option, Result, Ok, Err}
 use Rattle.base_core.specs.Calls.{IfObservable}
 use Rattle.base_core.specs.Tree.{TreeState, files_of}
@@ -19,15 +20,15 @@ use Rattle.hint_core.specs.Warnings.{text_of_found}
 
 -- ---- lines
 
--- the line that says where the package's file is looked for, beside an index; its path is whole
+-- the line that says where the file of a package is looked for, beside an index; its path is shown in full length
 abbrev pub package_file_line : List ℕ → List ℕ → List ℕ → List ℕ
 package_file_line name version index = texts_joined
     (codes "apk: the file of " ∷ (printed_text (name_dash_version name version)
     ∷ (codes " is looked for at " ∷ (printed_bytes (package_path index name version)
     ∷ (codes ", beside " ∷ (printed_text index ∷ (codes "\n" ∷ [])))))))
 
--- these lines say where the package's file is looked for beside an index, and which files of the
--- package there the positions are that a refusal names
+-- these lines say where the file of the package is looked for beside an index. If the refusal names positions of files,
+-- the lines also say which files of the package these are
 abbrev pub ExplainsBeside :
     List ℕ → List ℕ → Refusal → List TreeState → List ℕ → List ℕ → Type 0
 ExplainsBeside name version refusal history index lines =
@@ -46,7 +47,7 @@ ExplainsEach name version refusal history (repository ∷ repositories) lines =
     × ExplainsEach name version refusal history repositories more
     × (lines ≡ first ++ more)
 
--- the same, after the line that says that there is no repository, if there is none
+-- these lines are those of *ExplainsEach*, after the line that says that there is no repository, if there is none
 abbrev pub ExplainsRepositories :
     List ℕ → List ℕ → Refusal → List TreeState → List Repository → List ℕ → Type 0
 ExplainsRepositories name version refusal history repositories lines =
@@ -54,8 +55,8 @@ ExplainsRepositories name version refusal history repositories lines =
     × ExplainsEach name version refusal history repositories each
     × (lines ≡ no_index_line repositories ++ each)
 
--- these lines are those of *ExplainsRepositories* for the repositories that were read; there are none if a line
--- of their list is bad
+-- these lines are those of *ExplainsRepositories* for the repositories of the list that was read; there are none if a
+-- line of this list is bad
 abbrev pub ExplainsByText :
     List ℕ → List ℕ → Refusal → Result (List Repository) ℕ → List TreeState → List ℕ → Type 0
 ExplainsByText name version refusal (Ok repositories) history lines =
@@ -64,8 +65,7 @@ ExplainsByText name version refusal (Err line) history lines = lines ≡ []
 
 -- ---- what is printed
 
--- these lines explain a refusal of a package with this name and version, by the file that names the
--- repositories
+-- these lines explain a refusal of the file of this package, by the list of repositories that is found in the tree
 abbrev pub ExplainsPackage :
     List ℕ → List ℕ → Refusal → List TreeState → List ℕ → Type 0
 ExplainsPackage name version refusal history lines =
@@ -83,13 +83,13 @@ ExplainsPackageRefusal (PackageDiffers name version field wanted found) history 
     ExplainsPackage name version (PackageDiffers name version field wanted found) history lines
 ExplainsPackageRefusal refusal history lines = lines ≡ []
 
--- these lines are those of *ExplainsPackageRefusal* if the refusals of the command line are explained;
--- otherwise there are none
+-- these lines are those of *ExplainsPackageRefusal* if hints explain the refusals of the command line (true); otherwise
+-- there are none
 abbrev pub ExplainsIfExplained : Bool → Refusal → List TreeState → List ℕ → Type 0
 ExplainsIfExplained true refusal history lines = ExplainsPackageRefusal refusal history lines
 ExplainsIfExplained false refusal history lines = lines ≡ []
 
--- these lines say where the file of the package is that a refusal of a command line names
+-- these lines say where the file of the package is looked for that a refusal of a command line names
 abbrev pub ExplainsPackageFile : List (List ℕ) → Refusal → List TreeState → List ℕ → Type 0
 ExplainsPackageFile words refusal history lines =
     ExplainsIfExplained (is_explained (command_of words)) refusal history lines

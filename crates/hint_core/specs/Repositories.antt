@@ -1,23 +1,24 @@
--- The repository of a number, and the line that names it; and the line that says that there is none.
--- The rules of the lines are in `docs/formats.md`, "Repositories".
+-- The repository with a number, and the line of the list of repositories that names it; and the line that is printed if
+-- there is no repository. The rules of the list are in `docs/formats.md`, "Repositories".
 use Rattle.std.specs.Prelude.{ℕ, ◌+◌, ◌-◌, ◌==◌, if◌then◌else◌, List, [], ◌∷◌, length, codes, Option, Some, None, Result, Ok, Err}
 use Rattle.dep_core.specs.Repositories.{Repository, repositories_of}
 use Rattle.hint_core.specs.declared.find.PathAlone.{PathAlone}
 use Rattle.hint_core.specs.declared.find.PathAlone.TheVariants.{Path, Skipped, Bad}
 use Rattle.hint_core.specs.declared.find.RepositoryLine.{RepositoryLine}
 
--- a line that names a repository, with the path of its index
+-- a repository: the number of the line that names it, counted from 1, and the path of its index
 abbrev pub repository_line_from_parts : ℕ → List ℕ → RepositoryLine
 repository_line_from_parts line path = record { line = line; path = path }
 
--- what the repositories are that a line names, read alone: it has no line end, so they are none or one
+-- the result of reading a line alone: it is bad, names no repository, or names one. It has no line end, so there is at
+-- most one
 abbrev pub path_alone : Result (List Repository) ℕ → PathAlone
 path_alone (Err line) = Bad
 path_alone (Ok []) = Skipped
 path_alone (Ok (found ∷ more)) = Path found.path
 
--- the repository of a line, if `number` is 1. Otherwise the lines after it are searched: for the same
--- number if the line is skipped, and for one less if it names a repository. None if the line is bad
+-- the repository of a line, if it names one and `number` is 1. Otherwise `behind` searches the lines after it: for the
+-- same number if the line names none, and for one less if it names one. None if the line is bad
 abbrev pub repository_from_line : PathAlone → ℕ → ℕ → (ℕ → Option RepositoryLine) → Option RepositoryLine
 repository_from_line Bad number line behind = None
 repository_from_line Skipped number line behind = behind number

@@ -13,27 +13,28 @@ use Rattle.hint_core.specs.declared.hint.Subject.{Subject}
 use Rattle.hint_core.specs.Hints.{hints_of, is_explained, subject_file}
 use Rattle.hint_core.specs.Lines.{hint_lines}
 
--- a fault of a read, as the fault of the hints
+-- a fault of a read, as a fault of the hints
 abbrev pub as_hint_fault : TreeFault → HintFault
 as_hint_fault Trees.Disk = Disk
 as_hint_fault Trees.Memory = Memory
 
--- a fault is not one of a tree
+-- a fault is not one of the tree
 abbrev pub IsNotDiskFault : HintFault → Type 0
 IsNotDiskFault Disk = ⊥
 IsNotDiskFault Memory = Unit {0}
 IsNotDiskFault Sink = Unit {0}
 
--- what was found is the file under a name, if there is one; nothing is found if no name is asked for
+-- `found` is the file under a name, if a name is given; without a name nothing is found
 abbrev pub IsFoundIfNamed : List TreeState → Option (List ℕ) → Option (List ℕ) → Type 0
 IsFoundIfNamed history None found = found ≡ None
 IsFoundIfNamed history (Some name) found = IfObservable history (λ v. found ≡ files_of v name)
 
--- what was found is the file that a refusal is about
+-- `found` is the file that a refusal with this subject is about, if it is about one
 abbrev pub IsFoundForSubject : List TreeState → Subject → Option (List ℕ) → Type 0
 IsFoundForSubject history subject found = IsFoundIfNamed history (subject_file subject) found
 
--- the lines that are written after a refusal, given the file that it is about
+-- the lines that are written after a refusal of a command line; `found` is the file that the refusal is about, if there
+-- is one
 abbrev pub hint_lines_after_refusal : List (List ℕ) → Refusal → Option (List ℕ) → List ℕ
 hint_lines_after_refusal words refusal found =
     if is_explained (command_of words) then hint_lines (hints_of words refusal found) else []

@@ -19,19 +19,19 @@ use Rattle.hint_core.specs.declared.hint.Subject.TheVariants.{Word, Information,
 use Rattle.hint_core.specs.declared.hint.Subject.TheVariants as Subjects
 use Rattle.hint_core.specs.Hints.{asks_for_owner, cause_of, cause_place, is_fix, subject_of}
 
--- the refusal is about the word at this place
+-- the refusal is about the word at this place, or about what this word names and is not installed
 abbrev pub NamesWord : Refusal → ℕ → Type 0
 NamesWord refusal place =
     (subject_of refusal ≡ Word place) ⊎ (subject_of refusal ≡ Subjects.NotInstalled place)
 
--- the cause is that a file ends too early, or has other contents than it lists
+-- the cause is that a file ends too early, or has contents of another size or digest than it lists
 abbrev pub IsOfDamage : Cause → Type 0
 IsOfDamage (Truncated at) = Unit {0}
 IsOfDamage (DataSize wanted found) = Unit {0}
 IsOfDamage (HashDiffers wanted found) = Unit {0}
 IsOfDamage cause = ⊥
 
--- the cause is that a file is no uncompressed container
+-- the cause is that a file is no container, or a compressed one
 abbrev pub IsOfFormat : Cause → Type 0
 IsOfFormat NotAdb = Unit {0}
 IsOfFormat Compressed = Unit {0}
@@ -42,51 +42,53 @@ abbrev pub NamesFieldPlace : Refusal → ℕ → Type 0
 NamesFieldPlace refusal place =
     (cause : Cause) × (cause_of refusal ≡ Some cause) × (cause_place cause ≡ Some place)
 
--- the repository with a number, counted from 1, has this path, if all lines can be read
+-- the repository with a number, counted from 1, of the list with this text has this path, if no line of the list is bad
 abbrev pub RepositoryHasPath : List ℕ → ℕ → List ℕ → Type 0
 RepositoryHasPath text number path =
     (repositories : List Repository) → repositories_of text ≡ Ok repositories
     → option_map (λ repository. repository.path) (slice_get repositories (number - 1)) ≡ Some path
 
--- the line of a text names, read alone, a repository with this path
+-- the line with this number, counted from 1, of the list with this text names a repository with this path, if it is
+-- read alone
 abbrev pub NamesPath : List ℕ → ℕ → List ℕ → Type 0
 NamesPath text line path =
     (alone : List ℕ) × (found : Repository) × (more : List Repository)
     × (slice_get (lines_of text) (line - 1) ≡ Some alone)
     × (repositories_of alone ≡ Ok (found ∷ more)) × (found.path ≡ path)
 
--- the field of a table with this number has this name
+-- the field of a table with this number, counted from 1, has this name
 abbrev pub HasField : Which → ℕ → FieldName → Type 0
 HasField which number name =
     (field : Field) × (slice_get (table which) (number - 1) ≡ Some field) × (field.name ≡ name)
 
--- a hint is true of a refusal, of the words that were refused, and of the file that was found for it
+-- a hint is true of the words of a command line, of their refusal, and of the file that the refusal is about, if it was
+-- found
 abbrev pub IsTrueHint : List (List ℕ) → Refusal → Option (List ℕ) → Hint → Type 0
 -- the word is the one at the place that the refusal names; places count from 1
 IsTrueHint words refusal found (Hinted.Word place word) =
     NamesWord refusal place × (slice_get words (place - 1) ≡ Some word)
--- the word is the one at the place of the refusal, which is that it names no file
+-- the refusal is that the word at this place names no file
 IsTrueHint words refusal found (Hinted.AbsentFile place word) =
     (subject_of refusal ≡ Subjects.AbsentFile place) × (slice_get words (place - 1) ≡ Some word)
--- the same, and the words ask which package owns it
+-- the refusal is that what the word at this place names is not installed, and the words ask which package owns it
 IsTrueHint words refusal found (Hinted.Unowned place word) =
     (subject_of refusal ≡ Subjects.NotInstalled place) × (asks_for_owner (command_of words) ≡ true)
     × (slice_get words (place - 1) ≡ Some word)
--- the word is the information of a package that the refusal names
+-- the refusal is about the information of a package, which is the word at this place
 IsTrueHint words refusal found (Hinted.Information place word) =
     (subject_of refusal ≡ Information place) × (slice_get words (place - 1) ≡ Some word)
--- the refusal is about information of a package, and its place is after the last word
+-- the refusal is about the information of a package at this place, which is after the last word
 IsTrueHint words refusal found (Hinted.Missing place) =
     (subject_of refusal ≡ Information place) × (length words ≤ place - 1)
--- the refusal names the repository, which has this path, and the line names it
+-- the refusal is about the repository with this number, which has this path, and this line of the list names it
 IsTrueHint words refusal found (Hinted.Repository number line path) =
     (subject_of refusal ≡ Subjects.Repository number)
     × (text : List ℕ) × (found ≡ Some text) × RepositoryHasPath text number path × NamesPath text line path
--- the refusal names the line, and it is that of the file
+-- the refusal is about the line with this number, and this is its text in the file
 IsTrueHint words refusal found (Hinted.Line file line text) =
     (subject_of refusal ≡ Line file line)
     × (whole : List ℕ) × (found ≡ Some whole) × (slice_get (lines_of whole) (line - 1) ≡ Some text)
--- the refusal is about the database, whose container was found, or else not
+-- the refusal is about the database, and the hint says whether its container was found
 IsTrueHint words refusal found (Hinted.Database is_container) =
     (subject_of refusal ≡ Database) × (is_container ≡ is_some found)
 -- the refusal is that there is no database, and no container was found
@@ -114,12 +116,13 @@ IsTrueHint words refusal found (Hinted.Field place which name) =
     NamesFieldPlace refusal place
     × (number : ℕ) × (place ≡ 100 * table_number which + number) × (0 < number)
     × HasField which number name
--- the refusal has a cause with a schema, which is the one of the table
+-- the cause of the refusal is a schema, which is that of this table
 IsTrueHint words refusal found (Hinted.Schema which) =
     (schema : ℕ) × (cause_of refusal ≡ Some (WrongSchema schema))
     × (schema_word which ≡ Some schema)
--- the refusal has a cause with a schema, which is the one of no table
+-- the cause of the refusal is a schema, which is that of no table
 IsTrueHint words refusal found Hinted.UnknownSchema =
     (schema : ℕ) × (cause_of refusal ≡ Some (WrongSchema schema))
     × ((which : Which) → schema_word which ≡ Some schema → ⊥)
+-- this hint says nothing, and is always true
 IsTrueHint words refusal found Hinted.Nothing = Unit {0}

@@ -27,8 +27,8 @@ use report_core::Refusal;
 use std::alloc::{AllocError, Global};
 use words_core::word_at;
 
-/// The positions of two files of a package, each of a folder and of a file in it. They count from
-/// 1, and (0, 0) is no file.
+/// Two files of a package whose contents are mixed up. Each is given by two positions, counted from
+/// 1: that of its folder in the package, and its own in the folder. (0, 0) is no file.
 #[derive(Clone, Copy)]
 pub struct MixedUp {
     /// The file whose contents were expected.
@@ -64,7 +64,8 @@ pub fn explain_contents<T: Tree, S: Sink>(
     write_lines(&lines, sink)
 }
 
-// The lines of the positions that a refusal names, of the file that it refuses.
+// The lines that say which files the positions are that a refusal names, in the package that the
+// refusal is about.
 fn contents_lines<T: Tree>(
     alloc: Global,
     words: &Words,
@@ -73,6 +74,7 @@ fn contents_lines<T: Tree>(
 ) -> Result<Vec<u8>, TreeFault>
     ensures lines { IfOk result (λ lines.
         ExplainsContents words.now refusal.now (T.history tree.old) lines.items) }
+    // The tree is only read.
     ensures tree { OnlyReads TreeFault.Disk (T.history tree.old) (T.history tree.new)
         (T.counts tree.old) (T.counts tree.new) result }
 {
@@ -80,8 +82,8 @@ fn contents_lines<T: Tree>(
     lines_of_contents(alloc, &name, refusal, tree)
 }
 
-// The name of the file that a refusal is about: a word names it, and the command's refusals are
-// explained.
+// The name of the package file that a refusal is about, if a word names it and hints explain the
+// refusals of the command line.
 fn refused_file(alloc: Global, words: &Words, refusal: &Refusal) -> Result<Option<Name>, AllocError>
     ensures { IfOk result (λ name. name ≡ refused_file words.now refusal.now) }
 {
@@ -94,7 +96,7 @@ fn refused_file(alloc: Global, words: &Words, refusal: &Refusal) -> Result<Optio
     }
 }
 
-// The place of the word that names a file which fails a test.
+// The place of the word that names a file which fails a test, if the refusal is of such a file.
 fn place_of_bad_file(refusal: &Refusal) -> Option<u32>
     ensures { result ≡ place_of_bad_file refusal.now }
 {
@@ -104,7 +106,8 @@ fn place_of_bad_file(refusal: &Refusal) -> Option<u32>
     }
 }
 
-// The name of the file that the word at a place is, if it is one.
+// The name of the file that the word at a place names; None if there is no such word, or it can
+// name no file.
 fn file_name_of_word(alloc: Global, words: &Words, place: u32) -> Result<Option<Name>, AllocError>
     ensures { IfOk result (λ name. name ≡ file_name_of_word words.now place) }
 {
@@ -114,8 +117,9 @@ fn file_name_of_word(alloc: Global, words: &Words, place: u32) -> Result<Option<
     }
 }
 
-/// The lines on the positions that the cause of a refusal names, for the package under a name. There
-/// is none without a name, without positions, or if a test of the front or of the values fails.
+/// The lines on the positions that the cause of a refusal names, for the package file under a name.
+/// There is none without a name, without positions, or if a test of the front or of the values
+/// fails.
 pub(crate) fn lines_of_contents<T: Tree>(
     alloc: Global,
     name: &Option<Name>,
@@ -125,13 +129,14 @@ pub(crate) fn lines_of_contents<T: Tree>(
     ensures lines { IfOk result (λ lines.
         ExplainsMixedUp name.now (mixed_up_positions refusal.now)
         (T.history tree.old) lines.items) }
+    // The tree is only read.
     ensures tree { OnlyReads TreeFault.Disk (T.history tree.old) (T.history tree.new)
         (T.counts tree.old) (T.counts tree.new) result }
 {
     mixed_up_lines(alloc, name, mixed_up_positions(refusal), tree)
 }
 
-// The positions that the cause of a refusal names.
+// The positions of two files that the cause of a refusal names, if it names such.
 fn mixed_up_positions(refusal: &Refusal) -> Option<MixedUp>
     ensures { result ≡ mixed_up_positions refusal.now }
 {
@@ -141,7 +146,7 @@ fn mixed_up_positions(refusal: &Refusal) -> Option<MixedUp>
     }
 }
 
-// The positions that a cause names.
+// The positions of two files that a cause names, if it names such.
 fn mixed_up_positions_of_cause(cause: Cause) -> Option<MixedUp>
     ensures { result ≡ mixed_up_positions_of_cause cause }
 {
@@ -151,7 +156,7 @@ fn mixed_up_positions_of_cause(cause: Cause) -> Option<MixedUp>
     }
 }
 
-// The lines of what is mixed up, if anything is.
+// The lines on the two files that are mixed up in the package under a name; none if no files are.
 fn mixed_up_lines<T: Tree>(
     alloc: Global,
     name: &Option<Name>,
@@ -160,6 +165,7 @@ fn mixed_up_lines<T: Tree>(
 ) -> Result<Vec<u8>, TreeFault>
     ensures lines { IfOk result (λ lines.
         ExplainsMixedUp name.now mixed (T.history tree.old) lines.items) }
+    // The tree is only read.
     ensures tree { OnlyReads TreeFault.Disk (T.history tree.old) (T.history tree.new)
         (T.counts tree.old) (T.counts tree.new) result }
 {
@@ -169,7 +175,7 @@ fn mixed_up_lines<T: Tree>(
     }
 }
 
-// The lines of what is found under a name, if there is one.
+// The lines on the two files that are mixed up in the package under a name; none without a name.
 fn lines_if_file<T: Tree>(
     alloc: Global,
     name: &Option<Name>,
@@ -178,6 +184,7 @@ fn lines_if_file<T: Tree>(
 ) -> Result<Vec<u8>, TreeFault>
     ensures lines { IfOk result (λ lines.
         ExplainsFile name.now mixed.now (T.history tree.old) lines.items) }
+    // The tree is only read.
     ensures tree { OnlyReads TreeFault.Disk (T.history tree.old) (T.history tree.new)
         (T.counts tree.old) (T.counts tree.new) result }
 {
@@ -187,7 +194,8 @@ fn lines_if_file<T: Tree>(
     }
 }
 
-// The lines of what is found under a name.
+// The lines on the two files that are mixed up in the package under a name, by the front (header
+// and first block) that is read there.
 fn file_lines<T: Tree>(
     alloc: Global,
     name: &Name,
@@ -196,6 +204,7 @@ fn file_lines<T: Tree>(
 ) -> Result<Vec<u8>, TreeFault>
     ensures lines { IfOk result (λ lines.
         ExplainsFile (Some name.now) mixed.now (T.history tree.old) lines.items) }
+    // The tree is only read.
     ensures tree { OnlyReads TreeFault.Disk (T.history tree.old) (T.history tree.new)
         (T.counts tree.old) (T.counts tree.new) result }
 {
@@ -245,7 +254,8 @@ fn payload_lines(
     }
 }
 
-// The lines of a package.
+// The lines on the two files that are mixed up in a package with this name: first the one whose
+// contents were expected, then the one whose contents were found.
 fn package_lines(
     alloc: Global,
     name: &[u8],
@@ -261,7 +271,8 @@ fn package_lines(
     Ok(lines)
 }
 
-// Adds the line of positions in a package.
+// Adds the line of the file with these positions in a package; nothing for (0, 0), which is no
+// file.
 fn push_position(
     alloc: Global,
     lines: &mut Vec<u8>,
@@ -279,7 +290,8 @@ fn push_position(
     push_file(alloc, lines, name, position, &path)
 }
 
-// Adds the line of positions, by the path of the file there.
+// Adds the line of the file with these positions in a package, by its path; without a path, the
+// package has no such file.
 fn push_file(
     alloc: Global,
     lines: &mut Vec<u8>,
@@ -296,7 +308,7 @@ fn push_file(
     }
 }
 
-// Adds the line of a file.
+// Adds the line that says which path the file with these positions in a package has.
 fn push_path(
     alloc: Global,
     lines: &mut Vec<u8>,
@@ -309,6 +321,7 @@ fn push_path(
 {
     let shown_name = printed(alloc, name)?;
     let shown_path = printed(alloc, path)?;
+    // The decimal digits of the two positions.
     let mut folder = Buffer::new();
     let mut file = Buffer::new();
     push_texts(
@@ -327,7 +340,7 @@ fn push_path(
     )
 }
 
-// Adds the line of positions at which a package has no file.
+// Adds the line that says that a package has no file with these positions.
 fn push_no_file(
     alloc: Global,
     lines: &mut Vec<u8>,
@@ -338,6 +351,7 @@ fn push_no_file(
         ++ file_line name.now position None) }
 {
     let shown = printed(alloc, name)?;
+    // The decimal digits of the two positions.
     let mut folder = Buffer::new();
     let mut file = Buffer::new();
     push_texts(

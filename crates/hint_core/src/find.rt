@@ -1,4 +1,6 @@
-//! Finds what the numbers of a refusal stand for. The rules are in `docs/commands.md`, "Hints".
+//! Finds what the numbers of a refusal stand for. In all functions, `found` and `text` have the
+//! bytes of the file that the refusal is about, if it is about one and the file was found. The
+//! rules are in `docs/commands.md`, "Hints".
 ghost use Rattle.std.specs.Prelude.{◌≡◌, IfOk, Ok, Some, map, slice_get};
 ghost use Rattle.std.specs.Option.{option_copied, option_map};
 ghost use Rattle.dep_core.specs.Repositories.{repositories_of};
@@ -15,7 +17,8 @@ use report_core::Refusal;
 use std::alloc::{AllocError, Global};
 use words_core::word_at;
 
-/// The hints of a refusal: on what it is about, given the file that it is about, and on its cause.
+/// The hints of a refusal: on what it is about, and on its cause. `found` has the bytes of the file
+/// that it is about, if it is about one and the file was found.
 pub fn hints(
     alloc: Global,
     words: &Words,
@@ -30,12 +33,14 @@ pub fn hints(
     Ok(Hints { subject, cause })
 }
 
-// What the cause of a refusal says, if it has one.
+// The hint on the cause of a refusal; none if it has no cause.
 fn cause_hint(refusal: &Refusal) -> Hint
     ensures { result ≡ cause_hint refusal.now }
 {
     match refusal {
+        // The journal entry and the database are no files that can be copied or made again.
         Refusal::IntentBad { cause } | Refusal::DatabaseBad { cause } => hint_of_cause(*cause),
+        // The file that a word names, an index or a package can be.
         Refusal::FileBad { place: _, cause }
         | Refusal::IndexBad {
             repository: _,
@@ -50,12 +55,14 @@ fn cause_hint(refusal: &Refusal) -> Hint
     }
 }
 
-// What a cause says of a file that can be copied or made again.
+// The hint on why a file was refused that can be copied or made again.
 fn file_cause_hint(cause: Cause) -> Hint
     ensures { result ≡ file_cause_hint cause }
 {
     match cause {
+        // The file has another format.
         Cause::NotAdb | Cause::Compressed => Hint::Foreign,
+        // The file ends too early, or has other contents than it lists.
         Cause::Truncated { at: _ }
         | Cause::DataSize {
             wanted: _,
@@ -69,7 +76,7 @@ fn file_cause_hint(cause: Cause) -> Hint
     }
 }
 
-// What the number of a cause stands for: a field, or a schema.
+// The hint on the number that a cause names: a field, or a schema; otherwise none.
 fn hint_of_cause(cause: Cause) -> Hint
     ensures { result ≡ hint_of_cause cause }
 {
@@ -85,7 +92,7 @@ fn hint_of_cause(cause: Cause) -> Hint
     }
 }
 
-// What a refusal is about, given the file that it is about.
+// The hint on what a refusal is about, given the bytes of the file that it is about (`found`).
 fn subject_hint(
     alloc: Global,
     words: &Words,
@@ -98,6 +105,7 @@ fn subject_hint(
     match subject {
         Subject::Word { place } => word_hint(alloc, place, word_at(words, place)),
         Subject::AbsentFile { place } => absent_file_hint(alloc, place, word_at(words, place)),
+        // The word is a path if the words ask for its owner, and else the name of a package.
         Subject::NotInstalled { place } => {
             let is_owner_asked = asks_for_owner(alloc, words)?;
             not_installed_hint(alloc, is_owner_asked, place, word_at(words, place))
@@ -105,6 +113,7 @@ fn subject_hint(
         Subject::Information { place } => information_hint(alloc, place, word_at(words, place)),
         Subject::Repository { number } => repository_hint(alloc, number, found),
         Subject::Line { file, line } => line_hint(alloc, file, line, found),
+        // The database is in the container if that was found, and else in the text.
         Subject::Database => Ok(Hint::Database {
             is_container: found.is_some(),
         }),
@@ -118,7 +127,7 @@ fn subject_hint(
     }
 }
 
-// There is no database, unless one is found.
+// The hint that there is no database; none if one is found now.
 fn absent_database_hint(is_found: bool) -> Hint
     ensures { result ≡ absent_database_hint is_found }
 {
@@ -129,7 +138,8 @@ fn absent_database_hint(is_found: bool) -> Hint
     }
 }
 
-// Only `fix` needs an index that lists the installed package.
+// The hint on the absent file of a package; only `fix` gets one, since it needs an index that lists
+// the installed package.
 fn absent_package_hint(is_fix: bool) -> Hint
     ensures { result ≡ absent_package_hint is_fix }
 {
@@ -140,7 +150,7 @@ fn absent_package_hint(is_fix: bool) -> Hint
     }
 }
 
-// The word at a place, if there is one.
+// The hint on the word at a place, if there is such a word.
 fn word_hint(alloc: Global, place: u32, word: Option<&[u8]>) -> Result<Hint, AllocError>
     ensures { IfOk result (λ hint. hint
         ≡ word_hint place (option_map (λ w. w.now) word.entry)) }
@@ -154,7 +164,7 @@ fn word_hint(alloc: Global, place: u32, word: Option<&[u8]>) -> Result<Hint, All
     }
 }
 
-// The word at a place, which names no file.
+// The hint that the word at a place names no file, if there is such a word.
 fn absent_file_hint(alloc: Global, place: u32, word: Option<&[u8]>) -> Result<Hint, AllocError>
     ensures { IfOk result (λ hint. hint
         ≡ absent_file_hint place (option_map (λ w. w.now) word.entry)) }
@@ -168,7 +178,8 @@ fn absent_file_hint(alloc: Global, place: u32, word: Option<&[u8]>) -> Result<Hi
     }
 }
 
-// The word at a place, which names a package that is not installed, or a path that none owns.
+// The hint that the word at a place is a path that no package owns, or else names a package that is
+// not installed; none if there is no such word.
 fn not_installed_hint(
     alloc: Global,
     is_owner_asked: bool,
@@ -190,7 +201,8 @@ fn not_installed_hint(
     }
 }
 
-// The word at a place, or that information of a package is missing there.
+// The hint that the word at a place is no valid information of a package; or, without a word, that
+// information is missing.
 fn information_hint(alloc: Global, place: u32, word: Option<&[u8]>) -> Result<Hint, AllocError>
     ensures { IfOk result (λ hint. hint
         ≡ information_hint place (option_map (λ w. w.now) word.entry)) }
@@ -204,7 +216,8 @@ fn information_hint(alloc: Global, place: u32, word: Option<&[u8]>) -> Result<Hi
     }
 }
 
-// The index of a repository, by the text that names the repositories.
+// The hint on the repository with a number, by the text of the list of repositories; none if it is
+// not found.
 fn repository_hint(alloc: Global, number: u64, text: Option<&[u8]>) -> Result<Hint, AllocError>
     ensures { IfOk result (λ hint. hint
         ≡ repository_hint number (option_copied text.entry)) }
@@ -222,16 +235,17 @@ fn repository_hint(alloc: Global, number: u64, text: Option<&[u8]>) -> Result<Hi
     }
 }
 
-/// The path of a repository, and the line that names it.
+/// A repository: the path of its index, and the line of the list that names it.
 #[derive(Drop)]
 pub(crate) struct RepositoryLine {
-    /// The line, counted from 1.
+    /// The number of the line, counted from 1.
     pub(crate) line: u64,
     /// The path of the index.
     pub(crate) path: Text,
 }
 
-// The repository with a number, if the lines before it and its own can be read.
+// The repository with a number, counted from 1, in the text of a list. None if there are fewer, or
+// if its line or one before it is bad.
 fn repository_at(
     alloc: Global,
     number: u64,
@@ -239,6 +253,7 @@ fn repository_at(
 ) -> Result<Option<RepositoryLine>, AllocError>
     ensures { IfOk result (λ found. found ≡ repository_at number 1 (lines_of text.now)) }
 {
+    // The number of the repository among those of the lines that are left.
     let mut left = number;
     let mut line = 0;
     for part in text.split(|byte| *byte == b'\n') {
@@ -253,18 +268,18 @@ fn repository_at(
     Ok(None)
 }
 
-/// What a line says of repositories.
+/// The result of reading a line of the list of repositories alone.
 #[derive(Drop)]
 pub(crate) enum PathAlone {
-    /// It names a repository with this path.
+    /// The line names a repository, whose index has this path.
     Path(Text),
-    /// It is skipped.
+    /// The line names none, as an empty line.
     Skipped,
-    /// It is bad.
+    /// The line is bad.
     Bad,
 }
 
-// What a line says, read alone.
+// The result of reading a line of the list of repositories alone.
 fn path_alone(alloc: Global, line: &[u8]) -> Result<PathAlone, AllocError>
     ensures { IfOk result (λ found. found ≡ path_alone (repositories_of line.now)) }
 {
@@ -280,7 +295,8 @@ fn path_alone(alloc: Global, line: &[u8]) -> Result<PathAlone, AllocError>
     Ok(PathAlone::Path(path))
 }
 
-// A line of a file, given its text.
+// The hint on the line with a number, counted from 1, by the text of its file; none if there is no
+// such line.
 fn line_hint(
     alloc: Global,
     file: HintFile,
@@ -302,10 +318,11 @@ fn line_hint(
     }
 }
 
-// The line of a text after this many others.
+// The line of a text that this many lines precede, if there is one.
 fn line_at(text: &[u8], before: u64) -> Option<&[u8]>
     ensures { option_map (λ line. line.now) result ≡ slice_get (lines_of text.now) before }
 {
+    // How many lines are still before the one that is looked for.
     let mut left = before;
     for line in text.split(|byte| *byte == b'\n') {
         if left == 0 {

@@ -1,5 +1,6 @@
-//! What a refusal is about, and what its numbers stand for. The rules are in `docs/commands.md`,
-//! "Hints".
+//! What a refusal is about, what its numbers stand for, and its cause. The numbers are places of
+//! words, numbers of repositories and lines, and places of fields. The rules are in
+//! `docs/commands.md`, "Hints".
 ghost use Rattle.std.specs.Prelude.{◌≡◌};
 ghost use Rattle.hint_core.specs.Hints.{cause_of, database_subject, subject_of};
 
@@ -7,7 +8,7 @@ use adb_view::{FieldName, Which};
 use base_core::{Cause, Text};
 use report_core::Refusal;
 
-/// What a refusal is about.
+/// What a refusal is about. A place is that of a word of the command line, counted from 1.
 #[derive(Clone, Copy)]
 pub enum Subject {
     /// The word at this place.
@@ -19,9 +20,9 @@ pub enum Subject {
     /// The information of a package, which the word at this place has; it is missing if there is no
     /// such word.
     Information { place: u32 },
-    /// The index of this repository.
+    /// The index of the repository with this number, counted from 1.
     Repository { number: u64 },
-    /// This line of a file of the root.
+    /// The line with this number, counted from 1, of a file of the root.
     Line { file: HintFile, line: u64 },
     /// The database, which is in one of two files.
     Database,
@@ -37,7 +38,7 @@ pub enum Subject {
     AbsentPackage,
     /// The file of a package, which is another one than its index lists.
     OtherPackage,
-    /// Nothing that a number names.
+    /// Nothing that a hint explains.
     Nothing,
 }
 
@@ -52,7 +53,8 @@ pub enum HintFile {
     TextDatabase,
 }
 
-/// What a number of a refusal stands for.
+/// A hint: what a number of a refusal stands for, or what to do about the refusal. A place of a
+/// word is counted from 1.
 #[derive(Drop)]
 pub enum Hint {
     /// The word at this place.
@@ -70,7 +72,7 @@ pub enum Hint {
         place: u32,
         word: Text,
     },
-    /// The word at this place is no information of a package, or repeats one.
+    /// The word at this place is no information of a package, or repeats an earlier one.
     Information {
         place: u32,
         word: Text,
@@ -79,13 +81,14 @@ pub enum Hint {
     Missing {
         place: u32,
     },
-    /// The index of this repository, by its path, and the line that names it.
+    /// The index of the repository with this number has this path, and this line of the list names
+    /// it.
     Repository {
         number: u64,
         line: u64,
         path: Text,
     },
-    /// This line of a file of the root.
+    /// The text of the line with this number, counted from 1, of a file of the root.
     Line {
         file: HintFile,
         line: u64,
@@ -97,11 +100,11 @@ pub enum Hint {
     },
     /// There is no database.
     AbsentDatabase,
-    /// How one of two packages gets a path that both list.
+    /// What to do if two packages list a path: one has to replace files of the other.
     SharedPath,
     /// What to do with a journal that is no valid one.
     Journal,
-    /// How repositories are used.
+    /// Which option allows the use of repositories.
     Untrusted,
     /// `fix` needs an index that lists the installed package.
     AbsentPackage,
@@ -111,28 +114,28 @@ pub enum Hint {
     Damaged,
     /// The file is none of the format that is read.
     Foreign,
-    /// The field at this place of a container.
+    /// The field with this place (100 times the number of the table, plus its own) in a container.
     Field {
         place: u16,
         table: Which,
         name: FieldName,
     },
-    /// The schema of a container is the one of this table.
+    /// The schema of a container is that of the objects of this table.
     Schema {
         table: Which,
     },
-    /// The schema of a container is the one of no table.
+    /// The schema of a container is that of no table.
     UnknownSchema,
-    /// No number, or nothing true and short is known.
+    /// No hint: the refusal has nothing to explain, or what a number stands for was not found.
     Nothing,
 }
 
 /// The hints of a refusal: on what it is about, and on its cause.
 #[derive(Drop)]
 pub struct Hints {
-    /// What the refusal is about.
+    /// The hint on what the refusal is about.
     pub subject: Hint,
-    /// The number of its cause.
+    /// The hint on the cause of the refusal.
     pub cause: Hint,
 }
 
@@ -142,12 +145,14 @@ pub(crate) fn subject_of(refusal: &Refusal) -> Subject
 {
     match refusal {
         Refusal::IntentBad { cause: _ } => Subject::Journal,
+        // Refusals with the place of a word.
         Refusal::FileMissing { place } => Subject::AbsentFile { place: *place },
         Refusal::FileBad { place, cause: _ } => Subject::Word { place: *place },
         Refusal::TextBad { place, line: _ } => Subject::Word { place: *place },
         Refusal::VersionBad { place } => Subject::Word { place: *place },
         Refusal::NotInstalled { place } => Subject::NotInstalled { place: *place },
         Refusal::InfoBad { place } => Subject::Information { place: *place },
+        // Refusals of the index of a repository.
         Refusal::IndexMissing { repository } => Subject::Repository {
             number: *repository,
         },
@@ -157,6 +162,7 @@ pub(crate) fn subject_of(refusal: &Refusal) -> Subject
         } => Subject::Repository {
             number: *repository,
         },
+        // Refusals of a line of a file.
         Refusal::WorldBad { line } => Subject::Line {
             file: HintFile::World,
             line: *line,
@@ -167,6 +173,7 @@ pub(crate) fn subject_of(refusal: &Refusal) -> Subject
         },
         Refusal::NoDatabase => Subject::AbsentDatabase,
         Refusal::Untrusted => Subject::Untrusted,
+        // Refusals of the file of a package.
         Refusal::PackageMissing {
             name: _,
             version: _,
@@ -184,11 +191,13 @@ pub(crate) fn subject_of(refusal: &Refusal) -> Subject
             second: _,
         } => Subject::SharedPath,
         Refusal::DatabaseBad { cause } => database_subject(*cause),
+        // Other refusals name nothing that a hint explains.
         _ => Subject::Nothing,
     }
 }
 
-// What the refusal of a database is about: a line of a text, or else the database.
+// What the refusal of a database for this cause is about: a line of the text database, or else the
+// database.
 fn database_subject(cause: Cause) -> Subject
     ensures { result ≡ database_subject cause }
 {

@@ -4,8 +4,9 @@
 //! the path, the line or the field, and `explain` writes a line for each. Nothing is changed: the
 //! tree is only read, and only if the refusal is about one of its files. The contracts cite `Hints`
 //! (what a refusal is about, and what its numbers stand for), `Lines` (the lines that are written)
-//! and `Told` (what a call writes) of `specs/`. `Truths` says when a hint is so, apart from how it
-//! is found, and the law `hints_are_so` proves it. The rules are in `docs/commands.md`, "Hints".
+//! and `Told` (what a call writes) of `specs/`. `Truths` says when a hint is true, apart from how
+//! it is found, and the law `hints_are_so` proves that hints are. The rules are in
+//! `docs/commands.md`, "Hints".
 #![tactic(auto)]
 
 mod contents;

@@ -10,7 +10,7 @@ use adb_view::{FieldName, Which};
 use itoa::Buffer;
 use std::alloc::{AllocError, Global};
 
-/// The lines of hints.
+/// The lines of both hints of a refusal: first on what it is about, then on its cause.
 pub fn hint_lines(alloc: Global, hints: &Hints) -> Result<Vec<u8>, AllocError>
     ensures { IfOk result (λ lines. lines.items ≡ hint_lines hints.now) }
 {
@@ -20,11 +20,12 @@ pub fn hint_lines(alloc: Global, hints: &Hints) -> Result<Vec<u8>, AllocError>
     Ok(lines)
 }
 
-// Adds the line of a hint, if it has one.
+// Adds the line of a hint; nothing for `Hint::Nothing`.
 fn push_hint(alloc: Global, lines: &mut Vec<u8>, hint: &Hint) -> Result<(), AllocError>
     ensures { OnOk result (lines.new.items ≡ lines.old.items ++ hint_line hint.now) }
 {
     match hint {
+        // Hints on the word at a place.
         Hint::Word { place, word } => push_word(alloc, lines, *place, word.as_bytes(), b""),
         Hint::AbsentFile { place, word } => {
             push_word(alloc, lines, *place, word.as_bytes(), absent_file_end())
@@ -36,6 +37,7 @@ fn push_hint(alloc: Global, lines: &mut Vec<u8>, hint: &Hint) -> Result<(), Allo
             push_word(alloc, lines, *place, word.as_bytes(), information_end())
         }
         Hint::Missing { place } => push_missing(lines, *place),
+        // Hints on files of the root.
         Hint::Repository { number, line, path } => {
             push_repository(alloc, lines, *number, *line, path.as_bytes())
         }
@@ -48,6 +50,7 @@ fn push_hint(alloc: Global, lines: &mut Vec<u8>, hint: &Hint) -> Result<(), Allo
                 b"; restore it, or read IF THE DATABASE IS DAMAGED in apk(8)\n",
             ],
         ),
+        // Hints on what to do.
         Hint::AbsentDatabase => push_texts(
             lines,
             &[
@@ -89,6 +92,7 @@ fn push_hint(alloc: Global, lines: &mut Vec<u8>, hint: &Hint) -> Result<(), Allo
                 b"apk mkndx, or put the listed file there\n",
             ],
         ),
+        // Hints on the cause of a refusal.
         Hint::Damaged => push_texts(
             lines,
             &[b"apk: the file may be damaged; copy it again, or make it again\n"],
@@ -117,7 +121,7 @@ fn push_hint(alloc: Global, lines: &mut Vec<u8>, hint: &Hint) -> Result<(), Allo
     }
 }
 
-// Adds the line of a word, with what follows the word.
+// Adds the line of the word at a place; the text `end` follows the word.
 fn push_word(
     alloc: Global,
     lines: &mut Vec<u8>,
@@ -142,28 +146,29 @@ fn push_word(
     )
 }
 
-// What follows a word that names no file.
+// What follows a word in its line if the word names no file.
 fn absent_file_end() -> &'static [u8]
     ensures { result.now ≡ absent_file_end }
 {
     b"; its path must be that of a file below this folder, and not of a folder"
 }
 
-// What follows a path that no package owns.
+// What follows a word in its line if the word is a path that no package owns.
 fn unowned_end() -> &'static [u8]
     ensures { result.now ≡ unowned_end }
 {
     b"; no installed package owns this path"
 }
 
-// What follows wrong information of a package.
+// What follows a word in its line if the word is no valid information of a package.
 fn information_end() -> &'static [u8]
     ensures { result.now ≡ information_end }
 {
     b"; the field or its value is invalid, or the field was given before; see apk mkpkg --help"
 }
 
-// Adds the line that says that information of a package is missing.
+// Adds the line that says that information of a package is missing, for which there is no word at
+// this place.
 fn push_missing(lines: &mut Vec<u8>, place: u32) -> Result<(), AllocError>
     ensures { OnOk result (lines.new.items ≡ lines.old.items ++ missing_information_line place) }
 {
@@ -178,7 +183,8 @@ fn push_missing(lines: &mut Vec<u8>, place: u32) -> Result<(), AllocError>
     )
 }
 
-// Adds the line of a repository.
+// Adds the line of the repository with a number: the path of its index, and the number of the line
+// that names it.
 fn push_repository(
     alloc: Global,
     lines: &mut Vec<u8>,
@@ -207,7 +213,7 @@ fn push_repository(
     )
 }
 
-// Adds the line of a line of a file.
+// Adds the hint on a line of a file: its number, the file, and its text.
 fn push_line(
     alloc: Global,
     lines: &mut Vec<u8>,
@@ -234,7 +240,7 @@ fn push_line(
     )
 }
 
-// What follows a line of a file: what a line of this file is.
+// What follows the text of a line of a file: what such a line has to be.
 fn line_hint_end(file: HintFile) -> &'static [u8]
     ensures { result.now ≡ line_hint_end file }
 {
@@ -249,7 +255,7 @@ fn line_hint_end(file: HintFile) -> &'static [u8]
     }
 }
 
-// Adds the line of a field.
+// Adds the line of the field at a place: its name, and what the objects of its table are.
 fn push_field(
     lines: &mut Vec<u8>,
     place: u16,
@@ -274,7 +280,7 @@ fn push_field(
     )
 }
 
-// The path of a file of which refusals name lines.
+// The path of a file of which refusals report lines by their numbers.
 fn file_text(file: HintFile) -> &'static [u8]
     ensures { result.now ≡ hint_file_name file }
 {
@@ -285,7 +291,7 @@ fn file_text(file: HintFile) -> &'static [u8]
     }
 }
 
-// The path of the file that the database is in.
+// The path of the file that has the database: a container, or else a text.
 fn database_file_name_of(is_container: bool) -> &'static [u8]
     ensures { result.now ≡ database_file_name_of is_container }
 {
@@ -296,7 +302,7 @@ fn database_file_name_of(is_container: bool) -> &'static [u8]
     }
 }
 
-// What the objects of a table are.
+// What an object of a table is, as lines name it.
 fn table_text(table: Which) -> &'static [u8]
     ensures { result.now ≡ table_text table }
 {

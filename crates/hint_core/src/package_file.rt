@@ -60,6 +60,7 @@ fn lines_of_words<T: Tree>(
 ) -> Result<Vec<u8>, TreeFault>
     ensures lines { IfOk result (λ lines.
         ExplainsPackageFile words.now refusal.now (T.history tree.old) lines.items) }
+    // The tree is only read.
     ensures tree { OnlyReads TreeFault.Disk (T.history tree.old) (T.history tree.new)
         (T.counts tree.old) (T.counts tree.new) result }
 {
@@ -69,7 +70,7 @@ fn lines_of_words<T: Tree>(
     lines_of_refusal(alloc, refusal, tree)
 }
 
-// The lines on the file of the package that a refusal names, if it names one.
+// The lines on the file of the package that a refusal names; none if it names none.
 fn lines_of_refusal<T: Tree>(
     alloc: Global,
     refusal: &Refusal,
@@ -77,6 +78,7 @@ fn lines_of_refusal<T: Tree>(
 ) -> Result<Vec<u8>, TreeFault>
     ensures lines { IfOk result (λ lines.
         ExplainsPackageRefusal refusal.now (T.history tree.old) lines.items) }
+    // The tree is only read.
     ensures tree { OnlyReads TreeFault.Disk (T.history tree.old) (T.history tree.new)
         (T.counts tree.old) (T.counts tree.new) result }
 {
@@ -100,7 +102,8 @@ fn lines_of_refusal<T: Tree>(
     }
 }
 
-// The lines on the file of a package, by the file that names the repositories.
+// The lines on the file of the package with this name and version, by the list of repositories that
+// is read.
 fn lines_of_package<T: Tree>(
     alloc: Global,
     name: &[u8],
@@ -110,6 +113,7 @@ fn lines_of_package<T: Tree>(
 ) -> Result<Vec<u8>, TreeFault>
     ensures lines { IfOk result (λ lines.
         ExplainsPackage name.now version.now refusal.now (T.history tree.old) lines.items) }
+    // The tree is only read.
     ensures tree { OnlyReads TreeFault.Disk (T.history tree.old) (T.history tree.new)
         (T.counts tree.old) (T.counts tree.new) result }
 {
@@ -120,7 +124,8 @@ fn lines_of_package<T: Tree>(
     lines_by_text(alloc, name, version, refusal, text_of_found(&found), tree)
 }
 
-// The lines on the file of a package, given the text that names the repositories.
+// The lines on the file of a package, by the text of the list of repositories; none if a line of
+// this list is bad.
 fn lines_by_text<T: Tree>(
     alloc: Global,
     name: &[u8],
@@ -131,6 +136,7 @@ fn lines_by_text<T: Tree>(
 ) -> Result<Vec<u8>, TreeFault>
     ensures lines { IfOk result (λ lines. ExplainsByText name.now version.now refusal.now
         (repositories_of text.now) (T.history tree.old) lines.items) }
+    // The tree is only read.
     ensures tree { OnlyReads TreeFault.Disk (T.history tree.old) (T.history tree.new)
         (T.counts tree.old) (T.counts tree.new) result }
 {
@@ -143,7 +149,8 @@ fn lines_by_text<T: Tree>(
     }
 }
 
-// The lines on the file of a package, by the repositories.
+// The lines on the file of a package, by the repositories; before them the line that says that
+// there is no repository, if there is none.
 fn lines_of_repositories<T: Tree>(
     alloc: Global,
     name: &[u8],
@@ -154,6 +161,7 @@ fn lines_of_repositories<T: Tree>(
 ) -> Result<Vec<u8>, TreeFault>
     ensures lines { IfOk result (λ lines. ExplainsRepositories name.now version.now refusal.now
         (T.history tree.old) repositories.now lines.items) }
+    // The tree is only read.
     ensures tree { OnlyReads TreeFault.Disk (T.history tree.old) (T.history tree.new)
         (T.counts tree.old) (T.counts tree.new) result }
 {
@@ -174,7 +182,8 @@ pub fn no_index_line(repositories: &Repos) -> &'static [u8]
     }
 }
 
-// The lines on the file of a package, repository by repository.
+// The lines on the file of a package beside the index of each repository, one repository after
+// another.
 fn lines_beside_each<T: Tree>(
     alloc: Global,
     name: &[u8],
@@ -185,6 +194,7 @@ fn lines_beside_each<T: Tree>(
 ) -> Result<Vec<u8>, TreeFault>
     ensures lines { IfOk result (λ lines. ExplainsEach name.now version.now refusal.now
         (T.history tree.old) repositories.now lines.items) }
+    // The tree is only read.
     ensures tree { OnlyReads TreeFault.Disk (T.history tree.old) (T.history tree.new)
         (T.counts tree.old) (T.counts tree.new) result }
 {
@@ -196,7 +206,8 @@ fn lines_beside_each<T: Tree>(
     Ok(lines)
 }
 
-// The lines on the file of a package beside an index.
+// The lines on the file of a package beside an index: where it is looked for, and which of its
+// files the positions are that the refusal names.
 fn lines_beside<T: Tree>(
     alloc: Global,
     name: &[u8],
@@ -207,6 +218,7 @@ fn lines_beside<T: Tree>(
 ) -> Result<Vec<u8>, TreeFault>
     ensures lines { IfOk result (λ lines. ExplainsBeside name.now version.now refusal.now
         (T.history tree.old) index.now lines.items) }
+    // The tree is only read.
     ensures tree { OnlyReads TreeFault.Disk (T.history tree.old) (T.history tree.new)
         (T.counts tree.old) (T.counts tree.new) result }
 {
@@ -218,7 +230,7 @@ fn lines_beside<T: Tree>(
     Ok(lines)
 }
 
-// Adds the line that says where the package's file is, beside an index.
+// Adds the line that says where the file of a package is looked for, beside an index.
 fn push_package_file_line(
     alloc: Global,
     lines: &mut Vec<u8>,
@@ -246,7 +258,7 @@ fn push_package_file_line(
     )
 }
 
-// The text that shows a package.
+// The name and version of a package, as lines show them.
 fn shown_package(alloc: Global, name: &[u8], version: &[u8]) -> Result<Vec<u8>, AllocError>
     ensures { IfOk result (λ text.
         text.items ≡ printed_text (name_dash_version name.now version.now)) }
@@ -257,7 +269,7 @@ fn shown_package(alloc: Global, name: &[u8], version: &[u8]) -> Result<Vec<u8>, 
     printed(alloc, &package)
 }
 
-// The text that shows the path of a package's file beside an index.
+// The path of a package's file beside an index, as lines show it, in full length.
 fn shown_path(
     alloc: Global,
     index: &Name,

@@ -11,7 +11,8 @@ ghost use Rattle.pkg_core.specs.adb_schema.adb_fields.Paths.{path_of};
 use pkg_core::{DirInfo, FileInfo, List, PackageView};
 use std::alloc::{AllocError, Global};
 
-/// The path of the file of a package, by the positions of its folder and of itself in it.
+/// The path of a file of a package, by the position of its folder in the package and that of the
+/// file in this folder, both counted from 1. None if there is none.
 pub(crate) fn path_at(
     alloc: Global,
     view: &PackageView<'_>,
@@ -26,7 +27,7 @@ pub(crate) fn path_at(
     }
 }
 
-// The folder at a position, if there is one.
+// The folder at a position, counted from 1, if there is one.
 fn folder_at<'a>(folders: List<'a, DirInfo<'a>>, position: u32) -> Option<DirInfo<'a>>
     ensures { option_map dir_value result ≡ item_at_position (list_value folders.entry) position }
 {
@@ -37,7 +38,7 @@ fn folder_at<'a>(folders: List<'a, DirInfo<'a>>, position: u32) -> Option<DirInf
     Some(folders.get(position))
 }
 
-// The path of the file of a folder at a position.
+// The path of the file at a position in a folder, counted from 1, if there is one.
 fn path_in_folder(
     alloc: Global,
     folder: &DirInfo<'_>,
@@ -52,7 +53,7 @@ fn path_in_folder(
     }
 }
 
-// The file at a position, if there is one.
+// The file at a position, counted from 1, if there is one.
 fn file_at<'a>(files: List<'a, FileInfo<'a>>, position: u32) -> Option<FileInfo<'a>>
     ensures { option_map file_value result ≡ item_at_position (list_value files.entry) position }
 {
@@ -63,7 +64,8 @@ fn file_at<'a>(files: List<'a, FileInfo<'a>>, position: u32) -> Option<FileInfo<
     Some(files.get(position))
 }
 
-// The path of a file, by its folder and its name.
+// The path of a file in a package: its folder and its name, or the name alone in the folder without
+// a name.
 fn path_of(alloc: Global, folder: &[u8], name: &[u8]) -> Result<Vec<u8>, AllocError>
     ensures { IfOk result (λ path. path.items ≡ path_of folder.now name.now) }
 {

@@ -7,7 +7,8 @@ use crate::hint::Hint;
 use adb_view::{Which, fields_of};
 use pkg_core::table_of_schema;
 
-/// The field at a place.
+/// The hint on the field at a place, which is 100 times the number of the table plus that of the
+/// field.
 pub(crate) fn place_hint(place: u16) -> Hint
     ensures { result ≡ place_hint place }
 {
@@ -17,7 +18,7 @@ pub(crate) fn place_hint(place: u16) -> Hint
     }
 }
 
-// The table of a number, if there is one.
+// The table with a number, as in `docs/formats.md`, "Schemas"; None if no table has it.
 fn table_numbered(number: u16) -> Option<Which>
     ensures { result ≡ table_numbered number }
 {
@@ -36,10 +37,12 @@ fn table_numbered(number: u16) -> Option<Which>
     }
 }
 
-// The field of a table at a place.
+// The hint on the field at a place, whose table was found; none if this table has no such field.
+// Fields are counted from 1.
 fn field_hint_in_table(place: u16, table: Which) -> Hint
     ensures { result ≡ field_hint_in_table place table }
 {
+    // The number of the field in its table, counted from 1.
     let number = usize::from(place % 100);
     if number == 0 {
         return Hint::Nothing;
@@ -54,7 +57,8 @@ fn field_hint_in_table(place: u16, table: Which) -> Hint
     }
 }
 
-/// The table at the root of a container with this schema, if it is one of the four.
+/// The hint on a schema: the table at the root of a container with this schema, if it is one of the
+/// four.
 pub(crate) fn schema_hint(found: u32) -> Hint
     ensures { result ≡ schema_hint found }
 {

@@ -18,7 +18,7 @@ pub(crate) fn printed(alloc: Global, bytes: &[u8]) -> Result<Vec<u8>, AllocError
     Ok(text)
 }
 
-// What follows the bytes that are shown, if there are more.
+// The two dots after the bytes that are shown, if these are not all.
 fn dots_if_cut(bytes: &[u8]) -> &'static [u8]
     ensures { result.now ≡ dots_if_cut bytes.now }
 {
@@ -29,11 +29,8 @@ fn dots_if_cut(bytes: &[u8]) -> &'static [u8]
     }
 }
 
-/// Adds bytes as they are shown.
-///
-/// # Errors
-///
-/// Out of memory.
+/// Adds bytes as they are shown: visible ASCII characters and spaces as they are, and others
+/// escaped.
 pub fn push_printed(text: &mut Vec<u8>, bytes: &[u8]) -> Result<(), AllocError>
     ensures { OnOk result (text.new.items ≡ text.old.items ++ printed_bytes bytes.now) }
 {
@@ -43,7 +40,7 @@ pub fn push_printed(text: &mut Vec<u8>, bytes: &[u8]) -> Result<(), AllocError>
     Ok(())
 }
 
-// Adds a byte as it is shown.
+// Adds a byte as it is shown: as it is, or as `\xNN`.
 fn push_byte(text: &mut Vec<u8>, byte: u8) -> Result<(), AllocError>
     ensures { OnOk result (text.new.items ≡ text.old.items ++ printed_byte byte) }
 {
@@ -54,7 +51,7 @@ fn push_byte(text: &mut Vec<u8>, byte: u8) -> Result<(), AllocError>
     push_escaped(text, byte)
 }
 
-// Adds a byte as its two hexadecimal digits.
+// Adds a byte as `\xNN`, where NN are its two hexadecimal digits.
 fn push_escaped(text: &mut Vec<u8>, byte: u8) -> Result<(), AllocError>
     ensures { OnOk result (text.new.items
         ≡ text.old.items ++ 92 ∷ (120 ∷ encode_lower (byte ∷ []))) }
@@ -67,7 +64,7 @@ fn push_escaped(text: &mut Vec<u8>, byte: u8) -> Result<(), AllocError>
     Ok(())
 }
 
-// Whether a byte is shown as it is.
+// Whether a byte is shown as it is: a space or a visible ASCII character, but no backslash.
 fn is_byte_printed_as_is(byte: u8) -> bool
     ensures { result ≡ is_byte_printed_as_is byte }
 {

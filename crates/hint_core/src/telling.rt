@@ -36,7 +36,7 @@ impl From<TreeFault> for HintFault {
 
     ghost from_gives = { λ fault hint_fault. hint_fault ≡ as_hint_fault fault };
 
-    // A fault of a read as the fault of the hints.
+    // A fault of a read as a fault of the hints.
     fn from(fault: TreeFault) -> HintFault {
         match fault {
             TreeFault::Disk => HintFault::Disk,
@@ -51,7 +51,7 @@ impl From<AllocError> for HintFault {
 
     ghost from_gives = { λ _ fault. fault ≡ Memory };
 
-    // Out of memory as the fault of the hints.
+    // Out of memory as a fault of the hints.
     fn from(_: AllocError) -> HintFault {
         HintFault::Memory
     }
@@ -63,7 +63,7 @@ impl From<SinkFault> for HintFault {
 
     ghost from_gives = { λ _ fault. fault ≡ SinkFailed };
 
-    // A failed sink as the fault of the hints.
+    // A failed sink as a fault of the hints.
     fn from(_: SinkFault) -> HintFault {
         HintFault::Sink
     }
@@ -83,7 +83,8 @@ pub fn explain<T: Tree, S: Sink>(
     tree: &mut T,
     sink: &mut S,
 ) -> Result<(), HintFault>
-    // The lines are those of the words, and of the file as it is.
+    // The lines are those of the words, the refusal, and the file that it is about (`found`), as
+    // this file is now.
     ensures told { (found : Option (List ℕ))
         × IsFoundForSubject (T.history tree.old) (subject_of refusal.now) found
         × Tells (hint_lines_after_refusal words.now refusal.now found)
@@ -99,7 +100,8 @@ pub fn explain<T: Tree, S: Sink>(
     tell(alloc, words, refusal, bytes_of(&found), sink)
 }
 
-/// Whether the refusals of a command line are about its own words: those of `demo` are not.
+/// Whether hints explain the refusals of a command line: it is a command other than `demo`, whose
+/// refusals are about other command lines.
 pub(crate) fn is_explained(alloc: Global, words: &Words) -> Result<bool, AllocError>
     ensures { IfOk result (λ own. own ≡ is_explained (command_of words.now)) }
 {
@@ -110,7 +112,7 @@ pub(crate) fn is_explained(alloc: Global, words: &Words) -> Result<bool, AllocEr
     }
 }
 
-/// Whether a command line asks which package owns a path.
+/// Whether a command line is a command that asks which package owns a path.
 pub(crate) fn asks_for_owner(alloc: Global, words: &Words) -> Result<bool, AllocError>
     ensures { IfOk result (λ asked. asked ≡ asks_for_owner (command_of words.now)) }
 {
@@ -121,7 +123,7 @@ pub(crate) fn asks_for_owner(alloc: Global, words: &Words) -> Result<bool, Alloc
     }
 }
 
-/// Whether a command line installs packages again.
+/// Whether a command line is a command that installs packages again.
 pub(crate) fn is_fix(alloc: Global, words: &Words) -> Result<bool, AllocError>
     ensures { IfOk result (λ fixes. fixes ≡ is_fix (command_of words.now)) }
 {
@@ -132,7 +134,7 @@ pub(crate) fn is_fix(alloc: Global, words: &Words) -> Result<bool, AllocError>
     }
 }
 
-// The file that a refusal is about, if there is one.
+// The bytes of the file that a refusal is about. None if it is about none, or the file is absent.
 fn read_subject<T: Tree>(
     alloc: Global,
     subject: Subject,
@@ -140,6 +142,7 @@ fn read_subject<T: Tree>(
 ) -> Result<Option<Vec<u8>>, TreeFault>
     ensures found { IfOk result (λ found.
         IsFoundForSubject (T.history tree.old) subject (bytes_in found)) }
+    // The tree is only read.
     ensures tree { OnlyReads TreeFault.Disk (T.history tree.old) (T.history tree.new)
         (T.counts tree.old) (T.counts tree.new) result }
 {
@@ -149,7 +152,7 @@ fn read_subject<T: Tree>(
     read_all(alloc, tree, &name)
 }
 
-// The name of the file that a refusal is about, if there is one.
+// The name of the file that a refusal with this subject is about, if it is about one.
 fn subject_file(alloc: Global, subject: Subject) -> Result<Option<Name>, AllocError>
     ensures { IfOk result (λ name. name ≡ subject_file subject) }
 {
@@ -161,7 +164,7 @@ fn subject_file(alloc: Global, subject: Subject) -> Result<Option<Name>, AllocEr
     }
 }
 
-// The name of a file of which refusals name lines.
+// The name of a file of which refusals report lines by their numbers.
 fn hint_file_name(alloc: Global, file: HintFile) -> Result<Name, AllocError>
     ensures { IfOk result (λ name. name ≡ hint_file_name file) }
 {
@@ -172,7 +175,7 @@ fn hint_file_name(alloc: Global, file: HintFile) -> Result<Name, AllocError>
     }
 }
 
-// The bytes that were read, if a file was found.
+// The bytes of a file, if one was found.
 fn bytes_of(found: &Option<Vec<u8>>) -> Option<&[u8]>
     ensures { option_copied result ≡ bytes_in found.now }
 {
@@ -182,7 +185,8 @@ fn bytes_of(found: &Option<Vec<u8>>) -> Option<&[u8]>
     }
 }
 
-// Writes the lines of the hints of a refusal, given the file that it is about.
+// Writes the lines of the hints of a refusal. `found` has the bytes of the file that it is about,
+// if there are any.
 fn tell<S: Sink>(
     alloc: Global,
     words: &Words,

@@ -46,11 +46,7 @@ pub fn warn<T: Tree, S: Sink>(
     write_lines(&lines, sink)
 }
 
-/// Writes lines.
-///
-/// # Errors
-///
-/// `Sink`, and a prefix of the lines was written.
+/// Writes lines to a sink.
 pub fn write_lines<S: Sink>(lines: &[u8], sink: &mut S) -> Result<(), HintFault>
     ensures told { Tells lines.now
         (sink_before_and_after S.bytes S.counts sink.old sink.new) result }
@@ -60,10 +56,11 @@ pub fn write_lines<S: Sink>(lines: &[u8], sink: &mut S) -> Result<(), HintFault>
     Ok(write_all(sink, lines)?)
 }
 
-// The warnings of a command line.
+// The lines of the warnings of a command line; none if its words are no command.
 fn warnings<T: Tree>(alloc: Global, words: &Words, tree: &mut T) -> Result<Vec<u8>, TreeFault>
     ensures lines { IfOk result (λ lines.
         Warns (command_of words.now) (T.history tree.old) lines.items) }
+    // The tree is only read.
     ensures tree { OnlyReads TreeFault.Disk (T.history tree.old) (T.history tree.new)
         (T.counts tree.old) (T.counts tree.new) result }
 {
@@ -74,7 +71,7 @@ fn warnings<T: Tree>(alloc: Global, words: &Words, tree: &mut T) -> Result<Vec<u
     }
 }
 
-// The warnings of a command.
+// The lines of the warnings of a command. Only `mkpkg` and `add` have warnings.
 fn warnings_of<T: Tree>(
     alloc: Global,
     command: &Command,
@@ -82,6 +79,7 @@ fn warnings_of<T: Tree>(
 ) -> Result<Vec<u8>, TreeFault>
     ensures lines { IfOk result (λ lines.
         WarnsForApplet command.now.applet command.now (T.history tree.old) lines.items) }
+    // The tree is only read.
     ensures tree { OnlyReads TreeFault.Disk (T.history tree.old) (T.history tree.new)
         (T.counts tree.old) (T.counts tree.new) result }
 {
@@ -103,7 +101,7 @@ fn folder_to_pack(command: &Command) -> Option<&Name>
     command.values().first_file(FILES)
 }
 
-// The warning of a folder, if one is given.
+// The warning that no file is below a folder; none without a folder.
 fn folder_warning<T: Tree>(
     alloc: Global,
     folder: Option<&Name>,
@@ -112,6 +110,7 @@ fn folder_warning<T: Tree>(
     ensures lines { IfOk result (λ lines.
         WarnsIfGiven (option_map (λ name. name.now) folder.entry)
         (T.history tree.old) lines.items) }
+    // The tree is only read.
     ensures tree { OnlyReads TreeFault.Disk (T.history tree.old) (T.history tree.new)
         (T.counts tree.old) (T.counts tree.new) result }
 {
@@ -121,10 +120,11 @@ fn folder_warning<T: Tree>(
     }
 }
 
-// The warning of a folder.
+// The line that says that no file is below a folder; nothing if a file is.
 fn warning_below<T: Tree>(alloc: Global, folder: &Name, tree: &mut T) -> Result<Vec<u8>, TreeFault>
     ensures lines { IfOk result (λ lines.
         IfObservable (T.history tree.old) (WarnsOfFolder folder.now lines.items)) }
+    // The tree is only read.
     ensures tree { OnlyReads TreeFault.Disk (T.history tree.old) (T.history tree.new)
         (T.counts tree.old) (T.counts tree.new) result }
 {
@@ -148,7 +148,7 @@ fn empty_folder_line(alloc: Global, folder: &[u8]) -> Result<Vec<u8>, AllocError
 
 // ---- a tag that no repository has
 
-// The warnings of the tags of operands.
+// The warnings of the tags of operands, by the list of repositories that is read.
 fn tag_warnings<T: Tree>(
     alloc: Global,
     operands: &Operands,
@@ -156,6 +156,7 @@ fn tag_warnings<T: Tree>(
 ) -> Result<Vec<u8>, TreeFault>
     ensures lines { IfOk result (λ lines.
         IfObservable (T.history tree.old) (WarnsOfTags operands.now lines.items)) }
+    // The tree is only read.
     ensures tree { OnlyReads TreeFault.Disk (T.history tree.old) (T.history tree.new)
         (T.counts tree.old) (T.counts tree.new) result }
 {
@@ -165,7 +166,7 @@ fn tag_warnings<T: Tree>(
     Ok(lines)
 }
 
-/// The text of a file; it is empty if there is no file.
+/// The text of a file that was read; empty if the file is absent.
 pub(crate) fn text_of_found(found: &Option<Vec<u8>>) -> &[u8]
     ensures { result.now ≡ text_of_found (bytes_in found.now) }
 {
@@ -175,7 +176,8 @@ pub(crate) fn text_of_found(found: &Option<Vec<u8>>) -> &[u8]
     }
 }
 
-// The warnings of the tags of operands, given the text that names the repositories.
+// The warnings of the tags of operands, by the text of the list of repositories; none if a line of
+// this list is bad.
 fn warnings_by_text(alloc: Global, text: &[u8], operands: &Operands) -> Result<Vec<u8>, AllocError>
     ensures { IfOk result (λ lines.
         lines.items ≡ tag_warnings_if_read (repositories_of text.now) operands.now) }
@@ -187,7 +189,7 @@ fn warnings_by_text(alloc: Global, text: &[u8], operands: &Operands) -> Result<V
     }
 }
 
-// The warnings of the tags of operands.
+// The warnings of the tags of operands, one operand after another.
 fn warnings_of_all(alloc: Global, repos: &Repos, operands: &Operands) -> Result<Vec<u8>, AllocError>
     ensures { IfOk result (λ lines. lines.items ≡ tag_warnings repos.now operands.now) }
 {
@@ -198,7 +200,7 @@ fn warnings_of_all(alloc: Global, repos: &Repos, operands: &Operands) -> Result<
     Ok(lines)
 }
 
-// Adds the warning of an operand's tag, if no repository has it.
+// Adds the warning of an operand's tag, if it has one that no repository has.
 fn push_warning(
     alloc: Global,
     lines: &mut Vec<u8>,
@@ -231,7 +233,7 @@ fn push_unless_tagged(
     push_texts(lines, &[b"apk: no repository has the tag @", &shown, b"\n"])
 }
 
-// The tag of a text that is a dependency, if it has one.
+// The tag of a text, if the text is a dependency with a tag.
 fn tag_of(text: &[u8]) -> Option<&[u8]>
     ensures { option_copied result ≡ tag_of text.entry.now }
 {
@@ -241,7 +243,7 @@ fn tag_of(text: &[u8]) -> Option<&[u8]>
     }
 }
 
-// Whether one of some repositories has a tag.
+// Whether one of these repositories has a tag.
 fn has_repository_with_tag(repos: &Repos, tag: &[u8]) -> bool
     ensures { result ≡ has_repository_with_tag repos.now tag.now }
 {
@@ -253,7 +255,7 @@ fn has_repository_with_tag(repos: &Repos, tag: &[u8]) -> bool
     false
 }
 
-// Whether a tag that there may be is this one.
+// Whether the tag `other`, if there is one, equals the tag `tag`.
 fn is_tag_of(tag: &[u8], other: Option<&[u8]>) -> bool
     ensures { result ≡ is_tag_of tag.now (option_copied other.entry) }
 {

@@ -1,5 +1,6 @@
--- The packages that a change adds, by what is read. How the file of a package is found is in
--- `docs/commands.md`, "`add` and `del`", what is read.
+-- The packages that a change adds, by what is read. How the file of a package is found is in `docs/commands.md`, "`add`
+-- and `del`", part "What is read". In all definitions, `r` has the packages before the change and the selected
+-- candidates.
 use Rattle.std.specs.Prelude.{◌≡◌, ◌+◌, ℕ, true, List, length, Option, Some, None, option_and_then, slice_get}
 use Rattle.std.specs.List.{find}
 use Rattle.outcome.specs.adb_fields.Repeated.{package_name}
@@ -17,14 +18,14 @@ use Rattle.report_core.specs.Reports.{Change}
 abbrev pub selected_candidate_of_name : Replacement → List ℕ → Option Candidate
 selected_candidate_of_name r name = find (is_candidate_named name) r.selected
 
--- what the read with this number finds under the path of a candidate's file; nothing, if it has no such
--- path
+-- the file that the read with the number `n` finds under the path of a candidate's package file; None if there is none,
+-- or the candidate has no such path
 abbrev pub package_file_found_by_read : Reads → ℕ → List Repository → Candidate → Option (List ℕ)
 package_file_found_by_read read n repositories c =
     option_and_then (read n) (package_file_path_of_candidate repositories c)
 
--- The selected candidate of this name is added, since the name's package changes; it has this version,
--- and this is found under the path of its file. After those of the indexes there is a read for each
+-- The selected candidate of this name is added, since the package of this name changes. The candidate has this version,
+-- and `file` is what is found under the path of its package file. After the reads of the indexes there is one for each
 -- name of the packages before and of the selected ones, in byte order.
 pub record IsFileReadForAddedPackage (inputs : Inputs) (r : Replacement) (read : Reads)
     (name version : List ℕ)
@@ -32,9 +33,9 @@ pub record IsFileReadForAddedPackage (inputs : Inputs) (r : Replacement) (read :
   -- the selected candidate of this name
   pub candidate : Candidate
   pub selected : selected_candidate_of_name r name ≡ Some candidate
-  -- the text of its version
+  -- the text of the candidate's version is this one
   pub has_version : candidate_version_text candidate ≡ version
-  -- the change of the package with this name
+  -- the change of the package with this name: it is installed, replaced, or installed again
   pub change : Change
   pub becomes : change_of_name r name ≡ Some change
   -- the index of the name among those of the packages before and of the selected ones
@@ -51,12 +52,12 @@ pub record IsSoundFileOfCandidate (c : Candidate) (file : List ℕ) : Type 0 whe
   pub sound : package_fault file ≡ None
   -- the package in the file has the candidate's id
   pub id : is_same_id c.id (package_in_file file).id ≡ true
-  -- it has the candidate's name
+  -- the package in the file has the candidate's name
   pub name : package_name (package_in_file file).value ≡ c.name
-  -- it has the text of the candidate's version
+  -- the package in the file has the text of the candidate's version
   pub version : package_version_text (package_in_file file).value ≡ candidate_version_text c
 
--- a package is added: it is the one in the file of the selected candidate of its name
+-- the change adds the package `pkg` with this name: it is the one in the file of the selected candidate of the name
 pub record IsAddedAsSelected (inputs : Inputs) (r : Replacement) (read : Reads) (name : List ℕ)
     (pkg : AddedPackage) : Type 0 where
   -- the text of the package's version

@@ -1,6 +1,5 @@
--- Why a change is refused whose selection was found. The refusals are in `docs/commands.md`, "What a
--- change does with files" and "`add` and `del`", what is refused; their meanings are in the README of
--- this crate.
+-- Why a change is refused whose selection was found: reasons 9 to 12 of `docs/commands.md`, "`add` and `del`", part
+-- "What is refused". What each refusal means is in the README of this crate.
 use Rattle.std.specs.Prelude.{◌≡◌, ◌⊎◌, ℕ, true, false, List, Some, None, Ok, is_some}
 use Rattle.outcome.specs.adb_fields.FirstPair.{IsIn}
 use Rattle.outcome.specs.adb_schema.Reserved.{is_reserved}
@@ -37,26 +36,26 @@ pub record IsFirstReservedAddedPath (members : List Member) (path : List ℕ) : 
   pub comes : IsIn path (added_paths members)
   -- the path is reserved for apk itself
   pub reserved : is_reserved path ≡ true
-  -- no reserved path that an added package lists precedes it in byte order
+  -- no reserved path that an added package lists precedes this path in byte order
   pub first : (other : List ℕ) → IsIn other (added_paths members) → is_reserved other ≡ true
       → precedes other path ≡ false
 
--- a package of this name lists the path, by this listing
+-- `l` is an entry for this path in a package of this name after the change
 pub record IsListingOfPathByName (members : List Member) (path name : List ℕ) (l : Listing) : Type 0 where
   -- the listing is one of the packages after the change
   pub listed : IsIn l (member_listings members)
   -- the listing is for this path
   pub of_path : l.path ≡ path
-  -- its package has this name
+  -- the package of the listing has this name
   pub by : member_name l.member ≡ name
 
--- A path is contested: no package takes it over from all others that list it, and it is the first such
--- path. The packages `one` and `other` list it, and `one` does not take over files of `other`. If no
--- third package lists it, `other` does not take over files of `one` either.
+-- A path is the first contested one: packages list it, and no package takes it over from all others that do. Packages
+-- with the names `one` and `other` list it, and the first does not take over files of the second. If no third package
+-- lists the path, the second does not take over files of the first either.
 pub record IsFirstContestedPath (members : List Member) (path one other : List ℕ) : Type 0 where
   -- no package owns the path
   pub unowned : owner_of_path members path ≡ None
-  -- each path that is listed and precedes it in byte order has an owner
+  -- each listed path that precedes this one in byte order has an owner
   pub first : (l : Listing) → IsIn l (member_listings members) → precedes l.path path ≡ true
       → is_some (owner_of_path members l.path) ≡ true
   -- the listing of the first of the two packages
@@ -76,9 +75,9 @@ pub record IsFirstContestedPath (members : List Member) (path one other : List �
 
 -- ---- triggers
 
--- a pattern of the package matches the folder of a file that the change writes or removes
+-- a trigger pattern of the package matches the folder of a file that the change writes or removes
 pub record HasPatternOfTouchedFolder (change : FileChange) (files : Files) (pkg : Plain) : Type 0 where
-  -- a path that the change writes or removes
+  -- the path of a file that the change writes or removes
   pub path : List ℕ
   pub touched : IsIn path (touched_paths change files)
   -- a pattern of the package's trigger
@@ -87,8 +86,8 @@ pub record HasPatternOfTouchedFolder (change : FileChange) (files : Files) (pkg 
   -- the pattern matches the folder of the path
   pub matched : is_folder_matched_by_pattern (folder_of path) pattern ≡ true
 
--- a package of this name has a trigger script and watches the folder of a file that the change touches,
--- and scripts are not skipped
+-- the trigger of a package of this name is due: the package has a trigger script, and a trigger pattern matches the
+-- folder of a file that the change writes or removes. `--no-scripts` is not given
 pub record IsTriggerDueAndNotSkipped (wishes : ChangeWishes) (change : FileChange) (files : Files)
     (name : List ℕ) : Type 0 where
   -- `--no-scripts` is not given
@@ -99,25 +98,26 @@ pub record IsTriggerDueAndNotSkipped (wishes : ChangeWishes) (change : FileChang
   pub named : member_name member ≡ name
   -- the package has a trigger script
   pub has : has_script_of member.pkg TRIGGER_SCRIPT ≡ true
-  -- its trigger watches the folder of a touched file
+  -- a trigger pattern of the package matches the folder of a touched file
   pub watches : HasPatternOfTouchedFolder change files member.pkg
 
 -- ---- limits
 
--- what is written of a value exceeds a limit, first at this number of bytes and values
+-- the payload of a value exceeds a limit of the writer, first at these numbers of bytes and values
 abbrev pub IsTooLarge : Plain → ℕ → ℕ → Type 0
 IsTooLarge v bytes values =
     (overflow_of v ≡ Some (bytes, values)) × (exceeds_a_limit (bytes, values) ≡ true)
 
--- what is written of the database after the change exceeds a limit
+-- the database after the change, with these members, exceeds a limit of the writer at these numbers of bytes and values
 abbrev pub IsDatabaseTooLarge : List Member → ℕ → ℕ → Type 0
 IsDatabaseTooLarge members bytes values =
     IsTooLarge (database_value members (owned_flags_of members)) bytes values
 
--- what is written of the database fits the limits, and what is written of the change's intent does not
+-- the new database fits the limits of the writer, and the intent of the change exceeds one at these numbers of bytes
+-- and values
 pub record IsIntentTooLarge (inputs : Inputs) (change : FileChange) (files : Files)
     (bytes values : ℕ) : Type 0 where
-  -- the bytes of the new database, which fits
+  -- the bytes of the new database, which fits the limits
   pub database : List ℕ
   pub fits : database_of change.members (owned_flags_of change.members) ≡ Ok database
   -- the value of the intent exceeds a limit, at these numbers of bytes and values
@@ -125,7 +125,7 @@ pub record IsIntentTooLarge (inputs : Inputs) (change : FileChange) (files : Fil
       intent_of_change inputs change files (database_and_world_after_change inputs database) in
       IsTooLarge (value_of_intent actions) bytes values)
 
--- what a change writes exceeds a limit: of the database or, if that fits, of the intent
+-- what a change writes exceeds a limit of the writer: the new database, or, if that fits, the intent
 abbrev pub IsResultTooLarge : Inputs → FileChange → Files → ℕ → ℕ → Type 0
 IsResultTooLarge inputs change files bytes values =
     IsDatabaseTooLarge change.members bytes values
@@ -133,7 +133,7 @@ IsResultTooLarge inputs change files bytes values =
 
 -- ---- each refusal
 
--- a refusal is true of the files that the packages after a change would leave
+-- a refusal is true of the files that the packages after a change (`found`) would leave
 abbrev pub IsFaultOfFiles : Inputs → ChangeWishes → Files → List MemberFound → Refusal → Type 0
 IsFaultOfFiles inputs wishes files found (Reserved path) =
     IsFirstReservedAddedPath (found_members found) path
@@ -148,7 +148,7 @@ IsFaultOfFiles inputs wishes files found (ResultTooLarge bytes values) =
     IsResultTooLarge inputs (file_change inputs wishes found) files bytes values
 IsFaultOfFiles inputs wishes files found other = ⊥
 
--- a refusal is true of the added and removed packages
+-- a refusal is true of a package that the change adds or removes
 abbrev pub IsFaultOfPackage : Inputs → Replacement → ChangeWishes → Reads → Refusal → Type 0
 IsFaultOfPackage inputs r wishes read (PackageMissing name version) =
     IsAddedPackageFileMissing inputs r read name version
@@ -160,8 +160,8 @@ IsFaultOfPackage inputs r wishes read (ScriptNeeded name script) =
     IsFirstScriptRunAndNotSkipped inputs r wishes read name script
 IsFaultOfPackage inputs r wishes read other = ⊥
 
--- a refusal of a change is true: of an added or removed package; or the packages after the change are
--- found, and the files that they would leave have this fault
+-- a refusal of a change is true: of an added or removed package; or no such package is refused, and the files that the
+-- packages after the change (`found`) would leave have this fault
 abbrev pub IsFaultOfChange :
     Inputs → Replacement → ChangeWishes → Reads → Files → Refusal → Type 0
 IsFaultOfChange inputs r wishes read files refusal =

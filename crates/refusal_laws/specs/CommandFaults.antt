@@ -1,5 +1,5 @@
--- The reasons for which a command that changes the installed packages is refused. They are in
--- `docs/commands.md`, "`add` and `del`" and "`upgrade` and `fix`", in the order of the tests.
+-- The reasons for which a command that changes the installed packages is refused. They are in `docs/commands.md`,
+-- "`add` and `del`", part "What is refused", and "`upgrade` and `fix`". The definitions follow the order of the tests.
 use Rattle.std.specs.Prelude.{◌≡◌, ◌⊎◌, ℕ, false, List, Option, Ok}
 use Rattle.outcome.specs.adb_fields.FirstPair.{IsIn}
 use Rattle.base_core.specs.Files.{Files}
@@ -22,8 +22,8 @@ use Rattle.refusal_laws.specs.InputFaults.{IsCountReportedAsTooMany, IsFaultOfIn
 
 -- ---- a selection
 
--- a name is unknown to the command: `del` needs one that is in world or installed, `upgrade` and `fix`
--- one that is installed
+-- a command with this applet does not know a name: `del` needs one that is in world or installed, `upgrade` and `fix`
+-- one that is installed; other commands know all names
 abbrev pub IsNameUnknownToApplet : Applet → Inputs → List ℕ → Type 0
 IsNameUnknownToApplet Del inputs name =
     (has_dependency_named name inputs.root.world ≡ false) × (is_installed_name inputs name ≡ false)
@@ -38,7 +38,7 @@ pub record IsUnknownOperand (command : CommandLine) (inputs : Inputs) (place : �
   pub given : IsIn operand command.operands
   -- the operand has this place in the command line
   pub at : operand.place ≡ place
-  -- the command does not know its text
+  -- the command does not know the operand's text as a name
   pub unknown : IsNameUnknownToApplet command.applet inputs operand.text
 
 -- no selection of the candidates satisfies the new world
@@ -46,10 +46,11 @@ pub record IsNewWorldUnsatisfiable (command : CommandLine) (inputs : Inputs) : T
   -- the candidates of the command, under its new world
   pub pool : SealedPool
   pub is_pool : pool_of_inputs command inputs ≡ Ok pool
-  -- no selection of them satisfies the new world
+  -- no selection of these candidates satisfies the new world
   pub none : (selection : List ℕ) → IsSatisfying pool selection → ⊥
 
--- a refusal is true that is tested after the root is read and before the packages' files are
+-- a refusal is true that is tested after the root is read and before package files are: of the number of candidates, an
+-- operand, or the new world
 abbrev pub IsFaultOfSelection : CommandLine → Inputs → Refusal → Type 0
 IsFaultOfSelection command inputs (TooMany count) = IsCountReportedAsTooMany inputs count
 IsFaultOfSelection command inputs (NotInstalled place) = IsUnknownOperand command inputs place
@@ -58,13 +59,14 @@ IsFaultOfSelection command inputs other = ⊥
 
 -- ---- a command
 
--- the command's inputs are read, and the candidates, an operand or the new world have this fault
+-- the inputs of the command are read, and the refusal is true of the candidates, an operand or the new world
 abbrev pub IsSelectionRefused : CommandLine → Reads → Refusal → Type 0
 IsSelectionRefused command read refusal =
     (inputs : Inputs) × (inputs_of command read ≡ Ok inputs)
     × IsFaultOfSelection command inputs refusal
 
--- candidates are selected, and the change that is to be made has this fault
+-- the candidates at the places `chosen` are selected, the change is not simulated, and the refusal is true of this
+-- change
 abbrev pub IsChangeRefused :
     CommandLine → Reads → Files → Option (List ℕ) → Refusal → Type 0
 IsChangeRefused command read files chosen refusal =
@@ -72,7 +74,8 @@ IsChangeRefused command read files chosen refusal =
     × (command.flags.simulate ≡ false)
     × IsFaultOfChange s.inputs s.replacement (wishes_of command) read files refusal
 
--- a refusal of what the command finds is true: of its input, its selection or its change
+-- a refusal of the command is true: of an input, of the selection, or of the change. `chosen` has the places of the
+-- candidates of the first preferred selection, if there is one
 abbrev pub IsFaultOfCommand : CommandLine → Reads → Files → Option (List ℕ) → Refusal → Type 0
 IsFaultOfCommand command read files chosen refusal =
     IsFaultOfInput command read refusal

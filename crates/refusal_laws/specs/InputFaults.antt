@@ -1,5 +1,6 @@
--- Why what a change reads of a root is refused. The refusals are in `docs/commands.md`, "`add` and
--- `del`", what is refused, in their order, and in "Error lines".
+-- Why a change is refused for what it reads of a root: reasons 2 to 6 of `docs/commands.md`, "`add` and `del`", part
+-- "What is refused"; and a text database that is too large for a container. The texts of the refusals are in "Error
+-- lines" there. `read n name` is the result of the read with the number `n` of the file `name`.
 use Rattle.std.specs.Prelude.{◌≡◌, ◌⊎◌, ◌+◌, ◌<◌, ℕ, suc, false, List, ◌∷◌, length, Option, Some, None, Ok, Err, slice_get}
 use Rattle.outcome.specs.adb_schema.Soundness.{container_fault_except_contents}
 use Rattle.adb_view.specs.declared.tables.Which.TheVariants.{Idb, Index}
@@ -21,7 +22,7 @@ use Rattle.outcome.specs.v2_core.declared.read.V2Fault.TheVariants.{Bad, TooLarg
 
 -- ---- the database
 
--- neither file of a database is there, and the command may not begin one
+-- neither file of a database is found, and `--initdb`, by which the command may begin one, is not given
 pub record HasNoDatabase (command : CommandLine) (read : Reads) : Type 0 where
   -- no database file is found
   pub container : read database_read_number database_name ≡ None
@@ -30,22 +31,22 @@ pub record HasNoDatabase (command : CommandLine) (read : Reads) : Type 0 where
   -- `--initdb` is not given
   pub not_begun : command.flags.initdb ≡ false
 
--- the container of the database is there, and this is the first test that it fails
+-- the database file, a container, is found, and this is the first test that it fails
 pub record IsDatabaseContainerBad (read : Reads) (cause : Cause) : Type 0 where
   -- the bytes of the database file
   pub file : List ℕ
   pub is_file : read database_read_number database_name ≡ Some file
-  -- the first test that it fails as a container
+  -- the first test of a database container that the file fails
   pub fault : container_fault_except_contents Idb file ≡ Some cause
 
--- there is no container, and the text database has this fault
+-- no database file, a container, is found, and the text database has this fault
 pub record IsTextDatabaseRefused (read : Reads) (fault : V2Fault) : Type 0 where
   -- no database file is found
   pub container : read database_read_number database_name ≡ None
   -- the bytes of the text database
   pub text : List ℕ
   pub is_text : read text_database_read_number text_database_name ≡ Some text
-  -- the fault for which it cannot be taken over
+  -- the fault for which the text database cannot be taken over
   pub refused : payload_of_text text ≡ Err fault
 
 -- ---- repositories
@@ -54,7 +55,7 @@ pub record IsTextDatabaseRefused (read : Reads) (fault : V2Fault) : Type 0 where
 abbrev pub repositories_file_text : Reads → List ℕ
 repositories_file_text read = found_text_or_empty (read repositories_read_number repositories_name)
 
--- the list names a repository, and `--allow-untrusted` is not given
+-- the list of repositories names at least one, and `--allow-untrusted` is not given
 pub record IsUntrustedRepositoryListed (command : CommandLine) (read : Reads) : Type 0 where
   -- `--allow-untrusted` is not given
   pub no_leave : command.flags.allow_untrusted ≡ false
@@ -63,31 +64,31 @@ pub record IsUntrustedRepositoryListed (command : CommandLine) (read : Reads) : 
   pub others : List Repository
   pub listed : repositories_of (repositories_file_text read) ≡ Ok (repository ∷ others)
 
--- the repository with this number, counted from 1, is listed, and this is found under its path
+-- the list has a repository with this number, counted from 1, and `file` is what the read of its index finds
 pub record IsIndexRead (read : Reads) (number : ℕ) (file : Option (List ℕ)) : Type 0 where
   -- the repositories in the order of the list
   pub repositories : List Repository
   pub listed : repositories_of (repositories_file_text read) ≡ Ok repositories
-  -- the index of the repository in the list, counted from 0
+  -- the number of the repository in the list, counted from 0
   pub place : ℕ
   pub is_number : number ≡ suc place
   -- the repository
   pub repository : Repository
   pub is_repository : slice_get repositories place ≡ Some repository
-  -- the read of its index finds this file, or none
+  -- the read of the repository's index finds this file, or none
   pub is_file : read (first_index_read_number + place) repository.path ≡ file
 
--- the index of the repository with this number is there, and this is the first test that it fails
+-- the index of the repository with this number is found, and this is the first test that it fails
 pub record IsIndexBad (read : Reads) (number : ℕ) (cause : Cause) : Type 0 where
   -- the bytes of the index
   pub file : List ℕ
   pub is_read : IsIndexRead read number (Some file)
-  -- the first test that it fails as a container
+  -- the first test of an index that these bytes fail
   pub fault : container_fault_except_contents Index file ≡ Some cause
 
 -- ---- each refusal
 
--- a refusal of what was read of the root is true
+-- a refusal of what the command reads of the root is true
 abbrev pub IsFaultOfInput : CommandLine → Reads → Refusal → Type 0
 IsFaultOfInput command read NoDatabase = HasNoDatabase command read
 IsFaultOfInput command read (DatabaseBad cause) =
@@ -106,9 +107,9 @@ IsFaultOfInput command read other = ⊥
 
 -- ---- too many
 
--- there are more candidates than are allowed, and the refusal reports one more than that limit
+-- there are more candidates than the limit, and `count`, which the refusal reports, is the limit and 1
 pub record IsCountReportedAsTooMany (inputs : Inputs) (count : ℕ) : Type 0 where
   -- there are more candidates than the limit
   pub more : MOST_CANDIDATES < length (candidates_of inputs)
-  -- the refusal reports the limit and 1
+  -- the refusal reports the limit and 1, not the number of candidates
   pub told : count ≡ MOST_CANDIDATES + 1

@@ -7,12 +7,12 @@ use Rattle.outcome.specs.make_info.Reads.{Reads}
 use Rattle.outcome.specs.pkg_core.Whole.{PackageWithContents}
 use Rattle.refusal_laws.specs.ChangeFaults.{IsTooLarge}
 
--- what is written of the value of the package that a command asks for exceeds a limit, first at this
--- number of bytes and values
+-- the value of the package that `mkpkg` makes exceeds a limit of the writer, first at these numbers of bytes and
+-- values. `names` are those of the files below the folder of `-F`
 pub record IsPackageTooLarge (command : CommandLine) (names : List (List ℕ)) (read : Reads)
     (bytes values : ℕ) : Type 0 where
   -- the value of the package, with the contents of its files
   pub packed : PackageWithContents
   pub is_packed : packed_package command names read ≡ Ok packed
-  -- the value exceeds a limit, at these numbers of bytes and values
+  -- the value exceeds a limit of the writer, at these numbers of bytes and values
   pub passes : IsTooLarge packed.value bytes values

@@ -1,5 +1,5 @@
--- What holds of the candidates and the operands if a selection is refused. The order of these refusals
--- is in `docs/commands.md`, "`add` and `del`", what is refused.
+-- What holds of the candidates and the operands if a selection is refused. The order is that of reasons 6 to 8 in
+-- `docs/commands.md`, "`add` and `del`", part "What is refused".
 use Rattle.std.specs.Prelude.{◌≡◌, ℕ, List, ◌∷◌, ◌++◌, Ok}
 use Rattle.outcome.specs.adb_fields.FirstPair.{IsIn}
 use Rattle.outcome.specs.change_inputs.Inputs.{Inputs}
@@ -11,29 +11,30 @@ use Rattle.report_core.specs.declared.refusal.Refusal.{Refusal}
 use Rattle.report_core.specs.declared.refusal.Refusal.TheVariants.{NotInstalled, Unsatisfied}
 use Rattle.refusal_laws.specs.CommandFaults.{IsNameUnknownToApplet}
 
--- none of these operands is a name that the command does not know
+-- the command knows the name of each of these operands, as *IsNameUnknownToApplet* says for its applet
 abbrev pub AreKnownOperands : CommandLine → Inputs → List Operand → Type 0
 AreKnownOperands command inputs operands =
     (o : Operand) → IsIn o operands → IsNameUnknownToApplet command.applet inputs o.text → ⊥
 
--- the operand at this place is the first that the command does not know: each before it is known
+-- each operand of the command before the one at this place is known to the command (*IsUnknownOperand* says that this
+-- one is not)
 pub record IsFirstUnknown (command : CommandLine) (inputs : Inputs) (place : ℕ) : Type 0 where
-  -- the operands before this one, this operand, and those after it
+  -- the operands of the command: those before the one at this place, this one, and those after it
   pub before : List Operand
   pub operand : Operand
   pub after : List Operand
   pub are : command.operands ≡ before ++ operand ∷ after
   -- the operand has this place in the command line
   pub at : operand.place ≡ place
-  -- the command knows each operand before it
+  -- the command knows each operand before the one at this place
   pub known : AreKnownOperands command inputs before
 
--- the candidates of a command are not too many
+-- there are no more candidates than a pool holds
 abbrev pub HasPool : CommandLine → Inputs → Type 0
 HasPool command inputs = (pool : SealedPool) × (pool_of_inputs command inputs ≡ Ok pool)
 
--- what is tested before this refusal of a selection: first the candidates are counted, then the
--- operands are tested in their order, and last a selection is searched for
+-- the tests before this refusal of a selection were passed. First the candidates are counted, then the operands are
+-- tested in their order, and last a selection is searched for
 abbrev pub HasPassedBeforeSelectionRefusal : CommandLine → Inputs → Refusal → Type 0
 HasPassedBeforeSelectionRefusal command inputs (NotInstalled place) =
     HasPool command inputs × IsFirstUnknown command inputs place

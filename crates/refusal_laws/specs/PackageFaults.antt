@@ -1,5 +1,6 @@
--- Why an added or removed package of a change is refused. The refusals are in `docs/commands.md`,
--- "`add` and `del`", what is refused package by package, and in "Error lines".
+-- Why an added or removed package of a change is refused: reason 9 of `docs/commands.md`, "`add` and `del`", part "What
+-- is refused". The texts of the refusals are in "Error lines" there. In all definitions, `r` has the packages before
+-- the change and the selected candidates.
 use Rattle.std.specs.Prelude.{◌≡◌, ◌⊎◌, ℕ, true, false, List, Some, None}
 use Rattle.std.specs.List.{find}
 use Rattle.outcome.specs.adb_fields.FirstPair.{IsIn}
@@ -21,12 +22,12 @@ use Rattle.refusal_laws.specs.AddedPackages.{IsAddedAsSelected, IsFileReadForAdd
 
 -- ---- its file
 
--- a candidate of this name and version is added, and no file of it is found
+-- the change adds a candidate of this name and version, and no package file is found for it
 abbrev pub IsAddedPackageFileMissing : Inputs → Replacement → Reads → List ℕ → List ℕ → Type 0
 IsAddedPackageFileMissing inputs r read name version =
     IsFileReadForAddedPackage inputs r read name version None
 
--- the file of an added package is there, and this is the first test that it fails
+-- the file of an added package with this name and version is found, and this is the first test that it fails
 pub record IsAddedPackageFileBad (inputs : Inputs) (r : Replacement) (read : Reads) (name version : List ℕ)
     (cause : Cause) : Type 0 where
   -- the bytes of the package's file
@@ -37,23 +38,23 @@ pub record IsAddedPackageFileBad (inputs : Inputs) (r : Replacement) (read : Rea
 
 -- ---- another package
 
--- the first id is that in the index, the second is that in the package's file, and they differ
+-- the id of the candidate (`wanted`, from the index) and that of the package in the file (`found`) differ
 abbrev pub HasOtherId : Candidate → AddedPackage → List ℕ → List ℕ → Type 0
 HasOtherId c pkg wanted found =
     (wanted ≡ c.id) × (found ≡ pkg.id) × (is_same_id wanted found ≡ false)
 
--- the first name is that in the index, and the second is that in the package's file
+-- the name of the candidate (`wanted`, from the index) and that of the package in the file (`found`) differ
 abbrev pub HasOtherName : Candidate → AddedPackage → List ℕ → List ℕ → Type 0
 HasOtherName c pkg wanted found =
     (wanted ≡ c.name) × (found ≡ package_name pkg.value) × (wanted ≡ found → ⊥)
 
--- the first version is that in the index, and the second is that in the package's file
+-- the version of the candidate (`wanted`, from the index) and that of the package in the file (`found`) differ
 abbrev pub HasOtherVersion : Candidate → AddedPackage → List ℕ → List ℕ → Type 0
 HasOtherVersion c pkg wanted found =
     (wanted ≡ candidate_version_text c) × (found ≡ package_version_text pkg.value) × (wanted ≡ found → ⊥)
 
--- the package in a file is not the candidate's: the id is another; or it is the same, and the name is
--- another; or both are the same, and the version is another
+-- `field` is the first field in which the package in a file differs from the candidate, in the order id, name, version.
+-- `wanted` is its value in the index, and `found` that in the file
 abbrev pub IsFirstFieldThatDiffers : Candidate → AddedPackage → ℕ → List ℕ → List ℕ → Type 0
 IsFirstFieldThatDiffers c pkg field wanted found =
     ((field ≡ HASHES_FIELD) × HasOtherId c pkg wanted found)
@@ -61,8 +62,8 @@ IsFirstFieldThatDiffers c pkg field wanted found =
     ⊎ ((field ≡ VERSION_FIELD) × (is_same_id c.id pkg.id ≡ true) × (c.name ≡ package_name pkg.value)
     × HasOtherVersion c pkg wanted found))
 
--- the file of an added package passes all tests, and the package in it is not the one that the index
--- lists
+-- the file of an added package passes all tests, and the package in it is not the one that the index lists: `field` is
+-- the first field that differs, `wanted` its value in the index, and `found` that in the file
 pub record IsFileOfOtherPackage (inputs : Inputs) (r : Replacement) (read : Reads)
     (name version : List ℕ) (field : ℕ) (wanted found : List ℕ) : Type 0 where
   -- the bytes of the package's file
@@ -70,27 +71,28 @@ pub record IsFileOfOtherPackage (inputs : Inputs) (r : Replacement) (read : Read
   pub is_read : IsFileReadForAddedPackage inputs r read name version (Some file)
   -- the file passes all tests
   pub sound : package_fault file ≡ None
-  -- the id, the name or the version in it differs from the candidate's
+  -- this field of the package in the file differs from the candidate's
   pub other : IsFirstFieldThatDiffers is_read.candidate (package_in_file file) field wanted found
 
 -- ---- scripts
 
--- a package before is removed: none of its name is selected
+-- the change removes the package `pkg` of this name: it is installed before the change, and no candidate of the name is
+-- selected
 pub record IsRemovedPackage (r : Replacement) (name : List ℕ) (pkg : Plain) : Type 0 where
   -- the package of this name before the change
   pub before : find (is_package_named name) r.before ≡ Some pkg
   -- no selected candidate has the name
   pub unselected : selected_candidate_of_name r name ≡ None
 
--- a package of this name is added or removed
+-- the change adds or removes the package `pkg` of this name
 abbrev pub IsAddedOrRemoved : Inputs → Replacement → Reads → List ℕ → Plain → Type 0
 IsAddedOrRemoved inputs r read name pkg =
     ((coming : AddedPackage) × IsAddedAsSelected inputs r read name coming × (pkg ≡ coming.value))
     ⊎ IsRemovedPackage r name pkg
 
--- The change of the package of this name would run this script, the first that the package has of those
--- that would run; and scripts are not skipped. `script` is its number in table 6 of `docs/formats.md`,
--- "Schemas".
+-- The change would have to run the script with this number of the package of this name, and `--no-scripts` is not
+-- given. The script is the first that the package has of those that would have to run. `script` is its number in table
+-- 6 of `docs/formats.md`, "Schemas".
 pub record IsFirstScriptRunAndNotSkipped (inputs : Inputs) (r : Replacement) (wishes : ChangeWishes)
     (read : Reads) (name : List ℕ) (script : ℕ) : Type 0 where
   -- `--no-scripts` is not given
@@ -105,5 +107,5 @@ pub record IsFirstScriptRunAndNotSkipped (inputs : Inputs) (r : Replacement) (wi
   pub runs : IsIn script (scripts_of_change change)
   -- the package has this script
   pub has : has_script_of pkg script ≡ true
-  -- it is the first script of the package that would run
+  -- the script is the first one of the package that would run
   pub first : first_script_of pkg (scripts_of_change change) ≡ Some script

@@ -1,5 +1,6 @@
--- Which packages there are after a change. The rules are in `docs/commands.md`, "`add` and `del`", and
--- in `docs/formats.md`, "The database after a change", on the kept and the added ones.
+-- Which packages are installed after a change. The rules are in `docs/commands.md`, "`add` and `del`", and in
+-- `docs/formats.md`, "The database after a change", on the kept and the added ones. In all definitions, `r` has the
+-- packages before the change and the selected candidates.
 use Rattle.std.specs.Prelude.{◌≡◌, ◌⊎◌, ℕ, true, List, Some, None}
 use Rattle.std.specs.List.{find}
 use Rattle.outcome.specs.adb_fields.FirstPair.{IsIn}
@@ -14,37 +15,38 @@ use Rattle.outcome.specs.package_changes.Changes.{Replacement, change_of_name, i
 use Rattle.outcome.specs.candidate_core.Candidates.{Candidate}
 use Rattle.refusal_laws.specs.AddedPackages.{IsAddedAsSelected, selected_candidate_of_name}
 
--- a member is the package of its name before, to the letter, which is the selected candidate and does
--- not change
+-- the member `f` is the package of this name as it was before the change. The selected candidate `c` is this package,
+-- and the change keeps it
 pub record IsUnchangedMember (r : Replacement) (name : List ℕ) (c : Candidate) (f : MemberFound) :
     Type 0 where
   -- the package of this name before the change
   pub pkg : Plain
   pub before : find (is_package_named name) r.before ≡ Some pkg
-  -- the candidate is this package
+  -- the selected candidate is this package
   pub same : is_candidate_this_package pkg c ≡ true
   -- the change does not change the package of this name
   pub becomes : change_of_name r name ≡ None
   -- the member is the package as it was before
   pub is : f ≡ kept_member_found pkg
 
--- a member is added, as the selected candidate says, with the contents of its files
+-- the change adds the member `f`: it is the package in the file of the selected candidate of this name
 pub record IsAddedMember (inputs : Inputs) (r : Replacement) (read : Reads) (name : List ℕ)
     (f : MemberFound) : Type 0 where
   -- the package in the file of the candidate
   pub pkg : AddedPackage
-  -- it is added, as the selected candidate says
+  -- the change adds this package, as the selected candidate says
   pub brought : IsAddedAsSelected inputs r read name pkg
-  -- the member is this package, with the contents of its files
+  -- the member is this package, with the contents of the files in it
   pub is : f ≡ added_member_found pkg
 
--- the selected candidate of a member's name is the package before, or is added
+-- the name of the member `f` has a selected candidate, and the member is the unchanged or the added package of this
+-- name
 pub record IsSelectedMember (inputs : Inputs) (r : Replacement) (read : Reads) (f : MemberFound) :
     Type 0 where
   -- the selected candidate of the member's name
   pub candidate : Candidate
   pub selected : selected_candidate_of_name r (member_name f.member) ≡ Some candidate
-  -- the member is the package before, or it is added
+  -- the member is the package as it was before, or the change adds it
   pub is : IsUnchangedMember r (member_name f.member) candidate f
       ⊎ IsAddedMember inputs r read (member_name f.member) f
 
@@ -54,8 +56,8 @@ pub record AreSelectedMembers (inputs : Inputs) (r : Replacement) (read : Reads)
     (found : List MemberFound) : Type 0 where
   -- the packages are in byte order of names, each name once
   pub in_order : AreMembersInNameOrder (found_members found)
-  -- each package is one of a selected candidate
+  -- each package is that of a selected candidate
   pub each : (f : MemberFound) → IsIn f found → IsSelectedMember inputs r read f
-  -- each selected candidate has a package
+  -- for each selected candidate there is a package with its name
   pub all : (c : Candidate) → IsIn c r.selected
       → (f : MemberFound) × IsIn f found × (member_name f.member ≡ c.name)

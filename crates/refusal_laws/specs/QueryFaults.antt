@@ -20,7 +20,7 @@ pub record HasTooManyCandidates (command : CommandLine) (read : Reads) (refusal 
   -- the refusal is *TooMany* with this number
   pub is : refusal ≡ TooMany count
 
--- a refusal of a query is true: of the input; or, if that is read, of its candidates
+-- a refusal of a query is true: of an input; or, if all inputs are read, it is that there are too many candidates
 abbrev pub IsFaultOfQuery : CommandLine → Reads → Refusal → Type 0
 IsFaultOfQuery command read refusal =
     IsFaultOfInput command read refusal ⊎ HasTooManyCandidates command read refusal

@@ -1,5 +1,5 @@
--- What was read without a refusal before a later one. The order is in `docs/commands.md`, "`add` and
--- `del`", what is read and refused.
+-- What was read without a refusal before a later input is refused. The order is that of reasons 2 to 5 in
+-- `docs/commands.md`, "`add` and `del`", part "What is refused".
 use Rattle.std.specs.Prelude.{◌≡◌, ◌<◌, ℕ, true, List, None, Ok}
 use Rattle.base_core.specs.declared.cause.Cause.{Cause}
 use Rattle.outcome.specs.change_inputs.Database.{Database}
@@ -14,18 +14,17 @@ use Rattle.report_core.specs.declared.refusal.Refusal.TheVariants.{IndexBad, Ind
 use Rattle.root_names.specs.RootNames.{world_name}
 use Rattle.refusal_laws.specs.InputFaults.{IsIndexBad, IsIndexRead, repositories_file_text}
 
--- the database was read without a refusal: it passed its tests, or there is none and one may be
--- begun
+-- the database was read without a refusal: it passes its tests, or there is none and `--initdb` allows to begin one
 abbrev pub HasDatabase : CommandLine → Reads → Type 0
 HasDatabase command read = (database : Database) × (database_for command read ≡ Ok database)
 
--- no line of world is bad
+-- the file of world was read without a refusal: no line of it is bad
 abbrev pub HasWorld : Reads → Type 0
 HasWorld read =
     (world : List Dependency)
     × (root_world (found_text_or_empty (read world_read_number world_name)) ≡ Ok world)
 
--- no line of the list of repositories is bad
+-- the list of repositories was read without a refusal: no line of it is bad
 abbrev pub HasRepositories : Reads → Type 0
 HasRepositories read =
     (repositories : List Repository) × (repositories_of (repositories_file_text read) ≡ Ok repositories)
@@ -40,23 +39,23 @@ abbrev pub AllowsUntrusted : CommandLine → Reads → Type 0
 AllowsUntrusted command read =
     HasDatabaseAndWorld command read × HasRepositories read × (command.flags.allow_untrusted ≡ true)
 
--- the index of each repository with a lesser number is there
+-- the index of each repository with a smaller number than `number` is found
 abbrev pub HasIndexesBefore : Reads → ℕ → Type 0
 HasIndexesBefore read number =
     (earlier : ℕ) → earlier < number → IsIndexRead read earlier None → ⊥
 
--- the index of each repository is there
+-- the index of each repository is found
 abbrev pub HasIndexes : Reads → Type 0
 HasIndexes read = (number : ℕ) → IsIndexRead read number None → ⊥
 
--- the index of each repository with a lesser number passes all tests
+-- the index of each repository with a smaller number than `number` passes all tests
 abbrev pub AreEarlierIndexesSound : Reads → ℕ → Type 0
 AreEarlierIndexesSound read number =
     (earlier : ℕ) (cause : Cause) → earlier < number → IsIndexBad read earlier cause → ⊥
 
--- What is read before this refusal of the input: first the database, then world, then the repositories,
--- which must be allowed, and last their indexes. All indexes are looked up, in the order of their
--- numbers, before the first of them is tested.
+-- What was read without a refusal before this refusal of an input. The order is: the database, world, the list of
+-- repositories, which `--allow-untrusted` must allow, and last their indexes. All indexes are looked up, in the order
+-- of their numbers, before the first of them is tested.
 abbrev pub HasPassedInputsBeforeRefusal : CommandLine → Reads → Refusal → Type 0
 HasPassedInputsBeforeRefusal command read (WorldBad line) = HasDatabase command read
 HasPassedInputsBeforeRefusal command read (RepositoriesBad line) = HasDatabaseAndWorld command read

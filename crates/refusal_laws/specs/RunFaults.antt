@@ -14,17 +14,17 @@ use Rattle.report_core.specs.declared.refusal.Refusal.{Refusal}
 use Rattle.report_core.specs.declared.refusal.Refusal.TheVariants.{IntentBad}
 use Rattle.refusal_laws.specs.CommandFaults.{IsFaultOfCommand}
 
--- a refusal is true of the command over the files on which it works, with the candidates that are to be
--- chosen
+-- a refusal of the command is true over the files on which it works after recovery, with the candidates of the first
+-- preferred selection
 pub record IsFaultOfCommandOverFiles (command : CommandLine) (files : Files)
     (refusal : Refusal) : Type 0 where
-  -- the places of the preferred selection, if there is one
+  -- the places of the candidates of the first preferred selection, if there is one
   pub chosen : Option (List ℕ)
   pub choice : IsChoiceFrom (pool_of_command command (reads_in files)) chosen
-  -- the refusal is true for this choice
+  -- the refusal of the command is true for these candidates
   pub fault : IsFaultOfCommand command (reads_in files) files chosen refusal
 
--- the intent of an interrupted change fails this test first, and that is reported
+-- the intent (journal entry) among these files fails a test, and the refusal reports the first such test
 pub record IsIntentRefusal (files : Files) (refusal : Refusal) : Type 0 where
   -- the first test that the intent fails
   pub cause : Cause
@@ -32,8 +32,8 @@ pub record IsIntentRefusal (files : Files) (refusal : Refusal) : Type 0 where
   -- the refusal reports this cause
   pub told : refusal ≡ IntentBad cause
 
--- a refusal of a run is true: a bad intent is refused before all else; otherwise a run works on the
--- recovered files
+-- a refusal of a run that begins with these files is true: of a bad intent (journal entry), before all else; or of the
+-- command, which works on the recovered files
 abbrev pub IsFaultOfRun : CommandLine → Files → Refusal → Type 0
 IsFaultOfRun command files refusal =
     IsIntentRefusal files refusal

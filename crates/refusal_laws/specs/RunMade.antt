@@ -15,26 +15,26 @@ use Rattle.outcome.specs.search_tables.Selection.{IsFirstPreferredSelection}
 use Rattle.refusal_laws.specs.PackagesAfter.{AreSelectedMembers}
 use Rattle.refusal_laws.specs.TestsPassed.{PassesChangeTestsExceptLimits}
 
--- a run has taken the first preferred selection: it is found, the packages after the change are exactly
--- those, and the files that they leave have no fault
+-- a run has taken the first preferred selection: there is one, the packages after the change are exactly the selected
+-- ones, and the files that they leave have no fault
 pub record HasFaultlessFirstPreferredSelection (command : CommandLine) (files : Files) : Type 0 where
   -- the candidates of the command, under its new world
   pub pool : SealedPool
   pub is_pool : pool_of_command command (reads_in files) ≡ Ok pool
-  -- the places of the preferred selection
+  -- the places of the candidates of the first preferred selection
   pub trace : List ℕ
   pub first : IsFirstPreferredSelection pool trace
-  -- what is read, and the packages before with the candidates that replace them
+  -- the inputs that are read, and the packages before the change with the candidates of this selection
   pub selected : InputsAndReplacement
   pub selects : selected_from_reads_by_choice command (reads_in files) (Some trace) ≡ Ok selected
-  -- the selected candidates are those of the trace
+  -- the selected candidates are those at the places of the trace
   pub candidates : selected.replacement.selected ≡ candidates_at pool trace
   -- the packages after the change
   pub found : List MemberFound
   pub members :
       members_after_change selected.inputs selected.replacement (wishes_of command) (reads_in files)
       ≡ Ok found
-  -- these are the selected packages
+  -- the packages after the change are the selected ones
   pub are_selected :
       AreSelectedMembers selected.inputs selected.replacement (reads_in files) found
   -- the files that they leave pass all tests, except those of the writer's limits

@@ -1,5 +1,5 @@
--- What holds of the packages after a change that has passed some of its tests. The tests are in
--- `docs/commands.md`, "What a change does with files", 1 to 3, and "`add` and `del`", what is refused.
+-- What holds of the packages after a change that has passed some of its tests: tests 1 to 3 of `docs/commands.md`,
+-- "What a change does with files", part "Tests", and reasons 11 and 12 of "`add` and `del`", part "What is refused".
 use Rattle.std.specs.Prelude.{◌≡◌, ℕ, true, false, List, is_some}
 use Rattle.outcome.specs.adb_fields.FirstPair.{IsIn}
 use Rattle.outcome.specs.adb_schema.Reserved.{is_reserved}
@@ -16,40 +16,39 @@ use Rattle.report_core.specs.declared.refusal.Refusal.{Refusal}
 use Rattle.report_core.specs.declared.refusal.Refusal.TheVariants.{Owned, PathClash, ResultTooLarge, TriggerNeeded}
 use Rattle.refusal_laws.specs.ChangeFaults.{HasPatternOfTouchedFolder}
 
--- no added package lists a path that apk keeps for itself
+-- no path that an added package among these members lists is reserved for apk itself
 abbrev pub AreAddedPathsUnreserved : List Member → Type 0
 AreAddedPathsUnreserved members =
     (path : List ℕ) → IsIn path (added_paths members) → is_reserved path ≡ false
 
--- each path that a package lists has an owner
+-- each path that one of these members lists has an owner
 abbrev pub EachListedPathHasOwner : List Member → Type 0
 EachListedPathHasOwner members =
     (l : Listing) → IsIn l (member_listings members)
     → is_some (owner_of_path members l.path) ≡ true
 
--- no trigger of a package is due, or scripts are skipped
+-- no trigger of a package after the change is due, or `--no-scripts` is given
 abbrev pub HasNoDueTrigger : ChangeWishes → FileChange → Files → Type 0
 HasNoDueTrigger wishes change files =
     wishes.no_scripts ≡ false → (m : Member) → IsIn m change.members
     → has_script_of m.pkg TRIGGER_SCRIPT ≡ true → HasPatternOfTouchedFolder change files m.pkg → ⊥
 
--- the first two tests of files passed: no path is reserved and no name clashes
+-- the first two tests of paths are passed: no path of an added package is reserved, and no names clash
 abbrev pub HasNoReservedOrClashingPath : FileChange → Files → Type 0
 HasNoReservedOrClashingPath change files =
     AreAddedPathsUnreserved change.members × HasNoClash (name_change change files) files
 
--- all three tests of files passed: those of *HasNoReservedOrClashingPath*, and that each listed path has an owner
+-- all three tests of paths are passed: those of *HasNoReservedOrClashingPath*, and each listed path has an owner
 abbrev pub HasNoReservedClashingOrUnownedPath : FileChange → Files → Type 0
 HasNoReservedClashingOrUnownedPath change files =
     HasNoReservedOrClashingPath change files × EachListedPathHasOwner change.members
 
--- a change has none of the faults for which its files would be refused, except for the limits of what
--- is written
+-- a change passes all tests of its files (of paths and triggers), except those of the limits of what is written
 abbrev pub PassesChangeTestsExceptLimits : ChangeWishes → FileChange → Files → Type 0
 PassesChangeTestsExceptLimits wishes change files =
     HasNoReservedClashingOrUnownedPath change files × HasNoDueTrigger wishes change files
 
--- what is tested before this refusal of a change's files
+-- the tests before this refusal of a change's files were passed
 abbrev pub HasPassedTestsBeforeRefusal : ChangeWishes → FileChange → Files → Refusal → Type 0
 HasPassedTestsBeforeRefusal wishes change files (PathClash path other) =
     AreAddedPathsUnreserved change.members

@@ -45,7 +45,7 @@ use outcome::{a_change_takes_the_first_selection_or_is_refused, a_command_recove
 /// If what a change reads of a root is refused, the refusal is true: of the database, of world, of
 /// the repositories or of their indexes, in this order.
 pub fn a_refused_input_has_its_fault()
-    // The refusal is true.
+    // The refusal is true of this input.
     ensures fault { (command : CommandLine) (read : Reads) (refusal : Refusal)
         → inputs_of command read ≡ Err refusal → IsFaultOfInput command read refusal }
     // The inputs that precede the refused one in this order were read, and have no fault.
@@ -57,15 +57,15 @@ pub fn a_refused_input_has_its_fault()
 /// what is not installed. The refusal of `info -e` follows its report. Without a refusal, what each
 /// operand asks for is installed.
 pub fn a_refused_info_has_its_fault()
-    // The refusal replaces the report.
+    // A refusal without a report is true: of the database or of an operand.
     ensures fault { (command : CommandLine) (read : Reads) (refusal : Refusal)
         → info_result command read ≡ Err refusal → IsFaultOfInfo command read refusal }
-    // The refusal follows the report.
+    // A refusal after the report, which only `info -e` has, is true of an operand.
     ensures following_refusal { (command : CommandLine) (read : Reads) (done : ReportAndRefusal)
         (refusal : Refusal)
         → info_result command read ≡ Ok done → done.following_refusal ≡ Some refusal
         → (command.flags.installed ≡ true) × IsFaultOfOperandNotInstalled command read refusal }
-    // No refusal.
+    // Without a refusal, the database has what each operand asks for.
     ensures told { (command : CommandLine) (read : Reads) (done : ReportAndRefusal)
         → info_result command read ≡ Ok done → done.following_refusal ≡ None
         → AreOperandsFoundInstalled command read }
@@ -105,11 +105,11 @@ pub fn a_refused_change_has_its_fault()
 /// If a run that changes the installed packages is refused, the refusal is true: of the intent that
 /// an earlier change left, or of the recovered files.
 pub fn a_refused_run_has_its_fault()
-    // For a command, and the files on which it works after recovery.
+    // The refusal of a command is true of the files on which it works after recovery.
     ensures over { (command : CommandLine) (files : Files) (o : Outcome) (refusal : Refusal)
         → effect_of command.applet ≡ Changes → IsOutcomeOverRecoveredFiles command files o
         → o.refusal ≡ Some refusal → IsFaultOfCommandOverFiles command files refusal }
-    // For a command line, and the files with which its run begins.
+    // The refusal of a command line is true of the files with which its run begins.
     ensures words { (words : List (List ℕ)) (command : CommandLine) (files : Files) (o : Outcome)
         (refusal : Refusal) → command_of words ≡ Ok command
         → effect_of command.applet ≡ Changes → IsOutcome (command_of words) files o

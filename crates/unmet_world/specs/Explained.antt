@@ -19,8 +19,8 @@ use Rattle.report_core.specs.declared.refusal.Refusal.{Refusal}
 use Rattle.hint_core.specs.Repositories.{no_index_line}
 use Rattle.unmet_world.specs.Lines.{IsExplanationOfUnmetWorld}
 
--- a text explains the world of a pool, of which a file lists some entries, and whose candidates are of
--- these repositories
+-- a text explains why no selection satisfies the world of a pool. `listed` has the entries of the file of world, and
+-- the candidates are from these repositories
 pub record ExplainsPool (listed : List Dependency) (repositories : List Repository)
     (pool : SealedPool) (text : List ℕ) : Type 0 where
   -- the explanation itself
@@ -29,14 +29,14 @@ pub record ExplainsPool (listed : List Dependency) (repositories : List Reposito
   -- the line on repositories follows it
   pub whole : text ≡ front ++ no_index_line repositories
 
--- a text explains the world of a pool; it is empty if there are too many candidates for one
+-- a text explains the world of a pool; it is empty if the pool is refused, since there are too many candidates
 abbrev pub ExplainsIfPool :
     List Dependency → List Repository → Result SealedPool Refusal → List ℕ → Type 0
 ExplainsIfPool listed repositories (Ok pool) text = ExplainsPool listed repositories pool text
 ExplainsIfPool listed repositories (Err refusal) text = text ≡ []
 
--- a text explains the world that a command asks for, by what was read of a root. Which names the command
--- upgrades makes no difference
+-- a text explains why no selection satisfies the new world of a command, by what was read of the root. Which packages
+-- the command upgrades makes no difference
 abbrev pub ExplainsInputs : Inputs → List ℕ → Type 0
 ExplainsInputs inputs text =
     ExplainsIfPool inputs.root.world inputs.root.repositories (root_pool inputs no_names) text
@@ -54,7 +54,8 @@ abbrev pub ExplainsIfRead : Result Inputs Refusal → List ℕ → Type 0
 ExplainsIfRead (Ok inputs) text = ExplainsInputs inputs text
 ExplainsIfRead (Err refusal) text = text ≡ []
 
--- a text explains the world that a command asks for, by what is read of the root
+-- a text explains why no selection satisfies the new world of a command, by some reads. If the history of the tree is
+-- observable, these are reads of the tree
 abbrev pub ExplainsChange : CommandLine → List TreeState → List ℕ → Type 0
 ExplainsChange command history text =
     IsExplainedBySomeReads history (λ read. ExplainsIfRead (inputs_of command read) text)

@@ -1,4 +1,5 @@
--- Names that differ by one letter. They are shown for a name that no package has.
+-- Names that differ by one byte. If no package has a name, the explanation shows a similar name. The rule is in
+-- `docs/commands.md`, "Why nothing can be selected".
 use Rattle.std.specs.Prelude.{ℕ, ◌==◌, Bool, ◌||◌, if◌then◌else◌, List, [], ◌∷◌, length, drop, Option}
 use Rattle.std.specs.Option.{option_map}
 use Rattle.std.specs.List.{find}
@@ -11,15 +12,15 @@ is_same_after_first text other =
     bytes_eq (drop 1 text) (drop 1 other)
     || (bytes_eq text (drop 1 other) || bytes_eq (drop 1 text) other)
 
--- whether two texts differ by one byte, which only one of them has, or which is another in each: after
--- what they begin with alike, the rest is the same without that byte
+-- whether two texts differ by one byte: only one of them has it, or it is another in each. After their common
+-- beginning, the rest is the same without this byte
 abbrev pub differ_by_one : List ℕ → List ℕ → Bool
 differ_by_one [] other = length other == 1
 differ_by_one (x ∷ rest) [] = length (x ∷ rest) == 1
 differ_by_one (x ∷ rest) (y ∷ others) =
     if x == y then differ_by_one rest others else is_same_after_first (x ∷ rest) (y ∷ others)
 
--- the first name of a package that differs by one byte from a name
+-- the name of the first candidate whose name differs by one byte from this one
 abbrev pub similar_name : List ℕ → List Candidate → Option (List ℕ)
 similar_name name candidates =
     option_map (λ (c : Candidate). c.name)

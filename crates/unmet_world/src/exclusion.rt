@@ -24,7 +24,7 @@ pub(crate) fn exclude_each_other(pool: &Sealed<'_>, a: CandId, b: CandId) -> boo
     shared_name_at_places(pool, a, b).is_some()
 }
 
-/// The first conflict of a candidate that another one meets.
+/// The first conflict of the candidate `a` that the candidate `b` meets.
 pub(crate) fn conflict_between<'a>(pool: &Sealed<'a>, a: CandId, b: CandId) -> Option<Dep<'a>>
     ensures { option_map dependency result ≡ conflict_between pool.now a b }
 {
@@ -34,7 +34,7 @@ pub(crate) fn conflict_between<'a>(pool: &Sealed<'a>, a: CandId, b: CandId) -> O
     }
 }
 
-// The first of some dependencies that is a conflict and is met by a candidate.
+// The first of these dependencies that is a conflict and is met by the candidate `other`.
 fn conflict_among<'a>(depends: &Deps<'a>, other: &Details<'_>) -> Option<Dep<'a>>
     ensures { option_map dependency result ≡ find (is_conflict_met_by other.now) depends.now }
 {
@@ -47,7 +47,7 @@ fn conflict_among<'a>(depends: &Deps<'a>, other: &Details<'_>) -> Option<Dep<'a>
     None
 }
 
-/// Whether a dependency is a conflict, and a candidate meets it.
+/// Whether a dependency is a conflict, and the candidate `other` meets it.
 pub(crate) fn is_conflict_met_by(dep: &Dep<'_>, other: &Details<'_>) -> bool
     ensures { result ≡ is_conflict_met_by other.now (dependency dep.now) }
 {
@@ -57,7 +57,7 @@ pub(crate) fn is_conflict_met_by(dep: &Dep<'_>, other: &Details<'_>) -> bool
     other.meets(dep)
 }
 
-/// The first name that two candidates both occupy.
+/// The first name that the candidates `a` and `b` both occupy: that of `a`, or one of its provides.
 pub(crate) fn shared_name_at_places<'a>(pool: &Sealed<'a>, a: CandId, b: CandId) -> Option<&'a [u8]>
     ensures { option_copied result ≡ shared_name_at_places pool.now a b }
 {
@@ -67,7 +67,7 @@ pub(crate) fn shared_name_at_places<'a>(pool: &Sealed<'a>, a: CandId, b: CandId)
     }
 }
 
-// The first name that two candidates both occupy: that of the first one, or one of its provides.
+// The first name that two candidates both occupy: the name of `one`, or one of its provides.
 fn shared_name<'a>(one: &Details<'a>, other: &Details<'_>) -> Option<&'a [u8]>
     ensures { option_copied result ≡ shared_name one.now other.now }
 {
@@ -77,7 +77,7 @@ fn shared_name<'a>(one: &Details<'a>, other: &Details<'_>) -> Option<&'a [u8]>
     occupied_among(&one.provides(), other)
 }
 
-// The first name that some provides have with a version, and that a candidate occupies.
+// The first name that these provides have with a version, and that the candidate `other` occupies.
 fn occupied_among<'a>(provides: &Deps<'a>, other: &Details<'_>) -> Option<&'a [u8]>
     ensures { option_copied result ≡ occupied_among provides.now other.now }
 {
@@ -90,7 +90,8 @@ fn occupied_among<'a>(provides: &Deps<'a>, other: &Details<'_>) -> Option<&'a [u
     None
 }
 
-// Whether an entry of provides occupies its name, and a candidate does too.
+// Whether an entry of provides occupies its name (it has a version), and the candidate `other`
+// occupies this name too.
 fn occupies(entry: &Dep<'_>, other: &Details<'_>) -> bool
     ensures { result ≡ both_occupy other.now (dependency entry.now) }
 {

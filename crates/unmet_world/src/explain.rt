@@ -46,7 +46,7 @@ pub fn explain_selection<T: Tree, S: Sink>(
     write_lines(&text, sink)
 }
 
-// The explanation of a command's words.
+// The explanation for a command line; empty if its words are no command that changes packages.
 fn explanation_for<T: Tree>(
     alloc: Global,
     words: &Words,
@@ -54,6 +54,7 @@ fn explanation_for<T: Tree>(
 ) -> Result<Vec<u8>, TreeFault>
     ensures text { IfOk result (λ text.
         ExplainsCommandLine (command_of words.now) (T.history tree.old) text.items) }
+    // The tree is only read.
     ensures tree { OnlyReads TreeFault.Disk (T.history tree.old) (T.history tree.new)
         (T.counts tree.old) (T.counts tree.new) result }
 {
@@ -73,6 +74,7 @@ fn explanation_of_command<T: Tree>(
 ) -> Result<Vec<u8>, TreeFault>
     ensures text { IfOk result (λ text.
         ExplainsForApplet command.now.applet command.now (T.history tree.old) text.items) }
+    // The tree is only read.
     ensures tree { OnlyReads TreeFault.Disk (T.history tree.old) (T.history tree.new)
         (T.counts tree.old) (T.counts tree.new) result }
 {
@@ -92,6 +94,7 @@ fn explanation_of_change<T: Tree>(
 ) -> Result<Vec<u8>, TreeFault>
     ensures text { IfOk result (λ text.
         ExplainsChange command.now (T.history tree.old) text.items) }
+    // The tree is only read.
     ensures tree { OnlyReads TreeFault.Disk (T.history tree.old) (T.history tree.new)
         (T.counts tree.old) (T.counts tree.new) result }
 {
@@ -99,7 +102,7 @@ fn explanation_of_change<T: Tree>(
     explanation_of_read(alloc, &read)
 }
 
-// The explanation by what was read of a root; empty if the root is refused now.
+// The explanation by the result of reading a root; empty if the root is refused now.
 fn explanation_of_read(alloc: Global, read: &Result<Loaded, Refused>) -> Result<Vec<u8>, TreeFault>
     ensures text { IfOk result (λ text. ExplainsResult read.now text.items) }
     // The tree failed exactly if the reading did.
@@ -114,10 +117,12 @@ fn explanation_of_read(alloc: Global, read: &Result<Loaded, Refused>) -> Result<
     }
 }
 
-// The explanation of what was read of a root; empty if there are too many candidates.
+// The explanation of the new world of a command, by what was read of the root; empty if there are
+// too many candidates for a pool.
 fn explanation_of_loaded(alloc: Global, loaded: &Loaded) -> Result<Vec<u8>, AllocError>
     ensures { IfOk result (λ text. ExplainsInputs (inputs_seen loaded.now) text.items) }
 {
+    // Which packages are upgraded makes no difference to the explanation.
     match loaded.pool(alloc, Upgrade::Nothing) {
         Ok(pool) => explanation_of_pool(
             alloc,
@@ -131,7 +136,8 @@ fn explanation_of_loaded(alloc: Global, loaded: &Loaded) -> Result<Vec<u8>, Allo
     }
 }
 
-// The explanation of the world of a pool, of which the file of world lists some entries.
+// The explanation of the world of a pool, and the line that says that there is no repository, if
+// there is none. `listed` has the entries of the file of world.
 fn explanation_of_pool(
     alloc: Global,
     pool: &Sealed<'_>,
@@ -139,6 +145,7 @@ fn explanation_of_pool(
     listed: &World,
     repositories: &Repos,
 ) -> Result<Vec<u8>, AllocError>
+    // The world is the one with which the pool was sealed.
     requires { world.now ≡ pool.now.world }
     ensures { IfOk result (λ text.
         ExplainsPool listed.now repositories.now pool.now text.items) }

@@ -20,7 +20,7 @@ const MOST_LINES: usize = 10;
 
 // ---- steps
 
-// The text that an owner needs a dependency.
+// The text that an owner needs the dependency `dep`, as in `etc/apk/world needs app`.
 fn needs(
     alloc: Global,
     sources: &Sources<'_>,
@@ -38,14 +38,15 @@ fn needs(
     Ok(line)
 }
 
-// Adds the line of what there is of a dependency's name, if no candidate that may be selected meets
-// the dependency.
+// Adds the line that says which candidates offer a dependency's name, if no candidate that may be
+// selected meets the dependency.
 fn add_missing(
     alloc: Global,
     lines: &mut Vec<Text>,
     sources: &Sources<'_>,
     dep: &Dep<'_>,
 ) -> Result<(), AllocError>
+    // The world is the one with which the pool was sealed.
     requires { sources.now.world.now ≡ sources.now.pool.now.world }
     ensures { OnOk result (lines.new.items ≡ with_texts lines.old.items
         (missing_lines sources.now.pool.now sources.now.listed.now (dependency dep.now))) }
@@ -58,13 +59,15 @@ fn add_missing(
     add_once(lines, line)
 }
 
-// Adds the lines of what is wanted.
+// Adds the lines of a wanted dependency: who needs it, and, if nothing meets it, which candidates
+// offer its name.
 fn add_want(
     alloc: Global,
     lines: &mut Vec<Text>,
     sources: &Sources<'_>,
     want: Want,
 ) -> Result<(), AllocError>
+    // The world is the one with which the pool was sealed.
     requires { sources.now.world.now ≡ sources.now.pool.now.world }
     ensures { OnOk result (lines.new.items ≡ with_texts lines.old.items
         (want_lines sources.now.pool.now sources.now.listed.now sources.now.repositories.now want)) }
@@ -80,7 +83,7 @@ fn add_want(
     }
 }
 
-// Adds the line that says which candidate is the only one left for what is wanted.
+// Adds the line that says that the candidate `id` is the only one left for a wanted dependency.
 fn add_only(
     alloc: Global,
     lines: &mut Vec<Text>,
@@ -88,6 +91,7 @@ fn add_only(
     want: Want,
     id: CandId,
 ) -> Result<(), AllocError>
+    // The world is the one with which the pool was sealed.
     requires { sources.now.world.now ≡ sources.now.pool.now.world }
     ensures { OnOk result (lines.new.items ≡ with_texts lines.old.items
         (only_candidate_lines sources.now.pool.now sources.now.listed.now sources.now.repositories.now
@@ -105,7 +109,7 @@ fn add_only(
     }
 }
 
-// The text that a candidate has a conflict, which another candidate meets.
+// The text that the candidate `a` has the conflict `dep`, which the candidate `b` meets.
 fn conflict(
     alloc: Global,
     sources: &Sources<'_>,
@@ -125,7 +129,7 @@ fn conflict(
     Ok(Text::from_vec(line))
 }
 
-// The text that two candidates both occupy a name.
+// The text that the candidates `a` and `b` both occupy a name.
 fn sharing(
     alloc: Global,
     sources: &Sources<'_>,
@@ -145,7 +149,8 @@ fn sharing(
     Ok(Text::from_vec(line))
 }
 
-// The text that says by what two candidates exclude each other, if they do.
+// The text that says by what two candidates exclude each other: a conflict of `a`, one of `b`, or a
+// name; None if they do not.
 fn exclusion(
     alloc: Global,
     sources: &Sources<'_>,
@@ -189,13 +194,14 @@ fn add_exclusion(
     }
 }
 
-// Adds the lines of a step.
+// Adds the lines that explain a step of a refutation.
 fn add_step(
     alloc: Global,
     lines: &mut Vec<Text>,
     sources: &Sources<'_>,
     step: Step,
 ) -> Result<(), AllocError>
+    // The world is the one with which the pool was sealed.
     requires { sources.now.world.now ≡ sources.now.pool.now.world }
     ensures { OnOk result (lines.new.items ≡ with_texts lines.old.items
         (step_lines sources.now.pool.now sources.now.listed.now sources.now.repositories.now step)) }
@@ -212,13 +218,14 @@ fn add_step(
     }
 }
 
-// Adds the lines of some steps.
+// Adds the lines that explain these steps of a refutation.
 fn add_steps(
     alloc: Global,
     lines: &mut Vec<Text>,
     sources: &Sources<'_>,
     steps: &[Step],
 ) -> Result<(), AllocError>
+    // The world is the one with which the pool was sealed.
     requires { sources.now.world.now ≡ sources.now.pool.now.world }
     ensures { OnOk result (lines.new.items ≡ with_texts lines.old.items
         (flat_map (step_lines sources.now.pool.now sources.now.listed.now
@@ -230,7 +237,7 @@ fn add_steps(
     Ok(())
 }
 
-// The first of some steps, at most as many as there are lines.
+// The first of these steps, at most as many as lines are printed.
 fn first_of(steps: &[Step]) -> &[Step]
     ensures { result.now ≡ take most_printed_lines steps.now }
 {
@@ -241,12 +248,13 @@ fn first_of(steps: &[Step]) -> &[Step]
     }
 }
 
-// The lines of a refutation.
+// The lines of a refutation, each once: first those of its end, then those of its first ten steps.
 fn refutation_lines(
     alloc: Global,
     sources: &Sources<'_>,
     refutation: &Refutation,
 ) -> Result<Vec<Text>, AllocError>
+    // The world is the one with which the pool was sealed.
     requires { sources.now.world.now ≡ sources.now.pool.now.world }
     ensures { IfOk result (λ lines. lines.items
         ≡ refutation_lines sources.now.pool.now sources.now.listed.now
@@ -258,8 +266,9 @@ fn refutation_lines(
     Ok(lines)
 }
 
-// The entries of world that are no conflicts.
+// A line for each entry of world that is no conflict.
 fn world_lines(alloc: Global, sources: &Sources<'_>) -> Result<Vec<Text>, AllocError>
+    // The world is the one with which the pool was sealed.
     requires { sources.now.world.now ≡ sources.now.pool.now.world }
     ensures { IfOk result (λ lines. lines.items
         ≡ world_lines sources.now.listed.now sources.now.pool.now.world) }
@@ -278,7 +287,8 @@ fn world_lines(alloc: Global, sources: &Sources<'_>) -> Result<Vec<Text>, AllocE
 
 // ---- printing
 
-// Adds a line as it is printed.
+// Adds a line as it is printed: after the name of the program, and with bytes that do not print
+// escaped.
 fn add_printed(text: &mut Vec<u8>, line: &[u8]) -> Result<(), AllocError>
     ensures { OnOk result (text.new.items ≡ text.old.items ++ printed_line line.now) }
 {
@@ -297,7 +307,8 @@ fn add_all_printed(text: &mut Vec<u8>, lines: &[Text]) -> Result<(), AllocError>
     Ok(())
 }
 
-// Lines as they are printed, at most ten.
+// The text of lines as they are printed. If there are more than ten, it has the first nine, and two
+// dots instead of the others.
 fn printed(alloc: Global, lines: &[Text]) -> Result<Vec<u8>, AllocError>
     ensures { IfOk result (λ text. text.items ≡ text_of_at_most_ten_lines lines.now) }
 {
@@ -311,12 +322,14 @@ fn printed(alloc: Global, lines: &[Text]) -> Result<Vec<u8>, AllocError>
     Ok(text)
 }
 
-/// The explanation of a refutation, or else the first entries of world, as it is printed.
+/// The lines of a refutation, if one was found, or else of the entries of world, as they are
+/// printed.
 pub(crate) fn explanation(
     alloc: Global,
     sources: &Sources<'_>,
     found: &Option<Refutation>,
 ) -> Result<Vec<u8>, AllocError>
+    // The world is the one with which the pool was sealed.
     requires { sources.now.world.now ≡ sources.now.pool.now.world }
     ensures { IfOk result (λ text. text.items ≡ explanation_text sources.now.pool.now
         sources.now.listed.now sources.now.repositories.now found.now) }
@@ -325,12 +338,14 @@ pub(crate) fn explanation(
     printed(alloc, &lines)
 }
 
-// The lines of a refutation, or else the first entries of world.
+// The lines of a refutation, if one was found, or else of the entries of world that are no
+// conflicts.
 fn lines_of(
     alloc: Global,
     sources: &Sources<'_>,
     found: &Option<Refutation>,
 ) -> Result<Vec<Text>, AllocError>
+    // The world is the one with which the pool was sealed.
     requires { sources.now.world.now ≡ sources.now.pool.now.world }
     ensures { IfOk result (λ lines. lines.items ≡ explanation_lines sources.now.pool.now
         sources.now.listed.now sources.now.repositories.now found.now) }

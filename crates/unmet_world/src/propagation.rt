@@ -1,9 +1,12 @@
-//! The search for a refutation, by unit propagation. It follows what is sure: the entries of world,
-//! the dependencies of a sure candidate, and a candidate that alone is left for one of these. It
-//! rules out a candidate that has a dependency for which none is left, or that a sure one excludes.
+//! The search for a refutation (reasons why no selection satisfies world), by unit propagation. An
+//! owner of dependencies is world, or a candidate. An owner is sure if each satisfying selection
+//! meets its dependencies: world is, and each candidate that all satisfying selections have. A
+//! candidate becomes sure if it alone is left for a dependency of a sure owner. A candidate is
+//! ruled out if none is left for one of its dependencies, or if a sure candidate excludes it.
 //!
-//! No contract says what the search finds. `is_refutation` checks it, so a wrong step can lose a
-//! refutation, but never makes a line untrue. The search looks at a bounded number of options.
+//! No contract says what the search finds. `is_refutation` checks the refutation, so a wrong step
+//! of the search can lose a refutation, but never makes a printed line untrue. The search looks at
+//! a bounded number of options.
 use crate::exclusion::exclude_each_other;
 use crate::refutation::{Owner, Refutation, Step, Want, candidate, wanted};
 use dep_core::World;
@@ -11,47 +14,48 @@ use search_tables::{CandId, Deps, NameTable, NeedRef, Options, Sealed};
 use std::alloc::{AllocError, Global};
 
 /// How many options the search lists at most, how many pairs of candidates it compares, and how
-/// many events it handles. This bounds its time and its memory.
+/// many times it calls `go_on`. This bounds its time and its memory.
 const MOST_LOOKED_AT: usize = 262144;
 
-/// What is wanted, and how many of its options are left.
+/// A wanted dependency, of world or of a candidate. Its options are the candidates that meet it.
 #[derive(Clone, Copy)]
 struct Open {
-    /// What is wanted.
+    /// Who wants the dependency, and which of the owner's dependencies it is.
     want: Want,
-    /// How many of its options are not ruled out.
+    /// How many options of the dependency are not ruled out yet.
     left: usize,
 }
 
-/// A candidate among the options of what is wanted.
+/// An entry for a candidate that is an option of a wanted dependency. The entries of one candidate
+/// are linked, from the latest to the first.
 #[derive(Clone, Copy)]
 struct Listed {
-    /// The index in `open` of what is wanted.
+    /// The index of the wanted dependency in `Propagation::open`.
     open: usize,
-    /// The index in `listed` of the previous entry of the same candidate.
+    /// The index in `Propagation::listed` of the previous entry of the same candidate.
     before: Option<usize>,
 }
 
 /// What is known of a candidate.
 #[derive(Clone, Copy)]
 struct Known {
-    /// Whether it is an option of something that is wanted, and so is in the list `seen`.
+    /// Whether it is an option of a wanted dependency, and so is in the list `Propagation::seen`.
     is_seen: bool,
-    /// Whether its dependencies are listed as wanted.
+    /// Whether its own dependencies are listed as wanted.
     is_expanded: bool,
-    /// The index of the step that rules it out.
+    /// The index in `Propagation::steps` of the step that rules it out, if one does.
     out: Option<usize>,
-    /// The index of the step that makes it sure.
+    /// The index in `Propagation::steps` of the step that makes it sure, if one does.
     sure: Option<usize>,
-    /// The index in `listed` of its latest entry.
+    /// The index in `Propagation::listed` of its latest entry, if it has one.
     listed: Option<usize>,
-    /// The index in `open` of what it wants first.
+    /// The index in `Propagation::open` of its first wanted dependency.
     first: usize,
-    /// The index in `open` after what it wants last.
+    /// The index in `Propagation::open` after its last wanted dependency.
     end: usize,
 }
 
-/// Nothing is known of a candidate.
+/// What is known of a candidate before the search has looked at it.
 const NOTHING: Known = Known {
     is_seen: false,
     is_expanded: false,
@@ -62,7 +66,7 @@ const NOTHING: Known = Known {
     end: 0,
 };
 
-/// A search under way.
+/// The state of the search.
 #[derive(Drop)]
 struct Propagation<'p> {
     /// The allocator.
@@ -71,31 +75,33 @@ struct Propagation<'p> {
     pool: &'p Sealed<'p>,
     /// The world that the pool was sealed with.
     world: &'p World,
-    /// What is wanted.
+    /// The wanted dependencies: those of world, and those of expanded candidates.
     open: Vec<Open>,
-    /// The candidates among the options of what is wanted.
+    /// The options of all wanted dependencies, an entry for each.
     listed: Vec<Listed>,
-    /// What is known of each candidate.
+    /// What is known of each candidate, in the order of their places in the pool.
     known: Vec<Known>,
     /// The steps so far.
     steps: Vec<Step>,
-    /// The indexes of what is wanted that has one option left, or none.
+    /// The indexes in `open` of wanted dependencies to look at: at most one option was left, or
+    /// their owner became sure.
     few: Vec<usize>,
-    /// How many of these were looked at.
+    /// How many entries of `few` were looked at.
     few_done: usize,
-    /// The candidates that are among some options.
+    /// The candidates that are options of wanted dependencies, each once.
     seen: Vec<CandId>,
-    /// How many of these were expanded.
+    /// How many entries of `seen` were expanded (their own dependencies are listed as wanted).
     seen_done: usize,
-    /// The expanded candidates that have conflicts, by the names of the conflicts.
+    /// The expanded candidates that have conflicts, by the names in these conflicts.
     conflicts: NameTable<'p, CandId>,
     /// How many pairs of candidates were compared.
     compared: usize,
-    /// What is wanted for sure, and has no option left.
+    /// The entry of world that has no option left, if the search has found one: the end of the
+    /// refutation.
     end: Option<Want>,
 }
 
-/// A refutation that the search finds, if it finds one.
+/// The refutation of world that the search finds, if it finds one.
 pub(crate) fn propagate<'p>(
     alloc: Global,
     pool: &'p Sealed<'p>,
@@ -120,6 +126,7 @@ impl<'p> Propagation<'p> {
         pool: &'p Sealed<'p>,
         world: &'p World,
     ) -> Result<Propagation<'p>, AllocError> {
+        // Nothing is known of any candidate.
         let mut known = Vec::with_capacity(alloc, pool.len())?;
         for _ in 0..pool.len() {
             known.push(NOTHING)?;
@@ -142,7 +149,8 @@ impl<'p> Propagation<'p> {
         })
     }
 
-    // Looks at what is wanted and at candidates, until there is an end or nothing is left.
+    // Lists the entries of world as wanted. Then searches until the refutation has an end, nothing
+    // is left to look at, or the limit is reached.
     fn run(&mut self) -> Result<(), AllocError> {
         for index in 0..self.world.len() {
             self.want(Owner::World, index)?;
@@ -155,7 +163,8 @@ impl<'p> Propagation<'p> {
         Ok(())
     }
 
-    // Looks at what has few options, and else at the next candidate. Returns false if there is neither.
+    // Looks at the next wanted dependency in `few`, and else expands the next candidate in `seen`.
+    // Returns false if there is neither.
     fn go_on(&mut self) -> Result<bool, AllocError> {
         if let Some(open) = self.few.get(self.few_done).copied() {
             self.few_done = self.few_done.saturating_add(1);
@@ -186,7 +195,7 @@ impl<'p> Propagation<'p> {
         }
     }
 
-    // Whether an owner is sure.
+    // Whether an owner is sure: world, or a candidate that a step has made sure.
     fn is_sure(&self, owner: Owner) -> bool {
         match owner {
             Owner::World => true,
@@ -194,7 +203,7 @@ impl<'p> Propagation<'p> {
         }
     }
 
-    // The options of what is wanted; none if it is a conflict.
+    // The options of a wanted dependency; None if it is a conflict, or does not exist.
     fn options_of(&self, want: Want) -> Result<Option<Options>, AllocError> {
         match wanted(self.pool, self.world, want) {
             None => Ok(None),
@@ -205,7 +214,8 @@ impl<'p> Propagation<'p> {
         }
     }
 
-    // Lists what an owner wants, and its options.
+    // Lists a dependency of an owner as wanted, with its options. `index` is its index among the
+    // dependencies of the owner. A conflict is left out, and so is all beyond the limit.
     fn want(&mut self, owner: Owner, index: usize) -> Result<(), AllocError> {
         let want = Want { owner, index };
         let Some(options) = self.options_of(want)? else {
@@ -214,6 +224,7 @@ impl<'p> Propagation<'p> {
         if self.listed.len() >= MOST_LOOKED_AT {
             return Ok(());
         }
+        // The index that the dependency gets in `open`.
         let open = self.open.len();
         let left = self.list_all(open, &options)?;
         self.open.push(Open { want, left })?;
@@ -223,7 +234,8 @@ impl<'p> Propagation<'p> {
         Ok(())
     }
 
-    // Lists the options of what is wanted, and returns how many of them are left.
+    // Lists the options of the wanted dependency with the index `open`, and returns how many of
+    // them are not ruled out.
     fn list_all(&mut self, open: usize, options: &Options) -> Result<usize, AllocError> {
         let mut left: usize = 0;
         for i in 0..options.len() {
@@ -235,9 +247,11 @@ impl<'p> Propagation<'p> {
         Ok(left)
     }
 
-    // Lists an option of what is wanted, and returns whether it is left.
+    // Lists the candidate `id` as an option of the wanted dependency with the index `open`. Returns
+    // whether the candidate is not ruled out.
     fn list(&mut self, open: usize, id: CandId) -> Result<bool, AllocError> {
         let mut known = self.known_of(id);
+        // The index that the new entry gets in `listed`.
         let place = self.listed.len();
         self.listed.push(Listed {
             open,
@@ -252,7 +266,8 @@ impl<'p> Propagation<'p> {
         Ok(known.out.is_none())
     }
 
-    // Looks at what has one option left, or none.
+    // Draws the conclusion from a wanted dependency with one option left, or none. `open` is its
+    // index.
     fn look_at(&mut self, open: usize) -> Result<(), AllocError> {
         if open >= self.open.len() {
             return Ok(());
@@ -267,9 +282,8 @@ impl<'p> Propagation<'p> {
         Ok(())
     }
 
-    // No option is left for what is wanted: a candidate that wants it is ruled out, and if world
-    // wants it, the search ends. A sure candidate is ruled out too, so that the end is an entry of
-    // world.
+    // No option of this dependency is left. A candidate that wants it is ruled out; if world wants
+    // it, the search ends. A sure candidate is ruled out too, so that the end is an entry of world.
     fn none_left(&mut self, want: Want) -> Result<(), AllocError> {
         match want.owner {
             Owner::World => {
@@ -283,7 +297,7 @@ impl<'p> Propagation<'p> {
         }
     }
 
-    // One option is left for what is wanted for sure: it is sure.
+    // One option of this dependency of a sure owner is left: this candidate becomes sure.
     fn one_left(&mut self, want: Want) -> Result<(), AllocError> {
         let Some(options) = self.options_of(want)? else {
             return Ok(());
@@ -297,7 +311,8 @@ impl<'p> Propagation<'p> {
         Ok(())
     }
 
-    // Rules a candidate out by a step: it is left for nothing that is wanted.
+    // Rules a candidate out by a step. Each wanted dependency of which it is an option has one
+    // option less.
     fn rule_out(&mut self, id: CandId, step: Step) -> Result<(), AllocError> {
         let mut known = self.known_of(id);
         if known.out.is_some() {
@@ -307,6 +322,7 @@ impl<'p> Propagation<'p> {
         self.set_known(id, known);
         self.steps.push(step)?;
         let mut next = known.listed;
+        // Goes through the linked entries of the candidate.
         for _ in 0..self.listed.len() {
             let Some(place) = next else {
                 return Ok(());
@@ -316,8 +332,8 @@ impl<'p> Propagation<'p> {
         Ok(())
     }
 
-    // One option less is left for what is wanted, by the index in `listed` of the option. Returns the
-    // index of the previous entry of the same candidate.
+    // Counts one option less for the wanted dependency of the entry at this index of `listed`.
+    // Returns the index of the previous entry of the same candidate.
     fn one_less(&mut self, place: usize) -> Result<Option<usize>, AllocError> {
         let Some(listed) = self.listed.get(place).copied() else {
             return Ok(None);
@@ -331,7 +347,8 @@ impl<'p> Propagation<'p> {
         Ok(listed.before)
     }
 
-    // Makes a candidate sure: what it wants is wanted for sure, and what it excludes is ruled out.
+    // Makes a candidate sure by a step, because of the dependency `want`. Its own dependencies are
+    // those of a sure owner now, and the candidates that it excludes are ruled out.
     fn make_sure(&mut self, id: CandId, want: Want) -> Result<(), AllocError> {
         let mut known = self.known_of(id);
         if known.sure.is_some() {
@@ -341,13 +358,15 @@ impl<'p> Propagation<'p> {
         self.set_known(id, known);
         self.steps.push(Step::Sure { id: id.place, want })?;
         self.expand(id)?;
+        // All its dependencies are looked at again, since their owner is sure now.
         for open in known.first..known.end {
             self.few.push(open)?;
         }
         self.exclude_with(id)
     }
 
-    // Lists what a candidate wants, and its conflicts.
+    // Expands a candidate, unless this was done: lists its dependencies as wanted, and its
+    // conflicts.
     fn expand(&mut self, id: CandId) -> Result<(), AllocError> {
         if self.known_of(id).is_expanded {
             return Ok(());
@@ -355,17 +374,20 @@ impl<'p> Propagation<'p> {
         let Some(details) = self.pool.at(id) else {
             return Ok(());
         };
+        // The index in `open` of the first dependency that is listed now.
         let first = self.open.len();
         self.want_all(id, &details.depends())?;
         let mut known = self.known_of(id);
         known.is_expanded = true;
+        // Its dependencies are the entries of `open` from `first` on.
         known.first = first;
         known.end = self.open.len();
         self.set_known(id, known);
         Ok(())
     }
 
-    // Lists the dependencies of a candidate as wanted, and its conflicts by their names.
+    // Lists the dependencies of a candidate as wanted, and its conflicts by the names in them.
+    // Rules the candidate out if a sure candidate meets a conflict.
     fn want_all(&mut self, id: CandId, depends: &Deps<'p>) -> Result<(), AllocError> {
         for index in 0..depends.len() {
             let dep = depends.get(index);
@@ -379,7 +401,8 @@ impl<'p> Propagation<'p> {
         Ok(())
     }
 
-    // Rules a candidate out if a sure one that offers a name excludes it.
+    // Rules the candidate `id` out if it and a sure candidate that offers this name exclude each
+    // other.
     fn exclude_by_sure(&mut self, id: CandId, name: &[u8]) -> Result<(), AllocError> {
         let pool = self.pool;
         for by in pool.offers(name) {
@@ -390,7 +413,7 @@ impl<'p> Propagation<'p> {
         Ok(())
     }
 
-    // Rules out what a sure candidate excludes.
+    // Rules out the candidates that the sure candidate `by` excludes.
     fn exclude_with(&mut self, by: CandId) -> Result<(), AllocError> {
         let Some(details) = self.pool.at(by) else {
             return Ok(());
@@ -400,7 +423,8 @@ impl<'p> Propagation<'p> {
         self.exclude_at_all(&details.depends(), by)
     }
 
-    // Rules out what a sure candidate excludes, by the names of some dependencies.
+    // Rules out the candidates that the sure candidate `by` excludes, for each name in these
+    // dependencies or provides of it.
     fn exclude_at_all(&mut self, deps: &Deps<'p>, by: CandId) -> Result<(), AllocError> {
         for i in 0..deps.len() {
             let dep = deps.get(i);
@@ -412,8 +436,8 @@ impl<'p> Propagation<'p> {
         Ok(())
     }
 
-    // Rules out what a sure candidate excludes, among those that offer a name or have a conflict of
-    // the name.
+    // Rules out the candidates that the sure candidate `by` excludes, among those that offer this
+    // name or have a conflict with it.
     fn exclude_at(&mut self, name: &[u8], by: CandId) -> Result<(), AllocError> {
         let pool = self.pool;
         for id in pool.offers(name) {
@@ -422,7 +446,8 @@ impl<'p> Propagation<'p> {
         self.exclude_conflicting(name, by)
     }
 
-    // Rules out what a sure candidate excludes, among those that have a conflict of a name.
+    // Rules out the candidates that the sure candidate `by` excludes, among the expanded ones that
+    // have a conflict with this name.
     fn exclude_conflicting(&mut self, name: &[u8], by: CandId) -> Result<(), AllocError> {
         let ids = Vec::from_slice(self.alloc, self.conflicts.get(name))?;
         for id in &ids {
@@ -431,7 +456,8 @@ impl<'p> Propagation<'p> {
         Ok(())
     }
 
-    // Rules a candidate out if a sure one excludes it.
+    // Rules the candidate `id` out if it and the sure candidate `by` exclude each other. Does
+    // nothing once too many pairs were compared.
     fn exclude(&mut self, id: CandId, by: CandId) -> Result<(), AllocError> {
         if self.compared >= MOST_LOOKED_AT {
             return Ok(());
@@ -451,8 +477,10 @@ impl<'p> Propagation<'p> {
 
     // ---- what an end needs
 
-    // The refutation with an end: the steps that the end needs, the last one first.
+    // The refutation with this end: of all steps so far those that the end needs, the last one
+    // first.
     fn refutation(&self, end: Want) -> Result<Refutation, AllocError> {
+        // Whether each step is needed.
         let mut needed = Vec::with_capacity(self.alloc, self.steps.len())?;
         for _ in 0..self.steps.len() {
             needed.push(false)?;
@@ -461,6 +489,8 @@ impl<'p> Propagation<'p> {
         self.mark_options(&mut needed, end)?;
         let mut steps = Vec::new(self.alloc);
         let mut left = self.steps.len();
+        // From the last step to the first: a step that is needed is kept, and marks the steps that
+        // it needs.
         while left > 0 {
             left -= 1;
             if needed.get(left).copied() == Some(true) {
@@ -471,7 +501,7 @@ impl<'p> Propagation<'p> {
         Ok(Refutation { steps, end })
     }
 
-    // Marks what a step needs.
+    // Marks the steps from which this step follows.
     fn mark_step(&self, needed: &mut Vec<bool>, step: Step) -> Result<(), AllocError> {
         match step {
             Step::Broken { id, index } => {
@@ -489,14 +519,14 @@ impl<'p> Propagation<'p> {
         }
     }
 
-    // Marks the step that makes an owner sure.
+    // Marks the step that makes an owner sure; world needs none.
     fn mark_owner(&self, needed: &mut Vec<bool>, owner: Owner) {
         if let Owner::Package(id) = owner {
             mark(needed, self.known_of(candidate(id)).sure);
         }
     }
 
-    // Marks the steps that rule out the options of what is wanted.
+    // Marks the steps that rule out options of a wanted dependency.
     fn mark_options(&self, needed: &mut Vec<bool>, want: Want) -> Result<(), AllocError> {
         let Some(options) = self.options_of(want)? else {
             return Ok(());
@@ -508,7 +538,7 @@ impl<'p> Propagation<'p> {
     }
 }
 
-// Marks a step, if there is one.
+// Marks the step with this index as needed, if there is one.
 fn mark(needed: &mut Vec<bool>, step: Option<usize>) {
     if let Some(step) = step {
         if step < needed.len() {

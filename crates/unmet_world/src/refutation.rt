@@ -12,12 +12,12 @@ use dep_core::{Dep, World};
 use search_tables::{CandId, CandidateSet, Deps, NeedRef, Options, Sealed};
 use std::alloc::{AllocError, Global};
 
-/// Who has dependencies.
+/// The owner of a dependency.
 #[derive(Clone, Copy)]
 pub enum Owner {
     /// World, whose entries are its dependencies.
     World,
-    /// The candidate at a place.
+    /// The candidate at this place in the pool.
     Package(u32),
 }
 
@@ -30,18 +30,19 @@ pub struct Want {
     pub index: usize,
 }
 
-/// A step of a refutation. Candidates are named by their places.
+/// A step of a refutation. `id` and `by` are the places of candidates in the pool.
 #[derive(Clone, Copy)]
 pub enum Step {
-    /// A candidate is ruled out: all that meet its dependency at an index are ruled out.
+    /// A candidate is ruled out: all candidates that meet its dependency with this index are ruled
+    /// out.
     Broken { id: u32, index: usize },
-    /// A candidate is ruled out: it and one that is sure exclude each other.
+    /// A candidate is ruled out: it and the sure candidate `by` exclude each other.
     Excluded { id: u32, by: u32 },
-    /// A candidate is sure: all others that meet what a sure owner wants are ruled out.
+    /// A candidate is sure: all others that meet this dependency of a sure owner are ruled out.
     Sure { id: u32, want: Want },
 }
 
-/// The candidate at a place.
+/// The candidate at a place of the pool, as a `CandId`.
 pub(crate) fn candidate(place: u32) -> CandId
     ensures { result ≡ place }
 {
@@ -51,9 +52,9 @@ pub(crate) fn candidate(place: u32) -> CandId
 /// Why no selection satisfies a world.
 #[derive(Drop)]
 pub struct Refutation {
-    /// The steps; each follows from those after it.
+    /// The steps, of which each follows from those after it in the list.
     pub steps: Vec<Step>,
-    /// What is wanted for sure, and only candidates meet it that are ruled out.
+    /// The dependency of a sure owner that only candidates meet which the steps rule out.
     pub end: Want,
 }
 
@@ -67,7 +68,7 @@ struct Checked {
 }
 
 impl Checked {
-    // Nothing follows yet.
+    // Before any step: no candidate is ruled out or sure.
     fn new(alloc: Global) -> Checked
         ensures out { result.out ≡ [] }
         ensures sure { result.sure ≡ [] }
@@ -78,7 +79,7 @@ impl Checked {
         }
     }
 
-    // Whether an owner is sure.
+    // Whether an owner is sure: world, or a candidate that a checked step makes sure.
     fn is_sure(&self, owner: Owner) -> bool
         ensures { result ≡ true → IsSureOwner self.now.sure owner }
     {
@@ -88,7 +89,7 @@ impl Checked {
         }
     }
 
-    // Whether a step follows.
+    // Whether a step follows from the steps that were checked.
     fn follows(
         &self,
         alloc: Global,
@@ -96,6 +97,7 @@ impl Checked {
         world: &World,
         step: Step,
     ) -> Result<bool, AllocError>
+        // The world is the one with which the pool was sealed.
         requires { world.now ≡ pool.now.world }
         ensures { IfOk result (λ follows. follows ≡ true →
             IsDerivationStep pool.now self.now.out self.now.sure step) }
@@ -103,15 +105,19 @@ impl Checked {
         match step {
             Step::Broken { id, index } => {
                 let owner = Owner::Package(id);
+                // All that meet this dependency of the candidate must be ruled out.
                 is_met_only_by(alloc, pool, world, Want { owner, index }, &None, &self.out)
             }
             Step::Excluded { id, by } => {
+                // The candidate that excludes it must be sure.
                 if !self.sure.has(candidate(by)) {
                     return Ok(false);
                 }
                 Ok(exclude_each_other(pool, candidate(by), candidate(id)))
             }
             Step::Sure { id, want } => {
+                // Each satisfying selection must meet the dependency, and all other options be
+                // ruled out.
                 if !self.is_sure(want.owner) {
                     return Ok(false);
                 }
@@ -120,7 +126,7 @@ impl Checked {
         }
     }
 
-    // Adds what a step rules out or makes sure.
+    // Adds the candidate that a step rules out or makes sure.
     fn add(&mut self, step: Step) -> Result<(), AllocError>
         ensures out { OnOk result (AreAllMembersOf self.new.out (ids_ruled_out_by_step step
             ++ self.old.out)) }
@@ -135,18 +141,21 @@ impl Checked {
     }
 }
 
-/// Whether a refutation is one: each step follows from those after it, and its end from all.
+/// Whether a refutation is valid: each step follows from those after it, and the end from all
+/// steps. The steps are checked from the last in the list to the first.
 pub fn is_refutation(
     alloc: Global,
     pool: &Sealed<'_>,
     world: &World,
     refutation: &Refutation,
 ) -> Result<bool, AllocError>
+    // The world is the one with which the pool was sealed.
     requires { world.now ≡ pool.now.world }
     ensures { IfOk result (λ is. is ≡ true → IsRefutation pool.now refutation.now) }
 {
     let mut checked = Checked::new(alloc);
     let mut left = refutation.steps.len();
+    // From the last step in the list to the first: each must follow from those checked so far.
     while left > 0 {
         left -= 1;
         let step = step_at(refutation, left);
@@ -155,6 +164,7 @@ pub fn is_refutation(
         }
         checked.add(step)?;
     }
+    // The end must be a dependency of a sure owner that only ruled-out candidates meet.
     let end = refutation.end;
     if !checked.is_sure(end.owner) {
         return Ok(false);
@@ -162,7 +172,7 @@ pub fn is_refutation(
     is_met_only_by(alloc, pool, world, end, &None, &checked.out)
 }
 
-// The step at an index.
+// The step of a refutation at an index.
 fn step_at(refutation: &Refutation, index: usize) -> Step
     requires { index < length refutation.now.steps.items }
     ensures { slice_get refutation.now.steps.items index ≡ Some result }
@@ -170,8 +180,8 @@ fn step_at(refutation: &Refutation, index: usize) -> Step
     refutation.steps[index]
 }
 
-// Whether each candidate that may be selected and meets what is wanted is ruled out, or is the one
-// that is kept.
+// Whether each candidate that may be selected and meets the wanted dependency is ruled out (in
+// `out`), or is the candidate `kept`. False if there is no such dependency.
 fn is_met_only_by(
     alloc: Global,
     pool: &Sealed<'_>,
@@ -180,6 +190,7 @@ fn is_met_only_by(
     kept: &Option<CandId>,
     out: &CandidateSet,
 ) -> Result<bool, AllocError>
+    // The world is the one with which the pool was sealed.
     requires { world.now ≡ pool.now.world }
     ensures { IfOk result (λ is. is ≡ true →
         IsMetOnlyBy pool.now want (option_to_list kept.now ++ out.now)) }
@@ -193,7 +204,7 @@ fn is_met_only_by(
     }
 }
 
-// Whether each option is ruled out, or is the one that is kept.
+// Whether each of these options is ruled out (in `out`), or is the candidate `kept`.
 fn are_left(options: &Options, kept: &Option<CandId>, out: &CandidateSet) -> bool
     ensures { result ≡ true → AreAllMembersOf options.now (option_to_list kept.now ++ out.now) }
 {
@@ -205,7 +216,7 @@ fn are_left(options: &Options, kept: &Option<CandId>, out: &CandidateSet) -> boo
     true
 }
 
-// Whether a candidate is ruled out, or is the one that is kept.
+// Whether the candidate `id` is ruled out (in `out`), or is the candidate `kept`, if there is one.
 fn is_left(id: CandId, kept: &Option<CandId>, out: &CandidateSet) -> bool
     ensures { result ≡ true → IsIn id (option_to_list kept.now ++ out.now) }
 {
@@ -215,7 +226,7 @@ fn is_left(id: CandId, kept: &Option<CandId>, out: &CandidateSet) -> bool
     }
 }
 
-// Whether a candidate is ruled out, or is another one.
+// Whether the candidate `id` is ruled out (in `out`), or is the candidate `kept`.
 fn is_one_of(id: CandId, kept: CandId, out: &CandidateSet) -> bool
     ensures { result ≡ true → IsIn id (kept ∷ out.now) }
 {
@@ -225,7 +236,8 @@ fn is_one_of(id: CandId, kept: CandId, out: &CandidateSet) -> bool
     out.has(id)
 }
 
-/// The dependency that an owner wants to be met; None if there is none at the index, or a conflict.
+/// The dependency that an owner wants to be met; None if the owner has none at the index, or the
+/// dependency is a conflict.
 pub fn wanted<'a>(pool: &Sealed<'a>, world: &'a World, want: Want) -> Option<Dep<'a>>
     ensures { world.now ≡ pool.now.world → option_map dependency result ≡ wanted pool.now want }
 {
@@ -235,14 +247,14 @@ pub fn wanted<'a>(pool: &Sealed<'a>, world: &'a World, want: Want) -> Option<Dep
     }
 }
 
-// A dependency that is no conflict.
+// The dependency; None if it is a conflict.
 fn if_positive(dep: Dep<'_>) -> Option<Dep<'_>>
     ensures { option_map dependency result ≡ if_positive (Some (dependency dep.entry)) }
 {
     if dep.conflict { None } else { Some(dep) }
 }
 
-// The dependency of an owner at an index, if there is one.
+// The dependency of an owner at the index of `want`, conflicts too, if there is one.
 fn owned<'a>(pool: &Sealed<'a>, world: &'a World, want: Want) -> Option<Dep<'a>>
     ensures { world.now ≡ pool.now.world → option_map dependency result
         ≡ slice_get (dependencies_of_owner pool.now want.owner) want.index }
@@ -263,7 +275,7 @@ fn entry_of(world: &World, index: usize) -> Option<Dep<'_>>
     Some(world.entry(index))
 }
 
-// The dependency of the candidate at a place that has an index, if there is one.
+// The dependency with this index of the candidate at a place, if both exist.
 fn depended_on<'a>(pool: &Sealed<'a>, id: CandId, index: usize) -> Option<Dep<'a>>
     ensures { option_map dependency result ≡ slice_get (depends_at pool.now id) index }
 {

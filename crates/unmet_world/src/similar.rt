@@ -5,7 +5,7 @@ ghost use Rattle.unmet_world.specs.Similar.{differ_by_one, is_same_after_first, 
 
 use search_tables::Sealed;
 
-/// The first name of a package that differs by one byte from a name.
+/// The name of the first package whose name differs by one byte from this one.
 pub(crate) fn similar_name<'a>(pool: &Sealed<'a>, name: &[u8]) -> Option<&'a [u8]>
     ensures { option_copied result ≡ similar_name name.now pool.now.candidates }
 {
@@ -19,7 +19,7 @@ pub(crate) fn similar_name<'a>(pool: &Sealed<'a>, name: &[u8]) -> Option<&'a [u8
     None
 }
 
-// Whether two texts differ by one byte.
+// Whether two texts differ by one byte: only one of them has it, or it is another in each.
 fn differ_by_one(text: &[u8], other: &[u8]) -> bool
     ensures { result ≡ differ_by_one text.now other.now }
 {
@@ -34,6 +34,7 @@ fn differ_by_one(text: &[u8], other: &[u8]) -> bool
 
 // Whether two texts are the same without the first byte of one of them, or of both.
 fn is_same_after_first(text: &[u8], other: &[u8]) -> bool
+    // Both texts have a first byte.
     requires text { 0 < length text.now }
     requires other { 0 < length other.now }
     ensures { result ≡ is_same_after_first text.now other.now }

@@ -20,14 +20,14 @@ use std::alloc::{AllocError, Global};
 /// How many candidates of a name are shown.
 const MOST_OFFERS: usize = 16;
 
-/// The candidates, and the repositories that they are from.
+/// What the lines of an explanation are made of.
 #[derive(Clone, Copy)]
 pub(crate) struct Sources<'a> {
     /// The candidates.
     pub(crate) pool: &'a Sealed<'a>,
     /// The world that the pool was sealed with.
     pub(crate) world: &'a World,
-    /// World as its file lists it, before the command.
+    /// World as its file lists it, before the command changes it.
     pub(crate) listed: &'a World,
     /// The repositories, in the order of their numbers.
     pub(crate) repositories: &'a Repos,
@@ -35,7 +35,8 @@ pub(crate) struct Sources<'a> {
 
 // ---- packages
 
-// Adds where a candidate is from.
+// Adds where a candidate is from: the path of the repository with this number, counted from 1;
+// None: the database.
 fn add_origin(
     text: &mut Vec<u8>,
     repositories: &Repos,
@@ -50,7 +51,7 @@ fn add_origin(
     }
 }
 
-// Adds the path of the repository with a number, counted from 1.
+// Adds the path of the repository with a number, counted from 1; nothing if there is none.
 fn add_path(text: &mut Vec<u8>, repositories: &Repos, number: u64) -> Result<(), AllocError>
     ensures { OnOk result (text.new.items ≡ text.old.items
         ++ origin_text repositories.now (Some number)) }
@@ -71,7 +72,7 @@ fn add_package(text: &mut Vec<u8>, details: &Details<'_>) -> Result<(), AllocErr
     add_version(text, details)
 }
 
-// Adds the version of a package; nothing if its text is none.
+// Adds the text of a package's version; nothing if this is no version.
 fn add_version(text: &mut Vec<u8>, details: &Details<'_>) -> Result<(), AllocError>
     ensures { OnOk result (text.new.items ≡ text.old.items
         ++ unwrap_or details.now.version []) }
@@ -82,7 +83,7 @@ fn add_version(text: &mut Vec<u8>, details: &Details<'_>) -> Result<(), AllocErr
     }
 }
 
-// Adds a package with where it is from.
+// Adds the name and the version of a candidate, and where it is from.
 fn add_candidate(
     text: &mut Vec<u8>,
     repositories: &Repos,
@@ -97,7 +98,8 @@ fn add_candidate(
     text.extend_from_slice(b")")
 }
 
-/// Adds the candidate at a place, if there is one, with where it is from.
+/// Adds the name and the version of the candidate at a place, and where it is from; nothing if
+/// there is no such candidate.
 pub(crate) fn add_candidate_at(
     text: &mut Vec<u8>,
     sources: &Sources<'_>,
@@ -112,7 +114,7 @@ pub(crate) fn add_candidate_at(
     }
 }
 
-/// Adds a dependency.
+/// Adds the text of a dependency.
 pub(crate) fn add_dep(text: &mut Vec<u8>, dep: &Dep<'_>) -> Result<(), AllocError>
     ensures { OnOk result (text.new.items ≡ text.old.items ++ dep_text (dependency dep.now)) }
 {
@@ -162,7 +164,7 @@ fn is_entry_of_file(alloc: Global, listed: &World, dep: &Dep<'_>) -> Result<bool
     }
 }
 
-// Where an entry of world is from: its file, or else the command.
+// Where an entry of world is from, as the lines name it: the file of world, or else the command.
 fn entry_origin(in_file: bool) -> &'static [u8]
     ensures { result.now ≡ entry_origin in_file }
 {
@@ -173,7 +175,8 @@ fn entry_origin(in_file: bool) -> &'static [u8]
     }
 }
 
-// Adds where an entry of world is from.
+// Adds where an entry of world is from: the file of world, which lists the entries `listed`, or the
+// command.
 fn add_entry_origin(text: &mut Vec<u8>, listed: &World, dep: &Dep<'_>) -> Result<(), AllocError>
     ensures { OnOk result (text.new.items ≡ text.old.items
         ++ entry_origin_text listed.now (dependency dep.now)) }
@@ -183,7 +186,7 @@ fn add_entry_origin(text: &mut Vec<u8>, listed: &World, dep: &Dep<'_>) -> Result
     text.extend_from_slice(entry_origin(in_file))
 }
 
-/// Adds who has a dependency.
+/// Adds who has the dependency `dep`: the origin of this entry of world, or a candidate.
 pub(crate) fn add_owner(
     text: &mut Vec<u8>,
     sources: &Sources<'_>,
@@ -238,7 +241,7 @@ fn is_allowed_by_tags_of_world(world: &World, details: &Details<'_>) -> bool
     }
 }
 
-// The first conflict of world that a candidate meets.
+// The first conflict of world that a candidate meets, which bars the candidate.
 fn bar<'a>(world: &'a World, details: &Details<'_>) -> Option<Dep<'a>>
     ensures { option_map dependency result ≡ find (is_conflict_met_by details.now) world.now }
 {
@@ -251,7 +254,8 @@ fn bar<'a>(world: &'a World, details: &Details<'_>) -> Option<Dep<'a>>
     None
 }
 
-// Adds why a candidate may not be selected; nothing if it may.
+// Adds why a candidate may not be selected: its tag, which world does not use, or a conflict of
+// world that it meets. Adds nothing if it may.
 fn add_refusal(
     text: &mut Vec<u8>,
     sources: &Sources<'_>,
@@ -268,7 +272,7 @@ fn add_refusal(
     text.extend_from_slice(b")")
 }
 
-// Adds the conflict of world that a candidate meets, if it meets one.
+// Adds the conflict of world that bars a candidate, in parentheses; nothing if there is none.
 fn add_bar(text: &mut Vec<u8>, listed: &World, bar: Option<Dep<'_>>) -> Result<(), AllocError>
     ensures { OnOk result (text.new.items ≡ text.old.items
         ++ world_conflict_text listed.now (option_map dependency bar.entry)) }
@@ -279,7 +283,7 @@ fn add_bar(text: &mut Vec<u8>, listed: &World, bar: Option<Dep<'_>>) -> Result<(
     }
 }
 
-// Adds a conflict of world that a candidate meets.
+// Adds the conflict of world that bars a candidate, with its origin, in parentheses.
 fn add_barring_entry(text: &mut Vec<u8>, listed: &World, dep: &Dep<'_>) -> Result<(), AllocError>
     ensures { OnOk result (text.new.items ≡ text.old.items
         ++ world_conflict_text listed.now (Some (dependency dep.now))) }
@@ -291,7 +295,8 @@ fn add_barring_entry(text: &mut Vec<u8>, listed: &World, dep: &Dep<'_>) -> Resul
     text.extend_from_slice(b")")
 }
 
-// The text of a candidate that offers a name.
+// The text of a candidate that offers `name`: its version, or name and version if it has another
+// name; and why it may not be selected, if it may not.
 fn offer(
     alloc: Global,
     sources: &Sources<'_>,
@@ -318,6 +323,7 @@ fn offer_at(
     name: &[u8],
     id: CandId,
 ) -> Result<Text, AllocError>
+    // The world is the one with which the pool was sealed.
     requires { sources.now.world.now ≡ sources.now.pool.now.world }
     ensures { IfOk result (λ text. text
         ≡ offer_text_at sources.now.pool.now sources.now.listed.now name.now id) }
@@ -328,7 +334,7 @@ fn offer_at(
     }
 }
 
-/// Adds a text to others, unless they have it.
+/// Adds a text to a list, unless the list has it.
 pub(crate) fn add_once(texts: &mut Vec<Text>, text: Text) -> Result<(), AllocError>
     ensures { OnOk result (texts.new.items ≡ with_text_once texts.old.items text) }
 {
@@ -339,7 +345,7 @@ pub(crate) fn add_once(texts: &mut Vec<Text>, text: Text) -> Result<(), AllocErr
     Ok(())
 }
 
-// Whether a text is one of some texts.
+// Whether a list has this text.
 fn has_text(texts: &[Text], text: &[u8]) -> bool
     ensures { result ≡ list_any (bytes_eq text.now) texts.now }
 {
@@ -351,13 +357,14 @@ fn has_text(texts: &[Text], text: &[u8]) -> bool
     false
 }
 
-// The texts of some candidates that offer a name, each once.
+// The texts of these candidates, which offer a name, each text once.
 fn offers(
     alloc: Global,
     sources: &Sources<'_>,
     name: &[u8],
     ids: &[CandId],
 ) -> Result<Vec<Text>, AllocError>
+    // The world is the one with which the pool was sealed.
     requires { sources.now.world.now ≡ sources.now.pool.now.world }
     ensures { IfOk result (λ texts. texts.items ≡ with_texts []
         (map (offer_text_at sources.now.pool.now sources.now.listed.now name.now) ids.now)) }
@@ -382,7 +389,8 @@ fn add_joined(line: &mut Vec<u8>, texts: &[Text]) -> Result<(), AllocError>
     Ok(())
 }
 
-// Adds the candidates at some places, which offer a name.
+// Adds which candidates offer a name, at most 16 of them; or that no package has the name, if there
+// are none.
 fn add_offers(
     alloc: Global,
     line: &mut Vec<u8>,
@@ -390,6 +398,7 @@ fn add_offers(
     name: &[u8],
     ids: &[CandId],
 ) -> Result<(), AllocError>
+    // The world is the one with which the pool was sealed.
     requires { sources.now.world.now ≡ sources.now.pool.now.world }
     ensures { OnOk result (line.new.items ≡ line.old.items
         ++ offered_text sources.now.pool.now sources.now.listed.now name.now ids.now) }
@@ -403,7 +412,7 @@ fn add_offers(
     line.extend_from_slice(dots_if(ids.len() > MOST_OFFERS))
 }
 
-// Adds that no package has a name, and a similar name, if there is one.
+// Adds that no package has `name`, and the similar name of a package, if there is one.
 fn add_no_package(line: &mut Vec<u8>, name: &[u8], similar: Option<&[u8]>) -> Result<(), AllocError>
     ensures { OnOk result (line.new.items
         ≡ line.old.items ++ no_package_text name.now (option_copied similar.entry)) }
@@ -418,7 +427,7 @@ fn add_no_package(line: &mut Vec<u8>, name: &[u8], similar: Option<&[u8]>) -> Re
     }
 }
 
-// What is said of a name that is like the path of a file.
+// What a line adds on a name that is like the path of a file; nothing for another name.
 fn note_on_file(name: &[u8]) -> &'static [u8]
     ensures { result.now ≡ note_on_file name.now }
 {
@@ -429,14 +438,14 @@ fn note_on_file(name: &[u8]) -> &'static [u8]
     }
 }
 
-// Whether a name is like the path of a file of a package.
+// Whether a name is like the path of a file of a package: it has a slash, or ends as such files do.
 fn is_like_file(name: &[u8]) -> bool
     ensures { result ≡ is_like_file name.now }
 {
     has_slash(name) || name.ends_with(b".apk")
 }
 
-// The first of some candidates, as many as are shown.
+// The first of these candidates, at most 16: as many as a line shows.
 fn first_of(ids: &[CandId]) -> &[CandId]
     ensures { result.now ≡ take most_shown_offers ids.now }
 {
@@ -447,19 +456,20 @@ fn first_of(ids: &[CandId]) -> &[CandId]
     }
 }
 
-// Two dots if there are more.
+// The two dots after the shown candidates, if there are more of them.
 fn dots_if(more: bool) -> &'static [u8]
     ensures { result.now ≡ dots_if more }
 {
     if more { b", .." } else { b"" }
 }
 
-/// What there is of a name, as a line.
+/// The line that says which candidates offer a name.
 pub(crate) fn offers_line_of_name(
     alloc: Global,
     sources: &Sources<'_>,
     name: &[u8],
 ) -> Result<Text, AllocError>
+    // The world is the one with which the pool was sealed.
     requires { sources.now.world.now ≡ sources.now.pool.now.world }
     ensures { IfOk result (λ line. line
         ≡ offers_line_of_name sources.now.pool.now sources.now.listed.now name.now) }

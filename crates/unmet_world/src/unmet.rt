@@ -1,5 +1,5 @@
-//! Why a world cannot be met: a refutation. The rules are in `docs/selection.md`, "What satisfies
-//! world" and "`unable to select packages`".
+//! Why no selection satisfies a world: a refutation. The rules are in `docs/selection.md`, "What
+//! satisfies world" and "`unable to select packages`".
 ghost use Rattle.std.specs.Prelude.{◌≡◌, ℕ, [], IfOk, IfSome, MatchBool, MatchOption};
 ghost use Rattle.unmet_world.specs.Lines.{IsExplanationOfUnmetWorld};
 ghost use Rattle.unmet_world.specs.Refutation.{IsFirstUnmetOfWorld, IsRefutation, IsUnmet, want_of_world_entry};
@@ -24,8 +24,11 @@ pub fn why_unmet(
     pool: &Sealed<'_>,
     world: &World,
 ) -> Result<Option<Refutation>, AllocError>
+    // The world is the one with which the pool was sealed.
     requires { world.now ≡ pool.now.world }
+    // The steps and the end are a refutation of this world.
     ensures proof { IfOk result (λ found. IfSome found (λ r. IsRefutation pool.now r)) }
+    // If no candidate meets some entry of world, the first such entry is the end, without steps.
     ensures named { IfOk result (λ found. (index : ℕ) → IsFirstUnmetOfWorld pool.now index →
         MatchOption found ⊥ (λ r. (r.steps.items ≡ []) × (r.end ≡ want_of_world_entry index))) }
 {
@@ -41,11 +44,8 @@ pub fn why_unmet(
     longer(alloc, pool, world)
 }
 
-/// The explanation of a world, as it is printed. The file of world lists some of its entries.
-///
-/// # Errors
-///
-/// Out of memory.
+/// The explanation why no selection satisfies a world, as it is printed. `listed` has the entries
+/// of the file of world, before the command changes them.
 pub fn explanation_of(
     alloc: Global,
     pool: &Sealed<'_>,
@@ -53,6 +53,7 @@ pub fn explanation_of(
     listed: &World,
     repositories: &Repos,
 ) -> Result<Vec<u8>, AllocError>
+    // The world is the one with which the pool was sealed.
     requires { world.now ≡ pool.now.world }
     ensures { IfOk result (λ text.
         IsExplanationOfUnmetWorld pool.now listed.now repositories.now text.items) }
@@ -67,8 +68,9 @@ pub fn explanation_of(
     explanation(alloc, &sources, &found)
 }
 
-// The refutation that the search finds, if `is_refutation` accepts it.
+// The refutation with steps that the search finds, if `is_refutation` accepts it.
 fn longer(alloc: Global, pool: &Sealed<'_>, world: &World) -> Result<Option<Refutation>, AllocError>
+    // The world is the one with which the pool was sealed.
     requires { world.now ≡ pool.now.world }
     ensures { IfOk result (λ found. IfSome found (λ r. IsRefutation pool.now r)) }
 {
@@ -83,6 +85,7 @@ fn longer(alloc: Global, pool: &Sealed<'_>, world: &World) -> Result<Option<Refu
 
 // The index of the first entry of world that no candidate meets which may be selected.
 fn first_unmet(alloc: Global, pool: &Sealed<'_>, world: &World) -> Result<Option<usize>, AllocError>
+    // The world is the one with which the pool was sealed.
     requires { world.now ≡ pool.now.world }
     ensures { IfOk result (λ found. MatchOption found ((index : ℕ) →
         IsUnmet pool.now (want_of_world_entry index) → ⊥) (IsFirstUnmetOfWorld pool.now)) }
@@ -99,8 +102,10 @@ fn first_unmet(alloc: Global, pool: &Sealed<'_>, world: &World) -> Result<Option
     Ok(None)
 }
 
-// Whether no candidate that may be selected meets what is wanted.
+// Whether no candidate that may be selected meets the wanted dependency. False if there is no such
+// dependency.
 fn is_unmet(alloc: Global, pool: &Sealed<'_>, world: &World, want: Want) -> Result<bool, AllocError>
+    // The world is the one with which the pool was sealed.
     requires { world.now ≡ pool.now.world }
     ensures { IfOk result (λ is. MatchBool is (IsUnmet pool.now want)
         (IsUnmet pool.now want → ⊥)) }

@@ -6,7 +6,8 @@ use std::alloc::{AllocError, Global};
 use std::cmp::Ordering;
 use version_core::{Op, Version};
 
-/// Answers `version TEXT`: whether the text is a version, and the text of this version is the same.
+/// Answers `version TEXT`: whether the text is a version, and the version keeps this text
+/// unchanged.
 pub(crate) fn reads_as_itself(text: &[u8]) -> bool {
     match Version::read(text) {
         Some(version) => version.text() == text,
@@ -14,8 +15,8 @@ pub(crate) fn reads_as_itself(text: &[u8]) -> bool {
     }
 }
 
-/// Answers `order A B`: the sign between the two versions, or `no order` if the comparison of B
-/// with A does not give the reverse.
+/// Answers `order A B`: the sign (`<`, `=` or `>`) between the versions A and B, or `no order` if
+/// comparing B with A does not give the reverse.
 pub(crate) fn order_of(words: &Words) -> &'static [u8] {
     let (Some(left), Some(right)) = (
         Version::read(word_at(words, 1)),
@@ -51,7 +52,7 @@ pub(crate) fn match_of(words: &Words) -> &'static [u8] {
     }
 }
 
-// The operator whose match bits are this number, given in digits.
+// The operator whose match bits are this number, which is given in digits.
 fn operator_of(bits: &[u8]) -> Option<Op> {
     let bits = u8::try_from(number_of(bits)?).ok()?;
     Op::of(bits)

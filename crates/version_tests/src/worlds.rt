@@ -31,7 +31,8 @@ fn add_bad_line(alloc: Global, line: u64, answer: &mut Vec<u8>) -> Result<(), Al
     add_number(alloc, answer, u128::from(line))
 }
 
-/// Answers `edits WORLD EDIT ..`: makes the edits, and adds the result of each (`add_edit`).
+/// Answers `edits WORLD EDIT ..`: makes the edits one after another, and adds the result of each
+/// (`add_edit`).
 pub(crate) fn add_edits(
     alloc: Global,
     words: &Words,
@@ -62,12 +63,12 @@ fn add_edit(
             add_word(answer, b"")?;
             add_number(alloc, answer, world.len() as u128)
         }
-        [b'?', place @ ..] => add_entry(alloc, world, place, answer),
+        [b'?', index @ ..] => add_entry(alloc, world, index, answer),
         _ => add_word(answer, world.text(alloc)?.as_bytes()),
     }
 }
 
-// Adds the dependency of a text to world. A text that is no dependency changes nothing.
+// Adds the dependency that a text is to world. A text that is no dependency changes nothing.
 fn add_to(world: &mut World, text: &[u8]) -> Result<(), AllocError> {
     match read_dep(text) {
         Some(dep) => world.add(&dep),
@@ -75,22 +76,23 @@ fn add_to(world: &mut World, text: &[u8]) -> Result<(), AllocError> {
     }
 }
 
-// Adds to the answer whether there was an entry to remove.
+// Adds to the answer whether world had an entry to remove.
 fn add_removal(was_there: bool, answer: &mut Vec<u8>) -> Result<(), AllocError> {
     add_word(answer, b"")?;
     add_yes_or_no(answer, was_there)
 }
 
-// Adds to the answer the entry of world with this index, counted from 0, or `none`.
+// Adds to the answer the entry of world with this index, which is counted from 0 and given in
+// digits; or `none`.
 fn add_entry(
     alloc: Global,
     world: &World,
-    place: &[u8],
+    index: &[u8],
     answer: &mut Vec<u8>,
 ) -> Result<(), AllocError> {
     add_word(answer, b"")?;
-    let place = number_of(place).and_then(|place| usize::try_from(place).ok());
-    match place {
+    let index = number_of(index).and_then(|index| usize::try_from(index).ok());
+    match index {
         Some(i) if i < world.len() => {
             answer.extend_from_slice(dep_text(alloc, &world.entry(i))?.as_bytes())
         }
@@ -98,8 +100,8 @@ fn add_entry(
     }
 }
 
-/// Answers `repositories TEXT`: the tags and paths of a list of repositories, or its first bad
-/// line.
+/// Answers `repositories TEXT`: adds the tag and the path of each repository in a list, or the
+/// first bad line of the list.
 pub(crate) fn add_repositories(
     alloc: Global,
     text: &[u8],
@@ -118,7 +120,8 @@ pub(crate) fn add_repositories(
     Ok(())
 }
 
-/// Answers `dependency TEXT` and `value NAME VERSION MATCH`: the text of the dependency, or `none`.
+/// Answers `dependency TEXT` and `value NAME VERSION MATCH`: adds the text of the dependency, or
+/// `none`.
 pub(crate) fn add_dependency(
     alloc: Global,
     words: &Words,
@@ -130,8 +133,8 @@ pub(crate) fn add_dependency(
     }
 }
 
-// The dependency of a question: read from a text, or made of the three values that a field of a
-// package has.
+// The dependency of a question: read from a text, or made of the three values that a dependency has
+// in a package: name, version and match bits.
 fn dependency_of(words: &Words) -> Option<Dep<'_>> {
     if word_at(words, 0) == b"dependency".as_slice() {
         return read_dep(word_at(words, 1));
@@ -140,8 +143,8 @@ fn dependency_of(words: &Words) -> Option<Dep<'_>> {
     dep_of(word_at(words, 1), word_at(words, 2), matching)
 }
 
-/// Answers `meets DEPENDENCY NAME VERSION`: whether a package with this name and this version meets
-/// the dependency.
+/// Answers `meets DEPENDENCY NAME VERSION`: adds whether a package with this name and this version
+/// meets the dependency.
 pub(crate) fn add_meeting(words: &Words, answer: &mut Vec<u8>) -> Result<(), AllocError> {
     let version = Version::read(word_at(words, 3));
     match read_dep(word_at(words, 1)) {

@@ -13,12 +13,12 @@ abbrev pub spelled_option : OptionSpec → List ℕ
 spelled_option option =
     (if bytes_eq option.short [] then codes "    " else option.short ++ codes ", ") ++ option.long
 
--- whether a line of help is about an option
+-- whether a line of help is about an option: its subject begins with the words of the option
 abbrev pub is_help_of : HelpLine → OptionSpec → Bool
 is_help_of line option =
     bytes_eq (take (length (spelled_option option)) line.subject) (spelled_option option)
 
--- whether lines of help are about options, one each in the same order
+-- whether lines of help are about these options: one line for each option, in the order of the options
 abbrev pub are_help_lines_of_options : List HelpLine → List OptionSpec → Bool
 are_help_lines_of_options [] [] = true
 are_help_lines_of_options (line ∷ lines) (option ∷ options) =
@@ -32,7 +32,7 @@ help_and_version_options =
     flag_option_of_long_and_short (codes "--help") (codes "-h") AllowUntrusted
     ∷ (flag_option_of_long_and_short (codes "--version") (codes "-V") AllowUntrusted ∷ [])
 
--- whether the word of each of some applets is that of a command that help lists
+-- whether help lists a command with the word of each of these applets
 abbrev pub are_applets_listed_in_help : List Applet → Bool
 are_applets_listed_in_help applets =
     list_all (λ applet.

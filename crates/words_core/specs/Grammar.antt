@@ -90,14 +90,14 @@ unfoldable pub applet_site_of_word : Bool → ℕ → List ℕ → Result Applet
 applet_site_of_word ended place word =
     or_err_at place (λ applet. Ok (applet_site_from_parts ended place applet)) (applet_of word)
 
--- the site of the applet that the first of these words names, after `--`; `place` is the place of that
+-- the site of the applet that the first of these words, which follow `--`, names; `place` is the place of this first
 -- word
 unfoldable pub applet_site_after_double_dash : ℕ → List (List ℕ) → Result AppletSite ℕ
 applet_site_after_double_dash place [] = Err place
 applet_site_after_double_dash place (word ∷ words) = applet_site_of_word true place word
 
--- the site of the applet in the words from a place on, or the first wrong place: only some options and
--- `--` may precede the applet
+-- the site of the applet in these words, of which the first is at `place`; or the first wrong place: only some options
+-- and `--` may precede the applet
 abbrev pub applet_site : ℕ → List (List ℕ) → Result AppletSite ℕ
 applet_site place [] = Err place
 applet_site place (word ∷ words) =
@@ -106,8 +106,8 @@ applet_site place (word ∷ words) =
     (place + 1) words else Err place) else
     applet_site_of_word false place word
 
--- the flags of the words before the applet, from a place on, or the first wrong place: each word is an
--- option of the applet, up to `--`
+-- the flags of the words before the applet, added to `flags`, up to `--`; or the place of the first word for which
+-- *flags_with_option_word* gives None. `place` is that of the first of these words
 abbrev pub flags_with_early_options : List OptionSpec → Flags → ℕ → List (List ℕ) → Result Flags ℕ
 flags_with_early_options options flags place [] = Ok flags
 flags_with_early_options options flags place (word ∷ words) =
@@ -120,25 +120,28 @@ abbrev pub start_from_parts : AppletSite → Flags → Start
 start_from_parts site flags =
     record { applet = site.applet; flags = flags; ended = site.ended; read = site.read }
 
--- the start with the flags before the applet, or the place of the first wrong word among them
+-- the start of a command line: the site of the applet with the flags before it; or the place of the first wrong word
+-- before it
 abbrev pub start_with_early_flags : AppletSite → Result Flags ℕ → Result Start ℕ
 start_with_early_flags site (Err place) = Err place
 start_with_early_flags site (Ok flags) = Ok (start_from_parts site flags)
 
--- the start once an applet was found, or the wrong place before it
+-- the start of a command line, by the site of its applet among these words; or the first wrong place, if no applet or a
+-- wrong option before it was found
 abbrev pub start_after_site : List (List ℕ) → Result AppletSite ℕ → Result Start ℕ
 start_after_site words (Err place) = Err place
 start_after_site words (Ok site) =
     start_with_early_flags site
     (flags_with_early_options (options_of site.applet) no_flags 1 (take (site.read - 1) words))
 
--- the start of a command line, or the first place that offends before the applet or is it
+-- the start of a command line: its applet and the flags before it; or the first wrong place up to the applet
 abbrev pub start_of_command_line : List (List ℕ) → Result Start ℕ
 start_of_command_line words = start_after_site words (applet_site 1 words)
 
 -- ---- options and their values
 
--- the effect of options: flags, values, and the option whose value is the next word, if there is one
+-- the effect of the options that are read: flags, values, and the rule of the option whose value must be the next word,
+-- if there is such an option
 abbrev pub option_state_from_parts : Flags → List OptionValue → Option ValueRule → OptionState
 option_state_from_parts flags values awaiting =
     record { flags = flags; values = values; awaiting = awaiting }
@@ -147,7 +150,8 @@ option_state_from_parts flags values awaiting =
 abbrev pub option_state_at_start : Flags → OptionState
 option_state_at_start flags = option_state_from_parts flags [] None
 
--- a state with a value of an option; None if the option does not have that value
+-- a state with a text as a value of the option with this rule, from the word at a place; None if the text is not of the
+-- right kind, or an earlier value excludes it
 abbrev pub with_option_value : OptionState → ℕ → List ℕ → ValueRule → Option OptionState
 with_option_value state place text rule =
     if is_value_of_kind rule.kind text && not (is_excluded_by_earlier_value rule text state.values) then
@@ -155,24 +159,26 @@ with_option_value state place text rule =
     (state.values ++ (option_value_from_place_and_letter place rule.letter text ∷ [])) None) else
     None
 
--- a state with an option that has values and the value that its word holds, if it holds one
+-- a state with an option that has values: with the value that its word holds; or, if the word holds none, one that
+-- awaits the value as the next word
 abbrev pub with_value_or_awaited : OptionState → ℕ → ValueRule → Option (List ℕ) → Option OptionState
 with_value_or_awaited state place rule None =
     Some (option_state_from_parts state.flags state.values (Some rule))
 with_value_or_awaited state place rule (Some text) = with_option_value state place text rule
 
--- a state with an option that has values; None if it can have no more
+-- a state with an option that has values, whose word holds the value `held` or none; None if the option may not be
+-- given again, or does not have that value
 abbrev pub with_value_option : OptionState → ℕ → Option (List ℕ) → ValueRule → Option OptionState
 with_value_option state place held rule =
     if is_single_and_given rule state.values then None else with_value_or_awaited state place rule held
 
--- a state with these flags in place of its own; None if there are none
+-- a state with these flags in place of its own; None if no flags are given
 abbrev pub with_flags_if_some : OptionState → Option Flags → Option OptionState
 with_flags_if_some state flags =
     option_map (λ more. option_state_from_parts more state.values state.awaiting) flags
 
--- a state with the meaning of an option, whose word holds this value or none; None if it may not be
--- given so: a flag has no value
+-- a state with an option of this meaning, whose word at a place holds the value `held` or none; None if the option may
+-- not be given so: one without a value holds none
 abbrev pub state_with_meaning : OptionState → ℕ → Option (List ℕ) → Meaning → Option OptionState
 state_with_meaning state place held (Value rule) = with_value_option state place held rule
 state_with_meaning state place (Some text) (Plain flag) = None
@@ -182,13 +188,14 @@ state_with_meaning state place None (Plain flag) =
 state_with_meaning state place None (Kind flag) =
     with_flags_if_some state (flags_with_meaning state.flags (Kind flag))
 
--- a state with the option that the word at a place spells; None if it cannot be read
+-- a state with the option that the word at a place spells; None if it spells none of these options, or the option may
+-- not be given so
 abbrev pub with_option_word : List OptionSpec → OptionState → ℕ → List ℕ → Option OptionState
 with_option_word options state place word =
     option_and_then (λ (o : OptionSpec). state_with_meaning state place (attached_value word) o.meaning)
     (option_of_word options (option_name word))
 
--- whether a word is an awaited value, or an option
+-- whether a word is read as a value, since an option awaits one, or as an option
 abbrev pub is_option_or_value : OptionState → List ℕ → Bool
 is_option_or_value state word = is_some state.awaiting || (is_option word && not (is_double_dash word))
 
@@ -207,18 +214,18 @@ with_option_or_value_word options state place word =
 
 -- ---- after the applet
 
--- the reading of words: the effect of options, the operands, and the place of the word that cannot be
--- read, if one ended the reading
+-- the reading of words: the effect of options, the operands, and the place of the word that cannot be read, or of the
+-- value that is missing, if one of them ended the reading
 abbrev pub words_reading_from_parts : OptionState → List Operand → Option ℕ → Reading
 words_reading_from_parts state operands unread =
     record { state = state; operands = operands; unread = unread }
 
--- some words as operands, the first of which is at a place
+-- all of these words as operands; the first word is at `place`
 abbrev pub operands_of : ℕ → List (List ℕ) → List Operand
 operands_of place [] = []
 operands_of place (word ∷ words) = operand_at place word ∷ operands_of (place + 1) words
 
--- a reading with an operand before those that were read
+-- a reading with one more operand, in front of those that it has
 abbrev pub with_operand : Operand → Reading → Reading
 with_operand operand reading = record reading { operands = operand ∷ reading.operands }
 
@@ -233,8 +240,8 @@ abbrev pub reading_at_end_of_words : OptionState → ℕ → Reading
 reading_at_end_of_words state place =
     words_reading_from_parts state [] (option_map (λ (rule : ValueRule). place) state.awaiting)
 
--- the reading of words from a state on: options, values and operands, from a place on, up to the first
--- word that cannot be read
+-- the reading of the words that begin at `place`, from a state on: options, values and operands, up to the first word
+-- that cannot be read
 abbrev pub option_reading : List OptionSpec → OptionState → ℕ → List (List ℕ) → Reading
 option_reading options state place [] = reading_at_end_of_words state place
 option_reading options state place (word ∷ words) =
@@ -244,7 +251,8 @@ option_reading options state place (word ∷ words) =
     if is_double_dash word then words_reading_from_parts state (operands_of (place + 1) words) None else
     with_operand (operand_at place word) (option_reading options state (place + 1) words)
 
--- the reading of the words after the applet; if `--` precedes it all of them are operands
+-- the reading of those of all words of a command line that are after its start (the applet and the words before it); if
+-- `--` is in the start, all of them are operands
 unfoldable pub reading_after_applet : Start → List (List ℕ) → Reading
 reading_after_applet start words =
     let left = drop start.read words in
@@ -255,36 +263,37 @@ reading_after_applet start words =
 
 -- ---- the command, or the first wrong place
 
--- the place of the first operand that the rule does not take. There is no rule if the flag is missing
--- that selects the kind of the command: then no operand is wrong, and the place after the last word is
+-- the place of the first operand that the rule does not take. Without a rule, since the flag is missing that selects
+-- the kind of the command, no operand is wrong
 abbrev pub place_of_refused_operand : Option OperandRule → List Operand → Option ℕ
 place_of_refused_operand None operands = None
 place_of_refused_operand (Some rule) operands = first_refused_operand rule 0 operands
 
--- whether too few operands were given, or the flag is missing that selects the kind of the command
+-- whether there are fewer operands than the rule needs, or there is no rule, since the flag is missing that selects the
+-- kind of the command
 abbrev pub lacks_operand : Option OperandRule → List Operand → Bool
 lacks_operand None operands = true
 lacks_operand (Some rule) operands = nat_lt (length operands) rule.least
 
--- whether a word is missing: an operand, the flag that selects the kind, or the option that the applet
--- needs
+-- whether a word is missing: an operand, the flag that selects the kind of the command, or the option with a value that
+-- the applet requires
 abbrev pub lacks_operand_or_required_value : Applet → Option OperandRule → Reading → Bool
 lacks_operand_or_required_value applet rule reading =
     lacks_operand rule reading.operands
     || is_required_value_missing (required_option_letter applet) reading.state.values
 
--- the command of a reading, with the place after the last word
+-- the command of a reading; `behind` is the place after the last word
 abbrev pub command_from_reading_parts : ℕ → Applet → Reading → CommandLine
 command_from_reading_parts behind applet reading =
     command_from_parts applet reading.state.flags reading.operands reading.state.values behind
 
--- a refusal at a wrong place, if there is one, and otherwise this result
+-- an error at the wrong place, if there is one, and otherwise this result
 abbrev pub unless_refused_at : Option ℕ → Result CommandLine ℕ → Result CommandLine ℕ
 unless_refused_at None otherwise = otherwise
 unless_refused_at (Some place) otherwise = Err place
 
--- the command that was read, or the first of: an operand that is not taken, the word that cannot be
--- read, the end of the words if a word is missing
+-- the command of a reading, or the first wrong place: an operand that is not taken, the word that cannot be read, or
+-- the place after the last word (`behind`) if a word is missing
 unfoldable pub command_of_reading : ℕ → Applet → Reading → Result CommandLine ℕ
 command_of_reading behind applet reading =
     let rule = operand_rule applet reading.state.flags in
@@ -292,51 +301,54 @@ command_of_reading behind applet reading =
     (if lacks_operand_or_required_value applet rule reading then Err behind else Ok
     (command_from_reading_parts behind applet reading))
 
--- the command of the words, by the start that was found in them; or the first place that offends
+-- the command of the words, by the start that was found in them; or the place of the first wrong word
 abbrev pub spelled_command_from_start : List (List ℕ) → Result Start ℕ → Result CommandLine ℕ
 spelled_command_from_start words (Err place) = Err place
 spelled_command_from_start words (Ok start) =
     command_of_reading (length words + 1) start.applet (reading_after_applet start words)
 
--- the command that the words spell, or the first place that offends
+-- the command that the words spell, or the place of the first wrong word. `--help` and `--version` are no options here
 unfoldable pub spelled_command : List (List ℕ) → Result CommandLine ℕ
 spelled_command words = spelled_command_from_start words (start_of_command_line words)
 
 -- ---- what the next word can be
 
--- the rule of the values that an option has; None if it is a flag
+-- the rule of the values of an option with this meaning; None if it takes no value
 abbrev pub value_rule_of_meaning : Meaning → Option ValueRule
 value_rule_of_meaning (Plain flag) = None
 value_rule_of_meaning (Kind flag) = None
 value_rule_of_meaning (Value rule) = Some rule
 
--- the rule of the option that a word spells; None if it has no values
+-- the rule of the values of the option that a word spells; None if it spells none of these options, or one that takes
+-- no value
 abbrev pub value_rule_of_word : List OptionSpec → List ℕ → Option ValueRule
 value_rule_of_word options word =
     option_and_then (λ (e : OptionSpec). value_rule_of_meaning e.meaning)
     (option_of_word options (option_name word))
 
--- this rule, if the option's word holds no value
+-- a rule of values, unless the option's word holds the value, which is the first argument
 abbrev pub value_rule_unless_attached : Option (List ℕ) → Option ValueRule → Option ValueRule
 value_rule_unless_attached None rule = rule
 value_rule_unless_attached (Some text) rule = None
 
--- the rule of the option that a word spells, if its value is the next word
+-- the rule of the values of the option that a word spells, if its value must be the next word
 abbrev pub awaited_rule : List OptionSpec → List ℕ → Option ValueRule
 awaited_rule options word =
     value_rule_unless_attached (attached_value word) (value_rule_of_word options word)
 
--- what the word after an option of an applet can be, by the rule of its value, if that is the next word
+-- what the word after an option of an applet can be; the rule is that of the option's value, if that must be the next
+-- word
 abbrev pub next_word_after_option : Applet → Option ValueRule → NextWord
 next_word_after_option applet None = OptionOrOperand applet
 next_word_after_option applet (Some rule) = NextValue applet rule
 
--- what the word after the command can be, by the applet that the command names, if it names one
+-- what the word after the command can be: `next` says so for the applet that the command names; nothing can follow if
+-- it names none
 abbrev pub next_word_after_command : (Applet → NextWord) → Option Applet → NextWord
 next_word_after_command next None = Nothing
 next_word_after_command next (Some applet) = next applet
 
--- what the word after this one can be, by what this word itself could be
+-- what the word after `word` can be, by what `word` itself could be (the first argument)
 abbrev pub next_word : NextWord → List ℕ → NextWord
 next_word OptionOrCommand word =
     if is_double_dash word then CommandAlone else
@@ -360,7 +372,7 @@ next_word_after_words next (word ∷ words) = next_word_after_words (next_word n
 abbrev pub next_word_of_command_line : List (List ℕ) → NextWord
 next_word_of_command_line words = next_word_after_words OptionOrCommand words
 
--- whether an option can be the next word
+-- whether the next word can be an option
 abbrev pub can_be_option : NextWord → Bool
 can_be_option OptionOrCommand = true
 can_be_option (OptionOrOperand applet) = true
@@ -368,39 +380,41 @@ can_be_option next = false
 
 -- ---- words that ask for help, or for the version
 
--- the applet that the word at a place asks for, if it asks and an option can be there
+-- the applet `Help` or `ProgramVersion`, if the word at a place asks for it and an option can be there
 abbrev pub help_or_version_option_at : List (List ℕ) → ℕ → Option Applet
 help_or_version_option_at words place =
     if can_be_option (next_word_of_command_line (take (place - 1) words)) then
     option_and_then applet_of_help_or_version_option (slice_get words (place - 1)) else
     None
 
--- the operands of `Help`: the word of the applet, if one was found before the word that asks
+-- the operands of `Help`, by the site of the applet in the words: the word of this applet, if one was found
 abbrev pub help_topic_operands : Result AppletSite ℕ → List Operand
 help_topic_operands (Err place) = []
 help_topic_operands (Ok site) = operand_at site.read (applet_word site.applet) ∷ []
 
--- the operands of a request for help or for the version: the topic of help, if the words name one
+-- the operands of the command that asks for help or for the version: the topic of help, if the words name an applet
 abbrev pub operands_of_help_or_version : List (List ℕ) → Applet → List Operand
 operands_of_help_or_version words Help = help_topic_operands (applet_site 1 words)
 operands_of_help_or_version words applet = []
 
--- the command that words ask for
+-- the command with the applet `Help` or `ProgramVersion` that words ask for: without flags and values
 abbrev pub help_or_version_command : List (List ℕ) → Applet → CommandLine
 help_or_version_command words applet =
     command_from_parts applet no_flags (operands_of_help_or_version words applet) [] (length words + 1)
 
--- the command for the applet that the word at a place asks for; an error at the place if it asks for none
+-- the command for the applet that the word at a place asks for; an error at this place if it asks for none
 abbrev pub help_or_version_or_err : List (List ℕ) → ℕ → Option Applet → Result CommandLine ℕ
 help_or_version_or_err words place None = Err place
 help_or_version_or_err words place (Some applet) = Ok (help_or_version_command words applet)
 
--- the command that was spelled, or otherwise the one that the first wrong word asks for, if it asks
+-- the command that was spelled; otherwise the one that the first wrong word asks for, as `--help` does; otherwise an
+-- error at the place of this word
 abbrev pub spelled_command_or_help_or_version : List (List ℕ) → Result CommandLine ℕ → Result CommandLine ℕ
 spelled_command_or_help_or_version words (Ok command) = Ok command
 spelled_command_or_help_or_version words (Err place) =
     help_or_version_or_err words place (help_or_version_option_at words place)
 
--- the command of the words, or the first place that offends
+-- the command that the words of a command line are; or the place of the first wrong word, or after the last word if a
+-- word is missing
 unfoldable pub command_of : List (List ℕ) → Result CommandLine ℕ
 command_of words = spelled_command_or_help_or_version words (spelled_command words)

@@ -18,9 +18,11 @@ version_line = codes "apk " ++ program_version ++ codes ", apk-tools 3 formats\n
 
 -- ---- lines
 
--- a line of help: what is explained, and its explanation
+-- a line of help
 pub record HelpLine : Type 0 where
+  -- what is explained, such as a command or an option
   pub subject : List ℕ
+  -- its explanation
   pub text : List ℕ
 
 -- the line with this subject and this explanation
@@ -35,17 +37,17 @@ spaces = codes "                          "
 abbrev pub padding_to_column : ℕ → List ℕ → List ℕ
 padding_to_column column subject = take (column - length subject) spaces
 
--- a line of help as it is printed: explanations begin in one column
+-- a line of help as it is printed; its explanation begins at a column
 abbrev pub help_line_text : ℕ → HelpLine → List ℕ
 help_line_text column line =
     codes "  " ++ line.subject ++ padding_to_column column line.subject ++ line.text ++ codes "\n"
 
--- lines of help, one after another
+-- lines of help as they are printed, one after another; all explanations begin at a column
 abbrev pub help_lines_text : ℕ → List HelpLine → List ℕ
 help_lines_text column [] = []
 help_lines_text column (line ∷ lines) = help_line_text column line ++ help_lines_text column lines
 
--- lines of help under a heading; nothing if there are none
+-- lines of help under a heading, with explanations that begin at a column; nothing if there are no lines
 abbrev pub section_text : List ℕ → ℕ → List HelpLine → List ℕ
 section_text heading column [] = []
 section_text heading column lines = heading ++ help_lines_text column lines
@@ -119,7 +121,7 @@ simulate_help = help_line (codes "-s, --simulate") (codes "print the changes, an
 abbrev pub compression_help : HelpLine
 compression_help = help_line (codes "-c, --compression none") (codes "no other compression is known")
 
--- the lines of the options that are a command's own, in the order of *own_options*
+-- the help lines of the options that a command has besides the common ones, in the order of *own_options*
 abbrev pub option_help : Applet → List HelpLine
 option_help Add = initdb_help ∷ (simulate_help ∷ [])
 option_help Del =
@@ -151,7 +153,7 @@ option_help Version =
     ∷ (help_line (codes "-c, --check") (codes "print each text that is no version") ∷ [])
 option_help applet = []
 
--- the lines of the options of every command
+-- the help lines of the options that every command has
 abbrev pub common_option_help : List HelpLine
 common_option_help =
     help_line (codes "    --allow-untrusted") (codes "needed once etc/apk/repositories names an index")
@@ -161,7 +163,7 @@ common_option_help =
 
 -- ---- fields
 
--- the lines of the fields that an option of a command takes, by what their values are
+-- the help lines of the fields that the option `-I` of a command takes, by what their values are; only `mkpkg` has one
 abbrev pub field_help : Applet → List HelpLine
 field_help Mkpkg =
     help_line (codes "needed") (codes "name, version")
@@ -186,7 +188,7 @@ file_help = help_line (codes "FILE") (codes "the path of a container below this 
 abbrev pub pattern_help : HelpLine
 pattern_help = help_line (codes "PATTERN") (codes "a name, in which each * stands for any text")
 
--- the lines of the operands of a command
+-- the help lines of the operands of a command
 abbrev pub operand_help : Applet → List HelpLine
 operand_help Add =
     help_line (codes "DEPENDENCY") (codes "a name (no path), or name>=1.2, name@tag, !name")
@@ -216,7 +218,7 @@ operand_help applet = []
 
 -- ---- the help of a command
 
--- a line with the usage of a command, after a prefix
+-- one way to call a command as a line, after a prefix
 abbrev pub usage_line : List ℕ → List ℕ → List ℕ
 usage_line prefix line = prefix ++ line ++ codes "\n"
 
@@ -276,12 +278,13 @@ first_steps_text =
 abbrev pub program_help : List ℕ
 program_help = program_usage ++ commands_text ++ common_options_text ++ first_steps_text
 
--- the help of a command, if one is asked about, and else that of the program
+-- the text of `--help`: the help of a command if one is asked about, and else that of the program
 abbrev pub help_of_topic : Option Applet → List ℕ
 help_of_topic None = program_help
 help_of_topic (Some applet) = command_help applet
 
--- the command that is asked about, by the operands of `Help`: its word, or none
+-- the command whose help is asked for, by the operands of `Help`: the first is the word of a command. None for the help
+-- of the program
 abbrev pub help_topic_of : List Operand → Option Applet
 help_topic_of [] = None
 help_topic_of (operand ∷ operands) = applet_of operand.text

@@ -15,8 +15,8 @@ abbrev pub is_info_applet : Applet → Bool
 is_info_applet Info = true
 is_info_applet applet = false
 
--- whether words whose applet was found can still get a kind: they are `info` without one, each of
--- them can be read, and options can follow
+-- whether words with this start can still get a kind: they are `info` without one, each of them can be read, and
+-- options can follow
 abbrev pub can_started_words_get_info_kind : List (List ℕ) → Start → Bool
 can_started_words_get_info_kind words start =
     let reading = reading_after_applet start words in
@@ -24,7 +24,7 @@ can_started_words_get_info_kind words start =
     && not (is_some reading.unread)
     && not (start.ended || have_options_ended (options_of start.applet) None (drop start.read words))
 
--- whether words can still get a kind, by their start; without a start they are not `info`
+-- whether words can still get a kind of `info`, by their start; they cannot if no start was found
 abbrev pub can_info_kind_follow_if_started : List (List ℕ) → Result Start ℕ → Bool
 can_info_kind_follow_if_started words (Err place) = false
 can_info_kind_follow_if_started words (Ok start) = can_started_words_get_info_kind words start

@@ -12,10 +12,13 @@ use Rattle.command_core.specs.Values.{compression_rule, description_rule, files_
 use Rattle.words_core.specs.declared.options.Meaning.{Meaning}
 use Rattle.words_core.specs.declared.options.Meaning.TheVariants.{Flag as Plain, Kind, Value}
 
--- an option: its long word, its short word or nothing, and its meaning
+-- an option: the words that spell it, and its meaning
 pub record OptionSpec : Type 0 where
+  -- the long word that spells it, as `--output`
   pub long : List ℕ
+  -- the short word that spells it, as `-o`; empty if there is none
   pub short : List ℕ
+  -- whether it sets a flag, selects a kind of the command, or takes values
   pub meaning : Meaning
 
 -- the option that these words spell, which takes no value and sets this flag
@@ -30,13 +33,13 @@ kind_option_of_long_and_short long short flag = record { long = long; short = sh
 abbrev pub value_option_of_long_and_short : List ℕ → List ℕ → ValueRule → OptionSpec
 value_option_of_long_and_short long short rule = record { long = long; short = short; meaning = Value rule }
 
--- the options of every applet that a word names
+-- the common options: every applet that a word names has them
 unfoldable pub common_options : List OptionSpec
 common_options =
     flag_option_of_long_and_short (codes "--allow-untrusted") [] AllowUntrusted ∷
     (flag_option_of_long_and_short (codes "--no-scripts") [] NoScripts ∷ [])
 
--- `--initdb`: a database is begun if there is none
+-- `--initdb`: the command makes a database if there is none
 abbrev pub initdb_option : OptionSpec
 initdb_option = flag_option_of_long_and_short (codes "--initdb") [] Initdb
 
@@ -87,7 +90,7 @@ mkndx_options =
     value_option_of_long_and_short (codes "--description") (codes "-d") description_rule
     ∷ output_and_compression_options
 
--- the options that are an applet's own
+-- the options that an applet has besides the common ones
 abbrev pub own_options : Applet → List OptionSpec
 own_options Add = initdb_option ∷ (simulate_option ∷ [])
 own_options Del = simulate_option ∷ (purge_option ∷ [])
@@ -100,13 +103,14 @@ own_options Version = version_options
 own_options ListApplet = list_options
 own_options applet = []
 
--- the options of an applet that a word names: those of every applet, and its own
+-- the options of an applet: the common ones and its own. The two applets that no word names, `Help` and
+-- `ProgramVersion`, have none
 unfoldable pub options_of : Applet → List OptionSpec
 options_of Help = []
 options_of ProgramVersion = []
 options_of applet = common_options ++ own_options applet
 
--- the option that a word spells, long or short, among some
+-- the option that a word spells, long or short, among these options
 abbrev pub option_of_word : List OptionSpec → List ℕ → Option OptionSpec
 option_of_word options word =
     find (λ (o : OptionSpec). bytes_eq o.long word || bytes_eq o.short word) options
@@ -154,7 +158,7 @@ applets =
 abbrev pub applet_of : List ℕ → Option Applet
 applet_of word = find (λ applet. bytes_eq (applet_word applet) word) applets
 
--- the applet that an option asks for: `--help` or `-h`, and `--version` or `-V`
+-- the applet that a word asks for: `Help` by `--help` or `-h`, and `ProgramVersion` by `--version` or `-V`
 abbrev pub applet_of_help_or_version_option : List ℕ → Option Applet
 applet_of_help_or_version_option word =
     if bytes_eq (codes "--help") word || bytes_eq (codes "-h") word then Some Help else

@@ -24,7 +24,7 @@ use Rattle.words_core.specs.Usage.{operand_rule_of_words}
 
 -- ---- the words
 
--- P holds of the word at the place
+-- there is a word at the place, and P holds of it
 abbrev pub HasWordAt : List (List ℕ) → ℕ → (List ℕ → Type 0) → Type 0
 HasWordAt words place P = (word : List ℕ) × (slice_get words (place - 1) ≡ Some word) × P word
 
@@ -34,87 +34,102 @@ IsAfterLastWord words place = place ≡ length words + 1
 
 -- ---- the command that was found
 
--- P holds of the applet that was found
+-- an applet was found in the words, and P holds of it
 abbrev pub HasApplet : List (List ℕ) → (Applet → Type 0) → Type 0
 HasApplet words P = (site : AppletSite) × (applet_site 1 words ≡ Ok site) × P site.applet
 
--- P holds of the start that was found, and of what was read after it
+-- a start (the applet and the flags before it) was found in the words, and P holds of it and of what was read after it
 abbrev pub HasReading : List (List ℕ) → (Start → Reading → Type 0) → Type 0
 HasReading words P =
     (start : Start) × (start_of_command_line words ≡ Ok start) × P start (reading_after_applet start words)
 
--- P holds of what the option that a word spells means
+-- a word spells an option of the applet, and P holds of the option's meaning
 abbrev pub HasOptionMeaning : Applet → List ℕ → (Meaning → Type 0) → Type 0
 HasOptionMeaning applet word P =
     (option : OptionSpec) × (option_of_word (options_of applet) (option_name word) ≡ Some option)
     × P option.meaning
 
--- a rule is that of the option whose value is awaited, or that a word spells
+-- a rule is that of the option whose value is awaited, or of the option with values that a word spells
 abbrev pub IsValueRuleOfWord : Start → Reading → List ℕ → ValueRule → Type 0
 IsValueRuleOfWord start reading word rule =
     (reading.state.awaiting ≡ Some rule)
     ⊎ HasOptionMeaning start.applet word (λ meaning. meaning ≡ Value rule)
 
--- P holds of the rule of an option with values, and of a text that a word gives as its value: the word
--- is the value that is awaited, or holds it
+-- P holds of the rule of an option with values, and of the text that a word gives as its value: the word is the awaited
+-- value, or spells the option and holds the value
 abbrev pub HasOptionValue : Start → Reading → List ℕ → (ValueRule → List ℕ → Type 0) → Type 0
 HasOptionValue start reading word P =
     ((rule : ValueRule) × (reading.state.awaiting ≡ Some rule) × P rule word)
     ⊎ HasOptionMeaning start.applet word (λ meaning. (rule : ValueRule) × (text : List ℕ)
     × (meaning ≡ Value rule) × (attached_value word ≡ Some text) × P rule text)
 
--- P holds of the rule of the operands
+-- the command has a rule of its operands, and P holds of this rule
 abbrev pub HasOperandRule : List (List ℕ) → Start → (OperandRule → Type 0) → Type 0
 HasOperandRule words start P =
     (rule : OperandRule) × (operand_rule_of_words words start ≡ Some rule) × P rule
 
 -- ---- the reasons
 
--- the reason why words are a usage error at a place is true
+-- the reason for which words are a usage error at a place is true
 abbrev pub IsUsageReason : UsageReason → List (List ℕ) → ℕ → Type 0
+-- the place is after the last word, and no applet was found
 IsUsageReason CommandMissing words place =
     IsAfterLastWord words place × IsTrue (not (is_ok (applet_site 1 words)))
+-- the word at the place names no applet
 IsUsageReason CommandUnknown words place = HasWordAt words place (λ word. applet_of word ≡ None)
+-- the word at the place is an option or `--`, and none of the options that may precede the applet
 IsUsageReason OptionEarly words place =
     HasWordAt words place (λ word. IsTrue (is_option word) × IsTrue (not (is_early_option_word word)))
+-- the word at the place spells no option of the applet that was found
 IsUsageReason OptionUnknown words place =
     HasWordAt words place (λ word. HasApplet words (λ applet.
     option_of_word (options_of applet) (option_name word) ≡ None))
+-- the word at the place spells an option that takes no value, and holds a value
 IsUsageReason ValueGiven words place =
     HasWordAt words place (λ word. HasReading words (λ start reading.
     HasOptionMeaning start.applet word (λ meaning. value_rule_of_meaning meaning ≡ None)
     × IsTrue (is_some (attached_value word))))
+-- the word at the place spells an option, or gives its value, that may be given once and has a value already
 IsUsageReason OptionRepeated words place =
     HasWordAt words place (λ word. HasReading words (λ start reading. (rule : ValueRule)
     × IsTrue rule.single × IsTrue (is_given rule.letter reading.state.values)
     × IsValueRuleOfWord start reading word rule))
+-- the word at the place selects a kind of the command, and an earlier flag has selected another one
 IsUsageReason SecondKind words place =
     HasWordAt words place (λ word. HasReading words (λ start reading. (flag : Flag)
     × IsTrue (has_command_kind_flag reading.state.flags) × (has_flag flag reading.state.flags ≡ false)
     × HasOptionMeaning start.applet word (λ meaning. meaning ≡ Kind flag)))
+-- the words end where the value of an option is awaited
 IsUsageReason ValueMissing words place =
     IsAfterLastWord words place × HasReading words (λ start reading. IsTrue (is_some
     reading.state.awaiting))
+-- the word at the place gives an option a value that is not of the option's kind
 IsUsageReason (ValueBad kind) words place =
     HasWordAt words place (λ word. HasReading words (λ start reading.
     HasOptionValue start reading word
     (λ rule text. (rule.kind ≡ kind) × (is_value_of_kind kind text ≡ false))))
+-- the word at the place gives an option a value that an earlier one excludes, as a script of the same type does
 IsUsageReason ScriptRepeated words place =
     HasWordAt words place (λ word. HasReading words (λ start reading.
     HasOptionValue start reading word
     (λ rule text. IsTrue (is_excluded_by_earlier_value rule text reading.state.values))))
+-- more operands were read than the command takes
 IsUsageReason TooManyOperands words place =
     HasReading words (λ start reading. HasOperandRule words start (λ rule. (most : ℕ)
     × (rule.most ≡ Some most) × (most < length reading.operands)))
+-- the word at the place is not of the kind of the command's operands
 IsUsageReason (OperandBad kind) words place =
     HasWordAt words place (λ word. HasReading words (λ start reading.
     HasOperandRule words start (λ rule. (rule.kind ≡ kind) × (is_operand_of_kind kind word ≡ false))))
+-- the words end with fewer operands, which are of this kind, than the command needs
 IsUsageReason (OperandMissing kind) words place =
     IsAfterLastWord words place × HasReading words (λ start reading. HasOperandRule words start (λ rule.
     (rule.kind ≡ kind) × (length reading.operands < rule.least)))
+-- the words end, and no flag has selected the kind of the command, without which it has no rule of operands
 IsUsageReason KindMissing words place =
     IsAfterLastWord words place
     × HasReading words (λ start reading. operand_rule_of_words words start ≡ None)
+-- the words end, and the option that the applet requires has no value
 IsUsageReason OptionMissing words place =
     IsAfterLastWord words place × HasReading words (λ start reading. (letter : ℕ)
     × (required_option_letter start.applet ≡ Some letter) × (is_given letter reading.state.values ≡ false))

@@ -9,7 +9,7 @@ use Rattle.words_core.specs.declared.help_rows.HelpRow.{HelpRow}
 use Rattle.words_core.specs.HelpTexts.{HelpLine, help_line}
 use Rattle.words_core.specs.Options.{OptionSpec}
 
--- the option of a row
+-- the option of a row of the table of options
 abbrev pub option_spec : OptionRow → OptionSpec
 option_spec row = record { long = row.long.now; short = row.short.now; meaning = row.meaning }
 
@@ -17,16 +17,16 @@ option_spec row = record { long = row.long.now; short = row.short.now; meaning =
 abbrev pub dash : ℕ
 dash = 45
 
--- whether an option that has values has this short word: a dash, and the letter under which its values
--- are kept
+-- whether an option that has values has this short word: a dash, and the letter under which its values are stored; true
+-- of an option without values
 abbrev pub has_letter : List ℕ → Meaning → Bool
 has_letter short (Value rule) = bytes_eq short (dash ∷ (rule.letter ∷ []))
 has_letter short meaning = true
 
--- whether the values of an option, if it has values, are kept under the letter of its short word
+-- whether the values of an option, if it has values, are stored under the letter of its short word
 abbrev pub has_letter_of_short_word : OptionSpec → Bool
 has_letter_of_short_word option = has_letter option.short option.meaning
 
--- the line of help of a row
+-- the line of help of a row of the table of help
 abbrev pub help_row_line : HelpRow → HelpLine
 help_row_line row = help_line row.subject.now row.text.now

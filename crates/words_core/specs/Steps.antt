@@ -11,14 +11,14 @@ use Rattle.words_core.specs.declared.reading.Reading.{Reading}
 use Rattle.words_core.specs.Grammar.{attached_value, option_name, value_rule_of_meaning, flags_with_option}
 use Rattle.words_core.specs.Options.{OptionSpec, option_of_word, options_of}
 
--- a step of the reader: a word that is read gives the new state, and one that cannot be read leaves the
--- old one
+-- a step of the reader, from the state `old` to the state `new`: if the word was read (true), `new` is the state that
+-- the definition of the step gives (`more`); otherwise the definition gives none, and the state does not change
 abbrev pub IsReadingStep : Bool → OptionState → OptionState → Option OptionState → Type 0
 IsReadingStep true old new more = more ≡ Some new
 IsReadingStep false old new more = (more ≡ None) × (new ≡ old)
 
--- the flags and values that were read are allowed for the applet: at most one flag selects its kind, and
--- the values may be combined
+-- the flags and values that were read are allowed for the applet: at most one flag selects the kind of the command, and
+-- no two values exclude each other
 abbrev pub IsSoundReading : Applet → Reading → Type 0
 IsSoundReading applet reading =
     IsTrue (may_have_flags applet reading.state.flags)

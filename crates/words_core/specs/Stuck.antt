@@ -21,14 +21,14 @@ use Rattle.words_core.specs.Options.{OptionSpec, applets, options_of}
 
 -- ---- before the applet
 
--- whether the words before an applet are its own options
+-- whether each of the words before an applet, up to `--`, is an option of it without a value
 abbrev pub are_options_of : List (List ℕ) → Applet → Bool
 are_options_of words applet = is_ok (flags_with_early_options (options_of applet) no_flags 1 words)
 
 -- ---- after the applet
 
--- whether the options have ended: `--` is among the words, and not as a value. The first word is
--- the value of an option, if there is a rule of it
+-- whether the options have ended: `--` is among the words, and not as a value. With a rule the first word is the value
+-- of the option with this rule
 abbrev pub have_options_ended : List OptionSpec → Option ValueRule → List (List ℕ) → Bool
 have_options_ended options rule [] = false
 have_options_ended options (Some rule) (word ∷ words) = have_options_ended options None words
@@ -37,23 +37,25 @@ have_options_ended options None (word ∷ words) =
     if is_option word then have_options_ended options (awaited_rule options word) words else
     have_options_ended options None words
 
--- whether an option is missing: one that selects the kind of the command, or the one that must be given
+-- whether an option is missing: a flag that selects the kind of the command, or the option with a value that the applet
+-- requires
 abbrev pub is_required_option_missing : Applet → OptionState → Bool
 is_required_option_missing applet state =
     not (is_some (operand_rule applet state.flags))
     || is_required_value_missing (required_option_letter applet) state.values
 
--- whether the option with a letter was given a script of a type
+-- whether the option with a letter was given a script of the type `t`
 abbrev pub has_script : ℕ → List OptionValue → List ℕ → Bool
 has_script letter values t =
     list_any (λ (v : OptionValue). (v.letter == letter) && bytes_eq (script_type v.text) t) values
 
--- whether the option with a letter can have no further value: it was given a script of each type
+-- whether the option with a letter, whose values are of this kind, can have no further value: it was given a script of
+-- each type
 abbrev pub has_all_possible_values : ValueKind → ℕ → List OptionValue → Bool
 has_all_possible_values Script letter values = list_all (has_script letter values) script_types
 has_all_possible_values kind letter values = false
 
--- whether a value of an option is awaited, and no text can be one
+-- whether the value of the option with this rule is awaited, and no text can be one more
 abbrev pub awaits_impossible_value : Option ValueRule → List OptionValue → Bool
 awaits_impossible_value None values = false
 awaits_impossible_value (Some rule) values = has_all_possible_values rule.kind rule.letter values
@@ -67,8 +69,8 @@ is_stuck words start =
     && is_required_option_missing start.applet state)
     || awaits_impossible_value state.awaiting state.values
 
--- whether words whose applet was found are stuck, by their start; if an option before the applet is
--- wrong they are not
+-- whether words whose applet was found are stuck, by their start (the applet and the flags before it); they are not if
+-- an option before the applet is wrong
 abbrev pub is_stuck_by : List (List ℕ) → Result Start ℕ → Bool
 is_stuck_by words (Err place) = false
 is_stuck_by words (Ok start) = is_stuck words start

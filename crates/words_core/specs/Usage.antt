@@ -28,16 +28,16 @@ use Rattle.words_core.specs.Options.{OptionSpec, applet_word, option_of_word, op
 
 -- ---- the reason
 
--- why a text is no value of an option although it is a value of its kind: one was given before
+-- why a text of the right kind is no value of the option with this rule: an earlier value excludes it
 abbrev pub repeated_value_reason : ValueRule → UsageReason
 repeated_value_reason rule = if rule.single then OptionRepeated else ScriptRepeated
 
--- why a text is no value of an option
+-- why a text is no value of the option with this rule
 abbrev pub value_reason : ValueRule → List ℕ → UsageReason
 value_reason rule text =
     if is_value_of_kind rule.kind text then repeated_value_reason rule else ValueBad rule.kind
 
--- why an option of the command cannot be given, by what it means and the value in its word
+-- why an option of the command cannot be given, by the value that its word holds, if it holds one, and by its meaning
 abbrev pub meaning_reason : Option (List ℕ) → Meaning → UsageReason
 meaning_reason (Some text) (Plain flag) = ValueGiven
 meaning_reason (Some text) (Kind flag) = ValueGiven
@@ -57,7 +57,7 @@ operand_reason word None = TooManyOperands
 operand_reason word (Some rule) =
     if is_operand_of_kind rule.kind word then TooManyOperands else OperandBad rule.kind
 
--- why a word after the command is wrong, by what it could have been
+-- why a word after the command is wrong, by the rule of the operands, and by what the word could have been
 abbrev pub word_reason : Option OperandRule → List ℕ → NextWord → UsageReason
 word_reason rule word OptionOrCommand = OptionUnknown
 word_reason rule word CommandAlone = CommandUnknown
@@ -69,31 +69,32 @@ word_reason rule word (NextValue applet value) = value_reason value word
 word_reason rule word (OperandAlone applet) = operand_reason word rule
 word_reason rule word Nothing = CommandUnknown
 
--- which word is missing after the last one, if no value is awaited: the option that the command needs,
--- the option that selects its kind, or an operand
+-- which word is missing after the last one, if no value is awaited: the option that the command requires (its letter is
+-- given), the flag that selects its kind (there is no rule of operands), or an operand
 abbrev pub missing_reason : Option ℕ → Option OperandRule → UsageReason
 missing_reason (Some letter) rule = OptionMissing
 missing_reason None None = KindMissing
 missing_reason None (Some rule) = OperandMissing rule.kind
 
--- which word is missing after the last one, by what it could be
+-- which word is missing after the last one, by the rule of the operands, and by what a further word could be
 abbrev pub end_reason : Applet → Option OperandRule → NextWord → UsageReason
 end_reason applet rule (NextValue other value) = ValueMissing
 end_reason applet rule next = missing_reason (required_option_letter applet) rule
 
--- why the place after a command that was found is wrong, by the word there, if there is one
+-- why a place after the command is wrong: by the wrong word there, or by what is missing if no word is there. The rule
+-- is that of the operands, and `next` is what the word could have been
 abbrev pub line_reason : Applet → Option OperandRule → NextWord → Option (List ℕ) → UsageReason
 line_reason applet rule next None = end_reason applet rule next
 line_reason applet rule next (Some word) = word_reason rule word next
 
--- why the place of the command is wrong, by the word there, if there is one
+-- why a place is wrong if no command was found, by what the word there could have been, and by the word there, if there
+-- is one
 abbrev pub command_reason : NextWord → Option (List ℕ) → UsageReason
 command_reason next None = CommandMissing
 command_reason OptionOrCommand (Some word) = if is_option word then OptionEarly else CommandUnknown
 command_reason next (Some word) = CommandUnknown
 
--- why a place before the command is wrong: no command is found, or the option there is none of the
--- command's
+-- why a place up to the command is wrong: no command was found; or one was, and the word there is none of its options
 abbrev pub early_reason : Result AppletSite ℕ → NextWord → Option (List ℕ) → UsageReason
 early_reason (Err place) next word = command_reason next word
 early_reason (Ok site) next word = OptionUnknown
@@ -102,7 +103,7 @@ early_reason (Ok site) next word = OptionUnknown
 abbrev pub operand_rule_of_words : List (List ℕ) → Start → Option OperandRule
 operand_rule_of_words words start = operand_rule start.applet (reading_after_applet start words).state.flags
 
--- why a place offends, by the start that was found in the words
+-- why a place offends, by the start (the applet and the flags before it) that was found in the words, if one was
 abbrev pub usage_reason_after_start : List (List ℕ) → ℕ → Result Start ℕ → UsageReason
 usage_reason_after_start words place (Err at) =
     early_reason (applet_site 1 words) (next_word_of_command_line (take (place - 1) words))
@@ -139,7 +140,7 @@ operand_kind_description Path = codes "a path"
 operand_kind_description Number = codes "a number from 1 to 20000"
 operand_kind_description Pattern = codes "a pattern"
 
--- the text of a reason
+-- the text of a reason, up to the kind of value or operand that was expected
 abbrev pub reason_text : UsageReason → List ℕ
 reason_text CommandMissing = codes "a command is missing"
 reason_text CommandUnknown = codes "unknown command"
@@ -157,7 +158,7 @@ reason_text (OperandMissing kind) = codes "an operand is missing: "
 reason_text KindMissing = codes "an option is missing: --test or --check"
 reason_text OptionMissing = codes "an option is missing: --output"
 
--- what ends the text of a reason: the kind of the value or operand, if it is about one
+-- the end of the text of a reason: the kind of value or operand that was expected; empty if the reason has none
 abbrev pub description_of_expected_kind : UsageReason → List ℕ
 description_of_expected_kind (ValueBad kind) = value_kind_description kind
 description_of_expected_kind (OperandBad kind) = operand_kind_description kind
@@ -220,12 +221,13 @@ abbrev pub help_topic_word : Result AppletSite ℕ → List ℕ
 help_topic_word (Err place) = []
 help_topic_word (Ok site) = applet_word site.applet
 
--- the usage of the program, if there are no words
+-- the usage of the program if there are no words; empty if there is a word
 abbrev pub usage_if_no_words : List (List ℕ) → List ℕ
 usage_if_no_words [] = program_usage
 usage_if_no_words (word ∷ words) = []
 
--- the end of the line: the reason, and whose help to read
+-- the texts after the wrong word: the reason with the kind that was expected, whose help to read, and the usage of the
+-- program if there are no words
 abbrev pub end_of_usage_hint : List (List ℕ) → UsageReason → List (List ℕ)
 end_of_usage_hint words reason =
     reason_text reason ∷ (description_of_expected_kind reason

@@ -41,7 +41,7 @@ pub(crate) static LISTED_COMMANDS: [Applet; 17] = [
     Applet::Demo,
 ];
 
-// Rows of several commands.
+// Help lines that several commands have.
 #[rattlefmt::skip]
 const INITDB_HELP: HelpRow =
     HelpRow { subject: b"    --initdb", text: b"begin a package database if there is none" };
@@ -66,7 +66,7 @@ const FILE_HELP: HelpRow =
 const PATTERN_HELP: HelpRow =
     HelpRow { subject: b"PATTERN", text: b"a name, in which each * stands for any text" };
 
-// The options of every command.
+// The help lines of the options that every command has.
 #[rattlefmt::skip]
 static COMMON_OPTIONS: [HelpRow; 4] = [
     HelpRow {
@@ -78,7 +78,7 @@ static COMMON_OPTIONS: [HelpRow; 4] = [
     HelpRow { subject: b"-V, --version", text: b"print the version of apk" },
 ];
 
-// How commands are called.
+// The usage of each command, one line for each way to call it.
 #[rattlefmt::skip]
 static ADD_SYNOPSIS: [&[u8]; 1] = [
     b"apk add [--initdb] [-s] [DEPENDENCY..]",
@@ -167,7 +167,7 @@ static DEMO_SYNOPSIS: [&[u8]; 1] = [
     b"apk demo NUMBER",
 ];
 
-// Options.
+// The help lines of the options that each command has besides the common ones.
 #[rattlefmt::skip]
 static ADD_OPTIONS: [HelpRow; 2] = [
     INITDB_HELP,
@@ -221,7 +221,7 @@ static VERSION_OPTIONS: [HelpRow; 2] = [
     HelpRow { subject: b"-c, --check", text: b"print each text that is no version" },
 ];
 
-// Fields, by what their values are.
+// The help lines of the fields that the option `-I` of `mkpkg` takes, by what their values are.
 #[rattlefmt::skip]
 static MKPKG_FIELDS: [HelpRow; 6] = [
     HelpRow { subject: b"needed", text: b"name, version" },
@@ -232,7 +232,7 @@ static MKPKG_FIELDS: [HelpRow; 6] = [
     HelpRow { subject: b"words", text: b"tags" },
 ];
 
-// Operands.
+// The help lines of the operands of each command.
 #[rattlefmt::skip]
 static ADD_OPERANDS: [HelpRow; 1] = [
     HelpRow { subject: b"DEPENDENCY", text: b"a name (no path), or name>=1.2, name@tag, !name" },
@@ -311,7 +311,7 @@ pub(crate) fn synopsis(applet: Applet) -> &'static [&'static [u8]]
     }
 }
 
-/// What a command does.
+/// What a command does, as `--help` prints it.
 pub(crate) fn purpose(applet: Applet) -> &'static [u8]
     ensures { result.now ≡ purpose applet }
 {
@@ -337,14 +337,14 @@ pub(crate) fn purpose(applet: Applet) -> &'static [u8]
     }
 }
 
-/// The lines of the options of every command.
+/// The help lines of the options that every command has.
 pub(crate) fn common_option_help() -> &'static [HelpRow]
     ensures { map help_row_line result.now ≡ common_option_help }
 {
     &COMMON_OPTIONS
 }
 
-/// The lines of the options that are a command's own.
+/// The help lines of the options that a command has besides the common ones.
 pub(crate) fn option_help(applet: Applet) -> &'static [HelpRow]
     ensures { map help_row_line result.now ≡ option_help applet }
 {
@@ -361,7 +361,7 @@ pub(crate) fn option_help(applet: Applet) -> &'static [HelpRow]
     }
 }
 
-/// The lines of the fields that an option of a command takes.
+/// The help lines of the fields that the option `-I` of a command takes; only `mkpkg` has one.
 pub(crate) fn field_help(applet: Applet) -> &'static [HelpRow]
     ensures { map help_row_line result.now ≡ field_help applet }
 {
@@ -371,7 +371,7 @@ pub(crate) fn field_help(applet: Applet) -> &'static [HelpRow]
     }
 }
 
-/// The lines of the operands of a command.
+/// The help lines of the operands of a command.
 pub(crate) fn operand_help(applet: Applet) -> &'static [HelpRow]
     ensures { map help_row_line result.now ≡ operand_help applet }
 {

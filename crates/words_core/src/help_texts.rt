@@ -19,9 +19,10 @@ const PROGRAM_VERSION: &[u8] = b"0.4.0";
 // As many spaces as a line of help can have before its explanation.
 static SPACES: [u8; 26] = *b"                          ";
 
-// The columns of the explanations of commands, and of options and operands.
+// The column at which the explanations of commands begin.
 const COMMAND_COLUMN: usize = 10;
 
+// The column at which the explanations of options, fields and operands begin.
 const OPTION_COLUMN: usize = 26;
 
 /// The line that `--version` prints.
@@ -47,7 +48,7 @@ pub fn help(alloc: Global, operands: &Operands) -> Result<Text, AllocError>
     Ok(Text::from_vec(text))
 }
 
-// The command that is asked about, by the operands of `Help`.
+// The command whose help is asked for, by the operands of `Help`; None for the help of the program.
 fn help_topic_of(operands: &Operands) -> Option<Applet>
     ensures { result ≡ help_topic_of operands.now }
 {
@@ -76,7 +77,7 @@ fn push_program_usage(text: &mut Vec<u8>) -> Result<(), AllocError>
     text.extend_from_slice(PROGRAM_USAGE)
 }
 
-// Adds the commands.
+// Adds the heading of the commands, and a line for each.
 #[tactic(auto, unfolding(crate::specs::HelpTexts::commands_text))]
 fn push_commands(text: &mut Vec<u8>) -> Result<(), AllocError>
     ensures { OnOk result (text.new.items ≡ text.old.items ++ commands_text) }
@@ -101,7 +102,7 @@ fn push_command_lines(text: &mut Vec<u8>, commands: &[Applet]) -> Result<(), All
     Ok(())
 }
 
-// Adds the options of every command.
+// Adds the heading of the options of every command, and a line for each.
 #[tactic(auto, unfolding(crate::specs::HelpTexts::common_options_text))]
 fn push_common(text: &mut Vec<u8>) -> Result<(), AllocError>
     ensures { OnOk result (text.new.items ≡ text.old.items ++ common_options_text) }
@@ -133,15 +134,18 @@ fn push_command_help(text: &mut Vec<u8>, applet: Applet) -> Result<(), AllocErro
     text.extend_from_slice(purpose(applet))?;
     text.extend_from_slice(b"\n")?;
     text.extend_from_slice(b"\nOptions:\n")?;
+    // First the options that the command has besides the common ones.
     push_lines(text, option_help(applet))?;
     push_lines(text, common_option_help())?;
+    // Only `mkpkg` has fields, and some commands have no operands.
     push_section(text, b"\nFields that -I takes:\n", field_help(applet))?;
     push_section(text, b"\nOperands:\n", operand_help(applet))?;
     text.extend_from_slice(b"\nManual page: apk(8)\n")?;
     Ok(())
 }
 
-// Adds how a command is called, a line each.
+// Adds how a command is called, a line for each way. The first line has a heading before it, and
+// the others as many spaces.
 fn push_usage(text: &mut Vec<u8>, lines: &[&[u8]]) -> Result<(), AllocError>
     ensures { OnOk result (text.new.items ≡ text.old.items
         ++ synopsis_text_with_first_prefix (codes "usage: ") (map (λ line. line.now) lines.now)) }
@@ -154,7 +158,7 @@ fn push_usage(text: &mut Vec<u8>, lines: &[&[u8]]) -> Result<(), AllocError>
     Ok(())
 }
 
-// Adds a line with the usage of a command, after a prefix.
+// Adds one way to call a command as a line, after the text `front`.
 fn push_usage_line(text: &mut Vec<u8>, front: &[u8], line: &[u8]) -> Result<(), AllocError>
     ensures { OnOk result (text.new.items ≡ text.old.items ++ usage_line front.now line.now) }
 {
@@ -163,7 +167,7 @@ fn push_usage_line(text: &mut Vec<u8>, front: &[u8], line: &[u8]) -> Result<(), 
     text.extend_from_slice(b"\n")
 }
 
-// Adds lines under a heading, if there are any.
+// Adds help lines under a heading; nothing if there are none.
 fn push_section(text: &mut Vec<u8>, heading: &[u8], rows: &[HelpRow]) -> Result<(), AllocError>
     ensures { OnOk result (text.new.items ≡ text.old.items
         ++ section_text heading.now OPTION_COLUMN (map help_row_line rows.now)) }
@@ -175,7 +179,7 @@ fn push_section(text: &mut Vec<u8>, heading: &[u8], rows: &[HelpRow]) -> Result<
     push_lines(text, rows)
 }
 
-// Adds lines of options or operands.
+// Adds help lines of options, fields or operands.
 fn push_lines(text: &mut Vec<u8>, rows: &[HelpRow]) -> Result<(), AllocError>
     ensures { OnOk result (text.new.items ≡ text.old.items
         ++ help_lines_text OPTION_COLUMN (map help_row_line rows.now)) }
@@ -186,7 +190,7 @@ fn push_lines(text: &mut Vec<u8>, rows: &[HelpRow]) -> Result<(), AllocError>
     Ok(())
 }
 
-// Adds a line whose explanation begins at a column.
+// Adds a help line whose explanation begins at a column.
 fn push_line(text: &mut Vec<u8>, column: usize, row: &HelpRow) -> Result<(), AllocError>
     requires { column ≤ OPTION_COLUMN }
     ensures { OnOk result (text.new.items
@@ -199,7 +203,7 @@ fn push_line(text: &mut Vec<u8>, column: usize, row: &HelpRow) -> Result<(), All
     text.extend_from_slice(b"\n")
 }
 
-// The spaces after a subject, up to a column.
+// The spaces between a subject and the column of its explanation; none if the subject is longer.
 fn padding_to_column(column: usize, subject: &[u8]) -> &'static [u8]
     requires { column ≤ OPTION_COLUMN }
     ensures { result.now ≡ padding_to_column column subject.now }

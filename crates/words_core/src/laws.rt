@@ -17,21 +17,21 @@ ghost use Rattle.words_core.specs.Usage.{usage_reason};
 ghost use Rattle.words_core.specs.Stuck.{are_words_without_completion};
 
 /// If a command is read from words, the words are that command: its applet, its operands and its
-/// options, and nothing else; or a word of them asks for it.
+/// options, and nothing else; or one of the words asks for the command, as `--help` does.
 pub fn read_words_are_a_command()
     ensures { (words : List (List ℕ)) (command : CommandLine) → command_of words ≡ Ok command →
         AreWordsOfCommand words command ⊎ IsHelpOrVersionAskedBy words command }
 {}
 
-/// If words are a command, it is read from them, wherever its options are; the same holds of words
-/// that ask for one.
+/// If words are a command, it is read from them, wherever its options are. The same holds of words
+/// that ask for help or for the version.
 pub fn commands_are_read()
     ensures { (words : List (List ℕ)) (command : CommandLine) →
         AreWordsOfCommand words command ⊎ IsHelpOrVersionAskedBy words command
         → command_of words ≡ Ok command }
 {}
 
-/// A usage error is at a word, or after the last one if a word is missing.
+/// A usage error is at the place of a word, or after the last word if a word is missing.
 pub fn usage_errors_are_at_words()
     ensures { (words : List (List ℕ)) (place : ℕ) → command_of words ≡ Err place →
         (1 ≤ place) × (place ≤ length words + 1) }
@@ -57,7 +57,7 @@ pub fn words_before_a_usage_error_can_be_completed()
         × (command_of (take (place - 1) words ++ more) ≡ Ok command) }
 {}
 
-/// Stuck words are no command, whatever follows.
+/// Stuck words are no command, whatever words follow.
 pub fn stuck_words_are_no_command()
     ensures { (words more : List (List ℕ)) → IsTrue (are_words_without_completion words) →
         (place : ℕ) × (command_of (words ++ more) ≡ Err place) }
@@ -72,7 +72,7 @@ pub fn what_follows_a_command_offends_after_it()
         command_of (words ++ more) ≡ Err place → length words < place }
 {}
 
-/// The letter of each option with values is that of its short word.
+/// The letter under which the values of an option are stored is that of the option's short word.
 pub fn letters_are_those_of_short_words()
     ensures { (applet : Applet) → IsTrue (list_all has_letter_of_short_word (own_options applet)) }
 {}
@@ -87,10 +87,14 @@ pub fn a_reason_is_so()
 /// The help of a command explains each option of it, in the order of the table of options, and
 /// nothing else.
 pub fn help_explains_each_option()
+    // The help of each command has a line for each option of its own, in order.
     ensures own { (applet : Applet)
         → IsTrue (are_help_lines_of_options (option_help applet) (own_options
         applet)) }
+    // The help lines common to all commands are those of the common options, `--help` and
+    // `--version`.
     ensures common { IsTrue (are_help_lines_of_options common_option_help (common_options
         ++ help_and_version_options)) }
+    // The help of the program lists the word of each applet.
     ensures listed { IsTrue (are_applets_listed_in_help applets) }
 {}

@@ -23,7 +23,7 @@ pub(crate) enum NextWord {
     Value(Applet, ValueRule),
     /// An operand: `--` has ended the options.
     Operand(Applet),
-    /// Nothing, since no such command is known.
+    /// Nothing, since the word at the place of the command names no command.
     Nothing,
 }
 
@@ -34,6 +34,7 @@ impl NextWord {
     {
         match self {
             NextWord::OptionOrCommand => after_start(word),
+            // The command follows `--`, so that only operands can follow it.
             NextWord::Command => match applet_of(word) {
                 Some(applet) => NextWord::Operand(applet),
                 None => NextWord::Nothing,
@@ -90,7 +91,8 @@ fn after_applet(applet: Applet, word: &[u8]) -> NextWord
     }
 }
 
-// The rule of the option that a word spells, if its value is the next word.
+// The rule of the values of the option that a word spells, if its value must be the next word. None
+// for a flag, and if the word itself holds the value.
 fn awaited_rule(applet: Applet, word: &[u8]) -> Option<ValueRule>
     requires { IsTrue (is_option word.now) }
     ensures { result ≡ awaited_rule (options_of applet) word.now }
@@ -116,7 +118,8 @@ pub(crate) fn next_word_of_command_line(words: &Words, count: usize) -> NextWord
     next
 }
 
-/// The applet that the word at a place asks for, if it asks and an option can be there.
+/// The applet `Help` or `ProgramVersion`, if the word at a place asks for it and an option can be
+/// there.
 pub(crate) fn help_or_version_option_at(words: &Words, place: u32) -> Option<Applet>
     requires low { 1 ≤ place }
     requires high { place ≤ length words.now + 1 }

@@ -71,7 +71,7 @@ static HELP_WORDS: [&[u8]; 2] = [b"--help", b"-h"];
 // The words that ask for the version of the program.
 static VERSION_WORDS: [&[u8]; 2] = [b"--version", b"-V"];
 
-// The options of every applet that a word names.
+// The common options: every applet that a word names has them.
 static COMMON: [OptionRow; 2] = [
     OptionRow {
         long: b"--allow-untrusted",
@@ -85,7 +85,7 @@ static COMMON: [OptionRow; 2] = [
     },
 ];
 
-// The option of `add` that begins a database if there is none.
+// The option of `add` that makes a database if there is none.
 const INITDB_ROW: OptionRow = OptionRow {
     long: b"--initdb",
     short: b"",
@@ -106,7 +106,7 @@ const PURGE_ROW: OptionRow = OptionRow {
     meaning: Meaning::Flag(Flag::Purge),
 };
 
-// The option of `mkpkg` and `mkndx` that names their output.
+// The option of `mkpkg` and `mkndx` that names their output; it may be given once.
 const OUTPUT_ROW: OptionRow = OptionRow {
     long: b"--output",
     short: b"-o",
@@ -117,7 +117,8 @@ const OUTPUT_ROW: OptionRow = OptionRow {
     }),
 };
 
-// The option of `mkpkg` and `mkndx` that says how their output is compressed.
+// The option of `mkpkg` and `mkndx` that says how their output is compressed, of which only `none`
+// is allowed; it may be given once.
 const COMPRESSION_ROW: OptionRow = OptionRow {
     long: b"--compression",
     short: b"-c",
@@ -161,6 +162,7 @@ static VERSION_KINDS: [OptionRow; 2] = [
 
 // The options of `mkpkg`.
 static MKPKG: [OptionRow; 6] = [
+    // May be given often, with any text: a field of the package.
     OptionRow {
         long: b"--info",
         short: b"-I",
@@ -170,6 +172,7 @@ static MKPKG: [OptionRow; 6] = [
             kind: ValueKind::Any,
         }),
     },
+    // May be given once for each type of script.
     OptionRow {
         long: b"--script",
         short: b"-s",
@@ -179,6 +182,7 @@ static MKPKG: [OptionRow; 6] = [
             kind: ValueKind::Script,
         }),
     },
+    // May be given often; its value is not empty.
     OptionRow {
         long: b"--trigger",
         short: b"-t",
@@ -188,6 +192,7 @@ static MKPKG: [OptionRow; 6] = [
             kind: ValueKind::Nonempty,
         }),
     },
+    // May be given once; its value names a folder.
     OptionRow {
         long: b"--files",
         short: b"-F",
@@ -203,6 +208,7 @@ static MKPKG: [OptionRow; 6] = [
 
 // The options of `mkndx`.
 static MKNDX: [OptionRow; 3] = [
+    // May be given once, with any text: the description of the index.
     OptionRow {
         long: b"--description",
         short: b"-d",
@@ -243,7 +249,7 @@ pub(crate) fn applet_word(applet: Applet) -> &'static [u8]
     }
 }
 
-// The options that are an applet's own.
+// The options that an applet has besides the common ones.
 fn own_options(applet: Applet) -> &'static [OptionRow]
     ensures { map option_spec result.now ≡ own_options applet }
 {
@@ -289,7 +295,8 @@ pub(crate) fn option_of_word(applet: Applet, word: &[u8]) -> Option<OptionRow>
     }
 }
 
-// The option that a word spells, among those of every applet and those of this one.
+// The option that a word spells, among the common ones of all applets and the own ones of this
+// applet.
 fn common_or_own(applet: Applet, word: &[u8]) -> Option<OptionRow>
     ensures { option_map option_spec result
         ≡ option_of_word (common_options ++ own_options applet) word.now }
@@ -321,7 +328,7 @@ fn common_option(word: &[u8]) -> Option<OptionRow>
     find_option(&COMMON, word)
 }
 
-// The option that a word spells, among some.
+// The option that a word spells, among these options.
 fn find_option(options: &[OptionRow], word: &[u8]) -> Option<OptionRow>
     ensures { option_map option_spec result
         ≡ option_of_word (map option_spec options.now) word.now }
@@ -350,7 +357,7 @@ impl OptionRow {
 }
 
 impl Meaning {
-    /// The rule of the values that an option has. None: it is a flag.
+    /// The rule of the values of the option with this meaning. None: the option takes no value.
     pub(crate) fn rule(self) -> Option<ValueRule>
         ensures { result ≡ value_rule_of_meaning self }
     {
@@ -360,8 +367,8 @@ impl Meaning {
         }
     }
 
-    /// These flags and that of the option. None if the option takes a value, or if it selects a
-    /// kind of the command other than that of an earlier flag.
+    /// The flags with that of an option with this meaning added. None if the option takes a value,
+    /// or if it selects a kind of the command other than that of an earlier flag.
     pub(crate) fn with(self, flags: Flags) -> Option<Flags>
         ensures { result ≡ flags_with_meaning flags self }
     {

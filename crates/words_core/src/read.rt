@@ -41,12 +41,14 @@ impl From<AllocError> for WordsFault {
 ///
 /// # Errors
 ///
-/// `Usage` is returned exactly outside the grammar, at the first wrong word once the whole line is
-/// known. `Memory` is returned only if an applet was found, with its own options before it.
+/// `Usage` is returned exactly if the words are no command. Its place is that of the first wrong
+/// word, or the place after the last word if a word is missing. `Memory` is returned only if an
+/// applet was found, with its own options before it.
 #[tactic(auto, using(crate::proofs::AskedLaws::line_is))]
 pub fn read_words(alloc: Global, words: &Words) -> Result<Command, WordsFault>
     ensures ok { IfOk result (λ command. command_of words.now ≡ Ok command) }
     ensures usage { IfErr result (λ fault. IsWordsFault fault (command_of words.now)) }
+    // Memory ran out only if an applet was found, with its own options before it.
     ensures memory { IfErr result (λ fault. HasStartIfOutOfMemory fault
         (start_of_command_line words.now)) }
 {
@@ -57,12 +59,14 @@ pub fn read_words(alloc: Global, words: &Words) -> Result<Command, WordsFault>
     }
 }
 
-// The command that the word at a place asks for, if it is the first wrong one.
+// The command that the first wrong word asks for, as `--help` does; otherwise the usage error at
+// this place, which is that of the first wrong word.
 #[tactic(auto, unfolding(crate::specs::Grammar::command_of))]
 fn read_asked(alloc: Global, words: &Words, place: u32) -> Result<Command, WordsFault>
     requires { spelled_command words.now ≡ Err place }
     ensures ok { IfOk result (λ command. command_of words.now ≡ Ok command) }
     ensures usage { IfErr result (λ fault. IsWordsFault fault (command_of words.now)) }
+    // Memory ran out only if an applet was found, with its own options before it.
     ensures memory { IfErr result (λ fault. HasStartIfOutOfMemory fault
         (start_of_command_line words.now)) }
 {
@@ -75,7 +79,8 @@ fn read_asked(alloc: Global, words: &Words, place: u32) -> Result<Command, Words
     }
 }
 
-// The command that words ask for.
+// The command `Help` or `ProgramVersion` that words ask for: without flags and values. Its operands
+// are those of `topic`.
 fn help_or_version_command(
     alloc: Global,
     words: &Words,
@@ -83,6 +88,7 @@ fn help_or_version_command(
 ) -> Result<Command, AllocError>
     requires { IsTrue (is_valid_command (help_or_version_command words.now applet)) }
     ensures ok { IfOk result (λ command. command ≡ help_or_version_command words.now applet) }
+    // Memory runs out only for the operand of `Help`, and so only if an applet was found.
     ensures memory { OnErr result (IsTrue (is_ok (applet_site 1 words.now))) }
 {
     let operands = match applet {
@@ -98,7 +104,7 @@ fn help_or_version_command(
     ))
 }
 
-// The operands of `Help`: the word of the applet, if there is one.
+// The operands of `Help`: the word of the applet that the words name, if they name one.
 fn topic(alloc: Global, words: &Words) -> Result<Operands, AllocError>
     ensures ok { IfOk result (λ operands. operands
         ≡ help_topic_operands (applet_site 1 words.now)) }
@@ -112,11 +118,12 @@ fn topic(alloc: Global, words: &Words) -> Result<Operands, AllocError>
     Ok(operands)
 }
 
-// The command that the words spell.
+// The command that the words spell, if `--help` and `--version` are no options.
 #[tactic(auto, unfolding(crate::specs::Grammar::spelled_command))]
 fn read_line(alloc: Global, words: &Words) -> Result<Command, WordsFault>
     ensures ok { IfOk result (λ command. spelled_command words.now ≡ Ok command) }
     ensures usage { IfErr result (λ fault. IsWordsFault fault (spelled_command words.now)) }
+    // Memory ran out only if an applet was found, with its own options before it.
     ensures memory { IfErr result (λ fault. HasStartIfOutOfMemory fault
         (start_of_command_line words.now)) }
 {
@@ -129,7 +136,7 @@ fn read_line(alloc: Global, words: &Words) -> Result<Command, WordsFault>
 }
 
 // The command that was read, or the first wrong place: an operand that is not taken, the word that
-// cannot be read, or the place after the last word if a word is missing.
+// cannot be read, or the place after the last word (`behind`) if a word is missing.
 #[tactic(auto, unfolding(crate::specs::Grammar::command_of_reading))]
 fn judge(applet: Applet, reading: Reading, behind: u32) -> Result<Command, WordsFault>
     requires { IsSoundReading applet reading }

@@ -22,26 +22,27 @@ use std::alloc::{AllocError, Global};
 
 // ---- up to the applet
 
-/// The place of the applet.
+/// The applet that a command line names, and where its word is.
 #[derive(Clone, Copy)]
 pub(crate) struct AppletSite {
     /// The applet.
     pub applet: Applet,
-    /// Whether `--` precedes it, so that no options follow.
+    /// Whether `--` precedes the applet's word, so that no options follow.
     pub ended: bool,
-    /// How many words are read, the applet's among them.
+    /// How many words are read: those before the applet's word, and this word.
     pub read: usize,
 }
 
-/// The applet, its place, and the flags before it.
+/// The applet that a command line names, where its word is, and the flags before this word.
 #[derive(Clone, Copy)]
 pub(crate) struct Start {
+    /// The applet.
     pub applet: Applet,
-    /// The flags before it.
+    /// The flags before the applet's word.
     pub flags: Flags,
-    /// Whether `--` precedes it, so that no options follow.
+    /// Whether `--` precedes the applet's word, so that no options follow.
     pub ended: bool,
-    /// How many words are read, the applet's among them.
+    /// How many words are read: those before the applet's word, and this word.
     pub read: usize,
 }
 
@@ -59,9 +60,11 @@ pub(crate) fn read_start(words: &Words) -> Result<Start, u32>
     })
 }
 
-/// Looks for the applet, which only some options may precede.
+/// Looks for the word of the applet, which only some options and `--` may precede. An error is the
+/// place of the first wrong word.
 pub(crate) fn find_applet(words: &Words) -> Result<AppletSite, u32>
     ensures site { result ≡ applet_site 1 words.now }
+    // There are fewer words than places, so that the place after the last word is a number too.
     ensures few { length words.now < MOST_PLACES }
 {
     for i in 0..words.len() {
@@ -70,6 +73,7 @@ pub(crate) fn find_applet(words: &Words) -> Result<AppletSite, u32>
             return applet_after_end(words, i + 1);
         }
         if !is_option(word) {
+            // The first word that is no option must name the applet.
             return applet_at(word, false, i);
         }
         if !is_early_option_word(word) {
@@ -79,7 +83,8 @@ pub(crate) fn find_applet(words: &Words) -> Result<AppletSite, u32>
     Err(place_after_word(words.len()))
 }
 
-// The applet that the first word after `--` names. The first `before` words end with `--`.
+// The site of the applet that the first word after `--` names. The first `before` words end with
+// `--`.
 #[tactic(auto, unfolding(crate::specs::Grammar::applet_site_after_double_dash), using(crate::proofs::OneMore::left_at))]
 fn applet_after_end(words: &Words, before: usize) -> Result<AppletSite, u32>
     requires { before ≤ length words.now }
@@ -91,7 +96,8 @@ fn applet_after_end(words: &Words, before: usize) -> Result<AppletSite, u32>
     applet_at(words.word(before), true, before)
 }
 
-// The applet that a word names, which `before` words precede.
+// The site of the applet that a word names. `before` words precede it, and `ended` says whether
+// `--` is among them. An error is the place of the word.
 #[tactic(auto, unfolding(crate::specs::Grammar::applet_site_of_word))]
 fn applet_at(word: &[u8], ended: bool, before: usize) -> Result<AppletSite, u32>
     requires { before < MOST_PLACES }
@@ -107,10 +113,13 @@ fn applet_at(word: &[u8], ended: bool, before: usize) -> Result<AppletSite, u32>
     }
 }
 
-// The flags before the applet: each is one of its options.
+// The flags of the words before the applet, up to `--`. An error is the place of the first such
+// word that is no option of this applet, or one that takes a value.
 fn read_early(words: &Words, site: &AppletSite) -> Result<Flags, u32>
+    // The applet's word is among the words that are read.
     requires low { 1 ≤ site.now.read }
     requires high { site.now.read ≤ length words.now }
+    // The place after the last word is a number of 32 bits.
     requires few { length words.now < MOST_PLACES }
     ensures { result
         ≡ flags_with_early_options (options_of site.now.applet) no_flags 1 (take
@@ -122,6 +131,7 @@ fn read_early(words: &Words, site: &AppletSite) -> Result<Flags, u32>
         if is_double_dash(word) {
             return Ok(flags);
         }
+        // The word must be an option of this applet that takes no value.
         match flags_with_option_word(flags, option_of_word(site.applet, word)) {
             Some(more) => flags = more,
             None => return Err(place_after_word(i)),
@@ -135,9 +145,11 @@ fn read_early(words: &Words, site: &AppletSite) -> Result<Flags, u32>
 /// The effect of the options that are read.
 #[derive(Drop)]
 pub(crate) struct OptionState {
+    /// The flags that are read, those before the applet among them.
     pub flags: Flags,
+    /// The values of options that are read.
     pub values: Values,
-    /// The option whose value is the next word.
+    /// The rule of the option whose value must be the next word, if there is such an option.
     pub awaiting: Option<ValueRule>,
 }
 
@@ -153,7 +165,8 @@ impl OptionState {
         }
     }
 
-    // Whether a word is an awaited value, or an option.
+    // Whether a word is read as an option or as a value: it is an option, or an option awaits its
+    // value.
     fn expects(&self, word: &[u8]) -> bool
         ensures { result ≡ is_option_or_value self.now word.now }
     {
@@ -174,7 +187,7 @@ impl OptionState {
         }
     }
 
-    /// Whether the option that an applet needs was given.
+    /// Whether the option that an applet requires was given; true if it requires none.
     pub(crate) fn has_needed(&self, applet: Applet) -> bool
         ensures { result ≡ not (is_required_value_missing
             (required_option_letter applet) self.now.values) }
@@ -198,8 +211,8 @@ impl OptionState {
         }
     }
 
-    // Reads the meaning of an option, whose word holds a value or none. Returns false if it may not
-    // be given so.
+    // Reads an option with this meaning, whose word holds the value `held` or none. Returns false
+    // if it may not be given so, and then nothing changes.
     fn read_meaning(
         &mut self,
         place: u32,
@@ -212,13 +225,14 @@ impl OptionState {
     {
         match meaning {
             Meaning::Value(rule) => self.read_rule(place, held, rule),
+            // A flag takes no value.
             Meaning::Flag(_) | Meaning::Kind(_) if held.is_some() => Ok(false),
             Meaning::Flag(_) | Meaning::Kind(_) => Ok(self.read_flag(meaning)),
         }
     }
 
-    // Reads an option without a value. Returns false if the option selects a kind of the command,
-    // but an earlier option has selected another kind.
+    // Reads an option without a value. Returns false, and changes nothing, if it selects a kind of
+    // the command and an earlier option has selected another kind.
     fn read_flag(&mut self, meaning: Meaning) -> bool
         ensures { IsReadingStep result self.old self.new (with_flags_if_some self.old
             (flags_with_meaning self.old.flags meaning)) }
@@ -232,8 +246,8 @@ impl OptionState {
         }
     }
 
-    // Reads an option that has values, whose word holds a value or none. Returns false if it may
-    // not be given again, or does not have that value.
+    // Reads an option that has values, whose word holds the value `held` or none. Returns false,
+    // and changes nothing, if it may not be given again, or does not have that value.
     fn read_rule(
         &mut self,
         place: u32,
@@ -249,13 +263,15 @@ impl OptionState {
         match held {
             Some(text) => self.read_value(place, text, rule),
             None => {
+                // The next word must be the value.
                 self.awaiting = Some(rule);
                 Ok(true)
             }
         }
     }
 
-    // Reads a text as a value of an option. Returns false if the option does not have that value.
+    // Reads a text as a value of the option with this rule. Returns false, and changes nothing, if
+    // it is not of the right kind, or an earlier value excludes it.
     fn read_value(&mut self, place: u32, text: &[u8], rule: ValueRule) -> Result<bool, AllocError>
         ensures { IfOk result (λ good. IsReadingStep good self.old self.new
             (with_option_value self.old place text.now rule)) }
@@ -263,6 +279,7 @@ impl OptionState {
         if !rule.kind.has(text) {
             return Ok(false);
         }
+        // For example, a script of this type was given before.
         if self.values.exclude(rule, text) {
             return Ok(false);
         }
@@ -277,8 +294,10 @@ impl OptionState {
 pub(crate) struct Reading {
     /// The effect of the options, including those before the applet.
     pub state: OptionState,
+    /// The operands that were read.
     pub operands: Operands,
-    /// The place of the word that cannot be read. Nothing was read after it.
+    /// The place of the word that cannot be read, or of the value that is missing after the last
+    /// word. Nothing was read after it.
     pub unread: Option<u32>,
 }
 
@@ -335,7 +354,8 @@ pub(crate) fn read_after_applet(
     Ok(Reading::whole(OptionState::new(alloc, start.flags), operands))
 }
 
-// Reads options, their values and operands, if no `--` precedes the applet.
+// Reads options, their values and operands after the applet, if no `--` precedes it. The reading
+// ends at the first word that cannot be read.
 fn read_options(alloc: Global, words: &Words, start: &Start) -> Result<Reading, AllocError>
     requires { start.now.read ≤ length words.now }
     ensures { IfOk result (λ reading.
@@ -347,6 +367,7 @@ fn read_options(alloc: Global, words: &Words, start: &Start) -> Result<Reading, 
     let mut operands = Operands::new(alloc);
     for i in start.read..words.len() {
         let word = words.word(i);
+        // The word is an option, or the value that an option awaits.
         if state.expects(word) {
             if state.read_word(start.applet, place_after_word(i), word)? {
                 continue;
@@ -354,9 +375,11 @@ fn read_options(alloc: Global, words: &Words, start: &Start) -> Result<Reading, 
             return Ok(Reading::up_to(place_after_word(i), state, operands));
         }
         if is_double_dash(word) {
+            // All words after it are operands.
             add_operands(&mut operands, words, i + 1)?;
             return Ok(Reading::whole(state, operands));
         }
+        // Each other word is an operand.
         operands.push(place_after_word(i), word)?;
     }
     Ok(Reading::ended(place_after_word(words.len()), state, operands))

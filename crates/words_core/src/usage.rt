@@ -1,5 +1,5 @@
-//! Why words are a usage error, and the line that explains it to the user. It allocates no memory.
-//! The texts are listed in `docs/commands.md`, "Help".
+//! Why words are a usage error, and the line that explains it to the user. No function here
+//! allocates memory. The texts are listed in `docs/commands.md`, "Help".
 ghost use Rattle.std.specs.Prelude.{◌≡◌, ◌-◌, ◌+◌, ◌<◌, ◌≤◌, Some, IsTrue, drop, length, map, slice_get, take};
 ghost use Rattle.std.specs.Option.{option_map};
 ghost use Rattle.base_core.specs.Sink.{sink_before_and_after};
@@ -24,38 +24,38 @@ use itoa::Buffer;
 /// How many bytes of a word are shown.
 pub const LONGEST_SHOWN: usize = 64;
 
-/// Why words are a usage error at a place.
+/// Why words are a usage error at a place. In the variants, "the word" is the word at this place.
 #[derive(Clone, Copy)]
 pub enum UsageReason {
-    /// No command is named.
+    /// The words end, and no command was found.
     CommandMissing,
     /// The word names no command.
     CommandUnknown,
     /// The word is no option that can be before the command.
     OptionEarly,
-    /// The word is no option of the command.
+    /// The word spells no option of the command.
     OptionUnknown,
-    /// The option was given before, and can be given once.
+    /// The word gives an option that can be given only once, and was given before.
     OptionRepeated,
-    /// Another option was given of which at most one can be.
+    /// The word selects a kind of the command, and an earlier option has selected another kind.
     SecondKind,
-    /// The option has no value, and its word holds one.
+    /// The word is an option that takes no value, and holds one.
     ValueGiven,
     /// The words end where the value of an option is awaited.
     ValueMissing,
-    /// The value is none of its kind.
+    /// The word is or holds a value of an option, and the value is not of this kind, as it must be.
     ValueBad(ValueKind),
     /// A script of the same type was given before.
     ScriptRepeated,
     /// The command takes no further operand.
     TooManyOperands,
-    /// The operand is none of its kind.
+    /// The word is an operand of the command, and is not of this kind, as it must be.
     OperandBad(OperandKind),
     /// An operand of this kind is missing.
     OperandMissing(OperandKind),
-    /// The option that says the kind of the command is missing.
+    /// The option that selects the kind of the command is missing: `version` needs `-t` or `-c`.
     KindMissing,
-    /// The option that the command needs is missing.
+    /// The option that the command needs is missing: `mkndx` needs `-o`.
     OptionMissing,
 }
 
@@ -73,7 +73,7 @@ fn usage_reason(words: &Words, place: u32) -> UsageReason
     }
 }
 
-// What the word at a place could have been.
+// What the word at a place could have been, by the words before this place.
 fn next_before(words: &Words, place: u32) -> NextWord
     ensures { result ≡ next_word_of_command_line (take (place - 1) words.now) }
 {
@@ -96,7 +96,8 @@ pub fn word_at(words: &Words, place: u32) -> Option<&[u8]>
     None
 }
 
-// Why a place before the command offends.
+// Why a place offends if the command was not found, or an option before it is none of its options.
+// `next` is what the word at the place could have been.
 fn early_reason(words: &Words, place: u32, next: NextWord) -> UsageReason
     ensures { result ≡ early_reason (applet_site 1 words.now) next
         (slice_get words.now (place - 1)) }
@@ -107,7 +108,8 @@ fn early_reason(words: &Words, place: u32, next: NextWord) -> UsageReason
     }
 }
 
-// Why the place of the command offends.
+// Why a place offends if the command was not found, by what the word there could have been
+// (`next`), and by the word there, if there is one.
 fn command_reason(next: NextWord, word: Option<&[u8]>) -> UsageReason
     ensures { result ≡ command_reason next (option_map (λ w. w.now) word.entry) }
 {
@@ -120,7 +122,7 @@ fn command_reason(next: NextWord, word: Option<&[u8]>) -> UsageReason
     }
 }
 
-// Why the place after a command that was found offends.
+// Why a place after the command offends, by what the word there could have been (`next`).
 fn line_reason(words: &Words, place: u32, start: &Start, next: NextWord) -> UsageReason
     requires { start_of_command_line words.now ≡ Ok start.now }
     ensures { result ≡ line_reason start.now.applet (operand_rule_of_words words.now start.now) next
@@ -133,7 +135,8 @@ fn line_reason(words: &Words, place: u32, start: &Start, next: NextWord) -> Usag
     }
 }
 
-// Which word is missing after the last one.
+// Which word is missing after the last one. `rule` is that of the operands, and `next` is what a
+// further word could be.
 fn end_reason(applet: Applet, rule: Option<OperandRule>, next: NextWord) -> UsageReason
     ensures { result ≡ end_reason applet rule next }
 {
@@ -143,7 +146,8 @@ fn end_reason(applet: Applet, rule: Option<OperandRule>, next: NextWord) -> Usag
     }
 }
 
-// Which word is missing after the last one, if no value is awaited.
+// Which word is missing after the last one, if no value is awaited. `needed` is the letter of the
+// option that the command requires, and `rule` is that of the operands.
 fn missing_reason(needed: Option<u8>, rule: Option<OperandRule>) -> UsageReason
     ensures { result ≡ missing_reason needed rule }
 {
@@ -156,13 +160,15 @@ fn missing_reason(needed: Option<u8>, rule: Option<OperandRule>) -> UsageReason
     }
 }
 
-// Why a word after the command is wrong.
+// Why a word after the command is wrong, by the rule of the operands, and by what the word could
+// have been (`next`).
 fn word_reason(rule: Option<OperandRule>, word: &[u8], next: NextWord) -> UsageReason
     ensures { result ≡ word_reason rule word.now next }
 {
     match next {
         NextWord::OptionOrCommand => UsageReason::OptionUnknown,
         NextWord::Command | NextWord::Nothing => UsageReason::CommandUnknown,
+        // `value` is the rule of the option whose value is awaited.
         NextWord::Value(_, value) => value_reason(value, word),
         NextWord::Operand(_) => operand_reason(word, rule),
         NextWord::OptionOrOperand(applet) => free_reason(applet, rule, word),
@@ -182,7 +188,8 @@ fn free_reason(applet: Applet, rule: Option<OperandRule>, word: &[u8]) -> UsageR
     option_reason(word, option_of_word(applet, option_name(word)))
 }
 
-// Why a word is no option of the command.
+// Why a word cannot be read as an option, by the option of the command that it spells, if it spells
+// one.
 fn option_reason(word: &[u8], option: Option<OptionRow>) -> UsageReason
     ensures { result ≡ option_reason word.now (option_map option_spec option) }
 {
@@ -192,7 +199,8 @@ fn option_reason(word: &[u8], option: Option<OptionRow>) -> UsageReason
     }
 }
 
-// Why an option of the command cannot be given.
+// Why an option of the command cannot be given, by its meaning and by the value that its word holds
+// (`held`).
 fn meaning_reason(held: Option<&[u8]>, meaning: Meaning) -> UsageReason
     ensures { result ≡ meaning_reason (option_map (λ text. text.now) held.entry) meaning }
 {
@@ -203,18 +211,20 @@ fn meaning_reason(held: Option<&[u8]>, meaning: Meaning) -> UsageReason
         },
         None => match meaning {
             Meaning::Kind(_) => UsageReason::SecondKind,
+            // A plain flag may be given again and is never wrong here; the option has a value.
             Meaning::Flag(_) | Meaning::Value(_) => UsageReason::OptionRepeated,
         },
     }
 }
 
-// Why a text is no value of an option.
+// Why a text cannot be a value of the option with this rule.
 fn value_reason(rule: ValueRule, text: &[u8]) -> UsageReason
     ensures { result ≡ value_reason rule text.now }
 {
     if !rule.kind.has(text) {
         return UsageReason::ValueBad(rule.kind);
     }
+    // A text of the right kind is refused only because of an earlier value of the option.
     if rule.single {
         UsageReason::OptionRepeated
     } else {
@@ -222,7 +232,7 @@ fn value_reason(rule: ValueRule, text: &[u8]) -> UsageReason
     }
 }
 
-// Why a word is no operand.
+// Why a word cannot be an operand of the command, by the rule of its operands.
 fn operand_reason(word: &[u8], rule: Option<OperandRule>) -> UsageReason
     ensures { result ≡ operand_reason word.now rule }
 {
@@ -234,11 +244,13 @@ fn operand_reason(word: &[u8], rule: Option<OperandRule>) -> UsageReason
 
 // ---- the operands of the command
 
-// Which operands the command that was found takes, under all flags that are read.
+// Which operands the command that was found takes, under the flags that are read before and after
+// it.
 fn operand_rule_of_words(words: &Words, start: &Start) -> Option<OperandRule>
     requires { start_of_command_line words.now ≡ Ok start.now }
     ensures { result ≡ operand_rule_of_words words.now start.now }
 {
+    // Flags other than those of `info` and `version` make no difference, and are not read again.
     if operands_depend_on_flags(start.applet) {
         return start.applet.operands(read_flags(words, start));
     }
@@ -252,7 +264,8 @@ fn operands_depend_on_flags(applet: Applet) -> bool
     matches!(applet, Applet::Info | Applet::Version)
 }
 
-// The flags that are read, if no option of the command has values.
+// The flags before the command, and those after it up to the first word that cannot be read. No
+// option of the command has values.
 #[tactic(auto, unfolding(crate::specs::Grammar::reading_after_applet))]
 fn read_flags(words: &Words, start: &Start) -> Flags
     requires read { start.now.read ≤ length words.now }
@@ -265,7 +278,8 @@ fn read_flags(words: &Words, start: &Start) -> Flags
     flags_behind(words, start)
 }
 
-// The flags that are read, if options can follow the command.
+// The flags before the command, and those after it up to `--` or the first word that cannot be
+// read. No option of the command has values.
 fn flags_behind(words: &Words, start: &Start) -> Flags
     requires read { start.now.read ≤ length words.now }
     requires plain { IsTrue (has_no_values start.now.applet) }
@@ -279,9 +293,11 @@ fn flags_behind(words: &Words, start: &Start) -> Flags
         if is_double_dash(word) {
             return flags;
         }
+        // The word is an operand.
         if !is_option(word) {
             continue;
         }
+        // An option that cannot be read ends the reading.
         match flags_with_held_meaning(start.applet, flags, word) {
             Some(more) => flags = more,
             None => return flags,
@@ -316,7 +332,7 @@ pub fn explain_usage<S: Sink>(words: &Words, place: u32, sink: &mut S) -> Result
     write_texts(&end_of_usage_hint(words, usage_reason(words, place)), sink)
 }
 
-// Writes the word at a place, if there is one, and its place.
+// Writes the place and the word there; nothing if there is no word.
 fn write_place<S: Sink>(words: &Words, place: u32, sink: &mut S) -> Result<(), SinkFault>
     ensures { Writes (shown_word_with_place place (slice_get words.now (place - 1)))
         (sink_before_and_after S.bytes S.counts sink.old sink.new) result }
@@ -327,7 +343,7 @@ fn write_place<S: Sink>(words: &Words, place: u32, sink: &mut S) -> Result<(), S
     }
 }
 
-// Writes a wrong word, and its place.
+// Writes the place of a wrong word, and the word in quotes.
 fn write_word<S: Sink>(place: u32, word: &[u8], sink: &mut S) -> Result<(), SinkFault>
     ensures { Writes (shown_word_with_place place (Some word.now))
         (sink_before_and_after S.bytes S.counts sink.old sink.new) result }
@@ -337,7 +353,7 @@ fn write_word<S: Sink>(place: u32, word: &[u8], sink: &mut S) -> Result<(), Sink
     write_all(sink, closing_quote_of_shown_word(word))
 }
 
-// Writes what precedes a word that is shown.
+// Writes the text before a word that is shown: its place, and the opening quote.
 fn write_front<S: Sink>(place: u32, sink: &mut S) -> Result<(), SinkFault>
     ensures { Writes (text_before_shown_word place)
         (sink_before_and_after S.bytes S.counts sink.old sink.new) result }
@@ -346,7 +362,7 @@ fn write_front<S: Sink>(place: u32, sink: &mut S) -> Result<(), SinkFault>
     write_texts(&[b"word ", digits.format(place).as_bytes(), b", \""], sink)
 }
 
-/// The bytes of a word that are shown.
+/// The bytes of a word that are shown: at most the first 64.
 #[tactic(auto, using(crate::proofs::Hints::take_within))]
 pub fn shown_part(word: &[u8]) -> &[u8]
     ensures { result.now ≡ take most_shown_bytes word.now }
@@ -358,7 +374,8 @@ pub fn shown_part(word: &[u8]) -> &[u8]
     }
 }
 
-// What follows a word that is shown.
+// The text after a word that is shown: the closing quote, with two dots before it if the word is
+// longer than what is shown.
 fn closing_quote_of_shown_word(word: &[u8]) -> &'static [u8]
     ensures { result.now ≡ closing_quote_of_shown_word word.now }
 {
@@ -380,7 +397,7 @@ fn write_shown<S: Sink>(bytes: &[u8], sink: &mut S) -> Result<(), SinkFault>
     Ok(())
 }
 
-// Writes a byte as it is shown.
+// Writes a byte as it is shown: as it is, or as `\xNN`.
 fn write_byte<S: Sink>(byte: u8, sink: &mut S) -> Result<(), SinkFault>
     ensures { Writes (shown_byte byte)
         (sink_before_and_after S.bytes S.counts sink.old sink.new) result }
@@ -394,7 +411,8 @@ fn write_byte<S: Sink>(byte: u8, sink: &mut S) -> Result<(), SinkFault>
     )
 }
 
-// Whether a byte is shown as it is.
+// Whether a byte is shown as it is: a space or a visible ASCII character, but no quote or
+// backslash.
 fn is_plain_byte(byte: u8) -> bool
     ensures { result ≡ is_plain_byte byte }
 {
@@ -404,7 +422,7 @@ fn is_plain_byte(byte: u8) -> bool
     byte == b' ' || byte.is_ascii_graphic()
 }
 
-// The hexadecimal digit of a number below 16.
+// The hexadecimal digit of a number below 16, in lower case.
 fn hex_digit(number: u8) -> u8
     requires { number < 16 }
     ensures { result ≡ hex_digit number }
@@ -427,7 +445,8 @@ fn write_texts<S: Sink>(texts: &[&[u8]], sink: &mut S) -> Result<(), SinkFault>
     Ok(())
 }
 
-// The end of the line: the reason, and whose help to read.
+// The texts after the wrong word: the reason with the kind that was expected, whose help to read,
+// and the usage of the program if there are no words.
 fn end_of_usage_hint(words: &Words, reason: UsageReason) -> [&'static [u8]; 7]
     ensures { map (λ text. text.now) result ≡ end_of_usage_hint words.now reason }
 {
@@ -442,7 +461,7 @@ fn end_of_usage_hint(words: &Words, reason: UsageReason) -> [&'static [u8]; 7]
     ]
 }
 
-// A space, if a command was found.
+// The space before the word of the command whose help is named; nothing if no command was found.
 fn space_before_help_topic(words: &Words) -> &'static [u8]
     ensures { result.now ≡ space_before_help_topic (applet_site 1 words.now) }
 {
@@ -462,7 +481,7 @@ fn help_topic_word(words: &Words) -> &'static [u8]
     }
 }
 
-// The usage of the program, if there are no words.
+// The usage of the program if there are no words; nothing if there is a word.
 #[tactic(auto, unfolding(crate::specs::HelpTexts::program_usage))]
 fn usage_if_no_words(words: &Words) -> &'static [u8]
     ensures { result.now ≡ usage_if_no_words words.now }

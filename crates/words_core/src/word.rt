@@ -28,7 +28,7 @@ pub(crate) fn is_double_dash(word: &[u8]) -> bool
     word == b"--".as_slice()
 }
 
-// The index of the first `=`.
+// The index of the first `=` in a word.
 fn equals_sign(word: &[u8]) -> Option<usize>
     ensures { result ≡ position (λ b. b == EQUALS_SIGN) word.now }
 {
@@ -51,8 +51,8 @@ pub(crate) fn option_name(word: &[u8]) -> &[u8]
     }
 }
 
-/// The value that an option's word holds: the part after the first `=` of a long one, and after the
-/// letter of a short one.
+/// The value that an option's word holds, if it holds one: the part after the first `=` of a long
+/// one, and after the letter of a short one.
 #[tactic(auto, unfolding(crate::specs::Grammar::attached_value))]
 pub(crate) fn attached_value(word: &[u8]) -> Option<&[u8]>
     ensures { option_map (λ text. text.now) result ≡ attached_value word.now }
@@ -66,7 +66,7 @@ pub(crate) fn attached_value(word: &[u8]) -> Option<&[u8]>
     None
 }
 
-// The part of a word after the first `=`.
+// The part of a word after the first `=`, if there is a `=`.
 fn long_value(word: &[u8]) -> Option<&[u8]>
     ensures { option_map (λ text. text.now) result
         ≡ option_map (λ i. drop (i + 1) word.now) (position (λ b. b == EQUALS_SIGN) word.now) }

@@ -35,11 +35,11 @@ fn add_reason(
     place: u32,
     answer: &mut Vec<u8>,
 ) -> Result<(), AllocError> {
-    let mut page = MemorySink::new(alloc);
-    if explain_usage(line, place, &mut page).is_err() {
+    let mut sink = MemorySink::new(alloc);
+    if explain_usage(line, place, &mut sink).is_err() {
         return Err(AllocError);
     }
-    add_word(answer, page.bytes())
+    add_word(answer, sink.bytes())
 }
 
 /// Answers `asked WORD ..`: adds what is printed if the words ask for help or for the version of
@@ -77,9 +77,11 @@ pub(crate) fn add_repeated(
 /// The command line of `N WORD WORD ..`: the words after N, of which the second is repeated N
 /// times.
 fn repeated_words(alloc: Global, words: &Words) -> Result<Words, AllocError> {
+    // N; it is None, and then taken as 0, if the word is no number.
     let times = number_of(word_at(words, 0)).and_then(|times| usize::try_from(times).ok());
     let mut line = Words::new(alloc);
     for i in 1..words.len() {
+        // N has the index 0, so the second word after it has the index 2.
         if i == 2 {
             push_times(&mut line, words.word(i), times.unwrap_or(0))?;
         } else {
@@ -89,7 +91,8 @@ fn repeated_words(alloc: Global, words: &Words) -> Result<Words, AllocError> {
     Ok(line)
 }
 
-/// Adds a word this many times, but no more than `MOST_WORDS` words in all.
+/// Adds a word to a command line this many times, but so that the line has no more than
+/// `MOST_WORDS` words.
 fn push_times(words: &mut Words, word: &[u8], times: usize) -> Result<(), AllocError> {
     for _ in 0..times {
         if words.len() < MOST_WORDS {
@@ -150,7 +153,8 @@ const APPLETS: [(Applet, &[u8]); 19] = [
     (Applet::ProgramVersion, b"--version"),
 ];
 
-/// Adds the word of the command's applet.
+/// Adds the word of the command's applet; for the two applets that no word names, the option that
+/// asks for them.
 fn add_applet(command: &Command, answer: &mut Vec<u8>) -> Result<(), AllocError> {
     for (applet, word) in &APPLETS {
         if *applet == command.applet() {
@@ -186,7 +190,7 @@ fn add_flags(command: &Command, answer: &mut Vec<u8>) -> Result<(), AllocError> 
     Ok(())
 }
 
-/// Adds a number in decimal, and a space before it.
+/// Adds a space, and a number in decimal.
 fn add_next(alloc: Global, number: u128, answer: &mut Vec<u8>) -> Result<(), AllocError> {
     add_word(answer, b"")?;
     add_number(alloc, answer, number)
@@ -240,7 +244,7 @@ pub(crate) fn add_letters(
     let Some(command) = command_of(alloc, line)? else {
         return answer.extend_from_slice(b"none");
     };
-    // All letters of options that have a value.
+    // The letters of all options that take a value, in byte order.
     for letter in b"FIcdost" {
         if let Some(value) = command.values().first(*letter) {
             add_word(answer, &[*letter])?;
@@ -250,7 +254,7 @@ pub(crate) fn add_letters(
     Ok(())
 }
 
-// The words of rows for the kinds of values of options.
+// The text by which a row names each kind of an option's value.
 #[rattlefmt::skip]
 const VALUE_KINDS: [(&[u8], ValueKind); 6] = [
     (b"any", ValueKind::Any),
@@ -261,7 +265,7 @@ const VALUE_KINDS: [(&[u8], ValueKind); 6] = [
     (b"script", ValueKind::Script),
 ];
 
-/// Whether the text of `KIND TEXT` is a value of this kind.
+/// Whether TEXT of `KIND TEXT` is a value of this kind; false if no kind has this name.
 pub(crate) fn is_value(words: &Words) -> bool {
     match value_named(&VALUE_KINDS, word_at(words, 0)) {
         Some(kind) => kind.has(word_at(words, 1)),
@@ -269,7 +273,7 @@ pub(crate) fn is_value(words: &Words) -> bool {
     }
 }
 
-// The words of rows for the kinds of operands.
+// The text by which a row names each kind of operand.
 #[rattlefmt::skip]
 const OPERAND_KINDS: [(&[u8], OperandKind); 8] = [
     (b"file", OperandKind::File),
@@ -282,7 +286,7 @@ const OPERAND_KINDS: [(&[u8], OperandKind); 8] = [
     (b"pattern", OperandKind::Pattern),
 ];
 
-/// Whether the text of `KIND TEXT` is an operand of this kind.
+/// Whether TEXT of `KIND TEXT` is an operand of this kind; false if no kind has this name.
 pub(crate) fn is_operand(words: &Words) -> bool {
     match value_named(&OPERAND_KINDS, word_at(words, 0)) {
         Some(kind) => kind.has(word_at(words, 1)),

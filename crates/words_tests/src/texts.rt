@@ -33,14 +33,14 @@ pub(crate) fn add_refusal(
     let Some(refusal) = refusal_of(alloc, words)? else {
         return answer.extend_from_slice(b"no refusal");
     };
-    let mut page = MemorySink::new(alloc);
-    if write_error(&refusal, &mut page).is_err() {
+    let mut sink = MemorySink::new(alloc);
+    if write_error(&refusal, &mut sink).is_err() {
         return Err(AllocError);
     }
-    answer.extend_from_slice(page.bytes())
+    answer.extend_from_slice(sink.bytes())
 }
 
-/// The variant of a refusal, which a row names.
+/// The variant of a refusal, without its fields, as a row names it.
 #[derive(Clone, Copy)]
 enum Named {
     Usage,
@@ -70,7 +70,7 @@ enum Named {
     Owned,
 }
 
-// The names of refusals in rows.
+// The text by which a row names each variant of a refusal.
 #[rattlefmt::skip]
 const REFUSALS: [(&[u8], Named); 25] = [
     (b"usage", Named::Usage),
@@ -146,13 +146,15 @@ fn refusal_with_numbers(named: Named, words: &Words) -> Option<Refusal> {
     Some(refusal)
 }
 
-/// A refusal with a cause; None if the words after its other fields are no cause.
+/// A refusal that has a cause, by the words of a row; None if the words after its other fields are
+/// no cause.
 fn refusal_with_cause(
     alloc: Global,
     named: Named,
     words: &Words,
 ) -> Result<Option<Refusal>, AllocError> {
-    // The index of the word that names the cause.
+    // The index of the word that names the cause: it follows the name of the refusal, and the one
+    // other field that two of these refusals have.
     let cause_index = match named {
         Named::FileBad | Named::IndexBad => 2,
         _ => 1,
@@ -161,6 +163,7 @@ fn refusal_with_cause(
     let Some(cause) = cause_of(&rest) else {
         return Ok(None);
     };
+    // The first field, as the place of an argument or as the number of a repository.
     let place = int_at(words, 1);
     let repository = long_at(words, 1);
     Ok(Some(match named {
@@ -171,13 +174,14 @@ fn refusal_with_cause(
     }))
 }
 
-/// The refusal of a package's file, by the words of a row; None if it is bad, and the words name no
-/// cause.
+/// The refusal of a package's file, by the words of a row: its name, the package's name and
+/// version, and further fields. None for a bad file if the further words are no cause.
 fn refusal_of_package(
     alloc: Global,
     named: Named,
     words: &Words,
 ) -> Result<Option<Refusal>, AllocError> {
+    // The words after the version are a cause, or the three fields of `package-differs`.
     let cause = cause_of(&words_behind(alloc, words, 3)?);
     let name = Text::of(alloc, word_at(words, 1))?;
     let version = Text::of(alloc, word_at(words, 2))?;
@@ -198,7 +202,8 @@ fn refusal_of_package(
     }
 }
 
-/// The refusal of a script or a trigger that would run without `--no-scripts`.
+/// The refusal of a script or a trigger that would run without `--no-scripts`, by the words of a
+/// row: its name, the name of the package, and the number of the script.
 fn refusal_of_script(
     alloc: Global,
     named: Named,
@@ -213,7 +218,7 @@ fn refusal_of_script(
 }
 
 /// The refusal of a path that is reserved, that is a folder of another file, or that two packages
-/// list.
+/// list, by the words of a row. None if a path is no valid name.
 fn refusal_of_path(
     alloc: Global,
     named: Named,
@@ -229,6 +234,7 @@ fn refusal_of_path(
             first: Text::of(alloc, word_at(words, 2))?,
             second: Text::of(alloc, word_at(words, 3))?,
         })),
+        // A clash has a second path.
         _ => match Name::read(alloc, word_at(words, 2))? {
             Some(other) => Ok(Some(Refusal::PathClash { path, other })),
             None => Ok(None),
@@ -236,7 +242,7 @@ fn refusal_of_path(
     }
 }
 
-/// The variant of a cause, which a row names.
+/// The variant of a cause, without its fields, as a row names it.
 #[derive(Clone, Copy)]
 enum NamedCause {
     NotAdb,
@@ -256,7 +262,7 @@ enum NamedCause {
     DataOrder,
 }
 
-// The names of causes in rows.
+// The text by which a row names each variant of a cause.
 #[rattlefmt::skip]
 const CAUSES: [(&[u8], NamedCause); 15] = [
     (b"not-adb", NamedCause::NotAdb),
@@ -276,7 +282,8 @@ const CAUSES: [(&[u8], NamedCause); 15] = [
     (b"data-order", NamedCause::DataOrder),
 ];
 
-/// The cause that these words describe: its name, and its fields in order. None if there is none.
+/// The cause that these words describe: its name, and its fields in order. None if there is no
+/// cause with this name, or a digest has a wrong length.
 fn cause_of(words: &Words) -> Option<Cause> {
     // The first field, as a number of 64, of 32 or of 16 bits.
     let long = long_at(words, 1);
@@ -312,7 +319,7 @@ fn cause_of(words: &Words) -> Option<Cause> {
     Some(cause)
 }
 
-/// The cause that a file has another digest than the expected one. Each digest has 20, 32 or 64
+/// The cause that a file has the digest `found` and not the digest `wanted`. Each has 20, 32 or 64
 /// bytes; None for another length.
 fn hashes_differ(wanted: &[u8], found: &[u8]) -> Option<Cause> {
     Some(Cause::HashDiffers {
@@ -325,6 +332,7 @@ fn hashes_differ(wanted: &[u8], found: &[u8]) -> Option<Cause> {
 /// (`docs/formats.md`, "The other blocks"); None for another length, so that the row is `no
 /// refusal`.
 fn digest_of(bytes: &[u8]) -> Option<Digest> {
+    // Each conversion succeeds only for the number of bytes of its digest.
     if let Ok(bytes) = bytes.try_into() {
         return Some(Digest::Sha1(bytes));
     }
@@ -337,7 +345,7 @@ fn digest_of(bytes: &[u8]) -> Option<Digest> {
     }
 }
 
-/// The number that the word at an index is; 0 if it is no number of 64 bits.
+/// The number that the word at an index, counted from 0, is; 0 if it is no number of 64 bits.
 fn long_at(words: &Words, i: usize) -> u64 {
     number_of(word_at(words, i))
         .and_then(|number| u64::try_from(number).ok())
