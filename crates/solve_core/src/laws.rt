@@ -15,6 +15,7 @@ pub fn walks_satisfy()
     ensures satisfies { (pool : SealedPool) (selection walk : List ℕ) →
         IsSatisfying pool selection → IsSelectionWithWalk pool selection walk
         → IsSatisfying pool walk }
+    // The walk of a selection is its own walk.
     ensures walked { (pool : SealedPool) (selection walk : List ℕ) →
         IsSelectionWithWalk pool selection walk → IsSelectionWithWalk pool walk walk }
 {
@@ -46,6 +47,7 @@ pub fn walks_have_one_order()
         IsSelectionWithWalk pool selection walk → IsSelectionWithWalk pool other second →
         (walk ≡ second) ⊎ (IsWalkPreferredTo pool walk second
         ⊎ IsWalkPreferredTo pool second walk) }
+    // Of two walks, at most one is preferred to the other.
     ensures not_both { (pool : SealedPool) (walk second : List ℕ) →
         IsWalkPreferredTo pool walk second → IsWalkPreferredTo pool second walk → ⊥ }
     ensures transitive { (pool : SealedPool) (a b c : List ℕ) →
@@ -81,6 +83,9 @@ pub fn a_first_selection_exists()
 /// Each choice of the preferred solution is the best in rank with which, and with the choices
 /// before it, the world can still be satisfied.
 pub fn each_choice_is_the_best_that_can_be_completed()
+    // `front` are the choices before `c`, and `need` is the need that comes next after them. Of the
+    // candidates `o` that meet this need and can be completed after `front`, none is better than
+    // `c`.
     ensures { (pool : SealedPool) (front rest selection : List ℕ) (c o : ℕ) (need : Need) →
         IsFirstPreferredSelection pool (front ++ c ∷ rest) → next_need pool front ≡ Some need →
         IsSatisfying pool selection → AreAllMembersOf (front ++ o ∷ []) selection →

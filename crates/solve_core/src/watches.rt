@@ -1,7 +1,7 @@
 //! Which clauses are tested when a literal becomes false: the clauses that watch it. Each clause
 //! watches two of its literals, as in a SAT solver, since it can force a literal only once one of
-//! these two is false. No contract mentions watches: what they name is checked before it is used,
-//! so a wrong one only costs time.
+//! these two is false. No contract mentions watches: a clause that is found by a watch is tested
+//! before it forces a literal, so a wrong watch only costs time.
 ghost use Rattle.std.specs.Prelude.{◌<◌, OnOk, vec_len};
 
 use crate::clauses::Clause;
@@ -14,12 +14,12 @@ use std::alloc::{AllocError, Global};
 struct Watch {
     /// One watched literal.
     one: Literal,
-    /// The other one; the same literal if the clause has no other.
+    /// The other watched literal; `one` again if the clause has no other.
     other: Literal,
 }
 
 impl Watch {
-    /// The other watched literal, if this one is watched.
+    /// The watched literal beside this one; None if this literal is not watched.
     fn beside(&self, literal: Literal) -> Option<Literal> {
         if is_same(self.one, literal) {
             return Some(self.other);
@@ -47,7 +47,7 @@ impl Watching {
         if is_in { &self.is_in } else { &self.is_out }
     }
 
-    // As `of`, to be changed.
+    // The same list as that of `of`, so that the caller can change it.
     fn of_mut(&mut self, is_in: bool) -> &mut Vec<usize> {
         if is_in {
             &mut self.is_in
@@ -64,7 +64,8 @@ pub(crate) struct Watches {
     alloc: Global,
     /// The watched literals of each clause, by its index; None if the clause is empty.
     watches: Vec<Option<Watch>>,
-    /// The clauses that watch each place in the list of candidates, up to the greatest watched.
+    /// For each candidate, by its place in the list of candidates: the clauses that watch its
+    /// literals. The list ends at the greatest place that was watched.
     places: Vec<Watching>,
 }
 
@@ -83,10 +84,12 @@ impl Watches {
         self.watches.truncate(len);
     }
 
-    /// Watches two literals of the next clause: those that are not false, else those that became
-    /// false last.
+    /// Chooses the two literals that the next clause watches: those that are not false, else those
+    /// that became false last.
     pub(crate) fn push(&mut self, clause: &Clause, trail: &Trail) -> Result<(), AllocError> {
         let mut watch = None;
+        // As a list of literals, a clause says that a member is not in the selection, or an option
+        // is.
         for id in clause.members() {
             let literal = Literal {
                 place: id.place,
@@ -127,7 +130,7 @@ impl Watches {
         Ok(())
     }
 
-    /// How many clauses may watch a literal.
+    /// How many clauses are listed under a literal: those that watch it, and some that did before.
     pub(crate) fn count(&self, literal: Literal) -> usize {
         match self.places.get(literal.place as usize) {
             Some(watching) => watching.of(literal.is_in).len(),
@@ -135,7 +138,7 @@ impl Watches {
         }
     }
 
-    /// The index of a clause that watches a literal: of the one at a place in the list of these.
+    /// The index of a clause that is listed under a literal: of the one at `place` in that list.
     pub(crate) fn at(&self, literal: Literal, place: usize) -> Option<usize> {
         let watching = self.places.get(literal.place as usize)?;
         Some(*watching.of(literal.is_in).get(place)?)
@@ -153,15 +156,19 @@ impl Watches {
         trail: &Trail,
     ) -> Result<bool, AllocError> {
         let Some(other) = self.other_of(literal, index) else {
+            // The clause watches this literal no longer.
             self.remove(literal, place);
             return Ok(false);
         };
+        // If the other watched literal is true, the clause forces nothing.
         if trail.truth(other) == Some(true) {
             return Ok(false);
         }
         let Some(free) = free_literal(clause, other, trail) else {
+            // All literals but the other watched one are false: the clause may force that one.
             return Ok(true);
         };
+        // The clause watches the literal `free` from now on, and not the false one.
         self.remove(literal, place);
         self.add(free, index)?;
         if let Some(watch) = self.watches.get_mut(index) {
@@ -185,6 +192,7 @@ impl Watches {
         let Some(watching) = self.places.get_mut(literal.place as usize) else {
             return;
         };
+        // The list of the clauses that watch the literal.
         let by = watching.of_mut(literal.is_in);
         let Some(last) = by.pop() else {
             return;
