@@ -1,6 +1,6 @@
--- An encoding of plain values: each has a list of steps that build it again. The steps have no meaning
--- in the format. No rule of a document: serves the views of `Candidate` and of a pool, whose proofs
--- need that different values have different codes (`coded`).
+-- An encoding of plain values: each value has a list of steps that builds it again from nothing. The steps have no
+-- meaning in the format. No rule of a document: serves the views of `Candidate` and of a pool, whose proofs need that
+-- different values have different codes (`coded`).
 use Rattle.std.specs.Prelude.{◌≡◌, ℕ, zero, suc, List, [], ◌∷◌}
 use mathlib.Core.Path.{refl, ap, ◌∙◌}
 use Rattle.std.specs.Coded.{Coded, code_by, coded×, coded_list, coded_ℕ}
@@ -15,7 +15,8 @@ with_element_before_entries v (blob b) rest = rest
 with_element_before_entries v (arr vs) rest = arr (more v vs) ∷ rest
 with_element_before_entries v (obj vs) rest = rest
 
--- built values, with the first put before the entries of the second
+-- built values, with the first put before the entries of the second, which is an array; none if there are fewer than
+-- two
 abbrev pub first_put_into_second : List Plain → List Plain
 first_put_into_second [] = []
 first_put_into_second (v ∷ []) = []
@@ -29,7 +30,7 @@ array_as_object (blob b) = null
 array_as_object (arr vs) = obj vs
 array_as_object (obj vs) = null
 
--- built values, with the first, an array, made an object
+-- built values, in which the first, an array, has become an object with the same entries
 abbrev pub first_as_object : List Plain → List Plain
 first_as_object [] = []
 first_as_object (v ∷ rest) = array_as_object v ∷ rest
@@ -55,7 +56,7 @@ built [] = []
 built (i ∷ steps) = values_after_step i.0 i.1.0 i.1.1 (built steps)
 
 abbrev mutual
-  -- the steps that build a value, in front of others
+  -- the steps that build a value, placed before other steps
   pub steps_of : Plain → List BuildStep → List BuildStep
   steps_of null steps = (0, (0, [])) ∷ steps
   steps_of (int n) steps = (1, (n, [])) ∷ steps
@@ -63,7 +64,7 @@ abbrev mutual
   steps_of (arr vs) steps = steps_of_all vs steps
   steps_of (obj vs) steps = (5, (0, [])) ∷ steps_of_all vs steps
 
-  -- the steps that build an array of some values, before others
+  -- the steps that build an array of some values, placed before other steps
   pub steps_of_all : Plains → List BuildStep → List BuildStep
   steps_of_all none steps = (3, (0, [])) ∷ steps
   steps_of_all (more v vs) steps = (4, (0, [])) ∷ steps_of v (steps_of_all vs steps)

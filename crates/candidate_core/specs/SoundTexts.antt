@@ -8,7 +8,7 @@ use Rattle.adb_view.specs.FieldIndexes.{INFO_DEPENDS, INFO_INSTALL_IF, INFO_PROV
 use Rattle.adb_view.specs.Values.{count_of, entries_in, entry_in, text_in}
 use Rattle.adb_schema.specs.SoundValues.{IsSoundDependency}
 
--- each entry of a list of dependencies is a dependency
+-- each entry of the list, which is the value of a field, is a dependency
 abbrev pub HasSoundEntries : Plain → Type 0
 HasSoundEntries list = (i : ℕ) → i < count_of (entries_in list)
     → IsSoundDependency (entry_in list i)
