@@ -22,7 +22,7 @@ use dep_core::Dep;
 use option_ranks::{CandId, Details, KnownMatches, NeedRef, Packages, Table, is_long};
 use std::alloc::{AllocError, Global};
 
-/// The effect of an entry of world on a candidate.
+/// The effect that an entry of world may have on a candidate.
 #[derive(Clone, Copy)]
 pub(crate) enum Effect {
     /// The entry bars the candidate: no selection has it.
@@ -95,7 +95,7 @@ fn disallowed_marks(
     Ok(marks)
 }
 
-// A mark for each candidate, none of them set.
+// A list with one mark for each candidate, none of them set.
 fn no_marks(alloc: Global, packages: &Packages<'_>) -> Result<Vec<bool>, AllocError>
     ensures { IfOk result (λ marks. marks.items
         ≡ map (λ one. false) (candidates_of_packages packages.now)) }
@@ -114,8 +114,8 @@ fn opposite_marks(alloc: Global, marks: &[bool]) -> Result<Vec<bool>, AllocError
     marks.iter().map(|mark| !*mark).collect(alloc)
 }
 
-// Sets the mark of each candidate on which an entry of the list, which is of world, has the effect.
-// Other marks are unchanged.
+// Sets the mark of each candidate on which one of the entries of world in `entries` has this
+// effect. Other marks are unchanged.
 fn mark_affected(
     alloc: Global,
     marks: &mut Vec<bool>,
@@ -139,9 +139,9 @@ fn mark_affected(
     Ok(())
 }
 
-// Sets the mark of each candidate on which an entry of world has an effect. `ids` are the places of
-// those that offer the entry's name: it has no effect on the others. A long version that many
-// candidates share is compared once with the entry's.
+// Sets the mark of each candidate on which this entry of world has the effect. `ids` are the places
+// of the candidates that offer the entry's name: the entry has no effect on others. A long version
+// that many candidates share is compared once with the entry's.
 fn mark_among(
     alloc: Global,
     marks: &mut Vec<bool>,
@@ -150,6 +150,7 @@ fn mark_among(
     entry: &Dep<'_>,
     effect: Effect,
 ) -> Result<(), AllocError>
+    // The places are those of all candidates that offer the entry's name.
     requires offers { ids.now
         ≡ places_offering (dependency entry.now).name (candidates_of_packages packages.now) }
     // There is one mark for each candidate.
@@ -165,8 +166,8 @@ fn mark_among(
     Ok(())
 }
 
-// Sets the mark of the candidate at a place if the entry has this effect on it. Results for long
-// versions are remembered.
+// Sets the mark of the candidate at a place if the entry has this effect on the candidate. Results
+// for long versions are remembered.
 fn mark_one(
     marks: &mut Vec<bool>,
     packages: &Packages<'_>,
@@ -199,7 +200,7 @@ fn mark_one(
     Ok(())
 }
 
-// Whether an entry of world has this effect on a candidate, which is at a place.
+// Whether an entry of world has this effect on the candidate `one`, which is at the place `place`.
 fn affects(
     effect: Effect,
     entry: &Dep<'_>,
@@ -222,8 +223,8 @@ fn affects(
     }
 }
 
-// Whether an entry of world bars the candidate at a place: the entry is a conflict, and the
-// candidate meets it.
+// Whether an entry of world bars the candidate `one` at the place `place`: the entry is a conflict,
+// and the candidate meets it.
 fn bars(
     entry: &Dep<'_>,
     one: &Details<'_>,
@@ -248,8 +249,8 @@ fn bars(
     packages.meets_need(place, &NeedRef::Entry(entry), known)
 }
 
-// Whether an entry of world pins a candidate's name to its tag: the entry has this name and this
-// tag. It may be a conflict.
+// Whether an entry of world pins the candidate's name to the candidate's tag: the entry has this
+// name and this tag. The entry may be a conflict.
 fn pins(entry: &Dep<'_>, one: &Details<'_>) -> bool
     // The candidate has a tag, and the entry has the candidate's name and this tag.
     ensures { result ≡ option_map_or (λ tag. bytes_eq one.now.name (dependency entry.now).name
@@ -261,7 +262,7 @@ fn pins(entry: &Dep<'_>, one: &Details<'_>) -> bool
     }
 }
 
-// Whether an entry of world has this tag.
+// Whether an entry of world has the tag `tag`.
 fn has_tag(dep: &Dep<'_>, tag: &[u8]) -> bool
     ensures { result ≡ option_map_or (bytes_eq tag.now) (dependency dep.now).tag false }
 {
@@ -271,8 +272,8 @@ fn has_tag(dep: &Dep<'_>, tag: &[u8]) -> bool
     }
 }
 
-// Whether a candidate is allowed: installed, or from a repository without tag, or from one whose
-// tag one of the tagged entries of world has.
+// Whether a candidate is allowed: it is installed, from no repository, from a repository without
+// tag, or from one whose tag is that of an entry of world. `tagged` has all entries with a tag.
 fn is_allowed_by_tags_of_world(one: &Details<'_>, tagged: &[Dep<'_>]) -> bool
     ensures { result ≡ is_allowed_by_tags_of_world (map dependency tagged.now) one.now }
 {
@@ -288,7 +289,7 @@ fn is_allowed_by_tags_of_world(one: &Details<'_>, tagged: &[Dep<'_>]) -> bool
     }
 }
 
-// Whether an entry of the list, which is of world, has this tag.
+// Whether one of these entries of world has the tag `tag`.
 #[tactic(auto, using(candidate_core::proofs::Anyone::any_map))]
 fn is_tag_used_in_world(tagged: &[Dep<'_>], tag: &[u8]) -> bool
     ensures { result ≡ is_tag_used_in_world (map dependency tagged.now) tag.now }
@@ -296,8 +297,8 @@ fn is_tag_used_in_world(tagged: &[Dep<'_>], tag: &[u8]) -> bool
     any_has_tag(tagged, tag)
 }
 
-// Whether an entry of the list has this tag. The clause is about the entries as values of the
-// program.
+// Whether one of these entries has the tag `tag`. In the clause, the entries are values of the
+// program, not of the definitions.
 fn any_has_tag(tagged: &[Dep<'_>], tag: &[u8]) -> bool
     ensures { result ≡ list_any
         (λ dep. option_map_or (bytes_eq tag.now) (dependency dep).tag false) tagged.now }

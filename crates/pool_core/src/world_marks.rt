@@ -17,21 +17,22 @@ use dep_core::{Dep, World};
 use option_ranks::{CandId, CandidateList, Details, Packages};
 use std::alloc::{AllocError, Global};
 
-/// The kinds of entries of world that affect candidates. An entry can be of both kinds.
+/// The kinds of entries of world that affect candidates. An entry can be of both kinds, or of none.
 #[derive(Clone, Copy)]
 enum EntryKind {
     /// The entry is a conflict: it bars the candidates that meet it.
     Conflict,
-    /// The entry has a tag: it allows the candidates of that tag, and pins its name to it.
+    /// The entry has a tag: it allows the candidates whose repository has this tag, and pins its
+    /// name to the tag.
     Tagged,
 }
 
 /// The effect of world on each candidate of a list.
 #[derive(Drop)]
 pub(crate) struct WorldMarks {
-    /// Whether each candidate may be selected: it is allowed, and not barred.
+    /// For each candidate, whether it may be selected: it is allowed, and not barred.
     pub eligible: Vec<bool>,
-    /// Whether world pins each candidate's name to its tag.
+    /// For each candidate, whether world pins its name to its tag.
     pub pinned: Vec<bool>,
     /// The places of the candidates whose install-if can apply, in rising order.
     pub install_ifs: Vec<CandId>,
@@ -81,7 +82,7 @@ fn entries_of_kind<'a>(
     Ok(deps)
 }
 
-// Adds an entry of world to a list if the entry is of a kind.
+// Appends an entry of world to a list if the entry is of this kind.
 fn push_if<'a>(deps: &mut Vec<Dep<'a>>, dep: Dep<'a>, kind: EntryKind) -> Result<(), AllocError>
     // The entry is appended if it is of this kind.
     ensures { OnOk result (map dependency deps.new.items ≡ map dependency deps.old.items
@@ -104,13 +105,14 @@ fn is_entry_of_kind(kind: EntryKind, dep: &Dep<'_>) -> bool
     }
 }
 
-// The places, rising, of the candidates that may be selected, by their marks in `eligible`, and
-// have an install-if that is not empty and has no conflict.
+// The places, in rising order, of the candidates that may be selected (their marks in `eligible`
+// are true), and have an install-if that is not empty and has no conflict.
 fn install_ifs_among(
     alloc: Global,
     packages: &Packages<'_>,
     eligible: &[bool],
 ) -> Result<Vec<CandId>, AllocError>
+    // Each place is a number of 32 bits, and there is one mark for each candidate.
     requires few { length (candidates_of_packages packages.now) < 2 ^ 32 }
     requires marked { length eligible.now ≡ length (candidates_of_packages packages.now) }
     ensures { IfOk result (λ ids. ids.items
@@ -124,8 +126,8 @@ fn install_ifs_among(
     Ok(ids)
 }
 
-// Adds the place of a candidate that is marked as eligible, and has an install-if that is positive:
-// the install-if has entries, and none of them is a conflict.
+// Appends the place of a candidate if `is_marked` is true (it may be selected), and its install-if
+// has entries and no conflict.
 fn push_if_marked(
     ids: &mut Vec<CandId>,
     place: usize,
