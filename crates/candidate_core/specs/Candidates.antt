@@ -14,10 +14,9 @@ use Rattle.dep_core.specs.Dependency.{Dependency}
 use Rattle.dep_core.specs.Meets.{meets}
 pub use Rattle.adb_schema.specs.Dependencies.{dependency_in}
 
--- a package to choose from: `info` is its information in its index, or in the database, and the name, the version,
--- the id, the lists of dependencies and the priority are read from it. The version is None only if the text is no
--- version, which never happens in a tested container. Repositories count from 1; an installed package that no index
--- has is from none
+-- a package to choose from. `info` is its information in its index, or in the database; the parts from the name to
+-- the priority are read from it. The version is None only if the text is no version, which never happens in a tested
+-- container. Repositories count from 1; an installed package that no index has is from none
 pub record Candidate : Type 0 where
   -- the package's information, as a plain value of its index or of the database
   pub info : Plain

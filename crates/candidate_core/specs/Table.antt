@@ -49,8 +49,8 @@ with_place_unless_last ids id = if is_last_place id ids then ids else ids ++ id 
 abbrev pub with_place_if_added : Bool → List ℕ → ℕ → List ℕ
 with_place_if_added added ids id = if added then with_place_unless_last ids id else ids
 
--- the new table has for each name the places of the old one, and for each name that passes the test `is_added` the
--- place `id` at the end, unless `id` is already the last place of the name
+-- each name has in the new table the places that it has in the old one. A name that passes the test `is_added` also
+-- has the place `id` at the end, unless `id` was the last place of this name already
 abbrev pub HasPlaceAdded : (List ℕ → Bool) → ℕ → Offered → Offered → Type 0
 HasPlaceAdded is_added id old new = (name : List ℕ)
     → places_of_name new name ≡ with_place_if_added (is_added name) (places_of_name old name) id

@@ -19,8 +19,8 @@ use Rattle.candidate_core.specs.declared.versions.RankedVersion.{RankedVersion}
 abbrev pub entry_in_source : Source → ℕ → Plain
 entry_in_source source word = value_at (payload_of source.adb) (Obj Dep) word
 
--- the word is that of an entry of a list of dependencies: it can be read as a dependency, and if the texts of the
--- source obey their rules, so do those of the entry
+-- the word is that of an entry of a list of dependencies: it can be read as a dependency. If the texts of the source
+-- obey their rules, so do those of the entry
 pub record IsDependencyEntryWordOf (source : Source) (word : ℕ) : Type 0 where
   -- the word refers to a sound value of the kind dependency
   pub sound : is_sound (payload_of source.adb) (Obj Dep) word ≡ true

@@ -16,8 +16,8 @@ package_named packages name = find (is_package_named name) packages
 abbrev pub path_owner : List Plain → List ℕ → Option Plain
 path_owner packages path = find (lists_path path) packages
 
--- the package that the text of an operand means, in a form of `info`: in the form *Owner* the text is a path, with or
--- without one leading `/`, and else the name of a package
+-- the package that the text of an operand means. In the form *Owner*, the text is a path, with or without one leading
+-- `/`; in the other forms it is the name of a package
 abbrev pub package_meant_by_operand_text : Form → List Plain → List ℕ → Option Plain
 package_meant_by_operand_text Owner packages path = path_owner packages (without_slash path)
 package_meant_by_operand_text form packages name = package_named packages name

@@ -18,8 +18,8 @@ use Rattle.candidate_core.specs.declared.versions.VersionKind.TheVariants.{Under
 -- the needed name, whether it is installed and kept; `under` is the version under which it meets the
 -- need, `version` its own; `place` counts from 0
 pub record Ranking : Type 0 where
-  -- keys 1 to 4, each a test: whether world pins the name to the tag, whether there is no tag, whether the name is
-  -- the needed one, and whether the option is installed and the command does not upgrade its name
+  -- keys 1 to 4, each a test. `pinned`: world pins the name to the tag. `untagged`: there is no tag. `named`: the
+  -- name is the needed one. `kept`: the option is installed, and the command does not upgrade its name
   pub pinned : Bool
   pub untagged : Bool
   pub named : Bool
@@ -93,8 +93,8 @@ quality_ranking_cmp =
     then_cmp (truth_first (λ r. r.untagged))
     (then_cmp (truth_first (λ r. r.named)) (truth_first (λ r. r.kept)))
 
--- the order of two options by keys 7 to 9: the name that is less in byte order first, then the greater own version,
--- and of equal versions the text that is less in byte order
+-- the order of two options by keys 7 to 9. The name that is less in byte order is first, then the greater own
+-- version. Of equal versions, the text that is less in byte order is first
 abbrev pub name_ranking_cmp : VersionKey → Ranking → Ranking → Ordering
 name_ranking_cmp key =
     then_cmp (on (λ (r : Ranking). r.name) bytes_cmp)

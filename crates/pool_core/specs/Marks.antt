@@ -11,7 +11,7 @@ use Rattle.pool_core.specs.declared.marks.Effect.{Effect}
 use Rattle.pool_core.specs.declared.marks.Effect.TheVariants.{Bar, Pin}
 use Rattle.option_ranks.specs.candidate_core.Candidates.{Candidate, meets_dependency}
 
--- whether an entry of world has this effect on a candidate: a conflict bars the candidates that meet it, and an entry
+-- whether an entry of world has this effect on a candidate. A conflict bars the candidates that meet it. An entry
 -- with a tag pins the candidates that have its name and its tag
 abbrev pub affects : Effect → Dependency → Candidate → Bool
 affects Bar d c = d.conflict && meets_dependency d c

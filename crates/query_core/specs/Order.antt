@@ -14,8 +14,8 @@ use Rattle.base_core.specs.Sorted.{sorted_by}
 abbrev pub printed_version : Option (List ℕ) → List ℕ
 printed_version version = unwrap_or version []
 
--- the order of two candidates: the name that is less in byte order comes first, then the greater version, and of
--- equal versions the text that is less in byte order
+-- the order of two candidates. The name that is less in byte order comes first, then the greater version. Of equal
+-- versions, the text that is less in byte order comes first
 abbrev pub name_and_version_cmp : Candidate → Candidate → Ordering
 name_and_version_cmp =
     then_cmp (on (λ (c : Candidate). c.name) bytes_cmp)

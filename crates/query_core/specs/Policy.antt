@@ -47,8 +47,8 @@ lines_of_repositories_of_candidates candidates number (r ∷ repositories) =
     (if list_any (is_of_repository number) candidates then repository_line r.tag r.path else [])
     ++ lines_of_repositories_of_candidates candidates (number + 1) repositories
 
--- the lines that say where these candidates, which have one name and version, are: a line for the database if one is
--- installed, and a line for each repository that has one
+-- the lines that say where these candidates are, which have one name and version. There is a line for the database if
+-- one of them is installed, and a line for each repository that has one
 abbrev pub policy_origin_lines : List Repository → List Candidate → List ℕ
 policy_origin_lines repositories candidates =
     (if list_any (λ (c : Candidate). c.installed) candidates then policy_database_line else [])

@@ -86,9 +86,9 @@ pub fn list_prints_what_is_asked_for()
     a_pattern_matches_what_its_stars_are_filled_to();
 }
 
-/// `search` prints a candidate if it is from a repository, and the stars of a pattern can be
-/// replaced by bytes so that the pattern reads as a part of the candidate's name, or of a name that
-/// the candidate provides.
+/// `search` prints a candidate if two conditions hold. The candidate is from a repository. The
+/// stars of a pattern can be replaced by bytes so that the pattern reads as a part of the
+/// candidate's name, or of a name that the candidate provides.
 pub fn search_prints_what_is_asked_for()
     ensures { (patterns : List Operand) (c : Candidate)
         → (is_search_candidate patterns c ≡ true)

@@ -24,8 +24,8 @@ choices_of chosen = chosen.choices
 abbrev pub install_ifs_of : Choices → List ℕ
 install_ifs_of chosen = chosen.install_ifs.by_name.items
 
--- after the choices `u`, further choices `cs` were made: for each of them, in order, the list has a checkpoint with
--- the length of the queue and the cursors before that choice
+-- further choices `cs` were made after the choices `u`. For each of them, in order, the list has a checkpoint: the
+-- length of the queue, and the two cursors, before that choice
 abbrev pub AreCheckpointsOfLaterChoices : SealedPool → List ℕ → List ℕ → List ℕ → List Checkpoint → Type 0
 AreCheckpointsOfLaterChoices pool install_ifs u [] [] = Unit {0}
 AreCheckpointsOfLaterChoices pool install_ifs u [] (b ∷ bs) = ⊥

@@ -19,8 +19,8 @@ IsConflictTable pool chosen conflicts =
 abbrev pub IsExcluderAmongChoices : SealedPool → List ℕ → ℕ → ℕ → Type 0
 IsExcluderAmongChoices pool chosen id k = IsIn k chosen × (exclude_each_other pool k id ≡ true)
 
--- no choice excludes the candidate `details` by this name: the candidate meets no conflict of the name that a choice
--- has, and, if `is_occupied` is true, no choice occupies the name
+-- no choice excludes the candidate `details` by this name. The candidate meets no conflict of the name that a choice
+-- has; and if `is_occupied` is true, no choice occupies the name
 abbrev pub IsNotExcludedAt : SealedPool → List ℕ → Candidate → List ℕ → Bool → Type 0
 IsNotExcludedAt pool chosen details name is_occupied =
     ((k : ℕ) (d : Dependency) → IsIn k chosen → IsIn d (depends_at pool k) →

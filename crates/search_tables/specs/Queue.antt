@@ -8,8 +8,8 @@ use Rattle.pool_core.specs.candidate_core.Candidates.{entry}
 use Rattle.pool_core.specs.candidate_core.Rank.{SealedPool}
 use Rattle.search_tables.specs.Selection.{depends_at, is_unmet}
 
--- a dependency, in this order: the dependency, the choice that has it (None for an entry of world), and its index
--- among the dependencies of the choice, or among the entries of world, counted from 0
+-- a dependency with its origin, in this order: the dependency; the choice that has it (None for an entry of world);
+-- and its index among the dependencies of the choice, or among the entries of world, counted from 0
 abbrev pub RaisedDepValue : Type 0
 RaisedDepValue = Dependency × Option ℕ × ℕ
 

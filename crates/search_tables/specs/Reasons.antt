@@ -55,8 +55,8 @@ IsFrameOf pool chosen f =
     ++ f.1)
     × AreAllMembersOf f.2 chosen × IsIn need (needs pool f.2) × AreRuledOut pool chosen f.0
 
--- the frame, with the option `c` put back in front of those that are left, is that of the next need after the choices
--- `chosen`: so `c` was just taken from it
+-- the option `c` was just taken from the frame: with `c` put back in front of the options that are left, the frame is
+-- that of the next need after the choices `chosen`
 abbrev pub IsFrameTaking : SealedPool → List ℕ → FrameValue → ℕ → Type 0
 IsFrameTaking pool chosen f c = IsFrameOf pool chosen (f.0, c ∷ f.1, f.2)
 

@@ -142,8 +142,8 @@ IsBestMember pool selection need c =
     × ((o : ℕ) → IsIn o selection → meets_at pool o need ≡ true →
     (o ≡ c) ⊎ (is_better pool need c o ≡ true))
 
--- after the choices `chosen`, the last list is the rest of the walk of the selection: for each next need, the best
--- member in rank that meets it, until no need is left
+-- the last list is the rest of the walk of the selection after the choices `chosen`. For each next need, it has the
+-- best member in rank that meets the need, until no need is left
 abbrev pub IsRestOfWalk : SealedPool → List ℕ → List ℕ → List ℕ → Type 0
 IsRestOfWalk pool selection chosen [] = next_need pool chosen ≡ None
 IsRestOfWalk pool selection chosen (c ∷ rest) =
@@ -155,9 +155,8 @@ IsRestOfWalk pool selection chosen (c ∷ rest) =
 abbrev pub IsSelectionWithWalk : SealedPool → List ℕ → List ℕ → Type 0
 IsSelectionWithWalk pool selection walk = IsRestOfWalk pool selection [] walk
 
--- after the choices `chosen`, which two walks share, the rest of one walk is preferred to the rest `other` of
--- another: at the first place where they differ, the first walk has the candidate that is better in rank for the next
--- need
+-- two walks begin with the choices `chosen`. The rest of one walk is preferred to the rest `other` of the other walk
+-- if, at the first place where they differ, the first rest has the candidate that is better in rank for the next need
 abbrev pub IsRestOfWalkPreferred : SealedPool → List ℕ → List ℕ → List ℕ → Type 0
 IsRestOfWalkPreferred pool chosen [] other = ⊥
 IsRestOfWalkPreferred pool chosen (c ∷ rest) [] = ⊥

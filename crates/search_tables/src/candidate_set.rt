@@ -9,8 +9,8 @@ use pool_core::CandId;
 use std::alloc::{AllocError, Global};
 use std::marker::Model;
 
-/// Candidates in the order in which they were added, each once, and a mark for each place in the
-/// list of all candidates, which is set if its candidate is in the set.
+/// Candidates in the order in which they were added, each once. Each place in the list of all
+/// candidates has a mark, which is set if the candidate at this place is in the set.
 #[derive(Drop)]
 pub struct CandidateSet {
     /// The places of the candidates, in the order in which they were added.

@@ -1,7 +1,7 @@
 //! Items by name; the items of each name are in the order in which they were added. The table
 //! borrows the names. No rule of a document: `conflicts` stores the conflicts of the choices in
-//! such a table, and `install_ifs` stores, under each name, the ranks of the install-ifs that have
-//! an entry of this name.
+//! such a table. `install_ifs` stores under each name the ranks of those install-ifs that have an
+//! entry of this name.
 ghost use Rattle.std.specs.Prelude.{◌≡◌, ℕ, List, [], ◌∷◌, ◌++◌, OnOk, if◌then◌else◌};
 ghost use Rattle.std.specs.Str.{bytes_eq};
 ghost use Rattle.search_tables.specs.NameTable.{items_under_name, without_last};

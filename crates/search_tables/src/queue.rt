@@ -10,8 +10,8 @@ use pool_core::{CandId, Deps};
 use std::alloc::AllocError;
 use std::marker::Model;
 
-/// A dependency that must be met, with the choice that has it, or none if it is an entry of world,
-/// and with its index among the dependencies of the choice, or among the entries of world.
+/// A dependency that must be met, with its origin: the choice that has the dependency, or world,
+/// and the index of the dependency there.
 #[derive(Drop)]
 pub struct RaisedDep<'p> {
     /// The dependency, which is no conflict.

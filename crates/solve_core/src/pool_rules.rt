@@ -78,8 +78,9 @@ fn add_need(
     known.push(clause)
 }
 
-/// Adds the clauses of the candidate `id` to the known ones: one for each of its dependencies,
-/// whose options are added to `reached`, and a reason for each candidate that it excludes.
+/// Adds the clauses of the candidate `id` to the known ones: one for each of its dependencies, and
+/// a reason for each candidate that it excludes. The options of the dependencies are added to
+/// `reached`.
 pub(crate) fn add_candidate(
     alloc: Global,
     known: &mut Known<'_>,
