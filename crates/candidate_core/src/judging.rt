@@ -87,6 +87,7 @@ fn has_sound_entries(judged: &mut Judged<'_>, word: Val, field: usize) -> Result
 // Whether each of these words (32-bit values) refers to a dependency.
 #[tactic(auto, using(adb_fields::proofs::FieldReads::entry_sound))]
 fn are_dependencies<'a>(judged: &mut Judged<'a>, words: Arr<'a>) -> Result<bool, AllocError>
+    // Each word can be read as an object of the kind dependency.
     requires { are_all_sound (payload_of judged.old.adb) (Kinds.Obj Tables.Dep)
         (array_entries words) ≡ true }
     // If the result is true, each entry of the array is a dependency.
@@ -137,6 +138,7 @@ fn text_if_kept<'a>(
     // If a text is returned, it is that of the field.
     ensures text { IfOk result (λ found. IfSome found (λ text. text.now ≡ text_in (entry_in
         (value_at (payload_of judged.old.adb) (Kinds.Obj which) object) field))) }
+    // A returned text obeys the rule.
     ensures kept { IfOk result (λ found. IfSome found (λ text.
         keeps_text_rule rule text.now ≡ true)) }
     // If none is returned, the text of the field breaks its rule.

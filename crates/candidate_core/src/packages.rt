@@ -178,6 +178,7 @@ impl<'a> Packages<'a> {
     /// Adds a source, and returns its index, counted from 0. After an error the packages are
     /// unchanged.
     pub(crate) fn add_source(&mut self, source: Source<'a>) -> Result<u32, AllocError>
+        // The source is then at the returned index, and no candidate has changed.
         ensures place { IfOk result (λ place.
             slice_get self.new.sources.items place ≡ Some source.entry) }
         ensures same { candidates_of_packages self.new ≡ candidates_of_packages self.old }

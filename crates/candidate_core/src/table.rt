@@ -75,6 +75,7 @@ impl<'a> Table<'a> {
 
     /// Adds the candidate `id`, which has these details, to each name that it offers.
     pub(crate) fn add_all(&mut self, details: &Details<'a>, id: CandId) -> Result<(), AllocError>
+        // The place is added to the places of each name that the candidate offers.
         ensures { OnOk result (HasPlaceAdded (λ name. offers_name name details.now) id
             self.old self.new) }
     {
@@ -143,6 +144,7 @@ impl<'a> Table<'a> {
         // The name has no list yet, and `first` is its only candidate.
         requires list { first_entry_under_name self.old.lists name.now ≡ None }
         requires single { first_entry_under_name self.old.singles name.now ≡ Some (first ∷ []) }
+        // The place is added to the places of this name, and to those of no other name.
         ensures { OnOk result (HasPlaceAdded (λ other. bytes_eq other name.entry.now) id
             self.old self.new) }
     {
@@ -160,6 +162,7 @@ fn insert_single<'a>(
     name: &'a [u8],
     id: CandId,
 ) -> Result<(), AllocError>
+    // The map has its old entries, and this name with its candidate.
     ensures { OnOk result (singles.new.entries
         ≡ insert_entry (λ one other. bytes_eq one.now other.now) singles.old.entries name.entry
         id) }
@@ -176,6 +179,7 @@ fn insert_list<'a>(
     name: &'a [u8],
     ids: Vec<CandId>,
 ) -> Result<(), AllocError>
+    // The map has its old entries, and this name with its candidates.
     ensures { OnOk result (lists.new.entries
         ≡ insert_entry (λ one other. bytes_eq one.now other.now) lists.old.entries name.entry
         ids) }

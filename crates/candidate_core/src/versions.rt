@@ -87,6 +87,7 @@ pub(crate) fn version_meeting_need<'a>(
     requires package { IsPackageWordOf source.now kept.word }
     // The remembered results are right for this need.
     requires known { AreMatchesIn source.now kept.source (need_of_ref need.now) known.now }
+    // The result is the version under which the candidate with this word meets the need.
     ensures { IsVersionReadFrom source.now kept.source (version_meeting_need (need_of_ref need.now)
         (candidate_in_source (Some source.now) kept.word kept.installed)) result }
 {
@@ -107,6 +108,7 @@ fn version_meeting<'a>(
     requires package { IsPackageWordOf source.now kept.word }
     // The remembered results are right for this need.
     requires known { AreMatchesIn source.now kept.source (entry (dependency dep.now)) known.now }
+    // The result is the version under which the candidate with this word meets the dependency.
     ensures { IsVersionReadFrom source.now kept.source
         (version_meeting_need (entry (dependency dep.now))
         (candidate_in_source (Some source.now) kept.word kept.installed)) result }
@@ -128,6 +130,7 @@ fn meets_by_own_name_as_known(
     requires package { IsPackageWordOf source.now kept.word }
     // The remembered results are right for this need.
     requires known { AreMatchesIn source.now kept.source (entry (dependency dep.now)) known.now }
+    // The result says whether the candidate meets the dependency by its own name and version.
     ensures { result ≡ meets_by_own_name (dependency dep.now)
         (candidate_in_source (Some source.now) kept.word kept.installed) }
 {
@@ -150,6 +153,7 @@ fn provided_version<'a>(
     requires package { IsPackageWordOf source.now kept.word }
     // The remembered results are right for this need.
     requires known { AreMatchesIn source.now kept.source (entry (dependency dep.now)) known.now }
+    // The result is the version of the first entry of provides that meets the dependency.
     ensures { IsVersionReadFrom source.now kept.source (option_and_then (λ
         (p : Dependency). p.version)
         (find (is_met_by_provides_entry (dependency dep.now))

@@ -96,6 +96,7 @@ fn push_operand(
     db: &Db<'_>,
     text: &[u8],
 ) -> Result<bool, AllocError>
+    // The result says whether the package that the operand means is installed.
     ensures found { IfOk result
         (λ found. found ≡ is_some (package_meant_by_operand_text form
         (packages_of db.now) text.now)) }
@@ -121,6 +122,7 @@ pub(crate) fn place_asked(
     db: &Db<'_>,
     text: &[u8],
 ) -> Result<Option<usize>, AllocError>
+    // At a returned place is the package that the operand means; None if it is not installed.
     ensures found { IfOk result (λ place. option_and_then (slice_get (packages_of db.now)) place
         ≡ package_meant_by_operand_text form (packages_of db.now) text.now) }
     // A place is that of a package of the database.
@@ -135,6 +137,7 @@ pub(crate) fn place_asked(
 
 // The place of the package with a name, counted from 0; None if no package has the name.
 fn place_of_name(db: &Db<'_>, name: &[u8]) -> Option<usize>
+    // At a returned place is the package with this name; None if there is none.
     ensures found { option_and_then (slice_get (packages_of db.now)) result
         ≡ package_named (packages_of db.now) name.now }
     ensures within { IfSome result (λ i. i < length (packages_of db.now)) }
@@ -145,8 +148,10 @@ fn place_of_name(db: &Db<'_>, name: &[u8]) -> Option<usize>
 // The place of the package that lists a path, counted from 0; None if no package lists it, or if
 // the path is no name.
 fn place_of_owner(alloc: Global, db: &Db<'_>, path: &[u8]) -> Result<Option<usize>, AllocError>
+    // At a returned place is the package that lists this path; None if there is none.
     ensures found { IfOk result (λ place. option_and_then (slice_get (packages_of db.now)) place
         ≡ path_owner (packages_of db.now) path.now) }
+    // A returned place is that of a package of the database.
     ensures within { IfOk result
         (λ place. IfSome place (λ i. i < length (packages_of db.now))) }
 {

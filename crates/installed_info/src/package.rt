@@ -36,6 +36,7 @@ pub(crate) fn push_package<'a>(
     _mark: PhantomData<PackageView<'a>>,
 ) -> Result<(), AllocError>
     requires { place < length (packages_of db.now) }
+    // The report on the package at this place is appended.
     ensures { OnOk result (report.new.items ≡ report.old.items
         ++ option_map_or (package_info form text.now) (slice_get (packages_of db.now) place) []) }
 {

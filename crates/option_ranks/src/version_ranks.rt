@@ -164,6 +164,7 @@ fn rank_sorted(versions: &mut Vec<RankedVersion<'_>>, kind: VersionKind)
     // The versions are sorted in the order of their kind.
     requires { IsSorted (on (λ (v : RankedVersion). v.version) (version_order kind))
         versions.old.items }
+    // Each version gets its rank among all versions of the list.
     ensures { versions.new.items
         ≡ map (version_with_rank_among kind (versions_in versions.old.items)) versions.old.items }
 {
@@ -214,6 +215,7 @@ fn set_ranks<'a>(
     requires ranked { All (HasRankAmong kind (versions_in versions.now)) versions.now }
     // The versions of options and those of the list that refer to the same text are equal.
     requires alike { AreReadTogether kind versions.now options.old.items }
+    // Each option gets, for its version of this kind, the rank of this version in the list.
     ensures { options.new.items
         ≡ map (with_rank_among kind (versions_in versions.now)) options.old.items }
 {

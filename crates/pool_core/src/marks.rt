@@ -68,6 +68,7 @@ pub(crate) fn pinned_marks(
     tagged: &[Dep<'_>],
 ) -> Result<Vec<bool>, AllocError>
     requires { HasPlacesOfEachName table.now (candidates_of_packages packages.now) }
+    // A candidate's mark is true if world pins the candidate's name to its tag.
     ensures { IfOk result (λ marks. marks.items
         ≡ map (λ one. is_pinned (map dependency tagged.now) one)
         (candidates_of_packages packages.now)) }
@@ -84,6 +85,7 @@ fn disallowed_marks(
     packages: &Packages<'_>,
     tagged: &[Dep<'_>],
 ) -> Result<Vec<bool>, AllocError>
+    // A candidate's mark is true if the candidate is not allowed.
     ensures { IfOk result (λ marks. marks.items
         ≡ map (λ one. not (is_allowed_by_tags_of_world (map dependency tagged.now) one))
         (candidates_of_packages packages.now)) }
@@ -211,6 +213,7 @@ fn affects(
 ) -> Result<bool, AllocError>
     // `one` is the candidate at the place, and the remembered results are right for the entry.
     requires { IsCandidateWithMatches packages.now place one.now (dependency entry.now) known.old }
+    // The answer is whether the entry has this effect on the candidate.
     ensures affects { IfOk result (λ answer. answer
         ≡ affects effect (dependency entry.now) one.now) }
     // The results that are remembered after the call are right for the entry.
@@ -234,6 +237,7 @@ fn bars(
 ) -> Result<bool, AllocError>
     // `one` is the candidate at the place, and the remembered results are right for the entry.
     requires { IsCandidateWithMatches packages.now place one.now (dependency entry.now) known.old }
+    // The answer is whether the entry is a conflict, and the candidate meets it.
     ensures bars { IfOk result (λ answer. answer ≡ ((dependency entry.now).conflict
         && meets_dependency (dependency entry.now) one.now)) }
     // The results that are remembered after the call are right for the entry.

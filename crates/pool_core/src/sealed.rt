@@ -228,6 +228,7 @@ impl<'a> Sealed<'a> {
         requires those { ids.now ≡ places_fitting self.now (need_of_ref need.now) }
         // The remembered results are right for this need and these packages.
         requires matches { AreMatchesInPool self.now (need_of_ref need.now) packages.now known.now }
+        // Each ranking has the keys of the candidate at its place, for this need.
         ensures each { IfOk result (λ rankings.
             All (IsRankingIn self.now (need_of_ref need.now)) rankings.items) }
         ensures places { IfOk result (λ rankings. map (λ r. r.place) rankings.items ≡ ids.now) }
@@ -290,6 +291,7 @@ impl<'a> Sealed<'a> {
     ) -> Result<Vec<CandId>, AllocError>
         // The remembered results are right for this need and these packages.
         requires { AreMatchesInPool self.now (need_of_ref need.now) packages.now known.old }
+        // The result has the places of all candidates that may be selected and meet the need.
         ensures places { IfOk result (λ ids. ids.items
             ≡ places_fitting self.now (need_of_ref need.now)) }
         // The results that are remembered after the call are right for this need.
@@ -340,6 +342,7 @@ impl<'a> Sealed<'a> {
     ) -> Result<bool, AllocError>
         // The remembered results are right for this need and these packages.
         requires { AreMatchesInPool self.now (need_of_ref need.now) packages.now known.old }
+        // The answer is whether the candidate may be selected and meets the need.
         ensures fits { IfOk result (λ fits. fits
             ≡ candidate_at_passes self.now (is_eligible_for_need self.now
             (need_of_ref need.now)) id) }

@@ -45,8 +45,10 @@ pub(crate) fn marks_by_world(
     world: &World,
 ) -> Result<WorldMarks, AllocError>
     requires { IsCandidateList list.now }
+    // A candidate's mark is true if the candidate may be selected.
     ensures eligible { IfOk result (λ marks. marks.eligible.items
         ≡ map (is_eligible world.now) (candidates_of_packages list.now.packages)) }
+    // A candidate's mark is true if world pins the candidate's name to its tag.
     ensures pinned { IfOk result (λ marks. marks.pinned.items
         ≡ map (is_pinned world.now) (candidates_of_packages list.now.packages)) }
     // The places of the candidates whose install-if can apply, in rising order.
@@ -115,6 +117,8 @@ fn install_ifs_among(
     // Each place is a number of 32 bits, and there is one mark for each candidate.
     requires few { length (candidates_of_packages packages.now) < 2 ^ 32 }
     requires marked { length eligible.now ≡ length (candidates_of_packages packages.now) }
+    // The result has the places of the candidates whose mark is true, and whose install-if has an
+    // entry and no conflict.
     ensures { IfOk result (λ ids. ids.items
         ≡ places_marked_with_install_if 0 eligible.now
         (candidates_of_packages packages.now)) }
@@ -135,6 +139,7 @@ fn push_if_marked(
     one: &Details<'_>,
 ) -> Result<(), AllocError>
     requires { place < 2 ^ 32 }
+    // The place is appended if the mark is true, and the install-if has an entry and no conflict.
     ensures { OnOk result (ids.new.items ≡ ids.old.items
         ++ (if is_marked && has_positive_install_if one.now then place ∷ [] else [])) }
 {

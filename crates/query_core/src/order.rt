@@ -35,6 +35,7 @@ pub(crate) fn in_order<'a>(
     requires { All (λ place. place < length pool.now.candidates) places.now }
     ensures places { IfOk result (λ ordered. map (λ r. r.place) ordered.rankings.items
         ≡ sorted_by (candidate_places_cmp pool.now.candidates) places.now) }
+    // By this key, two candidates have one version exactly if their versions have the same text.
     ensures versions { IfOk result (λ ordered.
         AreInQueryOrder pool.now.candidates ordered.key ordered.rankings.items) }
 {
@@ -57,6 +58,7 @@ fn rankings<'a>(
     requires within { All (λ place. place < length pool.now.candidates) places.now }
     // The packages are those of the pool.
     requires own { candidates_of_packages packages.now ≡ pool.now.candidates }
+    // Each ranking has the keys of the candidate at its place.
     ensures each { IfOk result (λ rankings.
         All (IsQueryRanking pool.now.candidates) rankings.items) }
     ensures places { IfOk result (λ rankings. map (λ r. r.place) rankings.items ≡ places.now) }

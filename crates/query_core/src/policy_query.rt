@@ -138,6 +138,7 @@ fn put_greater<O: ReportOut>(
     number: u64,
 ) -> Result<u64, AllocError>
     ensures last { IfOk result (λ now. now ≡ (if nat_lt last number then number else last)) }
+    // The line is written if the number is greater than `last`.
     ensures put { OnOk result (Appends O.holds out.old out.new
         (if nat_lt last number then repository_line_numbered repositories.now number else [])) }
 {

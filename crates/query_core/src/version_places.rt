@@ -46,8 +46,11 @@ pub(crate) fn placed_versions<'a>(
     pool: &Sealed<'a>,
     name: &[u8],
 ) -> Result<Vec<PlacedVersion<'a>>, AllocError>
+    // The versions are those of the candidates of this name, in the order of queries, each text
+    // once.
     ensures versions { IfOk result (λ versions. map (λ v. v.version) versions.items
         ≡ versions_of_name pool.now.candidates name.now) }
+    // Each says rightly where the candidates of this name with its version are.
     ensures places { IfOk result (λ versions.
         All (ListsPlacesOfVersion pool.now.candidates name.now) versions.items) }
 {
@@ -105,10 +108,14 @@ fn grouped<'a>(
 ) -> Result<Vec<PlacedVersion<'a>>, AllocError>
     requires places { map (λ r. r.place) ordered.now.rankings.items
         ≡ sorted_places_passing (has_own_name name.now) pool.now.candidates }
+    // By the key, two candidates have one version exactly if their versions have the same text.
     requires versions { AreInQueryOrder pool.now.candidates ordered.now.key
         ordered.now.rankings.items }
+    // The versions are those of the candidates of this name, in the order of queries, each text
+    // once.
     ensures versions { IfOk result (λ versions. map (λ v. v.version) versions.items
         ≡ versions_of_name pool.now.candidates name.now) }
+    // Each says rightly where the candidates of this name with its version are.
     ensures places { IfOk result (λ versions.
         All (ListsPlacesOfVersion pool.now.candidates name.now) versions.items) }
 {
@@ -184,6 +191,7 @@ fn placed_version<'a>(
     ensures version { IfOk result (λ placed. (c : Candidate)
         → slice_get (filter_map (λ r. slice_get pool.now.candidates r.place) rankings.now) 0
         ≡ Some c → placed.version ≡ c.version) }
+    // The result says rightly where these candidates are.
     ensures places { IfOk result (λ placed. ListsPlacesOf
         (filter_map (λ r. slice_get pool.now.candidates r.place) rankings.now) placed) }
 {

@@ -251,6 +251,7 @@ impl<'p> Choices<'p> {
         requires raised { (c : ℕ) → raised.now.1 ≡ Some c →
             slice_get (depends_at (pool_of self.now) c) raised.now.2 ≡ Some raised.now.0 }
         requires matches { AreMatchesAmong (pool_of self.now).candidates matches.old }
+        // The answer is whether a choice meets the dependency.
         ensures met { IfOk result (λ met. met
             ≡ is_met (pool_of self.now) (choices_of self.now) (entry raised.now.0)) }
         ensures matches { OnOk result (AreMatchesAmong (pool_of self.now).candidates matches.new) }
@@ -352,6 +353,7 @@ impl<'p> Choices<'p> {
         requires least { IsLeastTriggeredInstallIf (pool_of self.now) (choices_of self.now) id }
         // As in `next_frame`: the number of options that are left is a digit of the measure.
         ensures few { IfOk result (λ frame. length frame.1 < 2 ^ 64) }
+        // The frame is that of the next need.
         ensures frame { IfOk result (λ frame. IsFrameOf (pool_of self.now)
             (choices_of self.now) frame) }
     {

@@ -66,6 +66,7 @@ pub fn is_held_met(
     // remembered results are right for the pool, before the call and after it.
     requires held { IsDepOfPackageAt pool.now.candidates held.now }
     requires matches { AreMatchesAmong pool.now.candidates matches.old }
+    // The answer is whether a choice meets the dependency.
     ensures met { IfOk result (λ met. met
         ≡ is_met pool.now choices.now (entry (dependency held.now.dep.now))) }
     ensures matches { OnOk result (AreMatchesAmong pool.now.candidates matches.new) }
@@ -142,6 +143,7 @@ fn is_met_by(
     // The dependency is that of the candidate at the stored place, with the stored index.
     requires held { IsDepOfPackageAt pool.now.candidates held.now }
     requires matches { AreMatchesAmong pool.now.candidates matches.old }
+    // The answer is whether the candidate meets the dependency.
     ensures meets { IfOk result (λ meets. meets
         ≡ meets_at pool.now id (entry (dependency held.now.dep.now))) }
     ensures matches { OnOk result (AreMatchesAmong pool.now.candidates matches.new) }

@@ -103,6 +103,7 @@ fn queue_one<'p>(
     by: Option<CandId>,
     index: usize,
 ) -> Result<(), AllocError>
+    // The dependency is appended with the choice and the index, unless it is a conflict.
     ensures { OnOk result (queue.new.items ≡ queue.old.items
         ++ raised_deps_from by index (dependency dep.entry ∷ [])) }
 {

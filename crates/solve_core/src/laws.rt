@@ -26,6 +26,7 @@ pub fn walks_satisfy()
 
 /// Each satisfying selection has a walk, and one only.
 pub fn each_selection_has_one_walk()
+    // Each satisfying selection has a walk.
     ensures some { (pool : SealedPool) (selection : List ℕ) →
         IsSatisfying pool selection → (walk : List ℕ) × IsSelectionWithWalk pool selection walk }
     // A selection has at most one walk.
@@ -50,6 +51,7 @@ pub fn walks_have_one_order()
     // Of two walks, at most one is preferred to the other.
     ensures not_both { (pool : SealedPool) (walk second : List ℕ) →
         IsWalkPreferredTo pool walk second → IsWalkPreferredTo pool second walk → ⊥ }
+    // The order is transitive.
     ensures transitive { (pool : SealedPool) (a b c : List ℕ) →
         IsWalkPreferredTo pool a b → IsWalkPreferredTo pool b c → IsWalkPreferredTo pool a c }
 {

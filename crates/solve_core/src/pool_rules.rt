@@ -150,6 +150,7 @@ fn raiser_and_options(
     dep: &Dep<'_>,
     by: Option<CandId>,
 ) -> Result<Clause, AllocError>
+    // In this order: the members, and the options.
     ensures { IfOk result (λ clause. clause ≡ (
       option_to_list by,
       options_for pool.now
@@ -242,6 +243,7 @@ fn does_exclude(pool: &Sealed<'_>, id: CandId, other: CandId) -> bool
 
 // Whether the candidate `other` meets a conflict that the candidate with these details has.
 fn has_conflict_met_by(details: &Details<'_>, other: &Details<'_>) -> bool
+    // If the result is true, `other` meets a conflict of the candidate; false promises nothing.
     ensures { result ≡ true → list_any (λ (d : Dependency). d.conflict
         && meets_dependency d other.now) details.now.depends ≡ true }
 {
@@ -264,6 +266,7 @@ fn is_conflict_met_by(dep: &Dep<'_>, other: &Details<'_>) -> bool
 
 // Whether both candidates occupy one and the same name.
 fn shares_a_name(details: &Details<'_>, other: &Details<'_>) -> bool
+    // If the result is true, both occupy one of the candidate's names; false promises nothing.
     ensures { result ≡ true → list_any (λ name. occupies_name name other.now)
         (occupied_names details.now) ≡ true }
 {

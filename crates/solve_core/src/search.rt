@@ -303,6 +303,7 @@ impl<'p> Search<'p> {
             ++ choice ∷ []) }
         ensures search { OnOk result (IsSearch self.new.chosen self.new.turns.items) }
         ensures pool { pool_of self.new.chosen ≡ pool_of self.old.chosen }
+        // The frame and the choice become the last turn.
         ensures turns { OnOk result (self.new.turns.items ≡ self.old.turns.items
             ++ (frame, choice) ∷ []) }
         ensures matches { self.new.matches ≡ self.old.matches }
