@@ -104,8 +104,9 @@ fn grouped<'a>(
     pool: &Sealed<'a>,
     name: &[u8],
     ordered: &Ordered<'a>,
-// The rankings are those of all candidates with this name of their own, in the order of queries.
 ) -> Result<Vec<PlacedVersion<'a>>, AllocError>
+    // The rankings are those of all candidates with this name of their own, in the order of
+    // queries.
     requires places { map (λ r. r.place) ordered.now.rankings.items
         ≡ sorted_places_passing (has_own_name name.now) pool.now.candidates }
     // By the key, two candidates have one version exactly if their versions have the same text.
