@@ -20,21 +20,23 @@ pub use Rattle.adb_schema.specs.Dependencies.{dependency_in}
 pub record Candidate : Type 0 where
   -- the package's information, as a plain value of its index or of the database
   pub info : Plain
-  -- the package's name, the text of its version (None: no version), and its id, which may be empty, or a prefix of
-  -- the whole id
+  -- the package's name
   pub name : List ℕ
+  -- the text of the package's version; None if the text is no version
   pub version : Option (List ℕ)
+  -- the package's id, which may be empty, or a prefix of the whole id
   pub id : List ℕ
-  -- the package's lists of dependencies, as `docs/formats.md` names these fields
+  -- the dependencies of the package, its conflicts among them
   pub depends : List Dependency
+  -- what the package provides: names, each with or without a version
   pub provides : List Dependency
+  -- the install-if of the package: if each of these dependencies is met, the name of the package is needed
   pub install_if : List Dependency
-  -- the package's `provider-priority`: of the candidates that provide a name, the one with the greater number is
-  -- preferred
+  -- the package's `provider-priority`: the greater is preferred (key 6 of the order of options)
   pub priority : ℕ
-  -- the package's repository, counted from 1, and the tag of this repository; None if there is no repository or no
-  -- tag
+  -- the number of the package's repository, counted from 1; None if the package is from no repository
   pub repository : Option ℕ
+  -- the tag of this repository; None if there is no repository or no tag
   pub tag : Option (List ℕ)
   -- whether the package is installed
   pub installed : Bool

@@ -14,8 +14,11 @@ pub use Rattle.base_core.specs.ByteOrder.{bytes_cmp}
 -- the names that a command upgrades: none (`add`, `del`, `fix`), all (`upgrade` without names), or
 -- those of a list
 pub data UpgradedNames : Type 0 where
+  -- no name
   no_names : UpgradedNames
+  -- every name
   all_names : UpgradedNames
+  -- the names of this list
   listed_names : List (List ℕ) → UpgradedNames
 
 -- what a selection is made from: the candidates, the world that a selection has to satisfy, and the names that the

@@ -34,6 +34,7 @@ impl Model for CandId {
 
     ghost Value = { ℕ };
 
+    // The value is the place.
     ghost view = { λ id. id.place };
 
     // Each number is the view of exactly one id.

@@ -40,6 +40,7 @@ impl From<AllocError> for PoolFault {
     ghost use Rattle.std.specs.Prelude.{◌≡◌};
     ghost use Rattle.candidate_core.specs.declared.candidate_list.PoolFault.TheVariants.{Memory};
 
+    // A lack of memory becomes the fault `Memory`.
     ghost from_gives = { λ _ fault. fault ≡ Memory };
 
     // A lack of memory, as a fault of the pool.

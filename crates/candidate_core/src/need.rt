@@ -74,6 +74,7 @@ impl Model for Options {
 
     ghost Value = { List ℕ };
 
+    // The value is the list of the places, the best first.
     ghost view = { λ options. options.ids.items };
 }
 

@@ -255,6 +255,7 @@ pub(crate) fn depends_version_place(
     }
     let entry = entry_word(entries, index);
     let text = field_word(source.adb, Which::Dep, entry, VERSION);
+    // The place of the text of the version in this dependency.
     Some(VersionPlace {
         source: kept.source,
         word: text.word(),

@@ -14,15 +14,16 @@ use Rattle.candidate_core.specs.declared.versions.RankedVersion.{RankedVersion}
 use Rattle.candidate_core.specs.declared.versions.VersionKind.{VersionKind}
 use Rattle.candidate_core.specs.declared.versions.VersionKind.TheVariants.{Under, Own}
 
--- the keys of one option: whether world pins its name to its tag, whether it has no tag, whether it has
--- the needed name, whether it is installed and kept; `under` is the version under which it meets the
--- need, `version` its own; `place` counts from 0
+-- the eleven keys by which an option of a need is ranked, in their order. The first key that differs decides which of
+-- two options is preferred
 pub record Ranking : Type 0 where
-  -- keys 1 to 4, each a test. `pinned`: world pins the name to the tag. `untagged`: there is no tag. `named`: the
-  -- name is the needed one. `kept`: the option is installed, and the command does not upgrade its name
+  -- key 1: world pins the candidate's name to its tag
   pub pinned : Bool
+  -- key 2: the candidate is from a repository without tag, or from none
   pub untagged : Bool
+  -- key 3: the candidate has the needed name
   pub named : Bool
+  -- key 4: the candidate is installed, and the command does not upgrade its name
   pub kept : Bool
   -- key 5: the version under which the option meets the need
   pub under : RankedVersion

@@ -118,6 +118,7 @@ pub record AreRankedFrom (kind : VersionKind) (before after : List Ranking) : Ty
 pub record AreRankedTwice (before after : List Ranking) : Type 0 where
   -- the rankings after their versions of the kind `Under` were ranked
   pub between : List Ranking
+  -- the first ranking is by the versions under which the need is met
   pub under : AreRankedFrom Under before between
   -- then their versions of the kind `Own` were ranked
   pub own : AreRankedFrom Own between after

@@ -42,10 +42,13 @@ impl<'a> Model for Pool<'a> {
     // The value is the list of candidates: their places are its indexes, counted from 0.
     ghost Value = { Items Candidate };
 
+    // Pools with equal codes are equal (`Coded`).
     ghost coded = { Prim.hlevel (codes, plain_code) };
 
+    // The candidates of the list; none without a list.
     ghost view = { λ pool. candidates_in pool.list };
 
+    // If there is a list, its table leads to all offers, and it is within the limit.
     ghost invariant = { λ pool. ForSome pool.list (λ list. IsCandidateList list) };
 }
 
@@ -125,6 +128,7 @@ impl<'a> Pool<'a> {
             adb: index.adb(),
             repo: Some(repo),
             tag,
+            // The texts were tested with the index.
             has_sound_texts: true,
         };
         let added = list.push_all(source, packages);

@@ -36,6 +36,7 @@ impl<'a> Model for PlacedVersion<'a> {
 
     ghost Value = { VersionPlaces };
 
+    // The value has the version and where it is.
     ghost view = { λ v. version_places_from_parts v.version v.is_installed v.repositories.items };
 }
 

@@ -75,6 +75,7 @@ impl<'p> Choices<'p> {
         let mut queue = Vec::new(alloc);
         queue_world(&mut queue, world)?;
         let install_ifs = InstallIfs::new(alloc, pool)?;
+        // Without choices, nothing is known to be met: both cursors are at the start.
         Ok(Choices {
             alloc,
             pool,

@@ -276,6 +276,7 @@ impl Propagation {
         };
         match status {
             Status::Quiet => Ok(None),
+            // The clause forces the literal, which becomes a step of the trail with its cause.
             Status::Unit(literal) => {
                 if let Some(cause) = self.without_options(index, known)? {
                     known.push_cause(cause)?;
@@ -283,6 +284,7 @@ impl Propagation {
                 }
                 Ok(None)
             }
+            // The choices contradict the clause.
             Status::Conflict => self.without_options(index, known),
         }
     }

@@ -104,8 +104,8 @@ impl Trail {
         }
     }
 
-    /// Appends the step that makes a literal true. `is_choice` says whether it is a choice of the
-    /// search.
+    /// Appends the step that makes a literal true. `is_choice` says whether the step is a choice of
+    /// the search.
     pub(crate) fn push(&mut self, literal: Literal, is_choice: bool) -> Result<(), AllocError> {
         let Literal { place, is_in } = literal;
         let value = Value {

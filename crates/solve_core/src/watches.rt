@@ -180,14 +180,15 @@ impl Watches {
         Ok(false)
     }
 
-    // The literal that a clause watches beside this one, if it watches this one.
+    // The other literal that the clause at an index watches; None if this clause does not watch
+    // `literal`.
     fn other_of(&self, literal: Literal, index: usize) -> Option<Literal> {
         let watch = (*self.watches.get(index)?)?;
         watch.beside(literal)
     }
 
-    // Removes a clause from those that watch a literal: the one at a place in their list. The last
-    // one of the list takes its place.
+    // Removes the clause at `place` from the list of the clauses that watch a literal. The last
+    // clause of the list takes its place.
     fn remove(&mut self, literal: Literal, place: usize) {
         let Some(watching) = self.places.get_mut(literal.place as usize) else {
             return;
