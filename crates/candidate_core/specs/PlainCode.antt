@@ -70,7 +70,7 @@ abbrev mutual
   steps_of_all (more v vs) steps = (4, (0, [])) ∷ steps_of v (steps_of_all vs steps)
 
 mutual
-  -- the steps of a value build the value
+  -- a lemma: the steps of a value, placed before other steps, build this value in front of what the other steps build
   pub steps_build_value :
       (v : Plain) (steps : List BuildStep) → built (steps_of v steps) ≡ v ∷ built steps
   steps_build_value null steps = refl
@@ -79,7 +79,8 @@ mutual
   steps_build_value (arr vs) steps = steps_build_array vs steps
   steps_build_value (obj vs) steps = ap first_as_object (steps_build_array vs steps)
 
-  -- the steps of an array's values build the array
+  -- a lemma: the steps of an array, placed before other steps, build this array in front of what the other steps
+  -- build
   pub steps_build_array :
       (vs : Plains) (steps : List BuildStep) →
       built (steps_of_all vs steps) ≡ arr vs ∷ built steps
@@ -94,7 +95,8 @@ abbrev pub first_or_null : List Plain → Plain
 first_or_null [] = null
 first_or_null (v ∷ vs) = v
 
--- plain values are encoded by the steps that build them
+-- the encoding of plain values: a value is encoded as the steps that build it, and decoded as the first value that
+-- the steps build
 abbrev pub plain_code : Coded Plain
 plain_code =
     code_by (List BuildStep) (coded_list (coded× coded_ℕ (coded× coded_ℕ (coded_list coded_ℕ))))

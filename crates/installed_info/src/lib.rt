@@ -13,6 +13,7 @@ mod package;
 mod paths;
 mod telling;
 
+// A name of `candidate_core` that users of this crate need.
 pub use candidate_core::Upgrade;
 pub use telling::{
     ReportAndRefusal, info_refuses_only_for_an_operand, owners_are_those_that_list_a_path,

@@ -10,6 +10,7 @@ mod choices;
 mod trace;
 
 pub use choices::Choices;
+// Names of `search_tables` and the crates below it that users of this crate need.
 pub use search_tables::{
     CandId, Candidate, CandidateSet, Details, Frame, PackageMatches, RuledOutOption, Sealed,
     SortedWords, is_same_id, options_are_the_best_first, rank_is_total,

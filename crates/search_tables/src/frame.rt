@@ -75,6 +75,7 @@ impl Frame {
     /// that raised the need.
     pub fn new(alloc: Global, options: Vec<CandId>, by: Vec<CandId>) -> Frame
         ensures value { result ≡ ([], options.items, by.items) }
+        // A list has fewer than 2^64 entries.
         ensures few { length result.1 < 2 ^ 64 }
     {
         Frame {

@@ -60,7 +60,7 @@ pub fn walks_have_one_order()
     rank_is_total();
 }
 
-/// There is at most one first selection: the rule of the document picks one.
+/// At most one selection is the preferred one: so the rules of `docs/selection.md` define it.
 pub fn the_first_selection_is_unique()
     ensures { (pool : SealedPool) (trace other : List ℕ) →
         IsFirstPreferredSelection pool trace → IsFirstPreferredSelection pool other → trace

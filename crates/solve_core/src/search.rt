@@ -236,6 +236,7 @@ impl<'p> Search<'p> {
         let Some(clause) = self.propagation.clause_against(id, &self.known)? else {
             return Ok(None);
         };
+        // Only a clause without options rules the option out.
         if !clause.is_reason() {
             return Ok(None);
         }

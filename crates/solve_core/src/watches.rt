@@ -144,9 +144,10 @@ impl Watches {
         Some(*watching.of(literal.is_in).get(place)?)
     }
 
-    /// Lets a clause that watches a false literal watch another literal that is not false. `place`
-    /// is its place among the clauses that watch the false literal. Returns true if there is no
-    /// other literal, so that the clause may force one.
+    /// Lets the clause at `index`, which watches the false literal `literal`, watch another literal
+    /// that is not false. `place` is the place of this clause in the list of the clauses that watch
+    /// `literal`. Returns true if there is no other literal to watch, so that the clause may force
+    /// one.
     pub(crate) fn is_forcing(
         &mut self,
         literal: Literal,
