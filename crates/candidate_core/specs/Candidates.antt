@@ -128,8 +128,8 @@ as_installed_where_same installed (c ∷ cs) =
     (if is_same_package installed c then as_installed c else c)
     ∷ as_installed_where_same installed cs
 
--- the list with an installed package: it marks the candidates that are the same package, or becomes a candidate of
--- its own if there is none
+-- the list after an installed package was added: the candidates that are the same package are marked as installed; if
+-- there are none, the installed package is appended as a candidate of its own
 abbrev pub with_installed : List Candidate → Candidate → List Candidate
 with_installed cs installed =
     if list_any (is_same_package installed) cs then as_installed_where_same installed cs
@@ -218,8 +218,8 @@ is_barred_by_world world c = list_any (λ (d : Dependency). d.conflict && meets_
 abbrev pub is_eligible : List Dependency → Candidate → Bool
 is_eligible world c = is_allowed_by_tags_of_world world c && not (is_barred_by_world world c)
 
--- whether a candidate has an install-if that can apply: it may be selected itself, and its install-if
--- is not empty and has no conflict
+-- whether a candidate has an install-if that can apply: the candidate may be selected, and its install-if has an
+-- entry and no conflict
 abbrev pub has_usable_install_if : List Dependency → Candidate → Bool
 has_usable_install_if world c =
     is_eligible world c

@@ -1,6 +1,6 @@
--- The candidates of packages that are stored as words. The order of the list is in `docs/selection.md`,
--- "What there is to choose from". Serves the contracts of `src/packages.rt` and
--- `src/candidate_list.rt`: it says which candidates a list of stored words stands for.
+-- The candidates of packages that are stored as words. The order of the list is in `docs/selection.md`, "What there
+-- is to choose from". Serves the contracts of `src/packages.rt` and `src/candidate_list.rt`: this file says which
+-- candidates a list of stored words represents.
 use Rattle.std.specs.Prelude.{ℕ, zero, suc, Bool, false, List, [], ◌∷◌, map, Option, Some, None, option_copied, slice_get}
 use Rattle.adb_view.specs.Plain.{null, Plains, none, more}
 use Rattle.candidate_core.specs.Candidates.{Candidate, as_installed, candidate_of}

@@ -35,8 +35,8 @@ abbrev pub first_as_object : List Plain → List Plain
 first_as_object [] = []
 first_as_object (v ∷ rest) = array_as_object v ∷ rest
 
--- a step: its kind, and the number and the bytes that it adds. It operates on the values that the steps
--- after it built
+-- a step: its kind, and the number and the bytes that it adds. A step operates on the values that the steps after it
+-- in the list built
 abbrev pub BuildStep : Type 0
 BuildStep = ℕ × (ℕ × List ℕ)
 

@@ -50,7 +50,7 @@ is_name_pinned_to_tag world name tag =
     list_any
     (λ (d : Dependency). bytes_eq name d.name && option_map_or (bytes_eq tag) d.tag false) world
 
--- key 1: whether a candidate is tagged, and world pins its name to its tag
+-- key 1: whether a candidate has a tag (of its repository), and world pins the candidate's name to this tag
 abbrev pub is_pinned : List Dependency → Candidate → Bool
 is_pinned world c = option_map_or (is_name_pinned_to_tag world c.name) c.tag false
 

@@ -32,7 +32,8 @@ first_entry_under_name [] name = None
 first_entry_under_name (e ∷ es) name =
     if bytes_eq name e.0 then Some e.1 else first_entry_under_name es name
 
--- the places of the candidates that offer a name: its list in `lists`, else its only place in `singles`, else none
+-- the places of the candidates that offer a name: those in `lists` if the name is there, else the place in `singles`,
+-- else none
 abbrev pub places_of_name : Offered → List ℕ → List ℕ
 places_of_name table name = unwrap_or (first_entry_under_name table.lists name)
     (unwrap_or (first_entry_under_name table.singles name) [])

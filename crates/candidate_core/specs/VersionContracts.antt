@@ -34,15 +34,15 @@ pub record IsDependencyWordOf (source : Source) (word : ℕ) (d : Dependency) : 
   -- the value that the word refers to denotes the dependency
   pub found : Some d ≡ dependency_in (entry_in_source source word)
 
--- `ranked` has the version `expected`, and the index `place` of its source `origin`. If there is a version, it is the
--- text that its word refers to in the source.
+-- `ranked` has the version `expected`, and the index `place` of its source `origin`. A version that is not absent is
+-- the text that the word refers to in the source.
 pub record IsVersionReadFrom (origin : Source) (place : ℕ) (expected : Option (List ℕ))
     (ranked : RankedVersion) : Type 0 where
   -- the version is the expected one
   pub version : ranked.version ≡ expected
   -- the source that is stored with the version is the one at this index
   pub source : ranked.source ≡ place
-  -- if there is a version, it is the text to which its word refers
+  -- a version that is not absent is the text that the word refers to in the source
   pub text : IfSome ranked.version (λ version. version
       ≡ text_in (value_at (payload_of origin.adb) Text ranked.word))
 

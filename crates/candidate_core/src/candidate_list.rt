@@ -153,8 +153,8 @@ impl<'a> CandidateList<'a> {
     pub fn push_installed(&mut self, alloc: Global, info: PkgInfo<'a>) -> Result<(), PoolFault>
         requires { IsCandidateList self.old }
         ensures list { OnOk result (IsCandidateList self.new) }
-        // The installed package is then in the list: its candidates are marked, or it is one of its
-        // own.
+        // The list then has the installed package: the candidates that are the same package are
+        // marked, or the installed package is a candidate of its own.
         ensures pushed { OnOk result (candidates_of_packages self.new.packages ≡ with_installed
             (candidates_of_packages self.old.packages)
             (candidate_of (info_value info.entry) None None true)) }
@@ -215,8 +215,8 @@ fn mark_among<'a>(packages: &mut Packages<'a>, ids: &[CandId], installed: &Detai
     found
 }
 
-// Marks the candidate at a place as installed if it is the same package as the installed one, and
-// returns whether it is.
+// Marks the candidate at a place as installed if it is the same package as the installed one.
+// Returns whether the two are the same package.
 fn mark_one<'a>(packages: &mut Packages<'a>, id: CandId, installed: &Details<'a>) -> bool
     requires { id < length (candidates_of_packages packages.old) }
     ensures same { result

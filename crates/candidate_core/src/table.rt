@@ -1,6 +1,6 @@
 //! The table of names: for each name the candidates that have it or provide it, in rising order and
-//! each once. It borrows the names. Most names have one candidate, which needs no memory of its
-//! own. The rule is in `docs/selection.md`, "What there is to choose from": by which names a
+//! each once. The table borrows the names. Most names have one candidate, which needs no memory of
+//! its own. The rule is in `docs/selection.md`, "What there is to choose from": by which names a
 //! candidate meets a dependency. An entry of `provides` without version counts too, and one with a
 //! conflict bit does not.
 ghost use Rattle.std.specs.Prelude.{◌≡◌, ◌&&◌, ℕ, List, [], ◌∷◌, ◌++◌, IfOk, OnOk, None, Some, unwrap_or, not};
@@ -112,8 +112,8 @@ impl<'a> Table<'a> {
         Ok(())
     }
 
-    // Adds a candidate to those of a name, unless it is already the last of them: a candidate may
-    // provide a name twice, or its own.
+    // Appends a candidate to those that offer a name, unless this candidate is the last of them
+    // already: a candidate may provide one name twice, or its own name.
     fn add(&mut self, name: &'a [u8], id: CandId) -> Result<(), AllocError>
         // The place is added to the places of this name, and to those of no other name.
         ensures { OnOk result (HasPlaceAdded (λ other. bytes_eq other name.entry.now) id

@@ -240,8 +240,9 @@ fn rank_of(version: &RankedVersion<'_>, versions: &[RankedVersion<'_>], kind: Ve
     }
 }
 
-// The rank of a version of the list that refers to the same text as `version`; None if none is
-// found. It is found by bisection if the list is sorted by the places of texts.
+// The rank of a version of the list that refers to the same text as `version`; None if no version
+// is found. The search is by bisection, and finds such a version if the list is sorted by the
+// places of texts.
 fn rank_at_place(version: &RankedVersion<'_>, versions: &[RankedVersion<'_>]) -> Option<usize>
     ensures { IfSome result (IsRankAt versions.now version.now) }
 {

@@ -100,9 +100,9 @@ pub fn an_installed_package_is_known_by_text_and_id()
     ensures front { (id rest : List ℕ) → 0 < length id → is_same_id id (id ++ rest) ≡ true }
 {}
 
-/// An installed package adds a candidate only if no index has it: then it is the last one, and else
-/// the length of the list is unchanged. Each place keeps its candidate, which is marked as
-/// installed if it is the installed package.
+/// An installed package becomes a candidate of its own only if no index has it: then this candidate
+/// is the last one. Otherwise the length of the list is unchanged. Each candidate stays at its
+/// place, and is marked as installed if it is the installed package.
 pub fn installed_candidates_count_once()
     // If a candidate is the installed package, none is added.
     ensures once { (candidates : List Candidate) (installed : Candidate) →

@@ -59,8 +59,8 @@ pub(crate) fn eligible_marks(
     opposite_marks(alloc, &ineligible)
 }
 
-/// For each candidate, whether world pins its name to its tag. `tagged` are the entries of world
-/// that have a tag.
+/// For each candidate, whether world pins the candidate's name to the candidate's tag. `tagged` are
+/// the entries of world that have a tag.
 pub(crate) fn pinned_marks(
     alloc: Global,
     packages: &Packages<'_>,
@@ -78,8 +78,8 @@ pub(crate) fn pinned_marks(
     Ok(marks)
 }
 
-// For each candidate, whether it is not allowed: it is not installed, and from a repository whose
-// tag world does not use.
+// For each candidate, whether it is not allowed: it is not installed, and is from a repository with
+// a tag that no entry of world uses.
 fn disallowed_marks(
     alloc: Global,
     packages: &Packages<'_>,

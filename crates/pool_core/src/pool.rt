@@ -48,7 +48,8 @@ impl<'a> Model for Pool<'a> {
     // The candidates of the list; none without a list.
     ghost view = { λ pool. candidates_in pool.list };
 
-    // If there is a list, its table leads to all offers, and it is within the limit.
+    // If there is a list, its table leads to the offers of each name, and the list is within the
+    // limit.
     ghost invariant = { λ pool. ForSome pool.list (λ list. IsCandidateList list) };
 }
 
@@ -140,7 +141,8 @@ impl<'a> Pool<'a> {
     /// list would exceed its limit, and Ok only if it would not; out of memory is possible in both
     /// cases.
     pub fn add_installed(&mut self, info: PkgInfo<'a>) -> Result<(), PoolFault>
-        // The list has the installed package: its candidates are marked, or it is one of its own.
+        // The list then has the installed package: the candidates that are the same package are
+        // marked, or the installed package is a candidate of its own.
         ensures ok { OnOk result (self.new
             ≡ with_installed self.old (candidate_of (info_value info.entry) None None true)) }
         ensures fits { OnOk result (length self.new ≤ MOST_CANDIDATES) }

@@ -41,7 +41,7 @@ pub struct Sealed<'a> {
     upgrade: Upgrade<'a>,
     /// For each candidate, whether it may be selected.
     eligible: Vec<bool>,
-    /// For each candidate, whether world pins its name to its tag.
+    /// For each candidate, whether world pins the candidate's name to the candidate's tag.
     pinned: Vec<bool>,
     /// For each candidate, whether it is installed and the command does not upgrade its name.
     kept: Vec<bool>,
@@ -247,8 +247,8 @@ impl<'a> Sealed<'a> {
         Ok(rankings)
     }
 
-    // The keys by which the candidate at a place is ranked for a need. Its two versions get the
-    // rank 0 here, until the versions of all options are ranked.
+    // The keys by which the candidate at a place is ranked for a need. The candidate's two versions
+    // get the rank 0 here, until the versions of all options are ranked.
     fn ranking(
         &self,
         need: &NeedRef<'_>,

@@ -32,7 +32,7 @@ enum EntryKind {
 pub(crate) struct WorldMarks {
     /// For each candidate, whether it may be selected: it is allowed, and not barred.
     pub eligible: Vec<bool>,
-    /// For each candidate, whether world pins its name to its tag.
+    /// For each candidate, whether world pins the candidate's name to the candidate's tag.
     pub pinned: Vec<bool>,
     /// The places of the candidates whose install-if can apply, in rising order.
     pub install_ifs: Vec<CandId>,

@@ -53,8 +53,8 @@ fn listed_places(
     Ok(places)
 }
 
-// Whether `list` prints a candidate: a pattern matches its name, or none is given; and it is
-// installed, or others may be printed too.
+// Whether `list` prints a candidate: a pattern matches its name, or there is no pattern; and the
+// candidate is installed, or `installed_only` is false.
 fn is_list_candidate(details: &Details<'_>, patterns: &Operands, installed_only: bool) -> bool
     ensures { result ≡ is_list_candidate patterns.now installed_only details.now }
 {

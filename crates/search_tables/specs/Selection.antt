@@ -150,8 +150,8 @@ IsRestOfWalk pool selection chosen (c ∷ rest) =
     (need : Need) × (next_need pool chosen ≡ Some need) × IsBestMember pool selection need c
     × IsRestOfWalk pool selection (chosen ++ c ∷ []) rest
 
--- the walk of a selection begins without choices: for each next need, it has the best member that meets it, until no
--- need is left
+-- the walk of a selection, from no choices on: for each next need, the walk has the best member that meets the need,
+-- until no need is left
 abbrev pub IsSelectionWithWalk : SealedPool → List ℕ → List ℕ → Type 0
 IsSelectionWithWalk pool selection walk = IsRestOfWalk pool selection [] walk
 

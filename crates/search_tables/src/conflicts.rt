@@ -141,7 +141,7 @@ impl<'p> Conflicts<'p> {
             → AreConflictsOf candidates self.new.by_name }
     {
         let mut left = depends.len();
-        // From the last on, so that each is then the last one of its name.
+        // From the last dependency on: then each conflict is the last one under its name.
         while left > 0 {
             left -= 1;
             self.take_one_away(&depends.get(left));

@@ -87,8 +87,8 @@ impl Clause {
     }
 }
 
-/// The resolvent of two clauses at a candidate, an option of the first and a member of the second.
-/// It has all members and options of both but that candidate.
+/// The resolvent of two clauses at a candidate, which is an option of the first and a member of the
+/// second. The resolvent has all members and options of both clauses but this candidate.
 pub(crate) fn resolvent(
     alloc: Global,
     first: &Clause,

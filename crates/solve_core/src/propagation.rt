@@ -123,8 +123,7 @@ impl Propagation {
         self.trail.level()
     }
 
-    /// Propagates a further choice. It returns a clause that the choices contradict, if one is
-    /// found.
+    /// Propagates a further choice. Returns a clause that the choices contradict, if one is found.
     pub(crate) fn choose(
         &mut self,
         choice: CandId,
@@ -168,7 +167,7 @@ impl Propagation {
     }
 
     /// Propagates the pending clauses, and then the steps of the trail that are not yet propagated.
-    /// It returns a clause that the choices contradict, if one is found.
+    /// Returns a clause that the choices contradict, if one is found.
     pub(crate) fn propagate(&mut self, known: &mut Known<'_>) -> Result<Option<Clause>, AllocError>
         // The pool of the known clauses is unchanged; `Known` is seen as its pool.
         ensures known { known.new ≡ known.old }
@@ -181,8 +180,8 @@ impl Propagation {
         self.propagate_steps(known)
     }
 
-    // For each clause at these indexes: appends the literal that it forces to the trail. It returns
-    // a clause that the choices contradict, if one is found.
+    // For each clause at these indexes: appends the literal that it forces to the trail. Returns a
+    // clause that the choices contradict, if one is found.
     fn derive_all(
         &mut self,
         indexes: &[usize],
@@ -324,7 +323,7 @@ impl Propagation {
         }
     }
 
-    /// Learns a clause that follows from `conflict`, which the choices contradict. It returns the
+    /// Learns a clause that follows from `conflict`, which the choices contradict. Returns the
     /// clause that follows about choices alone.
     pub(crate) fn learn_from(
         &mut self,
@@ -362,9 +361,9 @@ impl Propagation {
         }
     }
 
-    // A clause without members that were forced, by resolution with the causes of these, the latest
-    // first. It ends early once the clause is too long, or, if `until_alone`, once the latest level
-    // has one member.
+    // A clause that follows from `clause` and has no members that were forced: each is removed by
+    // resolution with its cause, the latest first. Resolution ends early once the clause is too
+    // long, or, if `until_alone`, once the latest level has one member.
     fn resolved(
         &self,
         clause: Clause,

@@ -58,8 +58,8 @@ impl Turn {
 /// frame. A hint may be stale, so the option there is compared with the expected one before use.
 #[derive(Clone, Copy)]
 struct Hint {
-    /// The index of the turn, counted from 0. It equals the number of turns while the frame of this
-    /// turn is still in use, and not yet stored.
+    /// The index of the turn, counted from 0. The index is the number of turns while the frame of
+    /// this turn is still in use, and not yet stored.
     turn: usize,
     /// The index of the option among those that are ruled out in the frame of this turn, counted
     /// from 0.
@@ -228,6 +228,7 @@ impl<'p> Search<'p> {
     // The other members, all of them choices, of a reason with which propagation rules an option
     // out; None if propagation does not rule the option out.
     fn propagated_against(&self, id: CandId) -> Result<Option<Vec<CandId>>, AllocError>
+        // The known clauses are about the pool of the choices: `Known` is seen as its pool.
         requires { self.now.known ≡ pool_of self.now.chosen }
         ensures { IfOk result (λ found. IfSome found (λ others. IsRuledOutBy
             (pool_of self.now.chosen)
@@ -269,7 +270,7 @@ impl<'p> Search<'p> {
             (λ id. IsFrameTaking (pool_of self.old.chosen) (choices_of self.old.chosen) top.new id
             × AreCompatible (pool_of self.old.chosen)
             (choices_of self.old.chosen ++ id ∷ []))) }
-        // The number of options left does not rise. It falls if an option is returned.
+        // The number of options left does not rise, and falls if an option is returned.
         ensures fewer { IfOk result (λ found. MatchOption found
             (length top.new.1 ≤ length top.old.1) (λ _. length top.new.1 < length top.old.1)) }
     {
@@ -316,8 +317,8 @@ impl<'p> Search<'p> {
     }
 
     /// Backtracks from a dead end to the latest choice in its reason, and rules that choice out
-    /// with the rest of the reason. It returns the choice's frame; None if the reason has no
-    /// choice, so that no selection satisfies world.
+    /// with the rest of the reason. Returns the choice's frame; None if the reason has no choice,
+    /// so that no selection satisfies world.
     pub(crate) fn step_back(&mut self, spent: Frame) -> Result<Option<Frame>, AllocError>
         requires search { IsSearch self.old.chosen self.old.turns.items }
         // The frame is that of the next need, and has no option left.
@@ -354,6 +355,7 @@ impl<'p> Search<'p> {
     /// stored reason has only choices as members. Propagation is tried only after many dead ends
     /// (`DEAD_ENDS_BEFORE`), since most searches have few.
     pub(crate) fn is_dead_ahead(&mut self) -> Result<bool, AllocError>
+        // The known clauses are about the pool of the choices: `Known` is seen as its pool.
         requires { self.old.known ≡ pool_of self.old.chosen }
         ensures chosen { self.new.chosen ≡ self.old.chosen }
         ensures turns { self.new.turns.items ≡ self.old.turns.items }
@@ -383,7 +385,7 @@ impl<'p> Search<'p> {
         Ok(true)
     }
 
-    // Propagates the choices that are not propagated yet. It returns a clause that the choices
+    // Propagates the choices that are not propagated yet. Returns a clause that the choices
     // contradict, if one is found.
     fn conflict_ahead(&mut self) -> Result<Option<Clause>, AllocError>
         ensures chosen { self.new.chosen ≡ self.old.chosen }
@@ -489,7 +491,7 @@ fn is_reason_of_choices(clause: &Clause, chosen: &Choices<'_>) -> bool
     are_choices(clause.members(), chosen)
 }
 
-// A set of the candidates `ids`. It reuses the memory of the set `used`.
+// A set of the candidates `ids`, in the memory of the set `used`.
 fn set_of(used: CandidateSet, ids: &[CandId]) -> Result<CandidateSet, AllocError>
     ensures { IfOk result (λ members. HasSameMembers members ids.now) }
 {
@@ -499,7 +501,7 @@ fn set_of(used: CandidateSet, ids: &[CandId]) -> Result<CandidateSet, AllocError
     Ok(members)
 }
 
-// The members of a reason without this choice. They rule the choice out.
+// The members of a reason without this choice: they rule the choice out.
 fn without(alloc: Global, members: &[CandId], choice: CandId) -> Result<Vec<CandId>, AllocError>
     ensures { IfOk result (λ others. others.items ≡ filter (λ id. not (id == choice)) members.now) }
 {

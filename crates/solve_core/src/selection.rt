@@ -36,9 +36,9 @@ pub fn solve(alloc: Global, pool: &Sealed<'_>, world: &World) -> Result<Option<T
     first_selection(alloc, &mut search)
 }
 
-// The preferred solution, by a search that begins without choices. It takes an option of the
-// topmost frame, or backtracks if none is left, or if propagation finds a dead end ahead. The
-// search is borrowed, so that nothing needs to be freed if the loop ends early.
+// The preferred solution, by a search that begins without choices. The search takes an option of
+// the topmost frame, or backtracks if no option is left, or if propagation finds a dead end ahead.
+// `search` is borrowed, so that nothing needs to be freed if the loop ends early.
 fn first_selection(alloc: Global, search: &mut Search<'_>) -> Result<Option<Trace>, AllocError>
     // The choices and turns fit together, and what the search remembers and knows is about its
     // pool.

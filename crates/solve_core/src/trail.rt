@@ -140,8 +140,8 @@ impl Trail {
         })
     }
 
-    /// Takes choices back, so that `level` of them remain, with all their steps. It returns how
-    /// many steps are left; None if there are no more choices than that.
+    /// Takes choices back, so that `level` of them remain, with all their steps. Returns how many
+    /// steps are left; None if there are no more choices than that.
     pub(crate) fn take_back(&mut self, level: usize) -> Option<usize> {
         let left = *self.levels.get(level)?;
         self.levels.truncate(level);

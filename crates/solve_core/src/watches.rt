@@ -41,8 +41,8 @@ struct Watching {
 }
 
 impl Watching {
-    // The clauses that watch one of the two literals of the candidate: that it is in, or that it is
-    // not.
+    // The clauses that are listed under one of the two literals of the candidate: that the
+    // candidate is in the selection (`is_in`), or that it is not.
     fn of(&self, is_in: bool) -> &Vec<usize> {
         if is_in { &self.is_in } else { &self.is_out }
     }
@@ -238,8 +238,8 @@ fn better(watch: Option<Watch>, literal: Literal, trail: &Trail) -> Option<Watch
     watch
 }
 
-// How well a literal can be watched: the index of the step at which it became false, or the
-// greatest number if it is not false.
+// How well a literal can be watched: the index of the step at which the literal became false, or
+// the greatest number if the literal is not false.
 fn watch_rank(literal: Literal, trail: &Trail) -> usize {
     match trail.truth(literal) {
         Some(false) => trail.step_of(literal),

@@ -1,5 +1,5 @@
-//! The questions of a row, and their answers as texts. They are listed in the README of this crate;
-//! the rules for right answers are in `docs/selection.md`.
+//! The questions of a row, and their answers as texts. The README of this crate lists the
+//! questions; the rules for right answers are in `docs/selection.md`.
 ghost use Rattle.std.specs.Prelude.{◌≡◌, IfOk};
 
 use adb_schema::{Checked, IndexView, Which, shape};
