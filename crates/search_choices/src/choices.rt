@@ -33,11 +33,12 @@ use std::marker::Model;
 /// The state of the choices:
 ///
 /// - the choices so far;
-/// - the queue of the dependencies that they and world raise, and a cursor; every dependency before
-///   it is met;
-/// - the install-ifs in byte order of names, and a cursor; none before it triggers its candidate;
+/// - the queue of the dependencies that world and the choices raise, and a cursor: every dependency
+///   before this cursor is met;
+/// - the install-ifs in byte order of names, and a cursor: no install-if before this cursor triggers
+///   its candidate;
 /// - the conflicts of the choices;
-/// - for each choice, the state of the queue and the cursors before it.
+/// - for each choice, the state of the queue and of the two cursors before this choice.
 #[derive(Drop)]
 pub struct Choices<'p> {
     /// The allocator.
@@ -120,7 +121,8 @@ impl<'p> Choices<'p> {
         self.conflicts.add(&depends, id)?;
         self.checkpoints.push(before)?;
         self.choices.push(id)?;
-        // The new choice can trigger only an install-if that has an entry of one of its names.
+        // The new choice can trigger only an install-if that has an entry of a name that this
+        // choice offers.
         self.asking_cursor = self.least_rank_asking(&details);
         Ok(())
     }

@@ -1,5 +1,5 @@
-//! The choices of a search: the needs that they raise, the first need that none of them meets, and
-//! the choice that excludes a further candidate.
+//! The choices of a search: the needs that they raise, the first need that no choice meets, and the
+//! choice that excludes a further candidate.
 //!
 //! The rules are in `docs/selection.md`, "What satisfies world", and "How the search works".
 //!

@@ -15,7 +15,7 @@ abbrev pub IsConflictTable : SealedPool → List ℕ → Conflicts → Type 0
 IsConflictTable pool chosen conflicts =
     (name : List ℕ) → conflicts_in conflicts.by_name name ≡ conflicts_among pool chosen name
 
--- the candidate at place `k` is a choice, and it and the candidate at place `id` exclude each other
+-- the candidate at the place `k` is a choice, and the candidates at the places `k` and `id` exclude each other
 abbrev pub IsExcluderAmongChoices : SealedPool → List ℕ → ℕ → ℕ → Type 0
 IsExcluderAmongChoices pool chosen id k = IsIn k chosen × (exclude_each_other pool k id ≡ true)
 

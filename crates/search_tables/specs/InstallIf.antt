@@ -63,8 +63,8 @@ pub record AreUsableInstallIfsByName (pool : SealedPool) (by_name : List ℕ)
       (rank k : ℕ) (d : Dependency) → slice_get by_name rank ≡ Some k →
       IsIn d (install_if_at pool k) → IsIn rank (items_under_name waiting d.name)
 
--- whether the candidate with this rank (its index in the list `by_name`) is triggered by its install-if; false if
--- there is none
+-- whether the candidate with this rank (its index in the list `by_name`) is triggered by its install-if; false if the
+-- list has no such index
 abbrev pub is_install_if_triggered_at_rank : SealedPool → List ℕ → List ℕ → ℕ → Bool
 is_install_if_triggered_at_rank pool chosen by_name rank =
     option_map_or (λ (k : ℕ). is_install_if_triggered_at pool chosen k) (slice_get by_name rank) false
@@ -85,7 +85,7 @@ pub record IsLeastTriggeredInstallIf (pool : SealedPool) (chosen : List ℕ) (k 
       (o : ℕ) → has_usable_install_if_at pool o ≡ true → is_install_if_triggered_at pool chosen o ≡ true →
       has_lesser_name pool o k ≡ false
 
--- no candidate whose install-if can apply is triggered by it
+-- no candidate is triggered by an install-if that can apply
 abbrev pub IsNoInstallIfTriggered : SealedPool → List ℕ → Type 0
 IsNoInstallIfTriggered pool chosen =
     (o : ℕ) → has_usable_install_if_at pool o ≡ true → is_install_if_triggered_at pool chosen o ≡ false

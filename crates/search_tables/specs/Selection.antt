@@ -1,4 +1,4 @@
--- Selections that satisfy a world, the walk of one, and the preferred one. The rules are in
+-- Selections that satisfy a world, the walk of a selection, and the preferred selection. The rules are in
 -- `docs/selection.md`, "What satisfies world", and "Which selection is taken".
 use Rattle.std.specs.Prelude.{◌≡◌, ◌≢◌, ℕ, ◌==◌, Bool, true, false, not, ◌&&◌, ◌||◌, if◌then◌else◌, List, [], ◌∷◌, ◌++◌, map, Option, Some, None, is_some, ◌⊎◌}
 use Rattle.std.specs.Option.{option_map, option_map_or, option_or}
@@ -103,9 +103,9 @@ exclude_each_other pool a b = not (a == b) && (does_exclude pool a b || does_exc
 
 -- ---- satisfying selections
 
--- a selection satisfies the world. Its members are different and may be selected. Each entry of world
--- and each dependency of a member is met, and no conflict of a member is met by another. Each name is
--- occupied by at most one member, and each name whose install-if applies is a member's
+-- a selection satisfies the world. Its members are different and may be selected. Each entry of world and each
+-- dependency of a member is met, and no conflict of a member is met by another. Each name is occupied by at most one
+-- member, and each name whose install-if applies is the name of a member
 pub record IsSatisfying (pool : SealedPool) (selection : List ℕ) : Type 0 where
   -- no member occurs twice
   pub once : AreDistinct selection
@@ -142,8 +142,8 @@ IsBestMember pool selection need c =
     × ((o : ℕ) → IsIn o selection → meets_at pool o need ≡ true →
     (o ≡ c) ⊎ (is_better pool need c o ≡ true))
 
--- the last list is the rest of the walk of the selection after the choices `chosen`. For each next need, it has the
--- best member in rank that meets the need, until no need is left
+-- the last list is the rest of the walk of the selection after the choices `chosen`. For each next need, this rest
+-- has the best member in rank that meets the need, until no need is left
 abbrev pub IsRestOfWalk : SealedPool → List ℕ → List ℕ → List ℕ → Type 0
 IsRestOfWalk pool selection chosen [] = next_need pool chosen ≡ None
 IsRestOfWalk pool selection chosen (c ∷ rest) =

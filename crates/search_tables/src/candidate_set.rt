@@ -59,7 +59,7 @@ impl CandidateSet {
 
     /// Appends a candidate to the set, unless the set has it.
     pub fn add(&mut self, id: CandId) -> Result<(), AllocError>
-        // The set has its old members and this candidate.
+        // The set has exactly its old members and this candidate.
         ensures { OnOk result (HasSameMembers self.new (self.old ++ id ∷ [])) }
     {
         if self.has(id) {
@@ -71,7 +71,7 @@ impl CandidateSet {
 
     /// Appends each of these candidates that is not in the set.
     pub fn add_all(&mut self, ids: &[CandId]) -> Result<(), AllocError>
-        // The set has its old members and these candidates.
+        // The set has exactly its old members and these candidates.
         ensures { OnOk result (HasSameMembers self.new (self.old ++ ids.now)) }
     {
         for id in ids {

@@ -109,7 +109,7 @@ impl<'p> Conflicts<'p> {
     // Adds the dependency that the candidate `by` has at an index to the table, if the dependency
     // is a conflict.
     fn add_one(&mut self, dep: Dep<'p>, by: CandId, index: usize) -> Result<(), AllocError>
-        // The dependency is appended under its name, if it is a conflict.
+        // The dependency is appended under its name, if the dependency is a conflict.
         ensures conflicts { OnOk result ((name : List ℕ) → conflicts_in self.new.by_name name
             ≡ conflicts_in self.old.by_name name
             ++ conflicts_of_name_in name by (dependency dep.entry ∷ [])) }

@@ -47,8 +47,8 @@ impl RuledOutOption {
 /// option with its reason; and the choices that raised the need.
 #[derive(Drop)]
 pub struct Frame {
-    /// The options that are ruled out, in the order in which they were, each with the other members
-    /// of its reason.
+    /// The options that are ruled out, in the order in which they were ruled out, each with the
+    /// other members of its reason.
     ruled_out: Vec<RuledOutOption>,
     /// All options of the need, best first.
     options: Vec<CandId>,

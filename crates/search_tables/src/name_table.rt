@@ -50,7 +50,7 @@ impl<'p, T: Drop> NameTable<'p, T> {
         }
     }
 
-    /// Appends an item to the items of a name. Those of other names are unchanged.
+    /// Appends an item to the items of a name. The items of other names are unchanged.
     pub fn add(&mut self, name: &'p [u8], item: T) -> Result<(), AllocError>
         // The item is appended under this name. Nothing changes under other names.
         ensures { OnOk result ((other : List ℕ) → items_under_name self.new other

@@ -210,7 +210,7 @@ fn push_met(
     choices: &CandidateSet,
     dep: &Dep<'_>,
 ) -> Result<(), AllocError>
-    // If the list has only choices, it still does. It keeps its members.
+    // A list that has only choices still does, and each list keeps its members.
     ensures within { OnOk result (AreAllMembersOf by.old.items choices.now →
         AreAllMembersOf by.new.items choices.now) }
     ensures more { OnOk result (AreAllMembersOf by.old.items by.new.items) }
