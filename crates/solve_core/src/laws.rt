@@ -39,8 +39,8 @@ pub fn each_selection_has_one_walk()
     rank_is_total();
 }
 
-/// The walks of satisfying selections have one order. Of two different ones, one is preferred to
-/// the other, at a place where both choose, and not the other way round. The order is transitive.
+/// The walks of satisfying selections have one order. Of two different walks, exactly one is
+/// preferred to the other, at a place where both have a candidate. The order is transitive.
 pub fn walks_have_one_order()
     // Of the walks of two satisfying selections, one is preferred to the other, or they are equal.
     ensures one_of { (pool : SealedPool) (selection other walk second : List ℕ) →

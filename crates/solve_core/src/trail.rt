@@ -54,7 +54,7 @@ pub(crate) struct Trail {
     /// For each place in the list of candidates, what the trail says of this candidate; None if
     /// nothing. The list ends at the greatest place that was in the trail.
     values: Vec<Option<Value>>,
-    /// The steps.
+    /// The steps of the trail, in order.
     steps: Vec<Step>,
     /// For each choice, how many steps were before it.
     levels: Vec<usize>,
